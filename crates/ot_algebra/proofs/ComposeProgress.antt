@@ -1,0 +1,456 @@
+-- What the loop of compose keeps: what is built, and the composition of what is left, make the composition.
+use Rattle.std.proofs.Common.{◌≡◌, ℕ, suc, zero, ◌+◌, ◌-◌, ◌<◌, ◌≤◌, List, [], ◌∷◌, ◌++◌, length, take, drop, map, max, min, refl, sym, ap, subst, ◌∙◌, arith, length-append, length-take, length-drop, append_assoc, append-nil}
+use Rattle.std.proofs.lemmas.List.{map-append, length-map}
+use Rattle.std.proofs.lemmas.List.Elements.{filter_map-append}
+use Rattle.std.proofs.Math.ListN.{take-append-drop}
+use Rattle.std.specs.List.{filter_map, slice_get, cons_option}
+use Rattle.std.specs.Borrow.{Bor}
+use borrow.Author.Tests.{eq-eqb, ne_eqb}
+use Rattle.ot_text.specs.Operation.{Item, Operation, Old, New, olds, apply, invert, IsOperation, IsTooLong, empty, with_insert, with_delete}
+use Rattle.ot_algebra.specs.Compose.{compose, item_in}
+use Rattle.ot_text.specs.Run.{Run, base_of, image_from, operation_of, IsNormal, Keep, Add, Skip}
+use Rattle.ot_algebra.specs.Cursor.{appended, target_of, skipped, skipped_made, runs_from, runs_left, span_of, made_of, keeps_of, composed_part}
+use Rattle.ot_text.specs.Components.{run_of}
+use Rattle.ot_algebra.specs.declared.cursor.Cursor.{Cursor}
+use Rattle.ot_algebra.specs.declared.cursor.Head.{Head}
+use Rattle.ot_algebra.specs.declared.cursor.Head.TheVariants.{Retain as RetainHead, Insert as InsertHead, Delete as DeleteHead, End}
+use Rattle.ot_algebra.proofs.RunLengths.{length-image_from}
+use Rattle.ot_algebra.proofs.ComposeLaws.{length-compose}
+use Rattle.ot_text.proofs.Lists.{StandsAt, StandsAt-tail}
+use Rattle.ot_text.proofs.RunLemmas.{length-olds}
+use Rattle.ot_algebra.proofs.SkippedLaws.{skipped_retain-whole, skipped_retain-part, skipped_delete-whole, skipped_delete-part, runs_size, runs_size-skipped_retain}
+use Rattle.ot_algebra.specs.Merge.{merge, merged, first_after, second_after}
+
+slice_get-past : {X : Type 0} (xs ys : List X) (j k : ℕ) → k ≡ length xs + j → slice_get (xs ++ ys) k ≡ slice_get ys j
+slice_get-past [] ys j k e = ap (slice_get ys) (let same : k ≡ j = omega (arith, e) in same)
+slice_get-past (x ∷ xs) ys j zero e = absurd (omega (arith, e))
+slice_get-past (x ∷ xs) ys j (suc k) e = slice_get-past xs ys j k (omega (arith, e))
+
+picked_olds :
+    {A : Type 0} (xs rest : List (Item A)) (i j count : ℕ) → j ≡ length xs + i
+    → filter_map (item_in (xs ++ rest)) (olds j count) ≡ filter_map (item_in rest) (olds i count)
+picked_olds xs rest i j zero e = refl
+picked_olds xs rest i j (suc count) e =
+    rw (slice_get-past xs rest i j e)
+    (ap (cons_option (slice_get rest i)) (picked_olds xs rest (suc i) (suc j) count (omega (arith, e))))
+
+picked_news :
+    {A : Type 0} (image : List (Item A)) (text : List A) → filter_map (item_in image) (map New text) ≡ map New text
+picked_news image [] = refl
+picked_news image (x ∷ text) = ap (λ rest. New x ∷ rest) (picked_news image text)
+
+-- past the first items
+picked_later :
+    {A : Type 0} (xs rest : List (Item A)) (i j : ℕ) (runs : List (Run A)) → j ≡ length xs + i
+    → filter_map (item_in (xs ++ rest)) (image_from j runs) ≡ filter_map (item_in rest) (image_from i runs)
+picked_later xs rest i j [] e = refl
+picked_later xs rest i j (Keep count ∷ runs) e =
+    filter_map-append (item_in (xs ++ rest)) (olds j count) (image_from (j + count) runs)
+    ∙ rw (picked_olds xs rest i j count e, picked_later xs rest (i + count) (j + count) runs (omega (arith, e)))
+    (sym (filter_map-append (item_in rest) (olds i count) (image_from (i + count) runs)))
+picked_later xs rest i j (Add text ∷ runs) e =
+    filter_map-append (item_in (xs ++ rest)) (map New text) (image_from j runs)
+    ∙ rw (picked_news (xs ++ rest) text, picked_later xs rest i j runs e)
+    (ap (λ front. front ++ filter_map (item_in rest) (image_from i runs)) (sym (picked_news rest text))
+    ∙ sym (filter_map-append (item_in rest) (map New text) (image_from i runs)))
+picked_later xs rest i j (Skip count ∷ runs) e = picked_later xs rest (i + count) (j + count) runs (omega (arith, e))
+
+picked_here :
+    {A : Type 0} (whole xs rest : List (Item A)) (place : ℕ) → StandsAt whole place (xs ++ rest)
+    → filter_map (item_in whole) (olds place (length xs)) ≡ xs
+picked_here whole [] rest place stands = refl
+picked_here whole (x ∷ xs) rest place stands =
+    rw (stands place zero (omega arith))
+    (ap (λ more. x ∷ more) (picked_here whole xs rest (suc place) (StandsAt-tail whole place x (xs ++ rest) stands)))
+
+-- the first items are kept
+composed_kept :
+    {A : Type 0} (xs rest : List (Item A)) (count : ℕ) (runs : List (Run A)) → length xs ≡ count
+    → filter_map (item_in (xs ++ rest)) (olds 0 count ++ image_from count runs) ≡ xs ++ filter_map (item_in rest) (image_from 0 runs)
+composed_kept xs rest count runs e =
+    filter_map-append (item_in (xs ++ rest)) (olds 0 count) (image_from count runs)
+    ∙ rw (
+      ← e,
+      picked_later xs rest 0 (length xs) runs (omega arith),
+      picked_here (xs ++ rest) xs rest 0 (λ j k same. ap (slice_get (xs ++ rest)) (let here : j ≡ k = omega (arith, same) in here)),
+    ) refl
+
+-- or gone
+composed_gone :
+    {A : Type 0} (xs rest : List (Item A)) (count : ℕ) (runs : List (Run A)) → length xs ≡ count
+    → filter_map (item_in (xs ++ rest)) (image_from count runs) ≡ filter_map (item_in rest) (image_from 0 runs)
+composed_gone xs rest count runs e = picked_later xs rest 0 count runs (omega (arith, e))
+
+-- the image of what is skipped
+
+olds-append : {A : Type 0} (i j m n : ℕ) → j ≡ i + m → olds {A = A} i (m + n) ≡ olds i m ++ olds j n
+olds-append {A} i j zero n e =
+    let start : i ≡ j = omega (arith, e) in let count : 0 + n ≡ n = omega arith in rw (count, start) refl
+olds-append {A} i j (suc m) n e =
+    let count : suc m + n ≡ suc (m + n) = omega arith in
+    rw count (ap (λ rest. Old i ∷ rest) (olds-append {A = A} (suc i) j m n (omega (arith, e))))
+
+record RetainMade {A : Type 0} (i count : ℕ) (before after : List (Run A)) : Type 0 where
+  normal : IsNormal after
+  base : base_of after + count ≡ base_of before
+  target : target_of after + count ≡ target_of before
+  image : image_from i before ≡ olds i count ++ image_from (i + count) after
+
+retain_made :
+    {A : Type 0} (i count all m : ℕ) (runs : List (Run A)) → IsNormal (Keep all ∷ runs) → all ≡ count + m
+    → RetainMade i count (Keep all ∷ runs) (skipped count (Keep all ∷ runs))
+retain_made i count all zero runs normal e =
+    let same : all ≡ count = omega (arith, e) in
+    rw (skipped_retain-whole count all runs e)
+    (record {
+      normal = normal.2;
+      base = omega (arith, e);
+      target = omega (arith, e);
+      image = ap (λ k. olds i k ++ image_from (i + k) runs) same;
+    })
+retain_made {A} i count all (suc m) runs normal e =
+    let place : i + count + suc m ≡ i + all = omega (arith, e) in
+    let image : image_from i (Keep all ∷ runs) ≡ olds i count ++ image_from (i + count) (Keep (suc m) ∷ runs) =
+    ap (λ k. olds i k ++ image_from (i + all) runs) e
+    ∙ ap (λ front. front ++ image_from (i + all) runs) (olds-append {A = A} i (i + count) count (suc m) refl)
+    ∙ append_assoc (olds i count) (olds (i + count) (suc m)) (image_from (i + all) runs)
+    ∙ ap (λ k. olds i count ++ (olds (i + count) (suc m) ++ image_from k runs)) (sym place) in
+    rw (skipped_retain-part count all m runs e)
+    (record {
+      normal = (omega arith, normal.1, normal.2);
+      base = omega (arith, e);
+      target = omega (arith, e);
+      image = image;
+    })
+
+record DeleteMade {A : Type 0} (i count : ℕ) (before after : List (Run A)) : Type 0 where
+  normal : IsNormal after
+  base : base_of after + count ≡ base_of before
+  image : image_from i before ≡ image_from (i + count) after
+
+delete_made :
+    {A : Type 0} (i count all m : ℕ) (runs : List (Run A)) → IsNormal (Skip all ∷ runs) → all ≡ count + m
+    → DeleteMade i count (Skip all ∷ runs) (skipped count (Skip all ∷ runs))
+delete_made i count all zero runs normal e =
+    let same : all ≡ count = omega (arith, e) in
+    rw (skipped_delete-whole count all runs e)
+    (record { normal = normal.2; base = omega (arith, e); image = ap (λ k. image_from (i + k) runs) same })
+delete_made i count all (suc m) runs normal e =
+    let place : i + all ≡ i + count + suc m = omega (arith, e) in
+    rw (skipped_delete-part count all m runs e)
+    (record { normal = (omega arith, normal.1, normal.2); base = omega (arith, e); image = ap (λ k. image_from k runs) place })
+
+record InsertMade {A : Type 0} (i count : ℕ) (text : List A) (before after : List (Run A)) : Type 0 where
+  normal : IsNormal after
+  base : base_of after ≡ base_of before
+  target : target_of after + count ≡ target_of before
+  image : image_from i before ≡ map New (take count text) ++ image_from i after
+
+take_whole : {X : Type 0} (xs : List X) (count : ℕ) → count ≡ length xs → take count xs ≡ xs
+take_whole [] zero e = refl
+take_whole [] (suc count) e = refl
+take_whole (x ∷ xs) zero e = absurd (omega (arith, e))
+take_whole (x ∷ xs) (suc count) e = ap (λ rest. x ∷ rest) (take_whole xs count (omega (arith, e)))
+
+insert_made :
+    {A : Type 0} (i count m : ℕ) (text : List A) (runs : List (Run A)) → IsNormal (Add text ∷ runs) → length text ≡ count + m
+    → InsertMade i count text (Add text ∷ runs) (skipped_made count (Add text ∷ runs))
+insert_made i count zero text runs normal e =
+    rw (eq-eqb count (length text) (omega (arith, e)))
+    (record {
+      normal = normal.2;
+      base = refl;
+      target = omega (arith, e);
+      image = ap (λ front. map New front ++ image_from i runs) (sym (take_whole text count (omega (arith, e))));
+    })
+insert_made i count (suc m) text runs normal e =
+    let left : length (drop count text) ≡ suc m = simp length-drop (omega (arith, e)) in
+    let image : map New text ++ image_from i runs ≡ map New (take count text) ++ (map New (drop count text) ++ image_from i runs) =
+    ap (λ whole. map New whole ++ image_from i runs) (sym (take-append-drop count text))
+    ∙ ap (λ front. front ++ image_from i runs) (map-append New (take count text) (drop count text))
+    ∙ append_assoc (map New (take count text)) (map New (drop count text)) (image_from i runs) in
+    rw (ne_eqb count (length text) (omega (arith, e)))
+    (record {
+      normal = (omega (arith, left), normal.1, normal.2);
+      base = refl;
+      target = omega (arith, e, left);
+      image = image;
+    })
+
+-- `built` is made, `xs` and `ys` are left
+pub record ComposeProgress {A : Type 0} (a b : Operation A) (built : Operation A) (xs ys : List (Run A)) : Type 0 where
+  pub first_normal : IsNormal xs
+  pub second_normal : IsNormal ys
+  pub meets : target_of xs ≡ base_of ys
+  pub base : built.base + base_of xs ≡ (compose a b).base
+  pub image : built.image ++ filter_map (item_in (image_from built.base xs)) (image_from 0 ys) ≡ (compose a b).image
+
+pub compose_start :
+    {A : Type 0} (xs ys : List (Run A)) → IsNormal xs → IsNormal ys → target_of xs ≡ base_of ys
+    → ComposeProgress (operation_of xs) (operation_of ys) (operation_of []) xs ys
+unfolding apply compose invert merge merged first_after second_after
+compose_start xs ys first_normal second_normal meets =
+    record { first_normal = first_normal; second_normal = second_normal; meets = meets; base = omega arith; image = refl }
+
+pub compose_begin :
+    {A : Type 0} (a b : Operation A) (xs ys : List (Run A)) → operation_of xs ≡ a → operation_of ys ≡ b
+    → IsNormal xs → IsNormal ys → length a.image ≡ b.base → ComposeProgress a b empty xs ys
+compose_begin {A} a b xs ys a_is b_is first_normal second_normal meets =
+    let same : length (image_from 0 xs) ≡ base_of ys =
+    ap (λ (op : Operation A). length op.image) a_is ∙ meets ∙ sym (ap (λ (op : Operation A). op.base) b_is) in
+    rw (← a_is, ← b_is) (compose_start xs ys first_normal second_normal (sym (length-image_from 0 xs) ∙ same))
+
+-- the first deletes
+pub compose_delete :
+    {A : Type 0} (a b built : Operation A) (count : ℕ) (xs ys : List (Run A))
+    → ComposeProgress a b built (Skip count ∷ xs) ys → ComposeProgress a b (appended built (Skip count)) xs ys
+compose_delete a b built count xs ys w =
+    record {
+      first_normal = w.first_normal.2;
+      second_normal = w.second_normal;
+      meets = w.meets;
+      base = omega (arith, w.base);
+      image = w.image;
+    }
+
+-- the second inserts
+pub compose_insert :
+    {A : Type 0} (a b built : Operation A) (text : List A) (xs ys : List (Run A))
+    → ComposeProgress a b built xs (Add text ∷ ys) → ComposeProgress a b (appended built (Add text)) xs ys
+compose_insert a b built text xs ys w =
+    let step : filter_map (item_in (image_from built.base xs)) (map New text ++ image_from 0 ys)
+    ≡ map New text ++ filter_map (item_in (image_from built.base xs)) (image_from 0 ys) =
+    filter_map-append (item_in (image_from built.base xs)) (map New text) (image_from 0 ys)
+    ∙ ap (λ front. front ++ filter_map (item_in (image_from built.base xs)) (image_from 0 ys)) (picked_news (image_from built.base xs) text) in
+    record {
+      first_normal = w.first_normal;
+      second_normal = w.second_normal.2;
+      meets = w.meets;
+      base = w.base;
+      image = append_assoc built.image (map New text) _ ∙ ap (λ rest. built.image ++ rest) (sym step) ∙ w.image;
+    }
+
+module _ {A : Type 0} (a b built : Operation A) (count : ℕ) (xs ys : List (Run A)) where
+  retain_retain :
+      (m n : ℕ) → count ≤ m → count ≤ n → ComposeProgress a b built (Keep m ∷ xs) (Keep n ∷ ys)
+      → ComposeProgress a b (appended built (Keep count)) (skipped count (Keep m ∷ xs)) (skipped count (Keep n ∷ ys))
+  retain_retain m n in_first in_second w =
+      let f : RetainMade built.base count (Keep m ∷ xs) (skipped count (Keep m ∷ xs)) =
+      retain_made built.base count m (m - count) xs w.first_normal (omega arith) in
+      let g : RetainMade 0 count (Keep n ∷ ys) (skipped count (Keep n ∷ ys)) =
+      retain_made 0 count n (n - count) ys w.second_normal (omega arith) in
+      let here : 0 + count ≡ count = omega arith in
+      let step : filter_map (item_in (image_from built.base (Keep m ∷ xs))) (image_from 0 (Keep n ∷ ys))
+      ≡ olds built.base count ++ filter_map (item_in (image_from (built.base + count) (skipped count (Keep m ∷ xs)))) (image_from 0 (skipped count (Keep n ∷ ys))) =
+      ap (λ image. filter_map (item_in image) (image_from 0 (Keep n ∷ ys))) f.image
+      ∙ ap (filter_map (item_in (olds built.base count ++ image_from (built.base + count) (skipped count (Keep m ∷ xs)))))
+      (g.image ∙ ap (λ k. olds 0 count ++ image_from k (skipped count (Keep n ∷ ys))) here)
+      ∙ composed_kept (olds built.base count) _ count (skipped count (Keep n ∷ ys)) (length-olds A built.base count) in
+      record {
+        first_normal = f.normal;
+        second_normal = g.normal;
+        meets = omega (arith, f.target, g.base, w.meets);
+        base = omega (arith, f.base, w.base);
+        image = append_assoc built.image (olds built.base count) _ ∙ ap (λ rest. built.image ++ rest) (sym step) ∙ w.image;
+      }
+
+  retain_delete :
+      (m n : ℕ) → count ≤ m → count ≤ n → ComposeProgress a b built (Keep m ∷ xs) (Skip n ∷ ys)
+      → ComposeProgress a b (appended built (Skip count)) (skipped count (Keep m ∷ xs)) (skipped count (Skip n ∷ ys))
+  retain_delete m n in_first in_second w =
+      let f : RetainMade built.base count (Keep m ∷ xs) (skipped count (Keep m ∷ xs)) =
+      retain_made built.base count m (m - count) xs w.first_normal (omega arith) in
+      let g : DeleteMade 0 count (Skip n ∷ ys) (skipped count (Skip n ∷ ys)) =
+      delete_made 0 count n (n - count) ys w.second_normal (omega arith) in
+      let here : 0 + count ≡ count = omega arith in
+      let step : filter_map (item_in (image_from built.base (Keep m ∷ xs))) (image_from 0 (Skip n ∷ ys))
+      ≡ filter_map (item_in (image_from (built.base + count) (skipped count (Keep m ∷ xs)))) (image_from 0 (skipped count (Skip n ∷ ys))) =
+      ap (λ image. filter_map (item_in image) (image_from 0 (Skip n ∷ ys))) f.image
+      ∙ ap (filter_map (item_in (olds built.base count ++ image_from (built.base + count) (skipped count (Keep m ∷ xs)))))
+      (g.image ∙ ap (λ k. image_from k (skipped count (Skip n ∷ ys))) here)
+      ∙ composed_gone (olds built.base count) _ count (skipped count (Skip n ∷ ys)) (length-olds A built.base count) in
+      record {
+        first_normal = f.normal;
+        second_normal = g.normal;
+        meets = omega (arith, f.target, g.base, w.meets);
+        base = omega (arith, f.base, w.base);
+        image = ap (λ rest. built.image ++ rest) (sym step) ∙ w.image;
+      }
+
+  insert_retain :
+      (text : List A) (n : ℕ) → count ≤ length text → count ≤ n → ComposeProgress a b built (Add text ∷ xs) (Keep n ∷ ys)
+      → ComposeProgress a b (appended built (Add (take count text))) (skipped_made count (Add text ∷ xs)) (skipped count (Keep n ∷ ys))
+  insert_retain text n in_first in_second w =
+      let f : InsertMade built.base count text (Add text ∷ xs) (skipped_made count (Add text ∷ xs)) =
+      insert_made built.base count (length text - count) text xs w.first_normal (omega arith) in
+      let g : RetainMade 0 count (Keep n ∷ ys) (skipped count (Keep n ∷ ys)) =
+      retain_made 0 count n (n - count) ys w.second_normal (omega arith) in
+      let here : 0 + count ≡ count = omega arith in
+      let made : length (map {B = Item A} New (take count text)) ≡ count = simp (length-map, length-take) (omega arith) in
+      let step : filter_map (item_in (image_from built.base (Add text ∷ xs))) (image_from 0 (Keep n ∷ ys))
+      ≡ map New (take count text) ++ filter_map (item_in (image_from built.base (skipped_made count (Add text ∷ xs)))) (image_from 0 (skipped count (Keep n ∷ ys))) =
+      ap (λ image. filter_map (item_in image) (image_from 0 (Keep n ∷ ys))) f.image
+      ∙ ap (filter_map (item_in (map New (take count text) ++ image_from built.base (skipped_made count (Add text ∷ xs)))))
+      (g.image ∙ ap (λ k. olds 0 count ++ image_from k (skipped count (Keep n ∷ ys))) here)
+      ∙ composed_kept (map New (take count text)) _ count (skipped count (Keep n ∷ ys)) made in
+      record {
+        first_normal = f.normal;
+        second_normal = g.normal;
+        meets = omega (arith, f.target, g.base, w.meets);
+        base = omega (arith, f.base, w.base);
+        image = append_assoc built.image (map New (take count text)) _ ∙ ap (λ rest. built.image ++ rest) (sym step) ∙ w.image;
+      }
+
+  insert_delete :
+      (text : List A) (n : ℕ) → count ≤ length text → count ≤ n → ComposeProgress a b built (Add text ∷ xs) (Skip n ∷ ys)
+      → ComposeProgress a b built (skipped_made count (Add text ∷ xs)) (skipped count (Skip n ∷ ys))
+  insert_delete text n in_first in_second w =
+      let f : InsertMade built.base count text (Add text ∷ xs) (skipped_made count (Add text ∷ xs)) =
+      insert_made built.base count (length text - count) text xs w.first_normal (omega arith) in
+      let g : DeleteMade 0 count (Skip n ∷ ys) (skipped count (Skip n ∷ ys)) =
+      delete_made 0 count n (n - count) ys w.second_normal (omega arith) in
+      let here : 0 + count ≡ count = omega arith in
+      let made : length (map {B = Item A} New (take count text)) ≡ count = simp (length-map, length-take) (omega arith) in
+      let step : filter_map (item_in (image_from built.base (Add text ∷ xs))) (image_from 0 (Skip n ∷ ys))
+      ≡ filter_map (item_in (image_from built.base (skipped_made count (Add text ∷ xs)))) (image_from 0 (skipped count (Skip n ∷ ys))) =
+      ap (λ image. filter_map (item_in image) (image_from 0 (Skip n ∷ ys))) f.image
+      ∙ ap (filter_map (item_in (map New (take count text) ++ image_from built.base (skipped_made count (Add text ∷ xs)))))
+      (g.image ∙ ap (λ k. image_from k (skipped count (Skip n ∷ ys))) here)
+      ∙ composed_gone (map New (take count text)) _ count (skipped count (Skip n ∷ ys)) made in
+      record {
+        first_normal = f.normal;
+        second_normal = g.normal;
+        meets = omega (arith, f.target, g.base, w.meets);
+        base = omega (arith, f.base, w.base);
+        image = ap (λ rest. built.image ++ rest) (sym step) ∙ w.image;
+      }
+
+-- the arms of the loop
+
+pub compose_part :
+    {A : Type 0} (a b built : Operation A) (count : ℕ) → 0 < count → (h k : Head A) (xs ys : List (Run A))
+    → count ≤ made_of h → count ≤ span_of k → ComposeProgress a b built (runs_from h xs) (runs_from k ys)
+    → ComposeProgress a b (composed_part built h (keeps_of k) count) (skipped_made count (runs_from h xs)) (skipped count (runs_from k ys))
+compose_part a b built count some (RetainHead m) (RetainHead n) xs ys in_first in_second w = retain_retain a b built count xs ys m n in_first in_second w
+compose_part a b built count some (RetainHead m) (DeleteHead n) xs ys in_first in_second w = retain_delete a b built count xs ys m n in_first in_second w
+compose_part a b built count some (InsertHead text) (RetainHead n) xs ys in_first in_second w = insert_retain a b built count xs ys text.now n in_first in_second w
+compose_part a b built count some (InsertHead text) (DeleteHead n) xs ys in_first in_second w = insert_delete a b built count xs ys text.now n in_first in_second w
+compose_part a b built count some (RetainHead m) (InsertHead text) xs ys in_first in_second w = absurd (omega (arith, in_second, some))
+compose_part a b built count some (RetainHead m) End xs ys in_first in_second w = absurd (omega (arith, in_second, some))
+compose_part a b built count some (InsertHead more) (InsertHead text) xs ys in_first in_second w = absurd (omega (arith, in_second, some))
+compose_part a b built count some (InsertHead more) End xs ys in_first in_second w = absurd (omega (arith, in_second, some))
+compose_part a b built count some (DeleteHead m) k xs ys in_first in_second w = absurd (omega (arith, in_first, some))
+compose_part a b built count some End k xs ys in_first in_second w = absurd (omega (arith, in_first, some))
+
+compose_done : {A : Type 0} (a b built : Operation A) → ComposeProgress a b built [] [] → built ≡ compose a b
+compose_done a b built w =
+    let base : built.base ≡ (compose a b).base = omega (arith, w.base) in
+    let image : built.image ≡ (compose a b).image = sym (append-nil built.image) ∙ w.image in
+    λ i. record { base = base i; image = image i }
+
+-- one side is used up
+pub compose_end :
+    {A : Type 0} (a b built : Operation A) (h k : Head A) (xs ys : List (Run A))
+    → ((count : ℕ) → h ≡ DeleteHead count → ⊥) → ((text : Bor (List A)) → k ≡ InsertHead text → ⊥)
+    → min (made_of h) (span_of k) ≡ 0 → ComposeProgress a b built (runs_from h xs) (runs_from k ys) → built ≡ compose a b
+compose_end a b built End End xs ys not_h not_k none w = compose_done a b built w
+compose_end a b built End (RetainHead n) xs ys not_h not_k none w = absurd (omega (arith, w.meets, w.second_normal.0))
+compose_end a b built End (InsertHead text) xs ys not_h not_k none w = absurd (not_k text refl)
+compose_end a b built End (DeleteHead n) xs ys not_h not_k none w = absurd (omega (arith, w.meets, w.second_normal.0))
+compose_end a b built (DeleteHead m) k xs ys not_h not_k none w = absurd (not_h m refl)
+compose_end a b built (RetainHead m) End xs ys not_h not_k none w = absurd (omega (arith, w.meets, w.first_normal.0))
+compose_end a b built (RetainHead m) (RetainHead n) xs ys not_h not_k none w = absurd (omega (arith, none, w.first_normal.0, w.second_normal.0))
+compose_end a b built (RetainHead m) (InsertHead text) xs ys not_h not_k none w = absurd (not_k text refl)
+compose_end a b built (RetainHead m) (DeleteHead n) xs ys not_h not_k none w = absurd (omega (arith, none, w.first_normal.0, w.second_normal.0))
+compose_end a b built (InsertHead text) End xs ys not_h not_k none w = absurd (omega (arith, w.meets, w.first_normal.0))
+compose_end a b built (InsertHead text) (RetainHead n) xs ys not_h not_k none w = absurd (omega (arith, none, w.first_normal.0, w.second_normal.0))
+compose_end a b built (InsertHead text) (InsertHead more) xs ys not_h not_k none w = absurd (not_k more refl)
+compose_end a b built (InsertHead text) (DeleteHead n) xs ys not_h not_k none w = absurd (omega (arith, none, w.first_normal.0, w.second_normal.0))
+
+-- the first's runs fall too
+pub size_skipped_made :
+    {A : Type 0} (count : ℕ) → 0 < count → (h : Head A) (xs : List (Run A)) → count ≤ made_of h
+    → runs_size (skipped_made count (runs_from h xs)) + count ≡ runs_size (runs_from h xs)
+size_skipped_made count some (RetainHead m) xs within = runs_size-skipped_retain count m xs within
+size_skipped_made {A} count some (InsertHead text) xs within = by (length text.now - count) (omega arith)
+  where
+    by : (m : ℕ) → length text.now ≡ count + m → runs_size (skipped_made count (Add text.now ∷ xs)) + count ≡ length text.now + runs_size xs
+    by zero e = rw (eq-eqb count (length text.now) (omega (arith, e))) (omega (arith, e))
+    by (suc m) e = rw (ne_eqb count (length text.now) (omega (arith, e))) (simp length-drop (omega (arith, e)))
+size_skipped_made count some (DeleteHead m) xs within = absurd (omega (arith, within, some))
+size_skipped_made count some End xs within = absurd (omega (arith, within, some))
+
+pub arm_delete :
+    {A : Type 0} (a b built built_next : Operation A) (at next : Cursor A) (ys : List (Run A)) (count : ℕ)
+    → at.head ≡ DeleteHead count → runs_left next ≡ map run_of at.rest.now → built_next ≡ appended built (Skip count)
+    → ComposeProgress a b built (runs_left at) ys → ComposeProgress a b built_next (runs_left next) ys
+arm_delete a b built built_next at next ys count head_is next_is built_is w =
+    let here : ComposeProgress a b built (Skip count ∷ map run_of at.rest.now) ys =
+    subst (λ head. ComposeProgress a b built (runs_from head (map run_of at.rest.now)) ys) head_is w in
+    rw (built_is, next_is) (compose_delete a b built count (map run_of at.rest.now) ys here)
+
+pub arm_insert :
+    {A : Type 0} (a b built built_next : Operation A) (xs : List (Run A)) (at next : Cursor A) (text : Bor (List A))
+    → at.head ≡ InsertHead text → runs_left next ≡ map run_of at.rest.now → built_next ≡ appended built (Add text.now)
+    → ComposeProgress a b built xs (runs_left at) → ComposeProgress a b built_next xs (runs_left next)
+arm_insert a b built built_next xs at next text head_is next_is built_is w =
+    let here : ComposeProgress a b built xs (Add text.now ∷ map run_of at.rest.now) =
+    subst (λ head. ComposeProgress a b built xs (runs_from head (map run_of at.rest.now))) head_is w in
+    rw (built_is, next_is) (compose_insert a b built text.now xs (map run_of at.rest.now) here)
+
+-- what is built is never longer than what comes out
+pub compose_fits :
+    {A : Type 0} (a b built : Operation A) (xs ys : List (Run A)) → ComposeProgress a b built xs ys
+    → (length built.image ≤ length (compose a b).image) × (built.base ≤ a.base)
+unfolding apply compose invert merge merged first_after second_after
+compose_fits a b built xs ys w = (
+  omega (arith, ap length w.image, length-append built.image (filter_map (item_in (image_from built.base xs)) (image_from 0 ys))),
+  omega (arith, w.base),
+)
+
+-- what the arms add is never too long
+
+pub record ComposeBounds {A : Type 0} (a b : Operation A) : Type 0 where
+  pub second_rises : IsOperation b
+  pub meets : length a.image ≡ b.base
+  pub base_fits : a.base ≤ 1000000
+  pub target_fits : length b.image ≤ 1000000
+
+pub bounds_of :
+    {A : Type 0} (a b : Operation A) → IsOperation b → length a.image ≡ b.base
+    → max a.base (length a.image) ≤ 1000000 → max b.base (length b.image) ≤ 1000000 → ComposeBounds a b
+bounds_of a b rises meets first_fits second_fits =
+    record { second_rises = rises; meets = meets; base_fits = omega (arith, first_fits); target_fits = omega (arith, second_fits) }
+
+small :
+    {A : Type 0} (a b built : Operation A) (xs ys : List (Run A)) → ComposeBounds a b → ComposeProgress a b built xs ys
+    → IsTooLong built → ⊥
+small a b built xs ys bounds w =
+    let fits = compose_fits a b built xs ys w in
+    let image_fits = fits.0 in
+    let base_fits = fits.1 in
+    λ long. omega (arith, image_fits, base_fits, length-compose a b bounds.second_rises (sym bounds.meets), long, bounds.base_fits, bounds.target_fits)
+
+pub small_delete :
+    {A : Type 0} (a b built : Operation A) (at : Cursor A) (ys : List (Run A)) (count : ℕ) → ComposeBounds a b
+    → at.head ≡ DeleteHead count → ComposeProgress a b built (runs_left at) ys → IsTooLong (with_delete built count) → ⊥
+small_delete a b built at ys count bounds head_is w =
+    small a b (with_delete built count) (map run_of at.rest.now) ys bounds
+    (compose_delete a b built count (map run_of at.rest.now) ys
+    (subst (λ head. ComposeProgress a b built (runs_from head (map run_of at.rest.now)) ys) head_is w))
+
+pub small_insert :
+    {A : Type 0} (a b built : Operation A) (xs : List (Run A)) (at : Cursor A) (text : Bor (List A)) → ComposeBounds a b
+    → at.head ≡ InsertHead text → ComposeProgress a b built xs (runs_left at) → IsTooLong (with_insert built text.now) → ⊥
+small_insert a b built xs at text bounds head_is w =
+    small a b (with_insert built text.now) xs (map run_of at.rest.now) bounds
+    (compose_insert a b built text.now xs (map run_of at.rest.now)
+    (subst (λ head. ComposeProgress a b built xs (runs_from head (map run_of at.rest.now))) head_is w))
+
+pub small_composed :
+    {A : Type 0} (a b built : Operation A) (count : ℕ) → ComposeBounds a b → 0 < count → (h k : Head A) (xs ys : List (Run A))
+    → count ≤ made_of h → count ≤ span_of k → ComposeProgress a b built (runs_from h xs) (runs_from k ys)
+    → IsTooLong (composed_part built h (keeps_of k) count) → ⊥
+small_composed a b built count bounds some h k xs ys in_first in_second w =
+    small a b (composed_part built h (keeps_of k) count) (skipped_made count (runs_from h xs)) (skipped count (runs_from k ys)) bounds
+    (compose_part a b built count some h k xs ys in_first in_second w)

@@ -1,0 +1,5 @@
+use Rattle.ot_algebra.proofs.LengthLaws.{compose_associates}
+use Rattle.ot_algebra.proofs.laws.compose_associates.Goals as goal
+
+pub returns : goal.returns
+returns g c = compose_associates

@@ -1,0 +1,5 @@
+use Rattle.ot_algebra.proofs.LengthLaws.{compose_fits}
+use Rattle.ot_algebra.proofs.laws.compose_fits.Goals as goal
+
+pub returns : goal.returns
+returns g c = compose_fits

@@ -1,0 +1,5 @@
+use Rattle.ot_algebra.proofs.SidesLaws.{transform_keeps_deletions}
+use Rattle.ot_algebra.proofs.laws.transform_keeps_deletions.Goals as goal
+
+pub returns : goal.returns
+returns g c = transform_keeps_deletions

@@ -1,0 +1,48 @@
+//! The algebra of text operations: composition and transformation, as in ot.js' `TextOperation`.
+//!
+//! An operation of `ot_text` is its base length and its *image*, the list of `Old i` and `New x` that it makes of a
+//! document: `[1,"a",-1]` on two characters is `Old 0, New a`. Over images
+//!
+//! - `compose(a, b)` is `b`'s image with each `Old j` replaced by item `j` of `a`'s, on `a`'s base;
+//! - `transform(a, b)` gives what `a` becomes after `b` and what `b` becomes after `a`. Both come from the *merge* of the two
+//!   images: at each place of the document first `a`'s new elements, then `b`'s, then the old element where both keep it.
+//!   `a` after `b` is that merge with everything that stands in `b`'s image as `Old` of its place there, and `b` after `a`
+//!   likewise over `a`'s.
+//!
+//! The code never looks at a character for itself, and makes no document. It goes over the components of both operations
+//! with two cursors, each at what is left of one component, and adds runs to what it builds:
+//!
+//! ```text
+//!               a  retain 5          insert "xy"   delete 2
+//!                  ───────┬─────
+//!                  done   │ at_a: Retain 2, rest: insert "xy", delete 2
+//!               b  retain 3   delete 4
+//!                  ────────── ┬──
+//!                    done     │ at_b: Delete 4, rest: none
+//! ```
+//!
+//! Each turn of a loop ends a component of `a` or `b`, so the cost is that of the components of both and of the text
+//! that is inserted: nothing is paid for each character that is kept or deleted.
+//!
+//! Contracts: `specs/Compose.antt` has `compose`, `specs/Merge.antt` has `merge`, `first_after` and `second_after`, and
+//! `specs/Laws.antt` the laws, each of which is the contract of a function in `laws`. `specs/Cursor.antt` serves the
+//! loops alone. To read: `composition::compose`, then `transformation::transform`, then `laws`.
+#![tactic(auto)]
+
+mod composition;
+mod cursor;
+mod laws;
+mod one_sided;
+mod transformation;
+
+pub use composition::compose;
+pub use laws::{
+    apply_keeps_order, compose_applies, compose_associates, compose_fits, compose_keeps_news,
+    invert_fits, invert_gives_back, transform_converges, transform_fits, transform_is_merge,
+    transform_keeps_deletions, transform_keeps_news, transform_keeps_sides, transform_meets,
+};
+pub use one_sided::transform_first;
+pub use transformation::transform;
+
+#[cfg(test)]
+mod tests;

@@ -1,0 +1,10 @@
+pub mod Ends
+pub mod Digits
+pub mod Texts
+pub mod Starts
+pub mod Running
+pub mod Known
+pub mod Listed
+pub mod Whole
+pub mod Spelled
+pub mod Read

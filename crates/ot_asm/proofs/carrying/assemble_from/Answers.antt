@@ -1,0 +1,15 @@
+use Rattle.std.proofs.Common.{refl, Ok, Err}
+use Rattle.ot_asm.proofs.Whole.{whole_outcome, whole_faultless, whole_end}
+use Rattle.ot_asm.proofs.carrying.assemble_from.Goals as goal
+
+pub returns-in-Ok-clause-ok : goal.returns-in-Ok-clause-ok
+returns-in-Ok-clause-ok g c = whole_outcome c.new-ahead.result.held (g.R.Read.remaining c.args.reader.now) (Ok c.in-Ok.schedule) c.new-ahead.ensures.held c.in-Ok.ensures.ok
+
+pub returns-in-Ok-clause-end : goal.returns-in-Ok-clause-end
+returns-in-Ok-clause-end g c = whole_end c.assemble_part.new.ahead.held (g.R.Read.remaining c.assemble_part.new.reader) (c.in-Ok.ensures.end refl)
+
+pub returns-in-Err-clause-err : goal.returns-in-Err-clause-err
+returns-in-Err-clause-err g c not_memory not_read = whole_outcome c.new-ahead.result.held (g.R.Read.remaining c.args.reader.now) (Err c.in-Err.fault) c.new-ahead.ensures.held (c.in-Err.ensures.err not_memory not_read)
+
+pub returns-in-Err-clause-faultless : goal.returns-in-Err-clause-faultless
+returns-in-Err-clause-faultless g c = whole_faultless c.new-ahead.result.held (g.R.Read.remaining c.args.reader.now) c.in-Err.fault.line c.new-ahead.ensures.held c.in-Err.ensures.faultless

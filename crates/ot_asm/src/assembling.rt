@@ -1,0 +1,68 @@
+//! From a text to a schedule.
+
+ghost use Rattle.std.specs.Prelude.{◌≡◌, ◌⊎◌, ◌∷◌, ◌+◌, ◌<◌, ℕ, Ok, Err, IfOk, IfErr, length};
+ghost use Rattle.line_reader.specs.Lines.{lines_of};
+ghost use Rattle.ot_isa.specs.Program.{IsProgram};
+ghost use Rattle.ot_asm.specs.Stepping.{ended, outcome, IsFaultlessBefore};
+ghost use Rattle.ot_asm.specs.Spelling.{Spells};
+
+use crate::body::Body;
+use crate::fault::{AsmFault, Kind};
+use crate::stepping::numbered_step;
+use line_reader::split_line;
+use ot_isa::Schedule;
+use std::alloc::Global;
+
+/// The first line of a text, and what is below it.
+fn first_line(text: &[u8]) -> (&[u8], &[u8])
+    requires { 0 < length text.now }
+    ensures lines { lines_of text.now ≡ result.0.now ∷ lines_of result.1.now }
+    ensures shorter { length result.1.now < length text.now }
+{
+    match split_line(text) {
+        Some(parts) => parts,
+        None => text.split_at(text.len()),
+    }
+}
+
+/// The schedule at the end of lines, where the next line would have this number.
+pub fn finished(body: Option<Body>, line: u64) -> Result<Schedule, AsmFault>
+    ensures ok { IfOk result (λ s. (lines : ℕ) → lines + 1 ≡ line → ended lines (Ok body) ≡ Ok s) }
+    ensures limits { IfOk result (λ s. IsProgram s) }
+    ensures err { IfErr result (λ f. (lines : ℕ) → lines + 1 ≡ line → ended lines (Ok body) ≡ Err f) }
+    ensures line { IfErr result (λ f. (f.line ≡ line) × (f.kind ≡ Kind.NoClients)) }
+{
+    match body {
+        Some(body) => {
+            let schedule = body.finish();
+            let _clients = schedule.clients();
+            Ok(schedule)
+        }
+        None => Err(AsmFault {
+            line,
+            kind: Kind::NoClients,
+        }),
+    }
+}
+
+/// The schedule that a text spells, or the fault of its first faulty line.
+pub fn assemble(alloc: Global, text: &str) -> Result<Schedule, AsmFault>
+    ensures ok { IfOk result (λ s. outcome text.now ≡ Ok s) }
+    ensures spells { IfOk result (λ s. Spells text.now s) }
+    ensures err { IfErr result (λ f. (f.kind ≡ Kind.Memory) ⊎ (outcome text.now ≡ Err f)) }
+    ensures faultless { IfErr result (λ f. IsFaultlessBefore (lines_of text.now) f.line) }
+{
+    let mut body: Option<Body> = None;
+    let mut rest = text.as_bytes();
+    let mut line = 1;
+    while !rest.is_empty() {
+        let (first, below) = first_line(rest);
+        match numbered_step(alloc, &mut body, first, line) {
+            Ok(()) => {}
+            Err(fault) => return Err(fault),
+        }
+        rest = below;
+        line += 1;
+    }
+    finished(body, line)
+}

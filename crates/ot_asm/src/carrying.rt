@@ -1,0 +1,114 @@
+//! From the lines of a reader to a schedule.
+
+ghost use Rattle.std.specs.Prelude.{◌≡◌, ◌≢◌, ◌+◌, ◌<◌, ◌^◌, ℕ, true, false, Ok, Err, IfOk, IfErr, IfSome, OnOk, length};
+ghost use Rattle.std.specs.Io.KnownBytes.{IsAtEnd};
+ghost use Rattle.line_reader.specs.Lines.{lines_of};
+ghost use Rattle.line_reader.specs.Taken.{may_take, before};
+ghost use Rattle.ot_asm.specs.Stepping.{ended, outcome, outcome_of_lines, IsFaultlessBefore};
+ghost use Rattle.ot_asm.specs.Parts.{lines_before, TakesPart, StopsIn};
+
+use crate::assembling::finished;
+use crate::body::Body;
+use crate::fault::{AsmFault, Kind};
+use crate::marks::ends_part;
+use crate::stepping::numbered_step;
+use line_reader::{LineFault, ReadAhead};
+use ot_isa::Schedule;
+use std::alloc::Global;
+use std::io::Read;
+
+/// The schedule at the end of lines, and how many lines were taken.
+fn finished_part(body: Option<Body>, line: u64, taken: u64) -> Result<(Schedule, u64), AsmFault>
+    ensures ok { IfOk result (λ p. (lines : ℕ) → lines + 1 ≡ line → ended lines (Ok body) ≡ Ok p.0) }
+    ensures taken { IfOk result (λ p. p.1 ≡ taken) }
+    ensures err { IfErr result (λ f. (lines : ℕ) → lines + 1 ≡ line → ended lines (Ok body) ≡ Err f) }
+    ensures line { IfErr result (λ f. (f.line ≡ line) × (f.kind ≡ Kind.NoClients)) }
+{
+    match finished(body, line) {
+        Ok(schedule) => Ok((schedule, taken)),
+        Err(fault) => Err(fault),
+    }
+}
+
+/// What the lines as far as the first mark make, where marks count, or all lines; and how many lines were taken, the
+/// mark among them.
+fn assemble_part<R: Read>(
+    alloc: Global,
+    ahead: &mut ReadAhead,
+    reader: &mut R,
+    marked: bool,
+) -> Result<(Schedule, u64), AsmFault>
+    ensures ok { IfOk result (λ p. IfSome (before ahead.old (R.remaining reader.old)) (λ text. outcome_of_lines (lines_before marked (lines_of text)) ≡ Ok p.0)) }
+    ensures part { IfOk result (λ p. TakesPart marked (before ahead.old (R.remaining reader.old)) (before ahead.new (R.remaining reader.new)) p.1) }
+    ensures end { OnOk result (marked ≡ false → IsAtEnd (before ahead.new (R.remaining reader.new))) }
+    ensures short { OnOk result (marked ≡ false → IfSome (before ahead.old (R.remaining reader.old)) (λ text. length text < may_take ahead.old)) }
+    ensures err { IfErr result (λ f. f.kind ≢ Kind.Memory → f.kind ≢ Kind.ReadFault → IfSome (before ahead.old (R.remaining reader.old)) (λ text. outcome_of_lines (lines_before marked (lines_of text)) ≡ Err f)) }
+    ensures faultless { IfErr result (λ f. IfSome (before ahead.old (R.remaining reader.old)) (λ text. IsFaultlessBefore (lines_before marked (lines_of text)) f.line)) }
+    ensures stop { IfErr result (λ f. f.kind ≡ Kind.ReadFault → StopsIn (before ahead.old (R.remaining reader.old)) (R.remaining reader.new) f.line) }
+{
+    let _most = ahead.may_take();
+    let mut piece = Vec::new(alloc);
+    let mut body: Option<Body> = None;
+    let mut line = 1;
+    loop {
+        match ahead.next_line(reader, &mut piece) {
+            Ok(true) => {}
+            Ok(false) => {
+                return finished_part(body, line, line - 1);
+            }
+            Err(LineFault::ReadFault) => {
+                return Err(AsmFault {
+                    line,
+                    kind: Kind::ReadFault,
+                });
+            }
+            Err(LineFault::Memory) => {
+                return Err(AsmFault {
+                    line,
+                    kind: Kind::Memory,
+                });
+            }
+        }
+        if ends_part(marked, piece.as_slice()) {
+            return finished_part(body, line, line);
+        }
+        match numbered_step(alloc, &mut body, piece.as_slice(), line) {
+            Ok(()) => {}
+            Err(fault) => return Err(fault),
+        }
+        line += 1;
+    }
+}
+
+/// The schedule that the bytes of a reader spell, or the fault of the first faulty line; `ReadFault`, where no line
+/// before was faulty, once a read failed or 2^50 bytes were read.
+pub fn assemble_from<R: Read>(alloc: Global, reader: &mut R) -> Result<Schedule, AsmFault>
+    ensures ok { IfOk result (λ s. IfSome (R.remaining reader.old) (λ text. outcome text ≡ Ok s)) }
+    ensures short { OnOk result (IfSome (R.remaining reader.old) (λ text. length text < 2 ^ 50)) }
+    ensures end { OnOk result (IsAtEnd (R.remaining reader.new)) }
+    ensures err { IfErr result (λ f. f.kind ≢ Kind.Memory → f.kind ≢ Kind.ReadFault → IfSome (R.remaining reader.old) (λ text. outcome text ≡ Err f)) }
+    ensures faultless { IfErr result (λ f. IfSome (R.remaining reader.old) (λ text. IsFaultlessBefore (lines_of text) f.line)) }
+    ensures stop { IfErr result (λ f. f.kind ≡ Kind.ReadFault → StopsIn (R.remaining reader.old) (R.remaining reader.new) f.line) }
+{
+    let mut ahead = ReadAhead::new();
+    match assemble_part(alloc, &mut ahead, reader, false) {
+        Ok((schedule, _)) => Ok(schedule),
+        Err(fault) => Err(fault),
+    }
+}
+
+/// The schedule that the lines of a reader as far as the first line `%%` spell, and how many lines were taken, that
+/// line among them. The lines behind it stay with `ahead` and the reader.
+pub fn assemble_until_mark<R: Read>(
+    alloc: Global,
+    ahead: &mut ReadAhead,
+    reader: &mut R,
+) -> Result<(Schedule, u64), AsmFault>
+    ensures ok { IfOk result (λ p. IfSome (before ahead.old (R.remaining reader.old)) (λ text. outcome_of_lines (lines_before true (lines_of text)) ≡ Ok p.0)) }
+    ensures part { IfOk result (λ p. TakesPart true (before ahead.old (R.remaining reader.old)) (before ahead.new (R.remaining reader.new)) p.1) }
+    ensures err { IfErr result (λ f. f.kind ≢ Kind.Memory → f.kind ≢ Kind.ReadFault → IfSome (before ahead.old (R.remaining reader.old)) (λ text. outcome_of_lines (lines_before true (lines_of text)) ≡ Err f)) }
+    ensures faultless { IfErr result (λ f. IfSome (before ahead.old (R.remaining reader.old)) (λ text. IsFaultlessBefore (lines_before true (lines_of text)) f.line)) }
+    ensures stop { IfErr result (λ f. f.kind ≡ Kind.ReadFault → StopsIn (before ahead.old (R.remaining reader.old)) (R.remaining reader.new) f.line) }
+{
+    assemble_part(alloc, ahead, reader, true)
+}

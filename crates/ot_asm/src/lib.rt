@@ -1,0 +1,49 @@
+//! Schedules as text, both ways.
+//!
+//! A text is split at LF. A line, once one CR at its end and then blanks at both ends are dropped, is passed over where
+//! it is empty or begins with `;`; any other line is words:
+//!
+//! ```text
+//! clients 2                  the first line that counts: 1 to 64 clients
+//! present 1                  optional, directly below: how many are there from the start, all by default
+//! start "x"                  optional, below these: the start text, a JSON string
+//! edit 0 [1,"a"]             instructions: an edit with its operation as JSON, by `ot_json::read_op`
+//! take 0                     .. and deliver, ack, read, join, each with a client's number
+//! read-server
+//! ```
+//!
+//! `assemble` and `assemble_from` go over the lines once, from the first, and stop at the first faulty one. The schedule
+//! so far is a `Body` (none before the line `clients`); `line_step` says what one line makes of it. So every answer is
+//! about `run` over the list of lines, and `disassemble` gives the canonical text, which is `canonical`.
+//!
+//! The contracts' words: `specs/Words.antt` and `Numbers.antt` (what a line holds), `Stepping.antt` (what a line does, in
+//! the order of its faults; `outcome`, the schedule of a text or its first fault), `Spelling.antt` (`Spells`, a text and
+//! its schedule, without any order of reading), `Canonical.antt`, `Parts.antt` (an input of a schedule, a line `%%` and
+//! commands). Begin with `assemble` in `assembling.rt`, then `stepping.rt` and `body.rt`.
+#![tactic(auto)]
+
+mod assembling;
+mod body;
+mod carrying;
+mod disassembling;
+mod fault;
+mod json_text;
+mod keyword;
+mod laws;
+mod lines;
+mod marks;
+mod number;
+mod place;
+mod stepping;
+mod words;
+mod writing;
+
+pub use assembling::assemble;
+pub use carrying::{assemble_from, assemble_until_mark};
+pub use disassembling::disassemble;
+pub use fault::{AsmFault, Kind};
+pub use laws::spells_at_most_one;
+pub use writing::{WriteStop, disassemble_to};
+
+#[cfg(test)]
+mod tests;

@@ -1,0 +1,110 @@
+-- A client: what it waits for, and what edits, deliveries and acknowledgements do to it.
+use Rattle.std.specs.Prelude.{◌≡◌, ℕ, suc, ◌+◌, ◌≤◌, length, Option, Some, None}
+use Rattle.ot_text.specs.Operation.{Operation, news}
+use Rattle.ot_algebra.specs.Compose.{compose}
+use Rattle.ot_algebra.specs.Merge.{first_after, second_after}
+
+-- nothing under way; an operation sent and not yet confirmed; that and a buffer of later edits
+pub data Phase (A : Type 0) : Type 0 where
+  Synchronized : Phase A
+  AwaitingConfirm : Operation A → Phase A
+  AwaitingWithBuffer : Operation A → Operation A → Phase A
+
+-- a client: how many entries of the server's log it has, and what it waits for
+pub record State (A : Type 0) : Type 0 where
+  pub revision : ℕ
+  pub phase : Phase A
+
+-- an operation for the server, over the document at a revision
+pub record Message (A : Type 0) : Type 0 where
+  pub revision : ℕ
+  pub op : Operation A
+
+-- the user's own edit: it goes to the server, or waits in the buffer
+abbrev pub phase_edited : {A : Type 0} → Phase A → Operation A → Phase A
+phase_edited Synchronized op = AwaitingConfirm op
+phase_edited (AwaitingConfirm outstanding) op = AwaitingWithBuffer outstanding op
+phase_edited (AwaitingWithBuffer outstanding buffer) op = AwaitingWithBuffer outstanding (compose buffer op)
+
+-- the client after the user's edit
+abbrev pub edited : {A : Type 0} → State A → Operation A → State A
+edited state op = record { revision = state.revision; phase = phase_edited state.phase op }
+
+-- another's operation from the server: what waits goes after it
+abbrev pub phase_delivered : {A : Type 0} → Phase A → Operation A → Phase A
+phase_delivered Synchronized op = Synchronized
+phase_delivered (AwaitingConfirm outstanding) op = AwaitingConfirm (first_after outstanding op)
+phase_delivered (AwaitingWithBuffer outstanding buffer) op =
+    AwaitingWithBuffer (first_after outstanding op) (first_after buffer (second_after outstanding op))
+
+-- the client after another's operation, the next entry of the log
+abbrev pub delivered : {A : Type 0} → State A → Operation A → State A
+delivered state op = record { revision = suc state.revision; phase = phase_delivered state.phase op }
+
+-- what the client applies: the operation after all that waits
+abbrev pub carried : {A : Type 0} → Phase A → Operation A → Operation A
+carried Synchronized op = op
+carried (AwaitingConfirm outstanding) op = second_after outstanding op
+carried (AwaitingWithBuffer outstanding buffer) op = second_after buffer (second_after outstanding op)
+
+-- an acknowledgement: what was outstanding is in the server's log, and the buffer is sent; nothing is where nothing was sent
+abbrev pub phase_acknowledged : {A : Type 0} → Phase A → Option (Phase A)
+phase_acknowledged Synchronized = None
+phase_acknowledged (AwaitingConfirm outstanding) = Some Synchronized
+phase_acknowledged (AwaitingWithBuffer outstanding buffer) = Some (AwaitingConfirm buffer)
+
+-- what an edit sends, and what an acknowledgement sends that leaves the client at a revision
+abbrev pub message_edited : {A : Type 0} → ℕ → Phase A → Operation A → Option (Message A)
+message_edited revision Synchronized op = Some (record { revision = revision; op = op })
+message_edited revision (AwaitingConfirm outstanding) op = None
+message_edited revision (AwaitingWithBuffer outstanding buffer) op = None
+
+abbrev pub message_acknowledged : {A : Type 0} → ℕ → Phase A → Option (Message A)
+message_acknowledged revision Synchronized = None
+message_acknowledged revision (AwaitingConfirm outstanding) = None
+message_acknowledged revision (AwaitingWithBuffer outstanding buffer) = Some (record { revision = revision; op = buffer })
+
+-- what an edit asks: that it is over the client's document
+abbrev pub MayEdit : {A : Type 0} → Phase A → Operation A → Type 0
+MayEdit Synchronized op = Unit {0}
+MayEdit (AwaitingConfirm outstanding) op = op.base ≡ length outstanding.image
+MayEdit (AwaitingWithBuffer outstanding buffer) op = op.base ≡ length buffer.image
+
+-- what a delivery asks: one base, and room for all that is inserted
+abbrev pub MayDeliver : {A : Type 0} → Phase A → Operation A → Type 0
+MayDeliver Synchronized op = Unit {0}
+MayDeliver (AwaitingConfirm outstanding) op =
+    (op.base ≡ outstanding.base) × (op.base + length (news outstanding.image) + length (news op.image) ≤ 1000000)
+MayDeliver (AwaitingWithBuffer outstanding buffer) op =
+    (op.base ≡ outstanding.base)
+    × (op.base + length (news outstanding.image) + length (news buffer.image) + length (news op.image) ≤ 1000000)
+
+-- what an acknowledgement asks: that something was sent
+abbrev pub IsAwaiting : {A : Type 0} → Phase A → Type 0
+IsAwaiting Synchronized = ⊥
+IsAwaiting (AwaitingConfirm outstanding) = Unit {0}
+IsAwaiting (AwaitingWithBuffer outstanding buffer) = Unit {0}
+
+-- the values of the three types of client, each a state
+pub record Confirming (A : Type 0) : Type 0 where
+  pub revision : ℕ
+  pub outstanding : Operation A
+
+pub record Buffering (A : Type 0) : Type 0 where
+  pub revision : ℕ
+  pub outstanding : Operation A
+  pub buffer : Operation A
+
+-- the three values as states
+abbrev pub synchronized : {A : Type 0} → ℕ → State A
+synchronized revision = record { revision = revision; phase = Synchronized }
+
+abbrev pub confirming : {A : Type 0} → Confirming A → State A
+confirming client = record { revision = client.revision; phase = AwaitingConfirm client.outstanding }
+
+abbrev pub buffering : {A : Type 0} → Buffering A → State A
+buffering client = record { revision = client.revision; phase = AwaitingWithBuffer client.outstanding client.buffer }
+
+-- the buffer is over what the outstanding operation makes
+abbrev pub IsJoined : {A : Type 0} → Buffering A → Type 0
+IsJoined client = client.buffer.base ≡ length client.outstanding.image

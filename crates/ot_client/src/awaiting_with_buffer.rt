@@ -1,0 +1,149 @@
+// A client of which one operation is under way, with later edits.
+ghost use Rattle.std.specs.Prelude.{◌≡◌, ◌+◌, ◌<◌, ◌≤◌, length, IfOk, IfErr};
+ghost use Rattle.ot_text.specs.Operation.{news};
+ghost use Rattle.ot_client.specs.Client.{message_of};
+ghost use Rattle.ot_client.specs.State.{buffering, carried, confirming, delivered, edited, IsJoined};
+
+use crate::{AwaitingConfirm, Sent};
+use ot_algebra::{compose, transform};
+use ot_text::{Element, TextOp};
+use std::alloc::AllocError;
+use std::marker::Model;
+
+/// A client that has sent an operation, which the server has not yet confirmed, and has edits after it (`AwaitingWithBuffer` of ot.js).
+#[derive(Drop)]
+pub struct AwaitingWithBuffer<T> {
+    revision: u32,
+    outstanding: TextOp<T>,
+    buffer: TextOp<T>,
+}
+
+impl<T> Model for AwaitingWithBuffer<T> {
+    ghost use Rattle.ot_client.specs.State.{Buffering};
+
+    ghost Value = { Buffering T };
+
+    ghost use Rattle.ot_client.specs.State.{IsJoined};
+
+    ghost view = { λ s. record { revision = s.revision; outstanding = s.outstanding; buffer = s.buffer } };
+
+    ghost invariant = { λ s. IsJoined (record { revision = s.revision; outstanding = s.outstanding; buffer = s.buffer }) };
+}
+
+impl<T: Element> AwaitingWithBuffer<T> {
+    // The client that has sent this operation and keeps these edits.
+    pub(crate) fn new(
+        revision: u32,
+        outstanding: TextOp<T>,
+        buffer: TextOp<T>,
+    ) -> AwaitingWithBuffer<T>
+        requires { buffer.base ≡ length outstanding.image }
+        ensures { result ≡ record { revision = revision; outstanding = outstanding; buffer = buffer } }
+    {
+        AwaitingWithBuffer {
+            revision,
+            outstanding,
+            buffer,
+        }
+    }
+
+    /// How many entries of the server's log the client has.
+    pub fn revision(&self) -> u32
+        ensures { result ≡ self.now.revision }
+    {
+        self.revision
+    }
+
+    /// The operation that was sent, over the server's document at the client's revision.
+    pub fn outstanding(&self) -> &TextOp<T>
+        ensures { result.now ≡ self.now.outstanding }
+    {
+        &self.outstanding
+    }
+
+    /// The edits since, as one operation over what the outstanding operation makes.
+    pub fn buffer(&self) -> &TextOp<T>
+        ensures value { result.now ≡ self.now.buffer }
+        ensures joined { IsJoined self.now }
+    {
+        &self.buffer
+    }
+
+    /// A client equal to this one, or want of memory.
+    pub fn copy(&self) -> Result<AwaitingWithBuffer<T>, AllocError>
+        ensures { IfOk result (λ client. client ≡ self.now) }
+    {
+        Ok(AwaitingWithBuffer {
+            revision: self.revision,
+            outstanding: self.outstanding.copy()?,
+            buffer: self.buffer.copy()?,
+        })
+    }
+
+    /// Takes the user's edit, over what the buffer makes: it is composed into the buffer. For want of memory the client and the edit come back.
+    pub fn edit(
+        self,
+        op: TextOp<T>,
+    ) -> Result<AwaitingWithBuffer<T>, (AwaitingWithBuffer<T>, TextOp<T>)>
+        requires { op.base ≡ length self.buffer.image }
+        ensures state { IfOk result (λ client. buffering client ≡ edited (buffering self) op) }
+        ensures back { IfErr result (λ back. back ≡ (self, op)) }
+    {
+        let alloc = self.buffer.allocator();
+        let Ok(buffer) = compose(alloc, &self.buffer, &op) else {
+            return Err((self, op));
+        };
+        Ok(AwaitingWithBuffer {
+            revision: self.revision,
+            outstanding: self.outstanding,
+            buffer,
+        })
+    }
+
+    /// Takes the next entry of the server's log, an operation of another client over the base of the outstanding one: the outstanding operation goes
+    /// after it, the buffer after what that leaves of it, and what the document is to be changed by comes back. The revision, below 1,000,000, rises by
+    /// 1. The base and what all three insert are at most 1,000,000 items together. For want of memory the client and the operation come back.
+    pub fn deliver(
+        self,
+        op: TextOp<T>,
+    ) -> Result<(AwaitingWithBuffer<T>, TextOp<T>), (AwaitingWithBuffer<T>, TextOp<T>)>
+        requires revision { self.revision < 1000000 }
+        requires base { op.base ≡ self.outstanding.base }
+        requires fits { op.base + length (news self.outstanding.image) + length (news self.buffer.image) + length (news op.image) ≤ 1000000 }
+        ensures state { IfOk result (λ given. buffering given.0 ≡ delivered (buffering self) op) }
+        ensures applied { IfOk result (λ given. given.1 ≡ carried (buffering self).phase op) }
+        ensures back { IfErr result (λ back. back ≡ (self, op)) }
+    {
+        let alloc = self.buffer.allocator();
+        let _operation = self.outstanding.base_len();
+        let _operation = op.base_len();
+        let Ok((outstanding, passed)) = transform(alloc, &self.outstanding, &op) else {
+            return Err((self, op));
+        };
+        let Ok((buffer, applied)) = transform(alloc, &self.buffer, &passed) else {
+            return Err((self, op));
+        };
+        let next = AwaitingWithBuffer {
+            revision: self.revision + 1,
+            outstanding,
+            buffer,
+        };
+        Ok((next, applied))
+    }
+
+    /// Takes the confirmation of the operation that was sent: the revision, below 1,000,000, rises by 1, and the buffer is sent with the risen
+    /// revision and outstanding from now on. For want of memory the client comes back.
+    pub fn acknowledge(self) -> Result<(AwaitingConfirm<T>, Sent<T>), AwaitingWithBuffer<T>>
+        requires { self.revision < 1000000 }
+        ensures state { IfOk result (λ given. given.0 ≡ record { revision = self.revision + 1; outstanding = self.buffer }) }
+        ensures sent { IfOk result (λ given. message_of given.1 ≡ record { revision = self.revision + 1; op = self.buffer }) }
+        ensures back { IfErr result (λ back. back ≡ self) }
+    {
+        let Ok(copy) = self.buffer.copy() else {
+            return Err(self);
+        };
+        let revision = self.revision + 1;
+        let sent = Sent { revision, op: copy };
+        Ok((AwaitingConfirm::new(revision, self.buffer), sent))
+    }
+}

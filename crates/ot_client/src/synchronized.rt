@@ -1,0 +1,78 @@
+// A client of which nothing is under way.
+ghost use Rattle.std.specs.Prelude.{◌≡◌, ◌<◌, IfOk, IfErr};
+ghost use Rattle.ot_client.specs.Client.{message_of};
+ghost use Rattle.ot_client.specs.State.{confirming, delivered, edited, synchronized};
+
+use crate::{AwaitingConfirm, Sent};
+use ot_text::{Element, TextOp};
+use std::marker::Model;
+
+/// A client whose document is the server's at its revision: nothing of its own is under way (`Synchronized` of ot.js).
+#[derive(Drop)]
+pub struct Synchronized {
+    revision: u32,
+}
+
+impl Model for Synchronized {
+    ghost use Rattle.std.specs.Prelude.{ℕ};
+
+    ghost Value = { ℕ };
+
+    ghost view = { λ s. s.revision };
+}
+
+impl Synchronized {
+    /// The client at this revision, counted in entries of the server's log. It takes no memory.
+    pub fn new(revision: u32) -> Synchronized
+        ensures { result ≡ revision }
+    {
+        Synchronized { revision }
+    }
+
+    /// How many entries of the server's log the client has.
+    pub fn revision(&self) -> u32
+        ensures { result ≡ self.now }
+    {
+        self.revision
+    }
+
+    /// A client equal to this one. It takes no memory.
+    pub fn copy(&self) -> Synchronized
+        ensures { result ≡ self.now }
+    {
+        Synchronized::new(self.revision)
+    }
+
+    /// Takes the user's edit, which is in the user's document already: it is sent with the client's revision, and outstanding from now on. For want
+    /// of memory the client and the edit come back.
+    pub fn edit<T: Element>(
+        self,
+        op: TextOp<T>,
+    ) -> Result<(AwaitingConfirm<T>, Sent<T>), (Synchronized, TextOp<T>)>
+        ensures state { IfOk result (λ given. confirming given.0 ≡ edited (synchronized self) op) }
+        ensures sent { IfOk result (λ given. message_of given.1 ≡ record { revision = self; op = op }) }
+        ensures back { IfErr result (λ back. back ≡ (self, op)) }
+    {
+        let Ok(copy) = op.copy() else {
+            return Err((self, op));
+        };
+        let sent = Sent {
+            revision: self.revision,
+            op: copy,
+        };
+        Ok((AwaitingConfirm::new(self.revision, op), sent))
+    }
+
+    /// Takes the next entry of the server's log, an operation of another client, and gives what the document is to be changed by: the operation as
+    /// it came. The revision, below 1,000,000, rises by 1. It takes no memory.
+    pub fn deliver<T: Element>(self, op: TextOp<T>) -> (Synchronized, TextOp<T>)
+        requires { self < 1000000 }
+        ensures state { synchronized result.0 ≡ delivered (synchronized self) op }
+        ensures applied { result.1 ≡ op }
+    {
+        let next = Synchronized {
+            revision: self.revision + 1,
+        };
+        (next, op)
+    }
+}

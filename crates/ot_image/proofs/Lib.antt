@@ -1,0 +1,12 @@
+pub mod Loop
+pub mod Onward
+pub mod Fields
+pub mod Steps
+pub mod Spelled
+pub mod Premises
+pub mod Components
+pub mod Operations
+pub mod Instructions
+pub mod Images
+pub mod Written
+pub mod Examples

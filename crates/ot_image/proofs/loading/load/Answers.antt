@@ -1,0 +1,30 @@
+use Rattle.std.proofs.Common.{◌≡◌, ◌⊎◌, ℕ, List, Result, Ok, Err, sym, ◌∙◌, arith, inl, inr}
+use Rattle.std.specs.Prelude.{IfOk, IfErr}
+use Rattle.ot_isa.specs.Program.{Program, IsProgram}
+use Rattle.ot_image.specs.declared.fault.ImageFault.{ImageFault}
+use Rattle.ot_image.specs.declared.fault.Kind.TheVariants.{Memory}
+use Rattle.ot_image.specs.Reading.{image_of}
+use Rattle.ot_image.specs.Spelling.{IsImageOf}
+use Rattle.ot_image.proofs.Fields.{ok_is}
+use Rattle.ot_image.proofs.Spelled.{IsBytes}
+use Rattle.ot_image.proofs.Images.{image_found, image_only}
+use Rattle.ot_image.proofs.loading.load.Goals as goal
+
+is_found : (bytes : List ℕ) (r : Result Program ImageFault) → IsBytes bytes → IfOk r (λ s. IsProgram s) → IfOk r (λ s. image_of bytes ≡ Ok s) → IfOk r (λ s. IsImageOf bytes s)
+is_found bytes (Ok s) fits is read = (is, image_found bytes s fits read)
+is_found bytes (Err f) fits is read = tt
+
+is_only : (bytes : List ℕ) (r : Result Program ImageFault) (p : Program) → IsImageOf bytes p → IfOk r (λ s. image_of bytes ≡ Ok s) → IfErr r (λ f. (f.kind ≡ Memory) ⊎ (image_of bytes ≡ Err f))
+    → IfOk r (λ s. s ≡ p) × IfErr r (λ f. f.kind ≡ Memory)
+is_only bytes (Ok s) p is read err = (ok_is s p (sym read ∙ image_only bytes p is), tt)
+is_only bytes (Err f) p is read (inl memory) = (tt, memory)
+is_only bytes (Err f) p is read (inr fault) = (tt, absurd (ok_err p f (sym (image_only bytes p is) ∙ fault)))
+  where
+    ok_err : (q : Program) (g : ImageFault) → ◌≡◌ {A = Result Program ImageFault} (Ok q) (Err g) → ⊥
+    ok_err q g e = absurd cc
+
+pub returns-clause-found : goal.returns-clause-found
+returns-clause-found c = is_found c.args.bytes.now c.loaded.result (λ i. omega (arith, c.type_inv.bytes i)) c.loaded.ensures.limits c.loaded.ensures.ok
+
+pub returns-clause-only : goal.returns-clause-only
+returns-clause-only c = λ p is. is_only c.args.bytes.now c.loaded.result p is c.loaded.ensures.ok c.loaded.ensures.err

@@ -1,0 +1,5 @@
+pub mod Lists
+pub mod TagLists
+pub mod TagSteps
+pub mod ScalarLists
+pub mod Examples

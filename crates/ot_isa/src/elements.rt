@@ -1,0 +1,26 @@
+//! Characters, each told from all others by who made it.
+
+use ot_text::Element;
+
+/// Who made a character, and its number among all that its maker made. In a run no tag stands twice.
+#[derive(Clone, Copy, Debug, PartialEq, Eq)]
+pub struct Tag {
+    /// The client's number, or 65,535 for the start text.
+    pub origin: u16,
+    /// Counted from 0: over the start text by place, over a client's insertions in the order of its edits and within
+    /// an edit from left to right.
+    pub serial: u32,
+}
+
+/// A character with its tag. Two of them are equal where both are.
+#[derive(Clone, Copy, Debug, PartialEq, Eq)]
+pub struct Tagged {
+    pub ch: char,
+    pub tag: Tag,
+}
+
+impl Element for Tagged {
+    ghost use Rattle.std.proofs.Common.{rules};
+
+    ghost equal_is_same = { Prim.search rules };
+}

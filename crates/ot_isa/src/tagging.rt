@@ -1,0 +1,96 @@
+//! Operations and documents over tagged characters.
+
+ghost use Rattle.std.specs.Prelude.{◌≡◌, ◌+◌, ◌≤◌, length, IfOk};
+ghost use Rattle.std.specs.Str.{encode_utf8_all};
+ghost use Rattle.std.specs.String.{string_bytes};
+ghost use Rattle.ot_text.specs.Operation.{news};
+ghost use Rattle.ot_text.specs.Run.{base_of, image_from, operation_of};
+ghost use Rattle.ot_text.specs.Components.{runs};
+ghost use Rattle.ot_isa.specs.Tagging.{tagged_chars, tagged_operation, chars_of, HasNoTagTwice};
+
+use crate::elements::{Tag, Tagged};
+use ot_text::{Component, Doc, TextOp, only_memory};
+use std::alloc::{AllocError, Global};
+
+/// The maker of the start text, which is no client's number.
+pub const START_ORIGIN: u16 = 65_535;
+
+fn tagged_text(
+    alloc: Global,
+    text: &[char],
+    origin: u16,
+    first: u32,
+) -> Result<Vec<Tagged>, AllocError>
+    requires { first + length text.now ≤ 40000 }
+    ensures { IfOk result (λ v. v.items ≡ tagged_chars origin first text.now) }
+{
+    let mut items = Vec::new(alloc);
+    let mut serial = first;
+    for ch in text {
+        let tag = Tag { origin, serial };
+        items.push(Tagged { ch: *ch, tag })?;
+        serial += 1;
+    }
+    Ok(items)
+}
+
+fn tagged_components(
+    alloc: Global,
+    components: &[Component<char>],
+    origin: u16,
+    first: u32,
+) -> Result<TextOp<Tagged>, AllocError>
+    requires serials { first + length (news (image_from 0 (runs components.now))) ≤ 15000 }
+    requires base { base_of (runs components.now) ≤ 1000000 }
+    requires target { length (image_from 0 (runs components.now)) ≤ 1000000 }
+    ensures { IfOk result (λ op. op ≡ tagged_operation (operation_of (runs components.now)) origin first) }
+{
+    let mut op = TextOp::new(alloc);
+    let mut serial = first;
+    for component in components {
+        match component {
+            Component::Retain(count) => only_memory(op.retain(*count))?,
+            Component::Insert(text) => {
+                let items = tagged_text(alloc, text.as_slice(), origin, serial)?;
+                only_memory(op.insert(items.as_slice()))?;
+                serial += text.len() as u32;
+            }
+            Component::Delete(count) => only_memory(op.delete(*count))?,
+        }
+    }
+    Ok(op)
+}
+
+/// The operation over tagged characters: what it inserts is of this maker, numbered from `first` on from left to
+/// right; what it keeps and deletes stays. A client makes at most 15,000 characters.
+pub fn tagged(
+    alloc: Global,
+    op: &TextOp<char>,
+    origin: u16,
+    first: u32,
+) -> Result<TextOp<Tagged>, AllocError>
+    requires { first + length (news op.now.image) ≤ 15000 }
+    ensures { IfOk result (λ t. t ≡ tagged_operation op.now origin first) }
+{
+    let _base = op.base_len();
+    let _target = op.target_len();
+    tagged_components(alloc, op.components(), origin, first)
+}
+
+/// The document that a run starts with: the characters are tagged 65,535:0, 65,535:1, and so on.
+pub fn start_doc(alloc: Global, start: &[char]) -> Result<Doc<Tagged>, AllocError>
+    requires { length start.now ≤ 40000 }
+    ensures value { IfOk result (λ d. d ≡ tagged_chars 65535 0 start.now) }
+    ensures tags { IfOk result (λ d. HasNoTagTwice d) }
+{
+    let items = tagged_text(alloc, start, START_ORIGIN, 0)?;
+    Doc::from_slice(alloc, items.as_slice())
+}
+
+/// The document's text without the tags, in UTF-8.
+pub fn plain(alloc: Global, document: &Doc<Tagged>) -> Result<String, AllocError>
+    ensures { IfOk result (λ s. string_bytes s ≡ encode_utf8_all (chars_of document.now)) }
+{
+    let items = document.to_vec()?;
+    items.iter().map(|item| item.ch).collect(alloc)
+}

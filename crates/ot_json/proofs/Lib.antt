@@ -1,0 +1,5 @@
+mod Added
+pub mod RoundTrip
+pub mod Built
+mod Counted
+pub mod Faults

@@ -1,0 +1,12 @@
+pub mod RowLaws
+pub mod Sweeps
+pub mod Carrying
+pub mod Taking
+pub mod Accepting
+pub mod Delivering
+pub mod Acknowledging
+pub mod Joining
+pub mod Opening
+pub mod Reading
+pub mod Stopping
+pub mod RunLaws

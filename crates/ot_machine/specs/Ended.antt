@@ -1,0 +1,32 @@
+-- What a run of a schedule ends with.
+use Rattle.std.specs.Prelude.{◌≡◌, ℕ, ◌<◌, Option, Some, None, length, slice_get}
+use Rattle.ot_isa.specs.Program.{Program}
+use Rattle.ot_isa.specs.declared.instruction.Instr.{Instr}
+use Rattle.ot_model.specs.declared.shown.Refusal.{Refusal}
+use Rattle.ot_model.specs.declared.shown.Refusal.TheVariants.{Memory}
+use Rattle.ot_model.specs.Table.{State, step, Refused}
+use Rattle.ot_machine.specs.declared.outcome.Run.{Run}
+use Rattle.ot_model.specs.Runs.{done, place_at}
+
+-- how many instructions were performed
+abbrev pub reached : Program → Option (ℕ × Refusal) → ℕ
+reached s None = length s.instrs
+reached s (Some stop) = stop.0
+
+-- the table refuses the instruction at this place for this reason
+abbrev pub IsRefusedAt : Program → State → ℕ → Refusal → Type 0
+IsRefusedAt s state place refusal = (i : Instr) × (slice_get s.instrs place ≡ Some i) × (step state i ≡ Refused refusal)
+
+-- memory may be wanting before an instruction that the table performs; any other stop is the table's
+abbrev pub IsStopAt : Program → State → ℕ → Refusal → Type 0
+IsStopAt s state place Memory = place < done s
+IsStopAt s state place refusal = (place ≡ done s) × IsRefusedAt s state place refusal
+
+abbrev pub IsStop : Program → State → Option (ℕ × Refusal) → Type 0
+IsStop s state None = length s.instrs ≡ done s
+IsStop s state (Some stop) = IsStopAt s state stop.0 stop.1
+
+-- the run of the schedule, as far as it went
+pub record IsRun (s : Program) (run : Run) : Type 0 where
+  pub at : place_at s (reached s run.stopped) ≡ Some (record { state = run.machine; shown = run.shown.items })
+  pub stop : IsStop s run.machine run.stopped

@@ -1,0 +1,5 @@
+pub mod Seats
+pub mod Answers
+pub mod Readers
+pub mod Ended
+pub mod Laws

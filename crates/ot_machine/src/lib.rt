@@ -1,0 +1,49 @@
+//! The session machine: one server of ot.js, 1 to 64 clients and the links between them, moved by
+//! one instruction at a time. Every step is the row of the written table.
+//!
+//! ```text
+//!    seat 0: client, list, count                         server
+//!            uplink    [ message or none ] ------------> document
+//!            downlink  [ n, n+1, .. ] <----------------- log: 0, 1, 2, ..
+//!    seat 1: ..                                          (numbers of entries)
+//! ```
+//!
+//! - A [`Machine`] is seen by contracts as the `State` of the table (`ot_model`'s specs/Table.antt):
+//!   log, server's list, clients, number of steps. Its type keeps that this state is sound
+//!   (specs/Sound.antt there): a property of the state alone, without its history. So no length
+//!   passes 1,000,000, the server refuses no message, and wherever all is quiet every joined
+//!   client's list is the server's.
+//! - [`Machine::step`] performs one instruction, or refuses it as the table does and changes
+//!   nothing (specs/Answers.antt). `Memory` comes only where the table performs the instruction:
+//!   what grows does so before anything is changed.
+//! - A downlink holds numbers of log entries; the log tells whether an entry is an acknowledgement
+//!   (its maker's) or another's operation. A client that has not joined has no client state at all.
+//! - [`Machine::clients`] and the calls beside it read the fields of the state
+//!   (specs/Readers.antt); [`Machine::state`] copies what a user looks at.
+//! - [`laws`] has the theorems of all runs: every state is sound, and where a run is quiet, all lists
+//!   are one (specs/Laws.antt).
+//! - [`run`] performs a whole schedule up to its first instruction that is not performed
+//!   (specs/Ended.antt, over `place_at` and `done` of specs/Runs.antt).
+//!
+//! The clients are those of ot.js' `Client` with its three states, the server is its `Server`, and the
+//! atomic step follows Attiya et al. (PODC 2016): one event is one performed instruction.
+//!
+//! Begin reading at `Machine::step` and the rows before it in machine.rt, then at seat.rt, where each
+//! row changes one client; specs/Seats.antt says how the fields are the table's state.
+#![tactic(auto)]
+
+pub mod laws;
+mod machine;
+mod outcome;
+mod readers;
+mod running;
+mod seat;
+mod state;
+#[cfg(test)]
+mod tests;
+
+pub use machine::{INSERTED_LIMIT, Machine, STEP_LIMIT};
+pub use ot_model::{Reader, Refusal, Shown};
+pub use outcome::Run;
+pub use running::run;
+pub use state::{ClientView, Head, Phase, State};

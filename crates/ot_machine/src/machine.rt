@@ -1,0 +1,288 @@
+// The machine.
+ghost use Rattle.std.specs.Prelude.{◌≡◌, ◌<◌, ◌≤◌, length, OnOk, OnErr, IfErr, IfOk, Some, None};
+ghost use Rattle.ot_isa.specs.declared.instruction.Instr.TheVariants.{Acknowledge, Deliver, Edit, Join, Take, Read, ReadServer};
+ghost use Rattle.ot_isa.specs.Program.{AreClients};
+ghost use Rattle.ot_model.specs.Table.{opening, step, Performed, Refused};
+ghost use Rattle.ot_machine.specs.Answers.{IsRefusal};
+
+use crate::seat::{self, Seat};
+use ot_isa::{Instr, Tagged, start_doc, tagged};
+use ot_model::{Reader, Refusal, Shown};
+use ot_server::Server;
+use ot_text::TextOp;
+use std::alloc::{AllocError, Global};
+use std::marker::Model;
+
+/// How many instructions a machine performs at most.
+pub const STEP_LIMIT: u32 = 1_000_000;
+
+/// How many characters a client inserts in a run at most. Deletions give nothing back.
+pub const INSERTED_LIMIT: usize = 15_000;
+
+/// A server, its clients and the links between them. Its state is sound, always.
+#[derive(Drop)]
+pub struct Machine {
+    pub(crate) server: Server<Tagged>,
+    pub(crate) seats: Vec<Seat>,
+    pub(crate) steps: u32,
+}
+
+impl Model for Machine {
+    ghost use Rattle.ot_model.specs.Table.{State};
+    ghost use Rattle.ot_machine.specs.Seats.{state_from, IsKept};
+
+    ghost Value = { State };
+
+    ghost view = { λ m. state_from m.server m.seats.items m.steps };
+
+    ghost invariant = { λ m. IsKept m.server m.seats.items m.steps };
+}
+
+impl Machine {
+    /// The machine at the opening, with all of its 1 to 64 clients joined. The start text has at most 40,000 scalars.
+    pub fn new(alloc: Global, clients: u16, start: &[char]) -> Result<Machine, AllocError>
+        requires clients { AreClients clients clients }
+        requires start { length start.now ≤ 40000 }
+        ensures { IfOk result (λ machine. machine ≡ opening clients clients start.now) }
+    {
+        Machine::with_present(alloc, clients, clients, start)
+    }
+
+    /// The machine at the opening, with the first `present` of its 1 to 64 clients joined. The start text has at most 40,000 scalars.
+    pub fn with_present(
+        alloc: Global,
+        clients: u16,
+        present: u16,
+        start: &[char],
+    ) -> Result<Machine, AllocError>
+        requires clients { AreClients clients present }
+        requires start { length start.now ≤ 40000 }
+        ensures { IfOk result (λ machine. machine ≡ opening clients present start.now) }
+    {
+        let document = start_doc(alloc, start)?;
+        let mut seats = Vec::new(alloc);
+        seat::add_present(alloc, &mut seats, present, &document)?;
+        seat::add_vacant(alloc, &mut seats, clients - present)?;
+        Ok(Machine {
+            server: Server::new(document),
+            seats,
+            steps: 0,
+        })
+    }
+
+    // The client's own edit: tagged, applied to its list, and sent or kept in its buffer.
+    pub(crate) fn edit(&mut self, client: u16, op: &TextOp<char>) -> Result<(), Refusal>
+        ensures done { OnOk result (step self.old (Edit client op.now) ≡ Performed self.new None) }
+        ensures refused { IfErr result (λ r. IsRefusal (step self.old (Edit client op.now)) r) }
+        ensures unchanged { OnErr result (self.new ≡ self.old) }
+    {
+        let place = client as usize;
+        if place >= self.seats.len() {
+            return Err(Refusal::NoSuchClient);
+        }
+        if self.steps >= STEP_LIMIT {
+            return Err(Refusal::StepsFull);
+        }
+        let seat = &mut self.seats[place];
+        if seat.client.is_none() {
+            return Err(Refusal::NotJoined);
+        }
+        if op.base_len() != seat.list.len() {
+            return Err(Refusal::BadBase);
+        }
+        if seat.count as usize + op.inserted() > INSERTED_LIMIT {
+            return Err(Refusal::ClientFull);
+        }
+        let op = tagged(op.allocator(), op, client, seat.count)?;
+        seat::edit(seat, &op)?;
+        self.steps += 1;
+        Ok(())
+    }
+
+    // The server receives what is under way from the client, and tells all joined clients.
+    pub(crate) fn take(&mut self, client: u16) -> Result<(), Refusal>
+        ensures done { OnOk result (step self.old (Take client) ≡ Performed self.new None) }
+        ensures refused { IfErr result (λ r. IsRefusal (step self.old (Take client)) r) }
+        ensures unchanged { OnErr result (self.new ≡ self.old) }
+    {
+        let place = client as usize;
+        if place >= self.seats.len() {
+            return Err(Refusal::NoSuchClient);
+        }
+        if self.steps >= STEP_LIMIT {
+            return Err(Refusal::StepsFull);
+        }
+        let seat = &self.seats[place];
+        if seat.client.is_none() {
+            return Err(Refusal::NotJoined);
+        }
+        if seat.up.is_empty() {
+            return Err(Refusal::LinkEmpty);
+        }
+        seat::carry(&mut self.server, &mut self.seats, client)?;
+        self.steps += 1;
+        Ok(())
+    }
+
+    // The client takes another's operation from the front of its downlink.
+    pub(crate) fn deliver(&mut self, client: u16) -> Result<(), Refusal>
+        ensures done { OnOk result (step self.old (Deliver client) ≡ Performed self.new None) }
+        ensures refused { IfErr result (λ r. IsRefusal (step self.old (Deliver client)) r) }
+        ensures unchanged { OnErr result (self.new ≡ self.old) }
+    {
+        let place = client as usize;
+        if place >= self.seats.len() {
+            return Err(Refusal::NoSuchClient);
+        }
+        if self.steps >= STEP_LIMIT {
+            return Err(Refusal::StepsFull);
+        }
+        let seat = &mut self.seats[place];
+        if seat.client.is_none() {
+            return Err(Refusal::NotJoined);
+        }
+        let Some(entry) = seat::head(&self.server, seat) else {
+            return Err(Refusal::LinkEmpty);
+        };
+        if entry.maker() == client {
+            return Err(Refusal::WrongHead);
+        }
+        seat::deliver(seat, entry.operation())?;
+        self.steps += 1;
+        Ok(())
+    }
+
+    // The client takes the confirmation of its own operation from the front of its downlink.
+    pub(crate) fn acknowledge(&mut self, client: u16) -> Result<(), Refusal>
+        ensures done { OnOk result (step self.old (Acknowledge client) ≡ Performed self.new None) }
+        ensures refused { IfErr result (λ r. IsRefusal (step self.old (Acknowledge client)) r) }
+        ensures unchanged { OnErr result (self.new ≡ self.old) }
+    {
+        let place = client as usize;
+        if place >= self.seats.len() {
+            return Err(Refusal::NoSuchClient);
+        }
+        if self.steps >= STEP_LIMIT {
+            return Err(Refusal::StepsFull);
+        }
+        let seat = &mut self.seats[place];
+        if seat.client.is_none() {
+            return Err(Refusal::NotJoined);
+        }
+        let Some(entry) = seat::head(&self.server, seat) else {
+            return Err(Refusal::LinkEmpty);
+        };
+        if entry.maker() != client {
+            return Err(Refusal::WrongHead);
+        }
+        seat::acknowledge(seat)?;
+        self.steps += 1;
+        Ok(())
+    }
+
+    // The client gets the server's list and revision.
+    pub(crate) fn join(&mut self, client: u16) -> Result<(), Refusal>
+        ensures done { OnOk result (step self.old (Join client) ≡ Performed self.new None) }
+        ensures refused { IfErr result (λ r. IsRefusal (step self.old (Join client)) r) }
+        ensures unchanged { OnErr result (self.new ≡ self.old) }
+    {
+        let place = client as usize;
+        if place >= self.seats.len() {
+            return Err(Refusal::NoSuchClient);
+        }
+        if self.steps >= STEP_LIMIT {
+            return Err(Refusal::StepsFull);
+        }
+        let seat = &mut self.seats[place];
+        if seat.client.is_some() {
+            return Err(Refusal::AlreadyJoined);
+        }
+        let revision = self.server.revision() as u32;
+        seat::join(seat, revision, self.server.document())?;
+        self.steps += 1;
+        Ok(())
+    }
+
+    // The client's list is shown.
+    pub(crate) fn read(&mut self, client: u16) -> Result<Shown, Refusal>
+        ensures done { IfOk result (λ shown. step self.old (Read client) ≡ Performed self.new (Some shown)) }
+        ensures refused { IfErr result (λ r. IsRefusal (step self.old (Read client)) r) }
+        ensures unchanged { OnErr result (self.new ≡ self.old) }
+    {
+        let place = client as usize;
+        if place >= self.seats.len() {
+            return Err(Refusal::NoSuchClient);
+        }
+        if self.steps >= STEP_LIMIT {
+            return Err(Refusal::StepsFull);
+        }
+        let seat = &self.seats[place];
+        if seat.client.is_none() {
+            return Err(Refusal::NotJoined);
+        }
+        let list = seat.list.copy()?;
+        self.steps += 1;
+        Ok(Shown {
+            who: Reader::Client(client),
+            list,
+        })
+    }
+
+    // The server's list is shown.
+    pub(crate) fn read_server(&mut self) -> Result<Shown, Refusal>
+        ensures done { IfOk result (λ shown. step self.old ReadServer ≡ Performed self.new (Some shown)) }
+        ensures refused { IfErr result (λ r. IsRefusal (step self.old ReadServer) r) }
+        ensures unchanged { OnErr result (self.new ≡ self.old) }
+    {
+        if self.steps >= STEP_LIMIT {
+            return Err(Refusal::StepsFull);
+        }
+        let list = self.server.document().copy()?;
+        self.steps += 1;
+        Ok(Shown {
+            who: Reader::Server,
+            list,
+        })
+    }
+
+    /// Performs the instruction, and gives the list that a read shows; or refuses it and changes nothing.
+    ///
+    /// The refusals, in the order in which they are looked for: `NoSuchClient`; `StepsFull` after
+    /// 1,000,000 performed instructions; `NotJoined`, for a Join `AlreadyJoined`; for an Edit `BadBase`
+    /// where its base is not the length of the client's list, and `ClientFull` where the client's
+    /// inserted characters would pass 15,000; for Take, Deliver and Acknowledge `LinkEmpty`; for Deliver
+    /// `WrongHead` where an acknowledgement is at the head, for Acknowledge where an operation is;
+    /// and `Memory`, where the instruction would be performed and a growth was refused.
+    ///
+    /// The rows are those of ot.js' `Client` (`applyClient`, `applyServer`, `serverAck`) and `Server` (`receiveOperation`).
+    pub fn step(&mut self, instr: &Instr) -> Result<Option<Shown>, Refusal>
+        ensures done { IfOk result (λ shown. step self.old instr.now ≡ Performed self.new shown) }
+        ensures refused { IfErr result (λ r. IsRefusal (step self.old instr.now) r) }
+        ensures unchanged { OnErr result (self.new ≡ self.old) }
+    {
+        match instr {
+            Instr::Edit(client, op) => {
+                self.edit(*client, op)?;
+                Ok(None)
+            }
+            Instr::Take(client) => {
+                self.take(*client)?;
+                Ok(None)
+            }
+            Instr::Deliver(client) => {
+                self.deliver(*client)?;
+                Ok(None)
+            }
+            Instr::Acknowledge(client) => {
+                self.acknowledge(*client)?;
+                Ok(None)
+            }
+            Instr::Join(client) => {
+                self.join(*client)?;
+                Ok(None)
+            }
+            Instr::Read(client) => Ok(Some(self.read(*client)?)),
+            Instr::ReadServer => Ok(Some(self.read_server()?)),
+        }
+    }
+}

@@ -1,0 +1,108 @@
+// Runs of schedules.
+ghost use Rattle.std.specs.Prelude.{◌≡◌, ◌∷◌, [], length, IfErr, IfOk, OnErr, OnOk, MatchOption, Some};
+ghost use Rattle.ot_isa.specs.declared.instruction.Instr.TheVariants.{Read, ReadServer};
+ghost use Rattle.ot_model.specs.Table as table;
+ghost use Rattle.ot_model.specs.Table.{step, Refused};
+ghost use Rattle.ot_machine.specs.Answers.{IsPerformed, IsRefusal};
+ghost use Rattle.ot_machine.specs.Ended.{IsRun};
+
+use crate::machine::{Machine, STEP_LIMIT};
+use crate::outcome::Run;
+use ot_isa::{Instr, Schedule};
+use ot_model::{Refusal, Shown};
+use std::alloc::{AllocError, Global};
+
+impl Machine {
+    // Why a read at the client is refused, if it is.
+    fn read_refusal(&self, client: u16) -> Option<Refusal>
+        ensures { MatchOption result (IsPerformed (step self.now (Read client))) (λ r. step self.now (Read client) ≡ Refused r) }
+    {
+        let place = client as usize;
+        if place >= self.seats.len() {
+            return Some(Refusal::NoSuchClient);
+        }
+        if self.steps >= STEP_LIMIT {
+            return Some(Refusal::StepsFull);
+        }
+        if self.seats[place].client.is_none() {
+            return Some(Refusal::NotJoined);
+        }
+        None
+    }
+
+    // Performs a read, for whose list there is room.
+    fn keep_read(&mut self, client: u16, shown: &mut Vec<Shown>) -> Result<(), Refusal>
+        ensures done { OnOk result (table.run (Read client ∷ []) (record { state = self.old; shown = shown.old.items }) ≡ Some (record { state = self.new; shown = shown.new.items })) }
+        ensures refused { IfErr result (λ r. IsRefusal (step self.old (Read client)) r) }
+        ensures unchanged { OnErr result (self.new ≡ self.old) }
+        ensures kept { OnErr result (shown.new.items ≡ shown.old.items) }
+    {
+        if let Some(refusal) = self.read_refusal(client) {
+            return Err(refusal);
+        }
+        shown.reserve(1)?;
+        let list = self.read(client)?;
+        shown.push_reserved(list);
+        Ok(())
+    }
+
+    fn keep_read_server(&mut self, shown: &mut Vec<Shown>) -> Result<(), Refusal>
+        ensures done { OnOk result (table.run (ReadServer ∷ []) (record { state = self.old; shown = shown.old.items }) ≡ Some (record { state = self.new; shown = shown.new.items })) }
+        ensures refused { IfErr result (λ r. IsRefusal (step self.old ReadServer) r) }
+        ensures unchanged { OnErr result (self.new ≡ self.old) }
+        ensures kept { OnErr result (shown.new.items ≡ shown.old.items) }
+    {
+        if self.steps >= STEP_LIMIT {
+            return Err(Refusal::StepsFull);
+        }
+        shown.reserve(1)?;
+        let list = self.read_server()?;
+        shown.push_reserved(list);
+        Ok(())
+    }
+
+    // Performs the instruction, if the table does and what it shows can be kept.
+    fn perform(&mut self, instr: &Instr, shown: &mut Vec<Shown>) -> Result<(), Refusal>
+        ensures done { OnOk result (table.run (instr.now ∷ []) (record { state = self.old; shown = shown.old.items }) ≡ Some (record { state = self.new; shown = shown.new.items })) }
+        ensures refused { IfErr result (λ r. IsRefusal (step self.old instr.now) r) }
+        ensures unchanged { OnErr result (self.new ≡ self.old) }
+        ensures kept { OnErr result (shown.new.items ≡ shown.old.items) }
+    {
+        match instr {
+            Instr::Edit(client, op) => self.edit(*client, op),
+            Instr::Take(client) => self.take(*client),
+            Instr::Deliver(client) => self.deliver(*client),
+            Instr::Acknowledge(client) => self.acknowledge(*client),
+            Instr::Join(client) => self.join(*client),
+            Instr::Read(client) => self.keep_read(*client, shown),
+            Instr::ReadServer => self.keep_read_server(shown),
+        }
+    }
+}
+
+/// Runs the schedule from its opening up to the first instruction that is not performed: one that is refused, one that finds no
+/// memory, or a read whose list cannot be kept. For want of memory at the opening there is no run.
+pub fn run(alloc: Global, schedule: &Schedule) -> Result<Run, AllocError>
+    ensures { IfOk result (λ run. IsRun schedule.now run) }
+{
+    let clients = schedule.clients();
+    let mut machine = Machine::with_present(alloc, clients, schedule.present(), schedule.start())?;
+    let mut shown = Vec::new(alloc);
+    for place in 0..schedule.len() {
+        let Some(instr) = schedule.get(place) else {
+            unreachable!()
+        };
+        if let Err(refusal) = machine.perform(instr, &mut shown) {
+            return Ok(Run {
+                machine,
+                shown,
+                stopped: Some((place, refusal)),
+            });
+        }
+    }
+    Ok(Run {
+        machine,
+        shown,
+        stopped: None,
+    })
+}

@@ -1,0 +1,367 @@
+// A client's place in the machine.
+ghost use Rattle.std.specs.Prelude.{◌≡◌, ◌+◌, ◌≤◌, ◌<◌, ◌↔◌, ◌++◌, drop, length, map, replicate, slice_get, OnOk, OnErr, IfOk, IsTrue, None, Some};
+ghost use Rattle.std.specs.Option.{option_copied, option_map};
+ghost use Rattle.ot_text.specs.Operation.{news};
+ghost use Rattle.ot_client.specs.State as state;
+ghost use Rattle.ot_client.specs.Client.{message_of, state_of};
+ghost use Rattle.ot_server.specs.History.{fault_of, received};
+ghost use Rattle.ot_model.specs.Table.{absent, acknowledged, delivered, edited, present_with};
+ghost use Rattle.ot_machine.specs.Seats.{client_of, phase_of, revision_of, view_of, AreSettled, idle, sent, joined_at, under_way, Follows, MayPush, MaySend, HasRoom, HaveRoomFrom, MayDeliver, MaySeatAcknowledge, MaySeatDeliver, IsMemory, IsReceivable, IsSettled, IsWaiting, emptied, outstanding_at, outstanding_of, received_from};
+
+use ot_client::{Client, Sent, Synchronized};
+use ot_isa::Tagged;
+use ot_links::{Downlink, Uplink};
+use ot_server::{Entry, Server, ServerFault};
+use ot_text::{Doc, TextOp};
+use std::alloc::{AllocError, Global};
+
+/// A client, if it has joined, with its list, how much it has inserted, and its two links.
+#[derive(Drop)]
+pub(crate) struct Seat {
+    pub client: Option<Client<Tagged>>,
+    pub list: Doc<Tagged>,
+    pub count: u32,
+    pub up: Uplink<Sent<Tagged>>,
+    pub down: Downlink<u32>,
+}
+
+// The seat of a client that is there from the opening on.
+pub(crate) fn present(alloc: Global, document: &Doc<Tagged>) -> Result<Seat, AllocError>
+    ensures { IfOk result (λ seat. view_of seat ≡ idle (present_with document.now)) }
+{
+    let list = document.copy()?;
+    Ok(Seat {
+        client: Some(Client::Synchronized(Synchronized::new(0))),
+        list,
+        count: 0,
+        up: Uplink::new(),
+        down: Downlink::new(alloc),
+    })
+}
+
+// The seat of a client that has not joined.
+pub(crate) fn vacant(alloc: Global) -> Result<Seat, AllocError>
+    ensures { IfOk result (λ seat. view_of seat ≡ idle absent) }
+{
+    let list = Doc::from_slice(alloc, &[])?;
+    Ok(Seat {
+        client: None,
+        list,
+        count: 0,
+        up: Uplink::new(),
+        down: Downlink::new(alloc),
+    })
+}
+
+// So many more clients that are there from the opening on.
+pub(crate) fn add_present(
+    alloc: Global,
+    seats: &mut Vec<Seat>,
+    count: u16,
+    document: &Doc<Tagged>,
+) -> Result<(), AllocError>
+    ensures { OnOk result (map view_of seats.new.items ≡ map view_of seats.old.items ++ replicate count (idle (present_with document.now))) }
+{
+    for _place in 0..count {
+        let seat = present(alloc, document)?;
+        seats.push(seat)?;
+    }
+    Ok(())
+}
+
+// So many more clients that have not joined.
+pub(crate) fn add_vacant(alloc: Global, seats: &mut Vec<Seat>, count: u16) -> Result<(), AllocError>
+    ensures { OnOk result (map view_of seats.new.items ≡ map view_of seats.old.items ++ replicate count (idle absent)) }
+{
+    for _place in 0..count {
+        let seat = vacant(alloc)?;
+        seats.push(seat)?;
+    }
+    Ok(())
+}
+
+// The client after the user's edit, and what it sends.
+fn edited_client(
+    client: &Client<Tagged>,
+    op: &TextOp<Tagged>,
+) -> Result<(Client<Tagged>, Option<Sent<Tagged>>), AllocError>
+    requires { state.MayEdit (state_of client.now).phase op.now }
+    ensures state { IfOk result (λ given. state_of given.0 ≡ state.edited (state_of client.now) op.now) }
+    ensures sent { IfOk result (λ given. option_map message_of given.1 ≡ state.message_edited (state_of client.now).revision (state_of client.now).phase op.now) }
+{
+    let op = op.copy()?;
+    match client {
+        Client::Synchronized(client) => match client.copy().edit(op) {
+            Ok((client, sent)) => Ok((Client::AwaitingConfirm(client), Some(sent))),
+            Err((_client, _op)) => Err(AllocError),
+        },
+        Client::AwaitingConfirm(client) => {
+            let client = client.copy()?.edit(op);
+            Ok((Client::AwaitingWithBuffer(client), None))
+        }
+        Client::AwaitingWithBuffer(client) => match client.copy()?.edit(op) {
+            Ok(client) => Ok((Client::AwaitingWithBuffer(client), None)),
+            Err((_client, _op)) => Err(AllocError),
+        },
+    }
+}
+
+// Puts what the client sends, if anything, on its link.
+fn put_up(up: &mut Uplink<Sent<Tagged>>, sent: Option<Sent<Tagged>>)
+    requires { MayPush sent up.old }
+    ensures { up.new ≡ under_way sent up.old }
+{
+    if let Some(sent) = sent {
+        up.push(sent);
+    }
+}
+
+// The user's edit at a client that has joined.
+pub(crate) fn edit(seat: &mut Seat, op: &TextOp<Tagged>) -> Result<(), AllocError>
+    requires follows { Follows (phase_of seat.old.client) op.now.base }
+    requires sends { MaySend (phase_of seat.old.client) seat.old.up }
+    requires base { op.now.base ≡ length seat.old.list }
+    requires count { seat.old.count + length (news op.now.image) ≤ 15000 }
+    ensures ok { OnOk result (client_of seat.new ≡ edited (client_of seat.old) op.now) }
+    ensures down { seat.new.down ≡ seat.old.down }
+    ensures err { OnErr result (seat.new ≡ seat.old) }
+{
+    let Some(client) = &seat.client else {
+        unreachable!()
+    };
+    let (client, sent) = edited_client(client, op)?;
+    seat.list.change(op)?;
+    seat.client = Some(client);
+    put_up(&mut seat.up, sent);
+    seat.count += op.inserted() as u32;
+    Ok(())
+}
+
+// Memory for one more message to the client.
+fn reserve(seat: &mut Seat) -> Result<(), AllocError>
+    ensures same { view_of seat.new ≡ view_of seat.old }
+    ensures room { OnOk result (HasRoom seat.new) }
+{
+    seat.down.reserve_one()
+}
+
+// One more message to the client, if it has joined.
+fn send(seat: &mut Seat, number: u32)
+    requires { HasRoom seat.old }
+    ensures { view_of seat.new ≡ sent number (view_of seat.old) }
+{
+    if seat.client.is_some() {
+        seat.down.push(number);
+    }
+}
+
+// Memory for one more message to each client.
+pub(crate) fn reserve_all(seats: &mut Vec<Seat>) -> Result<(), AllocError>
+    ensures same { map view_of seats.new.items ≡ map view_of seats.old.items }
+    ensures room { OnOk result (HaveRoomFrom 0 seats.new.items) }
+{
+    for place in 0..seats.len() {
+        reserve(&mut seats[place])?;
+    }
+    Ok(())
+}
+
+// One more message to each client that has joined.
+pub(crate) fn send_all(seats: &mut Vec<Seat>, number: u32)
+    requires { HaveRoomFrom 0 seats.old.items }
+    ensures { map view_of seats.new.items ≡ map (sent number) (map view_of seats.old.items) }
+{
+    for place in 0..seats.len() {
+        send(&mut seats[place], number);
+    }
+}
+
+// The entry of the log that the first message to the client is of, if there is a message.
+pub(crate) fn head<'a>(server: &'a Server<Tagged>, seat: &Seat) -> Option<&'a Entry<Tagged>>
+    requires { IsWaiting server.now seat.now }
+    ensures { option_copied result ≡ slice_get server.now.log (revision_of seat.now.client) }
+{
+    match seat.down.head() {
+        Some(number) => server.entries().get(*number as usize),
+        None => None,
+    }
+}
+
+// Nothing is under way from or to the client, if it has joined, and it is synchronized.
+fn is_settled(seat: &Seat) -> bool
+    ensures { IsTrue result ↔ IsSettled (view_of seat.now) }
+{
+    match &seat.client {
+        None => true,
+        Some(Client::Synchronized(_)) => seat.up.is_empty() && seat.down.is_empty(),
+        Some(_) => false,
+    }
+}
+
+// So it is with all clients.
+pub(crate) fn are_settled(seats: &[Seat]) -> bool
+    ensures { IsTrue result ↔ AreSettled seats.now }
+{
+    for seat in seats {
+        if !is_settled(seat) {
+            return false;
+        }
+    }
+    true
+}
+
+// The client after the server's operation, and what it applies.
+fn after(
+    client: Client<Tagged>,
+    op: TextOp<Tagged>,
+) -> Result<(Client<Tagged>, TextOp<Tagged>), AllocError>
+    requires { MayDeliver (state_of client) op }
+    ensures state { IfOk result (λ given. state_of given.0 ≡ state.delivered (state_of client) op) }
+    ensures applied { IfOk result (λ given. given.1 ≡ state.carried (state_of client).phase op) }
+{
+    match client {
+        Client::Synchronized(client) => {
+            let (client, op) = client.deliver(op);
+            Ok((Client::Synchronized(client), op))
+        }
+        Client::AwaitingConfirm(client) => match client.deliver(op) {
+            Ok((client, op)) => Ok((Client::AwaitingConfirm(client), op)),
+            Err((_client, _op)) => Err(AllocError),
+        },
+        Client::AwaitingWithBuffer(client) => match client.deliver(op) {
+            Ok((client, op)) => Ok((Client::AwaitingWithBuffer(client), op)),
+            Err((_client, _op)) => Err(AllocError),
+        },
+    }
+}
+
+// Takes the first message, another's operation, to the client.
+pub(crate) fn deliver(seat: &mut Seat, op: &TextOp<Tagged>) -> Result<(), AllocError>
+    requires may { MaySeatDeliver seat.old op.now }
+    ensures ok { OnOk result (client_of seat.new ≡ delivered (client_of seat.old) op.now) }
+    ensures down { OnOk result (seat.new.down.items ≡ drop 1 seat.old.down.items) }
+    ensures err { OnErr result (seat.new ≡ seat.old) }
+{
+    let Some(client) = &seat.client else {
+        return Err(AllocError);
+    };
+    let (client, op) = after(client.copy()?, op.copy()?)?;
+    seat.list.change(&op)?;
+    seat.client = Some(client);
+    let _ = seat.down.pop();
+    Ok(())
+}
+
+// Takes the first message, the acknowledgement of the client's own operation.
+pub(crate) fn acknowledge(seat: &mut Seat) -> Result<(), AllocError>
+    requires may { MaySeatAcknowledge seat.old }
+    ensures ok { OnOk result (acknowledged (client_of seat.old) (phase_of seat.old.client) ≡ Some (client_of seat.new)) }
+    ensures down { OnOk result (seat.new.down.items ≡ drop 1 seat.old.down.items) }
+    ensures err { OnErr result (seat.new ≡ seat.old) }
+{
+    match seat.client.take() {
+        Some(Client::AwaitingConfirm(client)) => {
+            seat.client = Some(Client::Synchronized(client.acknowledge()));
+        }
+        Some(Client::AwaitingWithBuffer(client)) => match client.acknowledge() {
+            Ok((client, sent)) => {
+                seat.client = Some(Client::AwaitingConfirm(client));
+                seat.up.push(sent);
+            }
+            Err(client) => {
+                seat.client = Some(Client::AwaitingWithBuffer(client));
+                return Err(AllocError);
+            }
+        },
+        _ => unreachable!(),
+    }
+    let _ = seat.down.pop();
+    Ok(())
+}
+
+// Gives the client, which has not joined, the server's document and revision.
+pub(crate) fn join(seat: &mut Seat, revision: u32, document: &Doc<Tagged>) -> Result<(), AllocError>
+    ensures ok { OnOk result (client_of seat.new ≡ joined_at revision document.now (client_of seat.old)) }
+    ensures down { seat.new.down ≡ seat.old.down }
+    ensures err { OnErr result (seat.new ≡ seat.old) }
+{
+    seat.list = document.copy()?;
+    seat.client = Some(Client::Synchronized(Synchronized::new(revision)));
+    Ok(())
+}
+
+// The server's fault where it can only want memory.
+fn only_memory(fault: ServerFault) -> AllocError
+    requires { IsMemory fault }
+{
+    match fault {
+        ServerFault::Memory => AllocError,
+        ServerFault::NotInHistory => unreachable!(),
+        ServerFault::BadBase => unreachable!(),
+        ServerFault::LogFull => unreachable!(),
+        ServerFault::TooLong => unreachable!(),
+    }
+}
+
+// The server receives the operation, which it does not refuse.
+fn receive(
+    server: &mut Server<Tagged>,
+    client: u16,
+    revision: u32,
+    op: &TextOp<Tagged>,
+) -> Result<(), AllocError>
+    requires { fault_of server.old revision op.now ≡ None }
+    ensures ok { OnOk result (server.new ≡ received server.old client revision op.now) }
+    ensures err { OnErr result (server.new ≡ server.old) }
+{
+    match server.receive(client, revision, op) {
+        Ok(()) => Ok(()),
+        Err(fault) => Err(only_memory(fault)),
+    }
+}
+
+// The server receives what is under way from the client. The outstanding operation is the message carried over what the client has
+// seen of the log, so only the entries that it has not seen are left to carry it over.
+fn receive_outstanding(
+    server: &mut Server<Tagged>,
+    seat: &Seat,
+    client: u16,
+) -> Result<(), AllocError>
+    requires { IsReceivable server.old (outstanding_of (revision_of seat.now.client) (phase_of seat.now.client)) }
+    ensures ok { OnOk result (server.new ≡ received_from server.old client (outstanding_of (revision_of seat.now.client) (phase_of seat.now.client))) }
+    ensures err { OnErr result (server.new ≡ server.old) }
+{
+    match &seat.client {
+        Some(Client::AwaitingConfirm(sender)) => {
+            receive(server, client, sender.revision(), sender.outstanding())
+        }
+        Some(Client::AwaitingWithBuffer(sender)) => {
+            receive(server, client, sender.revision(), sender.outstanding())
+        }
+        _ => unreachable!(),
+    }
+}
+
+// What is under way from this client goes to the server, and word of it to all.
+pub(crate) fn carry(
+    server: &mut Server<Tagged>,
+    seats: &mut Vec<Seat>,
+    client: u16,
+) -> Result<(), AllocError>
+    requires accepts { IsReceivable server.old (outstanding_at (map view_of seats.old.items) client) }
+    ensures ok { OnOk result (server.new ≡ received_from server.old client (outstanding_at (map view_of seats.old.items) client)) }
+    ensures views { OnOk result (map view_of seats.new.items ≡ emptied client (map (sent (length server.old.log)) (map view_of seats.old.items))) }
+    ensures server { OnErr result (server.new ≡ server.old) }
+    ensures seats { OnErr result (map view_of seats.new.items ≡ map view_of seats.old.items) }
+{
+    let place = client as usize;
+    let number = server.revision() as u32;
+    reserve_all(seats)?;
+    if place >= seats.len() {
+        unreachable!();
+    }
+    receive_outstanding(server, &seats[place], client)?;
+    send_all(seats, number);
+    let _ = seats[place].up.pop();
+    Ok(())
+}

@@ -1,0 +1,11 @@
+pub mod Operation
+pub mod Table
+pub mod Runs
+pub mod Sound
+pub mod Limits
+pub mod Laws
+pub mod Trace
+pub mod Visibility
+pub mod WeakList
+pub mod Events
+pub mod TraceLaws

@@ -1,0 +1,50 @@
+//! What a session of ot.js clients and their server does, and what holds of all its runs.
+//!
+//! This crate has almost no code: it is the definitions that the session machine is compared with,
+//! and their laws. Operations are those of `ot_text` over tagged characters, instructions those of
+//! `ot_isa`.
+//!
+//! ```text
+//!   client 0                 server                  client 1
+//!   revision, phase     +--> log: maker, operation   revision, phase
+//!   list, count         |    list                    list, count
+//!      |                |      |                        ^
+//!      | Edit           | Take | the log from the       | Deliver (another's operation)
+//!      v                |      v client's revision on   | Acknowledge (its own)
+//!   at most one message-+      +------------------------+ Join (the server's list and revision)
+//! ```
+//!
+//! - *The written table* (`specs/Table.antt`): a state, and `step`, which says of each instruction
+//!   what it makes of a state, or why it is refused. It restates ot.js' `Client` and `Server`. A
+//!   downlink is not kept: it is the log from its client's revision on.
+//! - *Runs* (`specs/Runs.antt`): how far a schedule's run goes, and where it is after each of its
+//!   instructions.
+//! - *Soundness* (`specs/Sound.antt`): a property of a state without its history. Each client's list
+//!   is the log's at its revision with what waits applied; what is under way becomes what waits;
+//!   what a client inserted has tags of its own, each once. Every opening has it and every row keeps
+//!   it (`opening_sound`, `step_sound`), and of it follow convergence (`convergence`) and that no
+//!   call of a client or of the server finds its condition broken (`server_accepts`, `may_deliver`,
+//!   `lengths_fit`).
+//! - *Traces* (`specs/Trace.antt`, `specs/Events.antt`): what each replica did, saw and returned, and
+//!   the trace of a schedule.
+//! - *The weak list property* (`specs/Visibility.antt`, `specs/WeakList.antt`) of Attiya et al., PODC
+//!   2016: the definition that a judge of traces decides, and that every run has (`weak_list`).
+//!
+//! The laws are public functions with empty bodies: their contracts, spelled out in `specs/Laws.antt`
+//! and `specs/TraceLaws.antt`, are the theorems, and nothing is assumed in them. Begin with
+//! `specs/Table.antt`; `proofs/Examples.antt` has worked runs that the checker computes, and
+//! `proofs/TraceExamples.antt` has their traces.
+#![tactic(auto)]
+
+mod list_laws;
+mod session_laws;
+mod shown;
+mod trace;
+
+pub use list_laws::{lists_agree, not_one_order, one_has_both, trace_shape, weak_list};
+pub use session_laws::{
+    convergence, lengths_fit, may_deliver, opening_sound, quiet_same, run_sound, runs_reach,
+    schedules_run, server_accepts, step_sound,
+};
+pub use shown::{Reader, Refusal, Shown};
+pub use trace::Placed;

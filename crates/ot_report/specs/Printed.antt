@@ -1,0 +1,95 @@
+-- The lines that are printed of a run.
+use Rattle.std.specs.Prelude.{◌≡◌, ◌↔◌, ℕ, suc, List, [], ◌∷◌, ◌++◌, length, Bool, IsTrue, Option, Some, None, codes, decimal, if◌then◌else◌}
+use Rattle.std.specs.Str.{encode_utf8_all}
+use Rattle.json.specs.Print.{quoted}
+use Rattle.ot_isa.specs.declared.elements.Tagged.{Tagged}
+use Rattle.ot_isa.specs.Tagging.{chars_of}
+use Rattle.ot_model.specs.declared.shown.Refusal.{Refusal}
+use Rattle.ot_model.specs.declared.shown.Refusal.TheVariants.{NoSuchClient, StepsFull, NotJoined, AlreadyJoined, BadBase, ClientFull, LinkEmpty, WrongHead, Memory}
+use Rattle.ot_model.specs.declared.shown.Reader.{Reader}
+use Rattle.ot_model.specs.declared.shown.Reader.TheVariants as reader
+use Rattle.ot_model.specs.declared.shown.Shown.{Shown}
+use Rattle.ot_model.specs.Table.{Client, State, IsQuiet}
+use Rattle.ot_machine.specs.declared.state.Phase.{Phase}
+use Rattle.ot_machine.specs.declared.state.Phase.TheVariants as phase
+use Rattle.ot_machine.specs.Readers.{phase_name}
+use Rattle.ot_machine.specs.declared.outcome.Run.{Run}
+
+-- a text as a JSON string
+abbrev pub text_of : List Tagged → List ℕ
+text_of list = quoted (encode_utf8_all (chars_of list))
+
+abbrev pub line : List ℕ → List ℕ
+line text = text ++ 10 ∷ []
+
+-- read C "text", or read-server "text"
+abbrev pub reader_text : Reader → List ℕ
+reader_text (reader.Client c) = codes "read" ++ 32 ∷ decimal c
+reader_text reader.Server = codes "read-server"
+
+abbrev pub read_line : Shown → List ℕ
+read_line shown = reader_text shown.who ++ 32 ∷ line (text_of shown.list)
+
+abbrev pub read_lines : List Shown → List ℕ
+read_lines [] = []
+read_lines (shown ∷ others) = read_line shown ++ read_lines others
+
+abbrev pub refusal_text : Refusal → List ℕ
+refusal_text NoSuchClient = codes "NoSuchClient"
+refusal_text StepsFull = codes "StepsFull"
+refusal_text NotJoined = codes "NotJoined"
+refusal_text AlreadyJoined = codes "AlreadyJoined"
+refusal_text BadBase = codes "BadBase"
+refusal_text ClientFull = codes "ClientFull"
+refusal_text LinkEmpty = codes "LinkEmpty"
+refusal_text WrongHead = codes "WrongHead"
+refusal_text Memory = codes "Memory"
+
+-- stopped at I: Refusal
+abbrev pub stop_line : ℕ → Refusal → List ℕ
+stop_line place refusal = codes "stopped at " ++ (decimal place ++ (codes ": " ++ line (refusal_text refusal)))
+
+abbrev pub phase_word : Phase → List ℕ
+phase_word phase.NotJoined = codes "not-joined"
+phase_word phase.Synchronized = codes "synchronized"
+phase_word phase.AwaitingConfirm = codes "awaiting-confirm"
+phase_word phase.AwaitingWithBuffer = codes "awaiting-with-buffer"
+
+-- client C rev R STATE "text"
+abbrev pub client_text : ℕ → ℕ → List ℕ → List Tagged → List ℕ
+client_text c revision phase list =
+    codes "client " ++ (decimal c ++ (codes " rev " ++ (decimal revision ++ 32 ∷ (phase ++ 32 ∷ line (text_of list)))))
+
+abbrev pub client_line : ℕ → Client → List ℕ
+client_line c x = client_text c x.revision (phase_word (phase_name x.phase)) x.list
+
+abbrev pub client_lines : ℕ → List Client → List ℕ
+client_lines c [] = []
+client_lines c (x ∷ clients) = client_line c x ++ client_lines (suc c) clients
+
+-- server rev R "text"
+abbrev pub server_text : ℕ → List Tagged → List ℕ
+server_text revision list = codes "server rev " ++ (decimal revision ++ 32 ∷ line (text_of list))
+
+abbrev pub server_line : State → List ℕ
+server_line s = server_text (length s.log) s.server
+
+abbrev pub quiet_line : Bool → List ℕ
+quiet_line quiet = line (if quiet then codes "quiet" else codes "not quiet")
+
+-- the state of a run at its end, and whether it is quiet
+abbrev pub end_lines : State → Bool → List ℕ
+end_lines s quiet = client_lines 0 s.clients ++ server_line s ++ quiet_line quiet
+
+-- the text is that of the state's end
+abbrev pub IsEnd : State → List ℕ → Type 0
+IsEnd s text = (quiet : Bool) × (IsTrue quiet ↔ IsQuiet s) × (text ≡ end_lines s quiet)
+
+-- the stop, if there was one
+abbrev pub stop_text : Option (ℕ × Refusal) → List ℕ
+stop_text None = []
+stop_text (Some stop) = stop_line stop.0 stop.1
+
+-- the text is that of the run: its reads, its stop and its end
+abbrev pub IsReport : Run → List ℕ → Type 0
+IsReport run text = (end : List ℕ) × IsEnd run.machine end × (text ≡ read_lines run.shown.items ++ stop_text run.stopped ++ end)

@@ -1,0 +1,54 @@
+//! Where a run ends.
+
+ghost use Rattle.std.specs.Prelude.{◌≡◌, ◌<◌, ◌++◌, length, IfOk, OnOk, string_bytes};
+ghost use Rattle.ot_machine.specs.Readers.{ClientHas};
+ghost use Rattle.ot_report.specs.Printed.{client_line, client_lines, phase_word, IsEnd};
+
+use crate::lines::{print_client, print_server, quiet_text};
+use ot_machine::{Machine, Phase};
+use std::alloc::{AllocError, Global};
+
+// A client's state as it is printed.
+fn phase_name(phase: Phase) -> &'static str
+    ensures { result.now ≡ phase_word phase }
+{
+    match phase {
+        Phase::NotJoined => "not-joined",
+        Phase::Synchronized => "synchronized",
+        Phase::AwaitingConfirm => "awaiting-confirm",
+        Phase::AwaitingWithBuffer => "awaiting-with-buffer",
+    }
+}
+
+// The line of one client.
+fn client_line(alloc: Global, machine: &Machine, client: u16) -> Result<String, AllocError>
+    requires { client < length machine.now.clients }
+    ensures { IfOk result (λ s. ClientHas machine.now client (client_line client) (string_bytes s)) }
+{
+    let phase = phase_name(machine.phase(client));
+    let revision = machine.revision(client);
+    print_client(alloc, client, revision, phase, machine.document(client))
+}
+
+// The lines of the clients, in order.
+fn clients_text(alloc: Global, machine: &Machine) -> Result<String, AllocError>
+    ensures { IfOk result (λ s. string_bytes s ≡ client_lines 0 machine.now.clients) }
+{
+    let mut text = String::new(alloc);
+    for client in 0..machine.clients() {
+        let line = client_line(alloc, machine, client)?;
+        text.push_str(line.as_str())?;
+    }
+    Ok(text)
+}
+
+/// The lines of the state: each client in order, then the server, then `quiet` or `not quiet`.
+pub fn print_end(alloc: Global, machine: &Machine) -> Result<String, AllocError>
+    ensures { IfOk result (λ s. IsEnd machine.now (string_bytes s)) }
+{
+    let mut text = clients_text(alloc, machine)?;
+    let server = print_server(alloc, machine.server_revision(), machine.server_document())?;
+    text.push_str(server.as_str())?;
+    text.push_str(quiet_text(machine.is_quiet()))?;
+    Ok(text)
+}

@@ -1,0 +1,48 @@
+//! A whole run.
+
+ghost use Rattle.std.specs.Prelude.{◌≡◌, ◌++◌, IfOk, OnOk, string_bytes};
+ghost use Rattle.ot_report.specs.Printed.{read_lines, stop_text, IsReport};
+
+use crate::ending::print_end;
+use crate::lines::{print_read, print_stop};
+use ot_machine::Run;
+use ot_model::{Refusal, Shown};
+use std::alloc::{AllocError, Global};
+
+// The lines of the reads, in order.
+fn reads_text(alloc: Global, shown: &[Shown]) -> Result<String, AllocError>
+    ensures { IfOk result (λ s. string_bytes s ≡ read_lines shown.now) }
+{
+    let mut text = String::new(alloc);
+    for read in shown {
+        let line = print_read(alloc, read)?;
+        text.push_str(line.as_str())?;
+    }
+    Ok(text)
+}
+
+// The line of the stop, if there was one.
+fn push_stop(
+    alloc: Global,
+    text: &mut String,
+    stopped: Option<(usize, Refusal)>,
+) -> Result<(), AllocError>
+    ensures { OnOk result (string_bytes text.new ≡ string_bytes text.old ++ stop_text stopped) }
+{
+    if let Some((place, refusal)) = stopped {
+        let line = print_stop(alloc, place, refusal)?;
+        text.push_str(line.as_str())?;
+    }
+    Ok(())
+}
+
+/// A run as it is printed: the reads in order, the stop if an instruction was not performed, and the state where the run ended.
+pub fn print_run(alloc: Global, run: &Run) -> Result<String, AllocError>
+    ensures { IfOk result (λ s. IsReport run.now (string_bytes s)) }
+{
+    let mut text = reads_text(alloc, run.shown.as_slice())?;
+    push_stop(alloc, &mut text, run.stopped)?;
+    let end = print_end(alloc, &run.machine)?;
+    text.push_str(end.as_str())?;
+    Ok(text)
+}

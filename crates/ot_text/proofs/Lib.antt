@@ -1,0 +1,15 @@
+pub mod Lists
+pub mod RunLemmas
+pub mod Built
+pub mod Refused
+pub mod Normal
+pub mod Compared
+pub mod ApplyLaws
+pub mod OperationLaws
+pub mod InvertLaws
+pub mod Applied
+pub mod Inverted
+pub mod Chunked
+pub mod Drafted
+pub mod Drafting
+pub mod Inverting

@@ -1,0 +1,93 @@
+// What components make of a document's chunks.
+ghost use Rattle.std.specs.Prelude.{◌≡◌, ◌≤◌, [], length, IfOk};
+ghost use Rattle.ot_text.specs.Operation.{apply, invert};
+ghost use Rattle.ot_text.specs.Run.{base_of, image_from, operation_of};
+ghost use Rattle.ot_text.specs.Components.{runs};
+ghost use Rattle.ot_text.specs.Chunks.{lists, joined, IsChunked};
+ghost use Rattle.ot_text.specs.Draft.{IsInOrder, IsDraft, written};
+
+use crate::cursor::Cursor;
+use crate::draft::Draft;
+use crate::{Component, Element, TextOp, only_memory};
+use std::alloc::{AllocError, Global};
+
+// The draft of the document that the components make of the chunks.
+pub fn draft_components<T: Copy>(
+    alloc: Global,
+    components: &[Component<T>],
+    chunks: &[Vec<T>],
+) -> Result<Draft<T>, AllocError>
+    requires chunked { IsChunked (lists chunks.now) }
+    requires base { base_of (runs components.now) ≤ length (joined (lists chunks.now)) }
+    ensures draft { IfOk result (λ d. IsDraft (lists chunks.now) d) }
+    ensures empty { IfOk result (λ d. d.pending.items ≡ []) }
+    ensures order { IfOk result (λ d. IsInOrder 0 (length chunks.now) d.pieces.items) }
+    ensures text { IfOk result (λ d. written (lists chunks.now) d ≡ apply (operation_of (runs components.now)) (joined (lists chunks.now))) }
+{
+    let room = chunks.len().saturating_add(components.len());
+    let mut draft = Draft::new(alloc, room)?;
+    let mut cursor = Cursor::start();
+    for component in components {
+        match component {
+            Component::Retain(count) => draft.retain(chunks, &mut cursor, *count)?,
+            Component::Insert(text) => draft.append(chunks, text.as_slice())?,
+            Component::Delete(count) => cursor.skip(chunks, *count),
+        }
+    }
+    draft.flush(chunks)?;
+    Ok(draft)
+}
+
+// The items that the components make of the chunks, in one list with room for `room` items.
+pub fn apply_components<T: Copy>(
+    alloc: Global,
+    components: &[Component<T>],
+    chunks: &[Vec<T>],
+    room: usize,
+) -> Result<Vec<T>, AllocError>
+    requires chunked { IsChunked (lists chunks.now) }
+    requires base { base_of (runs components.now) ≤ length (joined (lists chunks.now)) }
+    ensures { IfOk result (λ v. v.items ≡ apply (operation_of (runs components.now)) (joined (lists chunks.now))) }
+{
+    let mut items = Vec::with_capacity(alloc, room)?;
+    let mut cursor = Cursor::start();
+    for component in components {
+        match component {
+            Component::Retain(count) => cursor.read(chunks, *count, &mut items)?,
+            Component::Insert(text) => items.extend_from_slice(text.as_slice())?,
+            Component::Delete(count) => cursor.skip(chunks, *count),
+        }
+    }
+    Ok(items)
+}
+
+// The operation that takes the components back, on the document that they make of the chunks.
+pub fn invert_components<T: Element>(
+    alloc: Global,
+    components: &[Component<T>],
+    chunks: &[Vec<T>],
+) -> Result<TextOp<T>, AllocError>
+    requires chunked { IsChunked (lists chunks.now) }
+    requires base { base_of (runs components.now) ≡ length (joined (lists chunks.now)) }
+    requires base_fits { length (joined (lists chunks.now)) ≤ 1000000 }
+    requires target_fits { length (image_from 0 (runs components.now)) ≤ 1000000 }
+    ensures { IfOk result (λ op. op ≡ invert (operation_of (runs components.now)) (joined (lists chunks.now))) }
+{
+    let mut inverse = TextOp::new(alloc);
+    let mut cursor = Cursor::start();
+    for component in components {
+        match component {
+            Component::Retain(count) => {
+                only_memory(inverse.retain(*count))?;
+                cursor.skip(chunks, *count);
+            }
+            Component::Insert(text) => only_memory(inverse.delete(text.len()))?,
+            Component::Delete(count) => {
+                let mut text = Vec::with_capacity(alloc, *count)?;
+                cursor.read(chunks, *count, &mut text)?;
+                only_memory(inverse.insert(text.as_slice()))?;
+            }
+        }
+    }
+    Ok(inverse)
+}

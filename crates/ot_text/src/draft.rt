@@ -1,0 +1,233 @@
+// The chunks of a changed document, before any old chunk moves.
+ghost use Rattle.std.specs.Prelude.{◌≡◌, ◌↔◌, ◌+◌, ◌<◌, ◌≤◌, ◌++◌, ℕ, [], length, get_or, take, drop, OnOk, IsTrue, IfOk, vec_len, vec_capacity};
+ghost use Rattle.ot_text.specs.Chunks.{lists, joined, IsChunked, MayEnd, rest_at, left_at, IsInside};
+ghost use Rattle.ot_text.specs.Draft.{content, contents, IsInOrder, IsDraft, written, Continues};
+
+use crate::cursor::Cursor;
+use std::alloc::{AllocError, Global};
+
+/// The greatest length of a chunk.
+pub const CHUNK: usize = 512;
+
+// A chunk to be: an old one by its place, or a new one.
+#[derive(Drop)]
+pub enum Piece<T> {
+    Moved(usize),
+    Made(Vec<T>),
+}
+
+// Pieces, and the items after them that are not yet a piece.
+#[derive(Drop)]
+pub struct Draft<T> {
+    pub pieces: Vec<Piece<T>>,
+    pub pending: Vec<T>,
+}
+
+// What a piece holds.
+fn content<'a, T>(chunks: &'a [Vec<T>], piece: &'a Piece<T>) -> &'a [T]
+    ensures { result.now ≡ content (lists chunks.now) piece.now }
+{
+    match piece {
+        Piece::Moved(place) => match chunks.get(*place) {
+            Some(chunk) => chunk.as_slice(),
+            None => &[],
+        },
+        Piece::Made(made) => made.as_slice(),
+    }
+}
+
+impl<T: Copy> Draft<T> {
+    // An empty draft with room for `room` pieces.
+    pub fn new(alloc: Global, room: usize) -> Result<Draft<T>, AllocError>
+        ensures pieces { IfOk result (λ d. d.pieces.items ≡ []) }
+        ensures pending { IfOk result (λ d. d.pending.items ≡ []) }
+    {
+        let pieces = Vec::with_capacity(alloc, room)?;
+        let pending = Vec::new(alloc);
+        Ok(Draft { pieces, pending })
+    }
+
+    // May a chunk of that length stand after the pieces?
+    fn may_end(&self, chunks: &[Vec<T>], count: usize) -> bool
+        requires small { count ≤ 512 }
+        requires chunked { IsChunked (contents (lists chunks.now) self.now.pieces.items) }
+        ensures { IsTrue result ↔ MayEnd (contents (lists chunks.now) self.now.pieces.items) count }
+    {
+        let length = self.pieces.len();
+        if length == 0 {
+            return true;
+        }
+        content(chunks, &self.pieces[length - 1]).len() + count > CHUNK
+    }
+
+    // Makes a piece of what is pending, or of the last piece and what is pending.
+    pub fn flush(&mut self, chunks: &[Vec<T>]) -> Result<(), AllocError>
+        requires { IsDraft (lists chunks.now) self.old }
+        ensures ok { OnOk result (Continues (lists chunks.now) self.old self.new []) }
+        ensures empty { OnOk result (self.new.pending.items ≡ []) }
+    {
+        let alloc = *self.pending.allocator();
+        if self.pending.is_empty() {
+            return Ok(());
+        }
+        if self.may_end(chunks, self.pending.len()) {
+            let made = std::mem::replace(&mut self.pending, Vec::new(alloc));
+            self.pieces.push(Piece::Made(made))?;
+            return Ok(());
+        }
+        let last = self.pieces.len() - 1;
+        let mut made = Vec::with_capacity(alloc, CHUNK)?;
+        made.extend_from_slice(content(chunks, &self.pieces[last]))?;
+        made.extend_from_slice(self.pending.as_slice())?;
+        self.pieces[last] = Piece::Made(made);
+        self.pending.clear();
+        Ok(())
+    }
+
+    // Makes room for that many items in what is pending.
+    fn make_room(&mut self, chunks: &[Vec<T>], count: usize) -> Result<(), AllocError>
+        requires draft { IsDraft (lists chunks.now) self.old }
+        requires small { count ≤ 512 }
+        ensures ok { OnOk result (Continues (lists chunks.now) self.old self.new []) }
+        ensures room { OnOk result (length self.new.pending.items + count ≤ 512) }
+    {
+        if self.pending.len() + count > CHUNK {
+            return self.flush(chunks);
+        }
+        Ok(())
+    }
+
+    // Writes items, which are copied.
+    pub fn append(&mut self, chunks: &[Vec<T>], text: &[T]) -> Result<(), AllocError>
+        requires { IsDraft (lists chunks.now) self.old }
+        ensures { OnOk result (Continues (lists chunks.now) self.old self.new text.now) }
+    {
+        let mut at = 0;
+        while at < text.len() {
+            self.make_room(chunks, 1)?;
+            let step = (text.len() - at).min(CHUNK - self.pending.len());
+            self.pending.reserve(CHUNK - self.pending.len())?;
+            self.pending.extend_from_slice(&text[at..at + step])?;
+            at += step;
+        }
+        Ok(())
+    }
+
+    // Writes an old chunk: it moves, unless it has to be joined with what stands before it.
+    fn keep(&mut self, chunks: &[Vec<T>], place: usize) -> Result<(), AllocError>
+        requires draft { IsDraft (lists chunks.now) self.old }
+        requires order { IsInOrder 0 place self.old.pieces.items }
+        requires chunked { IsChunked (lists chunks.now) }
+        requires some { place < length chunks.now }
+        ensures draft { OnOk result (IsDraft (lists chunks.now) self.new) }
+        ensures text { OnOk result (written (lists chunks.now) self.new ≡ written (lists chunks.now) self.old ++ get_or (lists chunks.now) place []) }
+        ensures order { OnOk result (IsInOrder 0 (place + 1) self.new.pieces.items) }
+    {
+        let chunk = chunks[place].as_slice();
+        self.make_room(chunks, chunk.len())?;
+        if self.pending.is_empty() && self.may_end(chunks, chunk.len()) {
+            self.pieces.push(Piece::Moved(place))?;
+            return Ok(());
+        }
+        self.append(chunks, chunk)
+    }
+
+    // Writes the next items of one old chunk.
+    fn retain_some(
+        &mut self,
+        chunks: &[Vec<T>],
+        cursor: &mut Cursor,
+        count: usize,
+    ) -> Result<(), AllocError>
+        requires draft { IsDraft (lists chunks.now) self.old }
+        requires order { IsInOrder 0 cursor.old.chunk self.old.pieces.items }
+        requires chunked { IsChunked (lists chunks.now) }
+        requires inside { IsInside (lists chunks.now) cursor.old.chunk cursor.old.offset }
+        requires some { 0 < length (left_at (lists chunks.now) cursor.old.chunk cursor.old.offset) }
+        requires within { count ≤ length (rest_at (lists chunks.now) cursor.old.chunk cursor.old.offset) }
+        ensures draft { OnOk result (IsDraft (lists chunks.now) self.new) }
+        ensures text { OnOk result (written (lists chunks.now) self.new ≡ written (lists chunks.now) self.old ++ take count (left_at (lists chunks.now) cursor.old.chunk cursor.old.offset)) }
+        ensures order { OnOk result (IsInOrder 0 cursor.new.chunk self.new.pieces.items) }
+        ensures inside { OnOk result (IsInside (lists chunks.now) cursor.new.chunk cursor.new.offset) }
+        ensures left { OnOk result (left_at (lists chunks.now) cursor.new.chunk cursor.new.offset ≡ drop count (left_at (lists chunks.now) cursor.old.chunk cursor.old.offset)) }
+    {
+        if count == chunks[cursor.chunk].len() {
+            self.keep(chunks, cursor.chunk)?;
+            cursor.advance(chunks, count);
+            return Ok(());
+        }
+        self.append(chunks, &cursor.rest(chunks)[..count])?;
+        cursor.advance(chunks, count);
+        Ok(())
+    }
+
+    // Writes the next items of the old chunks.
+    pub fn retain(
+        &mut self,
+        chunks: &[Vec<T>],
+        cursor: &mut Cursor,
+        count: usize,
+    ) -> Result<(), AllocError>
+        requires draft { IsDraft (lists chunks.now) self.old }
+        requires order { IsInOrder 0 cursor.old.chunk self.old.pieces.items }
+        requires chunked { IsChunked (lists chunks.now) }
+        requires inside { IsInside (lists chunks.now) cursor.old.chunk cursor.old.offset }
+        requires within { count ≤ length (left_at (lists chunks.now) cursor.old.chunk cursor.old.offset) }
+        ensures draft { OnOk result (IsDraft (lists chunks.now) self.new) }
+        ensures text { OnOk result (written (lists chunks.now) self.new ≡ written (lists chunks.now) self.old ++ take count (left_at (lists chunks.now) cursor.old.chunk cursor.old.offset)) }
+        ensures order { OnOk result (IsInOrder 0 cursor.new.chunk self.new.pieces.items) }
+        ensures inside { OnOk result (IsInside (lists chunks.now) cursor.new.chunk cursor.new.offset) }
+        ensures left { OnOk result (left_at (lists chunks.now) cursor.new.chunk cursor.new.offset ≡ drop count (left_at (lists chunks.now) cursor.old.chunk cursor.old.offset)) }
+    {
+        let mut ahead = count;
+        while ahead > 0 {
+            let step = cursor.rest(chunks).len().min(ahead);
+            self.retain_some(chunks, cursor, step)?;
+            ahead -= step;
+        }
+        Ok(())
+    }
+}
+
+// The chunks that the pieces say: the old ones are moved, and nothing is allocated.
+pub fn assemble<T: Drop>(
+    alloc: Global,
+    mut chunks: Vec<Vec<T>>,
+    pieces: Vec<Piece<T>>,
+    room: Vec<Vec<T>>,
+) -> Vec<Vec<T>>
+    requires order { IsInOrder 0 (length chunks.items) pieces.items }
+    requires empty { room.items ≡ [] }
+    requires enough { length pieces.items ≤ vec_capacity room }
+    ensures { lists result.items ≡ contents (lists chunks.items) pieces.items }
+{
+    let mut made = room;
+    for piece in pieces {
+        let chunk = match piece {
+            Piece::Moved(place) => std::mem::replace(&mut chunks[place], Vec::new(alloc)),
+            Piece::Made(chunk) => chunk,
+        };
+        made.push_reserved(chunk);
+    }
+    made
+}
+
+// The chunks that the pieces say, where the old ones stay: they are copied.
+pub fn copy_pieces<T: Copy>(
+    alloc: Global,
+    chunks: &[Vec<T>],
+    pieces: Vec<Piece<T>>,
+) -> Result<Vec<Vec<T>>, AllocError>
+    requires { IsInOrder 0 (length chunks.now) pieces.items }
+    ensures { IfOk result (λ v. lists v.items ≡ contents (lists chunks.now) pieces.items) }
+{
+    let mut made = Vec::with_capacity(alloc, pieces.len())?;
+    for piece in pieces {
+        let chunk = match piece {
+            Piece::Moved(place) => Vec::from_slice(alloc, chunks[place].as_slice())?,
+            Piece::Made(chunk) => chunk,
+        };
+        made.push_reserved(chunk);
+    }
+    Ok(made)
+}

@@ -1,0 +1,14 @@
+// What the items of a document are.
+ghost use Rattle.std.specs.Prelude.{◌≡◌, true};
+
+/// A type of elements: `char`, or a struct of your own. Copied freely (`Copy`), and `==` (`Eq`) is equality of values, which an
+/// implementation proves: derived equality of fields that are themselves so is found by the search.
+pub trait Element: Copy + Eq {
+    ghost equal_is_same: { (x y : Self) → Self.eq x y ≡ true → x ≡ y };
+}
+
+impl Element for char {
+    ghost use Rattle.std.proofs.Common.{rules};
+
+    ghost equal_is_same = { Prim.search rules };
+}

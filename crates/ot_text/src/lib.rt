@@ -1,0 +1,287 @@
+//! Text operations and the documents that they change: the data of operational transformation.
+//!
+//! An operation is a list of components, as in ot.js' `TextOperation`, which goes over a document once, from left to right:
+//!
+//! ```text
+//!     retain 1      a                  a          [1,"cd",-2,1] takes documents of 4 elements (base length)
+//!     insert "cd"                      c d        and makes documents of 4 (target length): of "abbz" it makes "acdz"
+//!     delete 2      b b
+//!     retain 1      z                  z
+//! ```
+//!
+//! It is always in normal form: no component is empty, no two neighbours are of one kind, and no insertion stands directly
+//! after a deletion. So two operations that do the same are one list. A contract sees an operation as its base length and
+//! its image, which says for each element of the result whether it stood at a place of the document before (`Old i`) or
+//! is new (`New x`): here `Old 0, New c, New d, Old 3` on base 4. The three lengths are kept beside the components.
+//!
+//! A document is a list of elements, in chunks. A contract sees the list alone.
+//!
+//! ```text
+//!     chunks  [ 512 elements ] [ 512 ] [ 130 ] [ 400 ] ..      1 to 512 elements each; two neighbours have more than 512
+//!
+//!     change  [ moved        ] [ new ] [ new ] [ moved ] ..    only chunks that the operation touches are written anew,
+//!                                                              and those that would be too short beside them
+//! ```
+//!
+//! A change makes every growth first (a draft, over the old chunks as they are) and then moves the old chunks into their
+//! new places, which takes no memory: so a change that finds no memory leaves the document as it was.
+//!
+//! - `specs/Operation.antt`: base and image, the builder's three calls, `apply`, `invert`.
+//! - `specs/Run.antt`, `specs/Components.antt`: the components as runs, their normal form, what they spell.
+//! - `specs/Chunks.antt`, `specs/Draft.antt`: the rule on chunks, a place in them, the draft of a change.
+//!
+//! Begin with `TextOp` below, then `build.rt` (normal form), `document.rt` (`Doc`), `cursor.rt` and `draft.rt` (chunks), and
+//! `change.rt` (what components make of chunks).
+#![tactic(auto)]
+
+ghost use Rattle.std.specs.Prelude.{◌≡◌, ◌+◌, ◌<◌, ◌≤◌, ◌↔◌, List, length, max, OnOk, OnErr, IfOk, IsErrOf, IsTrue};
+ghost use Rattle.ot_text.specs.Operation.{empty, identity, with_retain, with_insert, with_delete, IsTooLong, news, apply, invert, IsOperation};
+ghost use Rattle.ot_text.specs.Run.{operation_of, normal_runs, IsNormal};
+ghost use Rattle.ot_text.specs.Components.{runs};
+
+mod build;
+mod change;
+mod compare;
+mod copy;
+mod cursor;
+mod document;
+mod draft;
+mod element;
+mod refusal;
+#[cfg(test)]
+mod tests;
+
+use build::{add_delete, add_insert, add_retain};
+use change::invert_components;
+use compare::same_components;
+use copy::copy_components;
+pub use document::Doc;
+pub use element::Element;
+pub use refusal::{OpRefusal, only_memory};
+use std::alloc::{AllocError, Global};
+use std::marker::Model;
+
+/// The greatest length of a document, and of an operation's base and target, in elements.
+pub const LIMIT: usize = 1_000_000;
+
+/// One step over a document, as in ot.js' `TextOperation`: counts are in elements (Unicode scalars where `T` is `char`).
+#[derive(Drop)]
+pub enum Component<T> {
+    /// The next elements stay.
+    Retain(usize),
+    /// Elements come in.
+    Insert(Vec<T>),
+    /// The next elements go.
+    Delete(usize),
+}
+
+/// An operation in normal form, its base and its target length at most 1,000,000 elements.
+///
+/// It is built from left to right by `retain`, `insert` and `delete`, which are those of ot.js' `TextOperation`.
+#[derive(Drop)]
+pub struct TextOp<T> {
+    components: Vec<Component<T>>,
+    base: usize,
+    target: usize,
+    inserted: usize,
+}
+
+impl<T> Model for TextOp<T> {
+    ghost use Rattle.ot_text.specs.Operation.{Operation};
+
+    ghost Value = { Operation T };
+
+    ghost use Rattle.ot_text.specs.Run.{operation_of, IsSound};
+    ghost use Rattle.ot_text.specs.Components.{runs};
+
+    ghost view = { λ s. operation_of (runs s.components.items) };
+
+    ghost invariant = { λ s. IsSound (runs s.components.items) s.base s.target s.inserted };
+}
+
+impl<T: Element> TextOp<T> {
+    /// The operation without components, on the empty document. Takes no memory; later calls take theirs from `alloc`.
+    pub fn new(alloc: Global) -> TextOp<T>
+        ensures { result ≡ empty }
+    {
+        TextOp {
+            components: Vec::new(alloc),
+            base: 0,
+            target: 0,
+            inserted: 0,
+        }
+    }
+
+    /// Keeps the next `count` elements of the document; 0 adds nothing, and a retain at the end is lengthened.
+    ///
+    /// `TooLong` exactly where the base or the target length would pass 1,000,000; else `Memory` where a growth was
+    /// refused. After an error the operation is as it was.
+    pub fn retain(&mut self, count: usize) -> Result<(), OpRefusal>
+        ensures ok { OnOk result (self.new ≡ with_retain self.old count) }
+        ensures too_long { IsErrOf result OpRefusal.TooLong ↔ IsTooLong (with_retain self.old count) }
+        ensures err { OnErr result (self.new ≡ self.old) }
+    {
+        if count > LIMIT - self.base.max(self.target) {
+            return Err(OpRefusal::TooLong);
+        }
+        if count == 0 {
+            return Ok(());
+        }
+        add_retain(&mut self.components, count)?;
+        self.base += count;
+        self.target += count;
+        Ok(())
+    }
+
+    /// Adds the elements of `text`; an empty text adds nothing. Where the last component is a deletion the text comes before
+    /// it, and it is joined with an insertion that stands there. Copies `text` alone.
+    ///
+    /// `TooLong` exactly where the target length would pass 1,000,000; else `Memory` where a growth was refused. After an
+    /// error the operation is as it was.
+    pub fn insert(&mut self, text: &[T]) -> Result<(), OpRefusal>
+        ensures ok { OnOk result (self.new ≡ with_insert self.old text.now) }
+        ensures too_long { IsErrOf result OpRefusal.TooLong ↔ IsTooLong (with_insert self.old text.now) }
+        ensures err { OnErr result (self.new ≡ self.old) }
+    {
+        let count = text.len();
+        if count > LIMIT - self.target {
+            return Err(OpRefusal::TooLong);
+        }
+        if count == 0 {
+            return Ok(());
+        }
+        let alloc = *self.components.allocator();
+        add_insert(alloc, &mut self.components, text)?;
+        self.target += count;
+        self.inserted += count;
+        Ok(())
+    }
+
+    /// Removes the next `count` elements of the document; 0 adds nothing, and a deletion at the end is lengthened.
+    ///
+    /// `TooLong` exactly where the base length would pass 1,000,000; else `Memory` where a growth was refused. After an error
+    /// the operation is as it was.
+    pub fn delete(&mut self, count: usize) -> Result<(), OpRefusal>
+        ensures ok { OnOk result (self.new ≡ with_delete self.old count) }
+        ensures too_long { IsErrOf result OpRefusal.TooLong ↔ IsTooLong (with_delete self.old count) }
+        ensures err { OnErr result (self.new ≡ self.old) }
+    {
+        if count > LIMIT - self.base {
+            return Err(OpRefusal::TooLong);
+        }
+        if count == 0 {
+            return Ok(());
+        }
+        add_delete(&mut self.components, count)?;
+        self.base += count;
+        Ok(())
+    }
+
+    /// Where the operation's memory comes from.
+    pub fn allocator(&self) -> Global {
+        *self.components.allocator()
+    }
+
+    /// The components, in order: the only ones in normal form that spell the operation.
+    pub fn components(&self) -> &[Component<T>]
+        ensures normal { IsNormal (runs result.now) }
+        ensures spells { operation_of (runs result.now) ≡ self.now }
+        ensures fits { max self.now.base (length self.now.image) ≤ 1000000 }
+        ensures form { runs result.now ≡ normal_runs self.now }
+    {
+        &self.components[..]
+    }
+
+    /// The base length: how many elements the documents have that the operation takes. A look-up.
+    pub fn base_len(&self) -> usize
+        ensures value { result ≡ self.now.base }
+        ensures operation { IsOperation self.now }
+        ensures small { result ≤ 1000000 }
+    {
+        self.base // kept beside the components
+    }
+
+    /// The target length: how many elements the documents have that the operation makes. A look-up.
+    pub fn target_len(&self) -> usize
+        ensures value { result ≡ length self.now.image }
+        ensures small { result ≤ 1000000 }
+    {
+        self.target // kept beside the components
+    }
+
+    /// How many elements the operation adds, in all its insertions. A look-up.
+    pub fn inserted(&self) -> usize
+        ensures value { result ≡ length (news self.now.image) }
+        ensures small { result ≤ 1000000 }
+    {
+        self.inserted // kept beside the components
+    }
+
+    /// The operation keeps every element and adds none: it has no component, or one retain alone.
+    pub fn is_noop(&self) -> bool
+        ensures { IsTrue result ↔ (self.now ≡ identity self.now.base) }
+    {
+        let count = self.components.len();
+        if count == 0 {
+            return true;
+        }
+        if count > 1 {
+            return false;
+        }
+        matches!(&self.components[0], Component::Retain(_))
+    }
+
+    /// The two operations are one: equal base length and equal image, and so equal components.
+    pub fn equals(&self, other: &TextOp<T>) -> bool
+        ensures { IsTrue result ↔ (self.now ≡ other.now) }
+    {
+        same_components(self.components.as_slice(), other.components.as_slice())
+    }
+
+    /// The document's length is the operation's base length.
+    pub fn fits(&self, document: &Doc<T>) -> bool
+        ensures { IsTrue result ↔ (self.now.base ≡ length document.now) }
+    {
+        self.base == document.len()
+    }
+
+    /// The document that the operation makes of this one, which stays: retained elements are copied, inserted ones added,
+    /// deleted ones passed over. The document has to fit. `AllocError` where a growth was refused; nothing has changed then.
+    /// Where the old document is no longer wanted, `Doc::change` copies less.
+    pub fn apply(&self, document: &Doc<T>) -> Result<Doc<T>, AllocError>
+        requires { self.now.base ≡ length document.now }
+        ensures { IfOk result (λ d. d ≡ apply self.now document.now) }
+    {
+        document.changed(self)
+    }
+
+    /// An operation equal to this one, or `AllocError` where a growth was refused.
+    pub fn copy(&self) -> Result<TextOp<T>, AllocError>
+        ensures { IfOk result (λ op. op ≡ self.now) }
+    {
+        let alloc = *self.components.allocator();
+        let components = copy_components(alloc, self.components.as_slice())?;
+        Ok(TextOp {
+            components,
+            base: self.base,
+            target: self.target,
+            inserted: self.inserted,
+        })
+    }
+
+    /// The operation that takes this one back, as ot.js' `invert`: applied to what this operation makes of `document`, it gives
+    /// `document`. Retains stay, an insertion becomes a deletion of its length, a deletion an insertion of what went.
+    /// The document has to fit. `AllocError` where a growth was refused; nothing has changed then.
+    pub fn invert(&self, document: &Doc<T>) -> Result<TextOp<T>, AllocError>
+        requires { self.now.base ≡ length document.now }
+        ensures value { IfOk result (λ op. op ≡ invert self.now document.now) }
+        ensures gives_back { IfOk result (λ op. apply op (apply self.now document.now) ≡ document.now) }
+    {
+        let alloc = *self.components.allocator();
+        invert_components(
+            alloc,
+            self.components.as_slice(),
+            document.chunks.as_slice(),
+        )
+    }
+}

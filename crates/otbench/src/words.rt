@@ -1,0 +1,94 @@
+//! What the program's words ask for.
+
+ghost use Rattle.std.specs.Prelude.{◌≡◌, Some, IfOk, IfErr, IsSome, map, true, option_and_then};
+ghost use Rattle.clap.specs.Words.{app_of, found_of, kind_of, rows_of, subcommand_rows_of, takes};
+ghost use Rattle.otbench.specs.Requests.{otbench_app, flag_among, form_among, request_of, request_in_rows};
+
+use clap::error::ErrorKind;
+use clap::{Arg, ArgAction, ArgMatches, Command, Error};
+use std::alloc::{AllocError, Global};
+use std::convert::AsStr;
+
+/// The form of the schedule on standard input.
+#[derive(Clone, Copy, Debug, PartialEq, Eq)]
+pub enum Form {
+    Text,
+    Image,
+}
+
+/// A subcommand.
+#[derive(Clone, Copy, Debug, PartialEq, Eq)]
+pub enum Request {
+    /// Runs a schedule and prints what it shows and where it ends.
+    Run(Form),
+    /// Turns a schedule's text into its image.
+    Assemble,
+    /// Turns a schedule's image into its text.
+    Disassemble,
+}
+
+// The program's command line.
+fn command<'a>(alloc: Global) -> Result<Command<'a>, AllocError>
+    ensures { IfOk result (λ c. app_of c ≡ otbench_app) }
+{
+    let image = Arg::new(alloc, "image")
+        .long("image")
+        .action(ArgAction::SetTrue);
+    let running = Command::new(alloc, "run").arg(image)?;
+    Command::new(alloc, "otbench")
+        .subcommand_required(true)
+        .subcommand(running)?
+        .subcommand(Command::new(alloc, "asm"))?
+        .subcommand(Command::new(alloc, "dis"))
+}
+
+// Whether a flag was given.
+fn is_set(matches: &ArgMatches<'_>, id: &str) -> bool
+    ensures { result ≡ flag_among id.now (rows_of (found_of matches.now)) }
+{
+    match matches.get_str(id) {
+        Some(text) => text == "true",
+        None => false,
+    }
+}
+
+// The form that the matches of `run` say.
+fn form_in(matches: &ArgMatches<'_>) -> Form
+    ensures { result ≡ form_among (rows_of (found_of matches.now)) }
+{
+    if is_set(matches, "image") {
+        Form::Image
+    } else {
+        Form::Text
+    }
+}
+
+// The request that the matches say.
+fn request_in(matches: &ArgMatches<'_>) -> Option<Request>
+    ensures { result ≡ option_and_then request_in_rows (subcommand_rows_of matches.now) }
+{
+    let (name, found) = matches.subcommand()?;
+    match name {
+        "run" => Some(Request::Run(form_in(found))),
+        "asm" => Some(Request::Assemble),
+        "dis" => Some(Request::Disassemble),
+        _ => None,
+    }
+}
+
+/// What the words ask for, the program's name being the first of them. Where they ask for nothing that the program does, or for help, the
+/// answer is `clap`'s error with its text; `ErrorKind::OutOfMemory` stands for want of memory.
+pub fn read_request<'a, S: AsStr>(alloc: Global, words: &'a [S]) -> Result<Request, Error>
+    ensures ok { IfOk result (λ r. request_of (map S.text words.entry.now) ≡ Some r) }
+    ensures refused { IfErr result (λ e. takes otbench_app (map S.text words.entry.now) ≡ true
+        → IsSome (request_of (map S.text words.entry.now)) → kind_of e ≡ ErrorKind.OutOfMemory) }
+{
+    let matches = command(alloc)?.try_get_matches_from(words)?;
+    match request_in(&matches) {
+        Some(request) => Ok(request),
+        None => Err(command(alloc)?.error(
+            ErrorKind::MissingSubcommand,
+            "a subcommand is missing",
+        )?),
+    }
+}
