@@ -8,3 +8,9 @@ pub mod Listed
 pub mod Whole
 pub mod Spelled
 pub mod Read
+pub mod Visible
+pub mod Printing
+pub mod Formed
+pub mod Numbered
+pub mod WholeLines
+pub mod CanonicalSpelled

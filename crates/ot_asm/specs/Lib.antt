@@ -4,3 +4,4 @@ pub mod Stepping
 pub mod Spelling
 pub mod Canonical
 pub mod Parts
+pub mod Laws

@@ -18,8 +18,9 @@
 //!
 //! The contracts' words: `specs/Words.antt` and `Numbers.antt` (what a line holds), `Stepping.antt` (what a line does, in
 //! the order of its faults; `outcome`, the schedule of a text or its first fault), `Spelling.antt` (`Spells`, a text and
-//! its schedule, without any order of reading), `Canonical.antt`, `Parts.antt` (an input of a schedule, a line `%%` and
-//! commands). Begin with `assemble` in `assembling.rt`, then `stepping.rt` and `body.rt`.
+//! its schedule, without any order of reading), `Canonical.antt`, `Laws.antt` (the canonical text spells its schedule),
+//! `Parts.antt` (an input of a schedule, a line `%%` and commands). Begin with `assemble` in `assembling.rt`, then
+//! `stepping.rt` and `body.rt`.
 #![tactic(auto)]
 
 mod assembling;
@@ -42,7 +43,7 @@ pub use assembling::assemble;
 pub use carrying::{assemble_from, assemble_until_mark};
 pub use disassembling::disassemble;
 pub use fault::{AsmFault, Kind};
-pub use laws::spells_at_most_one;
+pub use laws::{canonical_spells, spells_at_most_one};
 pub use writing::{WriteStop, disassemble_to};
 
 #[cfg(test)]

@@ -10,7 +10,7 @@ use Rattle.std.proofs.lemmas.List.{take-append-drop}
 use Rattle.ot_server.specs.History.{History, base_at, length_at, longest_at, fault_of, transform_over, received, with_entry}
 use Rattle.ot_server.specs.History as server
 use Rattle.ot_model.specs.Operation.{Operation, inserted, news}
-use Rattle.ot_model.specs.Table.{Client, Entry, Message, Phase, NotJoined, Synchronized, AwaitingConfirm, AwaitingWithBuffer, is_joined}
+use Rattle.ot_model.specs.Table.{Entry, Message, Phase, NotJoined, Synchronized, AwaitingConfirm, AwaitingWithBuffer, is_joined}
 use Rattle.ot_model.specs.Sound.{Fits, IsUnderway, IsPhaseSound, apply_entries, FitAll, inserted_in, pending, news_sent, news_kept}
 use Rattle.ot_model.proofs.Clients.{taken_is}
 use Rattle.ot_model.proofs.States.{FitAll_drop, transform_over_news}

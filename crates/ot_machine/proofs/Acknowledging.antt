@@ -1,17 +1,15 @@
 -- The row of an acknowledgement.
-use Rattle.std.proofs.Common.{◌≡◌, ◌≢◌, ℕ, zero, suc, ◌+◌, ◌-◌, ◌<◌, ◌≤◌, List, [], ◌∷◌, length, take, drop, map, set, refl, sym, ap, ◌∙◌, subst, arith, Option, Some, None, Bool, true, false}
+use Rattle.std.proofs.Common.{◌≡◌, ℕ, suc, ◌+◌, ◌-◌, ◌<◌, ◌≤◌, List, ◌∷◌, length, take, drop, set, refl, sym, ap, ◌∙◌, subst, arith, Option, Some, None, true, false}
 use Rattle.std.proofs.lemmas.Option.{slice_get_within, same_Some}
 use Rattle.std.proofs.lemmas.Bool.{eqb-true}
 use Rattle.std.specs.Prelude.{slice_get, ◌==◌}
-use Rattle.std.specs.Option.{option_map}
 use Rattle.ot_isa.specs.declared.elements.Tagged.{Tagged}
 use Rattle.ot_isa.specs.declared.instruction.Instr.TheVariants.{Acknowledge}
-use Rattle.ot_client.specs.Client.{message_of}
 use Rattle.ot_server.specs.History.{History}
 use Rattle.ot_model.specs.declared.shown.Refusal.TheVariants.{LinkEmpty, WrongHead}
 use Rattle.ot_model.specs.Operation.{Operation}
 use Rattle.ot_model.specs.Table.{Client, Entry, Message, Phase, NotJoined, Synchronized, AwaitingConfirm, AwaitingWithBuffer, State, is_joined, step, Performed, Refused, with_client, acknowledged}
-use Rattle.ot_model.specs.Sound.{IsPhaseSound, IsSent, NoneBy}
+use Rattle.ot_model.specs.Sound.{IsPhaseSound, IsSent}
 use Rattle.ot_model.proofs.Laws.{laws}
 use Rattle.ot_model.proofs.States.{drop_entry, acknowledged_kept}
 use Rattle.ot_machine.specs.declared.seat.Seat.{Seat}

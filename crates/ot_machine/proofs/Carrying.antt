@@ -1,15 +1,15 @@
 -- A message to the server.
-use Rattle.std.proofs.Common.{◌≡◌, ℕ, zero, suc, ◌+◌, ◌<◌, ◌≤◌, List, [], ◌∷◌, length, map, set, get_or, refl, sym, ap, ◌∙◌, subst, arith, Option, Some, None, Err}
+use Rattle.std.proofs.Common.{◌≡◌, ℕ, zero, suc, ◌<◌, List, [], ◌∷◌, length, map, set, get_or, refl, sym, ap, ◌∙◌, subst, arith, Option, Some, None, Err}
 use Rattle.std.proofs.lemmas.List.{map-set, length-map}
 use Rattle.std.proofs.lemmas.Option.{slice_get-map, slice_get_read, same_Some}
 use Rattle.std.specs.Prelude.{slice_get}
 use Rattle.ot_machine.specs.declared.seat.Seat.{Seat}
 use Rattle.ot_isa.specs.declared.elements.Tagged.{Tagged}
-use Rattle.ot_server.specs.History.{Names, History, received, fault_of}
+use Rattle.ot_server.specs.History.{Names, History}
 use Rattle.ot_server.specs.declared.fault.ServerFault.{ServerFault}
 use Rattle.ot_server.specs.declared.fault.ServerFault.TheVariants as fault
 use Rattle.ot_model.specs.Table.{Message}
-use Rattle.ot_machine.specs.Seats.{View, view_of, client_of, phase_of, revision_of, sent, outstanding_at, outstanding_of, emptied, without_message, IsReceivable, IsMemory, received_from}
+use Rattle.ot_machine.specs.Seats.{View, view_of, phase_of, revision_of, outstanding_at, outstanding_of, emptied, without_message, IsReceivable, IsMemory}
 
 pub outstanding_read :
     (seats before : List Seat) (c n : ℕ) (seat : Seat) → map view_of seats ≡ map view_of before → n ≡ length seats → c < n → seat ≡ get_or seats c seat

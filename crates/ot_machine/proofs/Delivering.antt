@@ -1,5 +1,5 @@
 -- The row of a message to a client.
-use Rattle.std.proofs.Common.{◌≡◌, ◌≢◌, ℕ, zero, suc, ◌+◌, ◌-◌, ◌<◌, ◌≤◌, List, [], ◌∷◌, length, take, drop, map, set, get_or, refl, sym, ap, ◌∙◌, subst, arith, Option, Some, None, Bool, true, false, length-append}
+use Rattle.std.proofs.Common.{◌≡◌, ◌≢◌, ℕ, zero, suc, ◌+◌, ◌-◌, ◌<◌, ◌≤◌, List, [], ◌∷◌, length, take, drop, set, refl, sym, ap, ◌∙◌, subst, arith, Option, Some, None, true, false, length-append}
 use Rattle.std.proofs.lemmas.Option.{slice_get_past, same_Some}
 use Rattle.std.specs.Prelude.{slice_get, ◌==◌, ◌++◌}
 use Rattle.ot_isa.specs.declared.elements.Tagged.{Tagged}
@@ -10,7 +10,7 @@ use Rattle.ot_client.specs.State as state
 use Rattle.ot_client.specs.Client.{state_of}
 use Rattle.ot_client.specs.declared.client.Client as program
 use Rattle.ot_client.specs.declared.client.Client.TheVariants as client
-use Rattle.ot_model.specs.Operation.{inserted, news}
+use Rattle.ot_model.specs.Operation.{news}
 use Rattle.ot_model.specs.declared.shown.Refusal.TheVariants.{LinkEmpty, WrongHead}
 use Rattle.ot_model.specs.Table.{Client, Entry, Message, State, is_joined, step, Performed, Refused, with_client, delivered}
 use Rattle.ot_model.specs.Sound.{IsPhaseSound, FitAll, apply_entries, inserted_in, pending, news_sent, news_kept}
@@ -18,7 +18,7 @@ use Rattle.ot_model.proofs.Lengths.{deliver_room, FitAll_take, room_ahead}
 use Rattle.ot_model.proofs.Laws.{laws}
 use Rattle.ot_machine.specs.Seats.{phase_of, revision_of, client_of, state_from, incoming, IsKept, numbers, MayDeliverPhase, MayDeliverTo, MaySeatDeliver}
 use Rattle.std.specs.Option.{is_some}
-use Rattle.std.proofs.lemmas.Option.{slice_get_within, slice_get_read}
+use Rattle.std.proofs.lemmas.Option.{slice_get_within}
 use Rattle.ot_machine.specs.Answers.{IsPerformed}
 use Rattle.ot_server.specs.History.{History}
 use Rattle.ot_model.proofs.States.{joined_delivered, drop_entry, FitAll_drop}

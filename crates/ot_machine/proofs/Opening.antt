@@ -1,11 +1,10 @@
 -- The opening.
-use Rattle.std.proofs.Common.{◌≡◌, ℕ, zero, suc, ◌+◌, ◌-◌, ◌<◌, ◌≤◌, List, [], ◌∷◌, ◌++◌, length, map, replicate, refl, sym, ap, ◌∙◌, subst, arith, Option, Some, None, append_assoc}
+use Rattle.std.proofs.Common.{◌≡◌, ℕ, zero, suc, ◌+◌, ◌-◌, ◌≤◌, List, [], ◌∷◌, ◌++◌, length, map, replicate, refl, sym, ap, ◌∙◌, subst, arith, append_assoc}
 use Rattle.std.proofs.lemmas.List.{map-append}
 use Rattle.std.proofs.lemmas.Option.{same_Some}
-use Rattle.std.specs.Prelude.{slice_get}
 use Rattle.ot_isa.specs.declared.elements.Tagged.{Tagged}
 use Rattle.ot_server.specs.History.{History}
-use Rattle.ot_model.specs.Table.{Client, State, start_list, present_with, absent, opening}
+use Rattle.ot_model.specs.Table.{Client, start_list, present_with, absent, opening}
 use Rattle.ot_model.specs.Sound.{IsSound}
 use Rattle.ot_model.proofs.Steps.{opening_sound, slice_get-replicate}
 use Rattle.ot_machine.specs.declared.seat.Seat.{Seat}

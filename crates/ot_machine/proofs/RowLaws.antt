@@ -1,9 +1,9 @@
 -- The rows of the table, where they perform.
-use Rattle.std.proofs.Common.{◌≡◌, ℕ, zero, suc, ◌+◌, ◌-◌, ◌<◌, ◌≤◌, List, [], ◌∷◌, length, map, set, get_or, refl, sym, ap, ◌∙◌, subst, arith, Option, Some, None, Bool, true, false, Ok, Err}
+use Rattle.std.proofs.Common.{◌≡◌, ℕ, zero, suc, ◌+◌, ◌<◌, ◌≤◌, List, [], ◌∷◌, length, map, set, get_or, refl, sym, ap, ◌∙◌, subst, arith, Option, Some, None, true, false, Ok, Err}
 use Rattle.std.proofs.lemmas.Bool.Decides.{nat_tests}
 use Rattle.std.proofs.lemmas.List.{map-set}
-use Rattle.std.proofs.lemmas.Option.{slice_get-map, slice_get_read, same_Some, slice_get_within, slice_get-get_or, get_or_from_slice_get}
-use Rattle.std.specs.Prelude.{slice_get, nat_le, nat_lt, ◌==◌, if◌then◌else◌, not}
+use Rattle.std.proofs.lemmas.Option.{slice_get-map, slice_get_read, same_Some}
+use Rattle.std.specs.Prelude.{slice_get, nat_le, nat_lt, ◌==◌}
 use Rattle.ot_text.specs.Operation.{Operation, apply}
 use Rattle.ot_isa.specs.declared.elements.Tagged.{Tagged}
 use Rattle.ot_isa.specs.declared.instruction.Instr.{Instr}
@@ -24,7 +24,7 @@ use Rattle.ot_server.specs.History.{History}
 use Rattle.ot_model.specs.Operation.{inserted}
 use Rattle.ot_model.specs.declared.shown.Shown.{Shown}
 use Rattle.ot_model.specs.Table.{Client, Phase, State, is_joined, Outcome, Entry, Message, NotJoined, Synchronized, AwaitingConfirm, AwaitingWithBuffer, phase_edited, step, Performed, with_client, edited, tag_operation}
-use Rattle.ot_model.specs.Sound.{IsPhaseSound, apply_entries, IsSound, IsInstr, IsOutcomeSound}
+use Rattle.ot_model.specs.Sound.{IsPhaseSound, apply_entries, IsInstr, IsOutcomeSound}
 use Rattle.ot_model.proofs.Steps.{step_sound}
 use Rattle.ot_model.proofs.Laws.{laws}
 use Rattle.ot_model.proofs.States.{length-news-tag_items}

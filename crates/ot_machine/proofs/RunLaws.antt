@@ -1,17 +1,15 @@
 -- The laws of all runs, for schedules.
-use Rattle.std.proofs.Common.{◌≡◌, ℕ, zero, suc, ◌+◌, ◌<◌, ◌≤◌, List, [], ◌∷◌, length, take, arith, Some}
+use Rattle.std.proofs.Common.{ℕ, suc, List, [], ◌∷◌, take, arith}
 use Rattle.std.proofs.lemmas.List.Elements.{All-take}
-use Rattle.std.specs.Prelude.{slice_get}
 use Rattle.std.specs.List.{All}
 use Rattle.ot_isa.specs.Program.{Program, IsProgram}
 use Rattle.ot_isa.specs.Program as isa
 use Rattle.ot_isa.specs.declared.instruction.Instr.{Instr}
 use Rattle.ot_isa.specs.declared.instruction.Instr.TheVariants.{Edit, Take, Deliver, Acknowledge, Join, Read, ReadServer}
-use Rattle.ot_model.specs.Table.{Place, begin, IsQuiet}
-use Rattle.ot_model.specs.Sound.{IsInstr, AreInstrs, IsSound}
+use Rattle.ot_model.specs.Table.{begin}
+use Rattle.ot_model.specs.Sound.{IsInstr, AreInstrs}
 use Rattle.ot_model.proofs.Laws.{laws}
 use Rattle.ot_model.proofs.Steps.{opening_sound, run_sound, quiet_same}
-use Rattle.ot_model.specs.Runs.{place_at}
 use Rattle.ot_machine.specs.Laws.{RunsSound, RunsConverge}
 
 instr_is : (n : ℕ) (i : Instr) → isa.IsInstr n i → IsInstr i

@@ -1,12 +1,12 @@
 -- The row of a message that goes to the server.
 use Rattle.std.proofs.Common.{◌≡◌, ℕ, zero, suc, ◌+◌, ◌-◌, ◌<◌, ◌≤◌, List, [], ◌∷◌, ◌++◌, length, map, set, drop, refl, sym, ap, ◌∙◌, subst, arith, Option, Some, None, Bool, true, false, length-append}
-use Rattle.std.proofs.lemmas.Option.{slice_get-map, same_Some}
-use Rattle.std.specs.Prelude.{slice_get, if◌then◌else◌}
+use Rattle.std.proofs.lemmas.Option.{same_Some}
+use Rattle.std.specs.Prelude.{slice_get}
 use Rattle.std.specs.Option.{is_some}
 use Rattle.ot_isa.specs.declared.elements.Tagged.{Tagged}
 use Rattle.ot_isa.specs.declared.instruction.Instr.TheVariants.{Take}
 use Rattle.ot_server.specs.History.{History, transform_over, received}
-use Rattle.ot_model.specs.Table.{Client, Entry, Message, State, is_joined, step, Performed, taken}
+use Rattle.ot_model.specs.Table.{Client, Message, State, is_joined, step, Performed, taken}
 use Rattle.ot_model.specs.Sound.{IsOutcomeSound, IsSound}
 use Rattle.ot_model.proofs.Steps.{step_sound}
 use Rattle.ot_model.proofs.Laws.{laws}

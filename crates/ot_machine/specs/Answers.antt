@@ -4,6 +4,7 @@ use Rattle.ot_model.specs.declared.shown.Refusal.{Refusal}
 use Rattle.ot_model.specs.declared.shown.Refusal.TheVariants.{NoSuchClient, StepsFull, NotJoined, AlreadyJoined, BadBase, ClientFull, LinkEmpty, WrongHead, Memory}
 use Rattle.ot_model.specs.Table.{Outcome, Performed, Refused, NoRow}
 
+-- the table performs the instruction
 abbrev pub IsPerformed : Outcome → Type 0
 IsPerformed (Performed s shown) = Unit {0}
 IsPerformed (Refused r) = ⊥

@@ -22,6 +22,7 @@ abbrev pub IsStopAt : Program → State → ℕ → Refusal → Type 0
 IsStopAt s state place Memory = place < done s
 IsStopAt s state place refusal = (place ≡ done s) × IsRefusedAt s state place refusal
 
+-- a run that does not stop has performed every instruction
 abbrev pub IsStop : Program → State → Option (ℕ × Refusal) → Type 0
 IsStop s state None = length s.instrs ≡ done s
 IsStop s state (Some stop) = IsStopAt s state stop.0 stop.1

@@ -1,5 +1,5 @@
 -- What the readers give of a state of the table.
-use Rattle.std.specs.Prelude.{◌≡◌, ◌↔◌, ℕ, ◌+◌, Option, Some, None, List, [], length, map, slice_get, ◌==◌, if◌then◌else◌, IsTrue, true}
+use Rattle.std.specs.Prelude.{◌≡◌, ◌↔◌, ℕ, ◌+◌, Option, Some, None, length, map, slice_get, ◌==◌, if◌then◌else◌, IsTrue, true}
 use Rattle.std.specs.Option.{option_map}
 use Rattle.ot_model.specs.Table.{Client, State, Entry, is_joined, IsQuiet}
 use Rattle.ot_model.specs.Table as table

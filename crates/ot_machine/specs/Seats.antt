@@ -14,15 +14,18 @@ use Rattle.ot_client.specs.Client.{state_of, message_of}
 use Rattle.ot_machine.specs.declared.seat.Seat.{Seat}
 use Rattle.ot_model.specs.Table.{Phase, NotJoined, Synchronized, AwaitingConfirm, AwaitingWithBuffer, is_joined, Client, State, Message}
 
+-- the three phases of a client of the program, as the table's
 abbrev pub phase_in : state.Phase Tagged → Phase
 phase_in state.Synchronized = Synchronized
 phase_in (state.AwaitingConfirm o) = AwaitingConfirm o
 phase_in (state.AwaitingWithBuffer o b) = AwaitingWithBuffer o b
 
+-- a seat without a client is one that has not joined
 abbrev pub phase_of : Option (program.Client Tagged) → Phase
 phase_of None = NotJoined
 phase_of (Some client) = phase_in (state_of client).phase
 
+-- how many entries of the log the client has; none where it has not joined
 abbrev pub revision_of : Option (program.Client Tagged) → ℕ
 revision_of None = 0
 revision_of (Some client) = (state_of client).revision
@@ -57,6 +60,7 @@ abbrev pub under_way : Option (Sent Tagged) → Option (Sent Tagged) → Option 
 under_way None up = up
 under_way (Some sent) up = Some sent
 
+-- what is sent has to find the link empty
 abbrev pub MayPush : Option (Sent Tagged) → Option (Sent Tagged) → Type 0
 MayPush None up = Unit {0}
 MayPush (Some sent) up = up ≡ None
@@ -75,6 +79,7 @@ pub record View : Type 0 where
   pub client : Client
   pub queue : List ℕ
 
+-- the seat as callers see it
 abbrev pub view_of : Seat → View
 view_of seat = record { client = client_of seat; queue = seat.down.items }
 
@@ -82,10 +87,11 @@ view_of seat = record { client = client_of seat; queue = seat.down.items }
 abbrev pub idle : Client → View
 idle client = record { client = client; queue = [] }
 
+-- each queue is as the log says
 abbrev pub AreQueues : ℕ → List View → Type 0
 AreQueues end views = (c : ℕ) (v : View) → slice_get views c ≡ Some v → v.queue ≡ incoming v.client end
 
--- the program's fields as a state of the table
+-- the machine's fields as a state of the table
 abbrev pub state_from : History Tagged → List Seat → ℕ → State
 state_from server seats steps =
     record { log = server.log; server = server.document; clients = map client_of seats; steps = steps }
@@ -109,6 +115,7 @@ swept f (suc i) (x ∷ xs) = f x ∷ swept f i xs
 abbrev pub HasRoom : Seat → Type 0
 HasRoom seat = 0 < seat.down.room
 
+-- so it is with the seats from one on
 abbrev pub HaveRoomFrom : ℕ → List Seat → Type 0
 HaveRoomFrom i seats = (c : ℕ) (seat : Seat) → i ≤ c → slice_get seats c ≡ Some seat → HasRoom seat
 
@@ -118,13 +125,16 @@ MayDeliverPhase state.Synchronized op = Unit {0}
 MayDeliverPhase (state.AwaitingConfirm o) op = (op.base ≡ o.base) × (op.base + inserted o + inserted op ≤ 1000000)
 MayDeliverPhase (state.AwaitingWithBuffer o b) op = (op.base ≡ o.base) × (op.base + inserted o + inserted b + inserted op ≤ 1000000)
 
+-- and of its revision
 abbrev pub MayDeliver : state.State Tagged → Operation Tagged → Type 0
 MayDeliver client op = (client.revision < 1000000) × MayDeliverPhase client.phase op
 
+-- and of its list
 abbrev pub MayDeliverTo : Option (program.Client Tagged) → Operation Tagged → List Tagged → Type 0
 MayDeliverTo None op list = ⊥
 MayDeliverTo (Some client) op list = MayDeliver (state_of client) op × ((state.carried (state_of client).phase op).base ≡ length list)
 
+-- what a delivery needs of the seat
 abbrev pub MaySeatDeliver : Seat → Operation Tagged → Type 0
 MaySeatDeliver seat op = MayDeliverTo seat.client op seat.list
 
@@ -135,6 +145,7 @@ IsAwaiting Synchronized = ⊥
 IsAwaiting (AwaitingConfirm o) = Unit {0}
 IsAwaiting (AwaitingWithBuffer o b) = Unit {0}
 
+-- what an acknowledgement needs of the seat
 abbrev pub MaySeatAcknowledge : Seat → Type 0
 MaySeatAcknowledge seat = IsAwaiting (phase_of seat.client) × (revision_of seat.client < 1000000) × (seat.up ≡ None)
 
@@ -153,10 +164,12 @@ outstanding_of revision Synchronized = None
 outstanding_of revision (AwaitingConfirm o) = Some (record { revision = revision; op = o })
 outstanding_of revision (AwaitingWithBuffer o b) = Some (record { revision = revision; op = o })
 
+-- so of a seat, if it is there
 abbrev pub outstanding_in : Option View → Option Message
 outstanding_in None = None
 outstanding_in (Some v) = outstanding_of v.client.revision v.client.phase
 
+-- so of the seat with this number
 abbrev pub outstanding_at : List View → ℕ → Option Message
 outstanding_at views c = outstanding_in (slice_get views c)
 
@@ -165,11 +178,12 @@ abbrev pub IsReceivable : History Tagged → Option Message → Type 0
 IsReceivable server None = ⊥
 IsReceivable server (Some m) = fault_of server m.revision m.op ≡ None
 
+-- the server after it has received the operation, if there is one
 abbrev pub received_from : History Tagged → ℕ → Option Message → History Tagged
 received_from server c None = server
 received_from server c (Some m) = received server c m.revision m.op
 
--- the seats with client c's message gone
+-- the seat with its message gone
 abbrev pub without_message : View → View
 without_message v =
     record {
@@ -177,11 +191,13 @@ without_message v =
       queue = v.queue;
     }
 
+-- the seats with the message of one gone
 abbrev pub emptied : ℕ → List View → List View
 emptied c [] = []
 emptied zero (v ∷ views) = without_message v ∷ views
 emptied (suc c) (v ∷ views) = v ∷ emptied c views
 
+-- the server's fault is want of memory
 abbrev pub IsMemory : ServerFault → Type 0
 IsMemory fault.Memory = Unit {0}
 IsMemory fault.NotInHistory = ⊥
@@ -193,5 +209,6 @@ IsMemory fault.TooLong = ⊥
 abbrev pub IsSettled : View → Type 0
 IsSettled v = is_joined v.client.phase ≡ true → (v.client.message ≡ None) × (v.queue ≡ []) × (v.client.phase ≡ Synchronized)
 
+-- so it is with all seats
 abbrev pub AreSettled : List Seat → Type 0
 AreSettled seats = (k : ℕ) (seat : Seat) → slice_get seats k ≡ Some seat → IsSettled (view_of seat)

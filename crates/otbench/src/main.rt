@@ -33,12 +33,6 @@ fn main(rt: HostRuntime) -> ExitCode {
     let mut input = rt.reader();
     let mut output = io::writer(&rt);
     let mut faults = rt.stderr();
-    let status = serve(
-        &rt,
-        words.as_slice(),
-        &mut input,
-        &mut output,
-        &mut faults,
-    );
+    let status = serve(&rt, words.as_slice(), &mut input, &mut output, &mut faults);
     ExitCode::from(status)
 }

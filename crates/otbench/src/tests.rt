@@ -25,16 +25,35 @@ fn answers(
 }
 
 fn runs(rt: &(impl Abort + Alloc<A = Global>), input: &str, output: &str, status: u8) {
-    answers(rt, ["otbench", "run"].as_slice(), input.as_bytes(), output.as_bytes(), b"".as_slice(), status);
+    answers(
+        rt,
+        ["otbench", "run"].as_slice(),
+        input.as_bytes(),
+        output.as_bytes(),
+        b"".as_slice(),
+        status,
+    );
 }
 
 fn refuses(rt: &(impl Abort + Alloc<A = Global>), input: &[u8], fault: &str) {
-    answers(rt, ["otbench", "run"].as_slice(), input, b"".as_slice(), fault.as_bytes(), 1);
+    answers(
+        rt,
+        ["otbench", "run"].as_slice(),
+        input,
+        b"".as_slice(),
+        fault.as_bytes(),
+        1,
+    );
 }
 
 #[test]
 fn nothing_happens(rt: HostRuntime) {
-    runs(&rt, "clients 1\n", "client 0 rev 0 synchronized \"\"\nserver rev 0 \"\"\nquiet\n", 0);
+    runs(
+        &rt,
+        "clients 1\n",
+        "client 0 rev 0 synchronized \"\"\nserver rev 0 \"\"\nquiet\n",
+        0,
+    );
 }
 
 #[test]
@@ -143,7 +162,8 @@ fn a_client_joins_late(rt: HostRuntime) {
 
 #[test]
 fn a_client_that_has_not_joined(rt: HostRuntime) {
-    let end = "client 0 rev 0 synchronized \"\"\nclient 1 rev 0 not-joined \"\"\nserver rev 0 \"\"\nquiet\n";
+    let end =
+        "client 0 rev 0 synchronized \"\"\nclient 1 rev 0 not-joined \"\"\nserver rev 0 \"\"\nquiet\n";
     runs(&rt, "clients 2\npresent 1\n", end, 0);
     runs(
         &rt,
@@ -164,34 +184,77 @@ fn faulty_lines(rt: HostRuntime) {
     refuses(&rt, b"", "otbench: line 1: NoClients\n");
     refuses(&rt, b"take 0\n", "otbench: line 1: NoClients\n");
     refuses(&rt, b"clients 65\n", "otbench: line 1: BadClient\n");
-    refuses(&rt, b"clients 1\njump 0\n", "otbench: line 2: UnknownWord\n");
+    refuses(
+        &rt,
+        b"clients 1\njump 0\n",
+        "otbench: line 2: UnknownWord\n",
+    );
     refuses(&rt, b"clients 1\ntake x\n", "otbench: line 2: BadNumber\n");
     refuses(&rt, b"clients 1\nstart x\n", "otbench: line 2: BadText\n");
-    refuses(&rt, b"clients 1\nedit 0 [1\n", "otbench: line 2: BadOperation\n");
+    refuses(
+        &rt,
+        b"clients 1\nedit 0 [1\n",
+        "otbench: line 2: BadOperation\n",
+    );
     refuses(&rt, b"clients 1\ntake 0 0\n", "otbench: line 2: Extra\n");
-    refuses(&rt, b"clients 2\nstart \"x\"\nedit 2 [1]\n", "otbench: line 3: BadClient\n");
-    refuses(&rt, b"clients 1\nedit 0 [1000001]\n", "otbench: line 2: TooLong\n");
+    refuses(
+        &rt,
+        b"clients 2\nstart \"x\"\nedit 2 [1]\n",
+        "otbench: line 3: BadClient\n",
+    );
+    refuses(
+        &rt,
+        b"clients 1\nedit 0 [1000001]\n",
+        "otbench: line 2: TooLong\n",
+    );
     refuses(&rt, b"clients 1\n\xff\n", "otbench: line 2: BadText\n");
-    refuses(&rt, b"clients 1\npresent 2\n", "otbench: line 2: BadClient\n");
+    refuses(
+        &rt,
+        b"clients 1\npresent 2\n",
+        "otbench: line 2: BadClient\n",
+    );
 }
 
 // The forty bytes of the first version, and the forty-two of the second, of a schedule with an edit and a read.
 const FIRST: [u8; 40] = [
-    0x4f, 0x54, 0x53, 0x31, 0, 1, 0, 0, 0, 1, 0, 0, 0, 0x61, 0, 0, 0, 2, 1, 0, 0, 0, 0, 0, 2, 0x10, 0, 0, 0, 1, 0x11, 0, 0, 0,
-    1, 0, 0, 0, 0x62, 6,
+    0x4f, 0x54, 0x53, 0x31, 0, 1, 0, 0, 0, 1, 0, 0, 0, 0x61, 0, 0, 0, 2, 1, 0, 0, 0, 0, 0, 2, 0x10,
+    0, 0, 0, 1, 0x11, 0, 0, 0, 1, 0, 0, 0, 0x62, 6,
 ];
+
 const SECOND: [u8; 42] = [
-    0x4f, 0x54, 0x53, 0x32, 0, 1, 0, 1, 0, 0, 0, 1, 0, 0, 0, 0x61, 0, 0, 0, 2, 1, 0, 0, 0, 0, 0, 2, 0x10, 0, 0, 0, 1, 0x11, 0,
-    0, 0, 1, 0, 0, 0, 0x62, 6,
+    0x4f, 0x54, 0x53, 0x32, 0, 1, 0, 1, 0, 0, 0, 1, 0, 0, 0, 0x61, 0, 0, 0, 2, 1, 0, 0, 0, 0, 0, 2,
+    0x10, 0, 0, 0, 1, 0x11, 0, 0, 0, 1, 0, 0, 0, 0x62, 6,
 ];
+
 const SOURCE: &str = "clients 1\nstart \"a\"\nedit 0 [1,\"b\"]\nread-server\n";
 
 #[test]
 fn between_text_and_image(rt: HostRuntime) {
     let nothing = b"".as_slice();
-    answers(&rt, ["otbench", "asm"].as_slice(), SOURCE.as_bytes(), SECOND.as_slice(), nothing, 0);
-    answers(&rt, ["otbench", "dis"].as_slice(), SECOND.as_slice(), SOURCE.as_bytes(), nothing, 0);
-    answers(&rt, ["otbench", "dis"].as_slice(), FIRST.as_slice(), SOURCE.as_bytes(), nothing, 0);
+    answers(
+        &rt,
+        ["otbench", "asm"].as_slice(),
+        SOURCE.as_bytes(),
+        SECOND.as_slice(),
+        nothing,
+        0,
+    );
+    answers(
+        &rt,
+        ["otbench", "dis"].as_slice(),
+        SECOND.as_slice(),
+        SOURCE.as_bytes(),
+        nothing,
+        0,
+    );
+    answers(
+        &rt,
+        ["otbench", "dis"].as_slice(),
+        FIRST.as_slice(),
+        SOURCE.as_bytes(),
+        nothing,
+        0,
+    );
     answers(
         &rt,
         ["otbench", "run", "--image"].as_slice(),
@@ -200,11 +263,26 @@ fn between_text_and_image(rt: HostRuntime) {
         nothing,
         0,
     );
-    answers(&rt, ["otbench", "dis"].as_slice(), b"OTS".as_slice(), nothing, b"otbench: byte 3: Cut\n".as_slice(), 1);
-    answers(&rt, ["otbench", "run", "--image"].as_slice(), b"none".as_slice(), nothing, b"otbench: byte 0: BadMagic\n".as_slice(), 1);
+    answers(
+        &rt,
+        ["otbench", "dis"].as_slice(),
+        b"OTS".as_slice(),
+        nothing,
+        b"otbench: byte 3: Cut\n".as_slice(),
+        1,
+    );
+    answers(
+        &rt,
+        ["otbench", "run", "--image"].as_slice(),
+        b"none".as_slice(),
+        nothing,
+        b"otbench: byte 0: BadMagic\n".as_slice(),
+        1,
+    );
 }
 
 // A reader that gives its bytes and then fails.
+#[derive(Drop)]
 struct Breaking<'a> {
     bytes: &'a [u8],
 }
@@ -223,7 +301,13 @@ fn breaks(rt: &(impl Abort + Alloc<A = Global>), input: &[u8], fault: &str) {
     let mut written = Vec::new(rt.alloc());
     let mut complaints = Vec::new(rt.alloc());
     let words = ["otbench", "run"];
-    let status = serve(rt, words.as_slice(), &mut reader, &mut written, &mut complaints);
+    let status = serve(
+        rt,
+        words.as_slice(),
+        &mut reader,
+        &mut written,
+        &mut complaints,
+    );
     assert_eq!(rt; written.len(), 0);
     assert_eq!(rt; complaints.as_slice(), fault.as_bytes());
     assert_eq!(rt; status, 1);
@@ -236,6 +320,7 @@ fn a_read_that_fails(rt: HostRuntime) {
 }
 
 // A writer that takes so many bytes, one at a time, and then none.
+#[derive(Drop)]
 struct Narrow {
     taken: Vec<u8>,
     room: usize,
@@ -272,7 +357,13 @@ fn a_writer_that_fails(rt: HostRuntime) {
         };
         let mut complaints = Vec::new(rt.alloc());
         let words = ["otbench", "run"];
-        let status = serve(&rt, words.as_slice(), &mut reader, &mut writer, &mut complaints);
+        let status = serve(
+            &rt,
+            words.as_slice(),
+            &mut reader,
+            &mut writer,
+            &mut complaints,
+        );
         if room < whole.len() {
             assert_eq!(rt; status, 1);
             assert_eq!(rt; writer.taken.as_slice(), &whole[..room]);
@@ -289,7 +380,13 @@ fn no_subcommand(rt: HostRuntime) {
     let mut written = Vec::new(rt.alloc());
     let mut complaints = Vec::new(rt.alloc());
     let words = ["otbench", "jump"];
-    let status = serve(&rt, words.as_slice(), &mut reader, &mut written, &mut complaints);
+    let status = serve(
+        &rt,
+        words.as_slice(),
+        &mut reader,
+        &mut written,
+        &mut complaints,
+    );
     assert_eq!(rt; status, 2);
     assert_eq!(rt; written.len(), 0);
     assert!(rt; complaints.len() > 0);

@@ -1,4 +1,4 @@
-use Rattle.std.proofs.Common.{◌≡◌, rules, refl, length}
+use Rattle.std.proofs.Common.{rules, refl}
 use Rattle.ot_machine.proofs.Stopping.{place_next, stopped_run, whole_run}
 use Rattle.ot_machine.proofs.running.run.Goals as goal
 

@@ -1,5 +1,4 @@
 use Rattle.std.proofs.Common.{rules, refl, length}
-use Rattle.std.specs.Prelude.{IsTrue}
 use Rattle.ot_machine.proofs.Reading.{settled_next, settled_all, settled_none}
 use Rattle.ot_machine.proofs.seat.are_settled.Goals as goal
 

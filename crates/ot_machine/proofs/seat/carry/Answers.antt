@@ -1,4 +1,4 @@
-use Rattle.std.proofs.Common.{ℕ, rules, refl, length, ap, sym, ◌∙◌, ◌≡◌, ◌<◌, map}
+use Rattle.std.proofs.Common.{rules, refl, length, ap, sym, ◌∙◌, ◌<◌, map}
 use Rattle.ot_machine.proofs.Carrying.{outstanding_read, receivable, emptied_read, still_there}
 use Rattle.ot_machine.specs.Seats.{view_of, sent, received_from}
 use Rattle.ot_machine.proofs.seat.carry.Goals as goal

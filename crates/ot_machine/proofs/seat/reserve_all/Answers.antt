@@ -1,4 +1,4 @@
-use Rattle.std.proofs.Common.{rules, refl, length, arith}
+use Rattle.std.proofs.Common.{rules, refl, length}
 use Rattle.ot_machine.proofs.Sweeps.{IsReserved_same, IsReserved_next, IsReserved_end}
 use Rattle.ot_machine.proofs.seat.reserve_all.Goals as goal
 

@@ -1,4 +1,4 @@
-use Rattle.std.proofs.Common.{rules, refl, length, arith}
+use Rattle.std.proofs.Common.{rules, refl, length}
 use Rattle.ot_machine.proofs.Sweeps.{IsSwept_next, IsSwept_end, send_room}
 use Rattle.ot_machine.proofs.seat.send_all.Goals as goal
 

@@ -1,4 +1,4 @@
-use Rattle.std.proofs.Common.{◌≡◌, rules, length, Some, None, sym}
+use Rattle.std.proofs.Common.{rules, sym}
 use Rattle.ot_isa.specs.declared.instruction.Instr.TheVariants.{Acknowledge}
 use Rattle.ot_machine.proofs.RowLaws.{seat_at, of_value, wanting}
 use Rattle.ot_machine.proofs.Delivering.{receiver_queue}

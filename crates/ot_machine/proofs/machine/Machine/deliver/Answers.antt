@@ -1,4 +1,4 @@
-use Rattle.std.proofs.Common.{◌≡◌, rules, length, Some, None, sym, ap, ◌∙◌}
+use Rattle.std.proofs.Common.{rules, sym, ap, ◌∙◌}
 use Rattle.ot_model.specs.Table.{delivered}
 use Rattle.ot_isa.specs.declared.instruction.Instr.TheVariants.{Deliver}
 use Rattle.ot_machine.specs.Seats.{client_of}

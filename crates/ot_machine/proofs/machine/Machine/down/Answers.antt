@@ -1,4 +1,4 @@
-use Rattle.std.proofs.Common.{rules, refl, sym, Some, None, true, false, ◌≡◌}
+use Rattle.std.proofs.Common.{rules, refl, sym, true, false, ◌≡◌}
 use Rattle.std.specs.Prelude.{◌==◌}
 use Rattle.ot_machine.specs.Seats.{client_of}
 use Rattle.ot_machine.proofs.Reading.{down_none, down_some, down_meant}

@@ -1,5 +1,4 @@
-use Rattle.std.proofs.Common.{◌≡◌, ◌+◌, ◌≤◌, arith, rules, Some, None, length, subst}
-use Rattle.std.specs.Prelude.{slice_get}
+use Rattle.std.proofs.Common.{◌≡◌, ◌+◌, ◌≤◌, arith, rules, subst}
 use Rattle.ot_machine.proofs.RowLaws.{edit_is, edit_done, follows, sends, client_at, seat_at, tagged_inserts, wanting, performs, joined_of, of_value}
 use Rattle.ot_model.specs.Table.{step}
 use Rattle.ot_model.specs.Operation.{inserted}

@@ -1,5 +1,5 @@
-use Rattle.std.proofs.Common.{◌≡◌, rules, Some, None, true, ◌∙◌}
-use Rattle.ot_machine.proofs.Taking.{IsSender, sender_receivable, sender_performs, sender_done, kept_same, state_same}
+use Rattle.std.proofs.Common.{◌≡◌, rules, ◌∙◌}
+use Rattle.ot_machine.proofs.Taking.{sender_receivable, sender_performs, sender_done, kept_same, state_same}
 use Rattle.ot_machine.proofs.RowLaws.{seat_at, wanting, of_value}
 use Rattle.ot_isa.specs.declared.instruction.Instr.TheVariants.{Take}
 use Rattle.ot_machine.proofs.machine.Machine.take.Goals as goal

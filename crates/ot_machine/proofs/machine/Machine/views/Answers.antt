@@ -1,4 +1,4 @@
-use Rattle.std.proofs.Common.{◌≡◌, ◌∙◌}
+use Rattle.std.proofs.Common.{◌∙◌}
 use Rattle.ot_machine.proofs.Reading.{views_next}
 use Rattle.ot_machine.proofs.machine.Machine.views.Goals as goal
 

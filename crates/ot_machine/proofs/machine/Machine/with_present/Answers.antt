@@ -1,4 +1,4 @@
-use Rattle.std.proofs.Common.{◌≡◌, ◌-◌, List, [], ◌++◌, map, replicate, ap, ◌∙◌}
+use Rattle.std.proofs.Common.{◌-◌, List, [], ◌++◌, map, replicate, ap, ◌∙◌}
 use Rattle.ot_isa.specs.declared.elements.Tagged.{Tagged}
 use Rattle.ot_server.specs.History.{History}
 use Rattle.ot_model.specs.Table.{present_with, absent}
