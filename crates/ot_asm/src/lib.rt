@@ -43,6 +43,7 @@ pub use assembling::assemble;
 pub use carrying::{assemble_from, assemble_until_mark};
 pub use disassembling::disassemble;
 pub use fault::{AsmFault, Kind};
+pub use json_text::read_text;
 pub use laws::{canonical_spells, spells_at_most_one};
 pub use writing::{WriteStop, disassemble_to};
 

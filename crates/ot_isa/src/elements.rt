@@ -3,7 +3,7 @@
 use ot_text::Element;
 
 /// Who made a character, and its number among all that its maker made. In a run no tag stands twice.
-#[derive(Clone, Copy, Debug, PartialEq, Eq)]
+#[derive(Clone, Copy, Debug, PartialEq, Eq, Hash)]
 pub struct Tag {
     /// The client's number, or 65,535 for the start text.
     pub origin: u16,

@@ -10,3 +10,7 @@ pub mod Opening
 pub mod Reading
 pub mod Stopping
 pub mod RunLaws
+pub mod Undoing
+pub mod Reverting
+pub mod Keeping
+pub mod Retaking

@@ -3,3 +3,4 @@ pub mod Answers
 pub mod Readers
 pub mod Ended
 pub mod Laws
+pub mod Undoing

@@ -32,18 +32,24 @@
 //! row changes one client; specs/Seats.antt says how the fields are the table's state.
 #![tactic(auto)]
 
+mod kept;
 pub mod laws;
 mod machine;
 mod outcome;
 mod readers;
+mod rows_kept;
 mod running;
 mod seat;
 mod state;
 #[cfg(test)]
 mod tests;
+mod undo;
+#[cfg(test)]
+mod undo_tests;
 
 pub use machine::{INSERTED_LIMIT, Machine, STEP_LIMIT};
 pub use ot_model::{Reader, Refusal, Shown};
 pub use outcome::Run;
 pub use running::run;
 pub use state::{ClientView, Head, Phase, State};
+pub use undo::Undo;

@@ -211,7 +211,7 @@ pub(crate) fn are_settled(seats: &[Seat]) -> bool
 }
 
 // The client after the server's operation, and what it applies.
-fn after(
+pub(crate) fn after(
     client: Client<Tagged>,
     op: TextOp<Tagged>,
 ) -> Result<(Client<Tagged>, TextOp<Tagged>), AllocError>
@@ -291,7 +291,7 @@ pub(crate) fn join(seat: &mut Seat, revision: u32, document: &Doc<Tagged>) -> Re
 }
 
 // The server's fault where it can only want memory.
-fn only_memory(fault: ServerFault) -> AllocError
+pub(crate) fn only_memory(fault: ServerFault) -> AllocError
     requires { IsMemory fault }
 {
     match fault {

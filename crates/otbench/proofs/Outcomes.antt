@@ -5,7 +5,8 @@ use Rattle.std.proofs.KnownBytes.{Keeps-refl}
 use Rattle.ot_isa.specs.Program.{Program}
 use Rattle.ot_asm.specs.Stepping.{outcome}
 use Rattle.otbench.specs.declared.words.Request.{Request}
-use Rattle.otbench.specs.Served.{Streams, GivesImage, OfText, ServesWords}
+use Rattle.otbench.specs.Streams.{Streams}
+use Rattle.otbench.specs.Served.{GivesImage, OfText, ServesWords}
 
 -- the image of the schedule that the text spells
 pub image_given : (input : Option (List ℕ)) (schedule : Program) (status : ℕ) (streams : Streams)

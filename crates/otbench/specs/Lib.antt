@@ -1,2 +1,4 @@
 pub mod Requests
+pub mod Streams
+pub mod Judged
 pub mod Served

@@ -6,7 +6,7 @@ use Rattle.clap.specs.declared.builder.ArgAction.TheVariants.{SetTrue}
 use Rattle.otbench.specs.declared.words.Form.{Form}
 use Rattle.otbench.specs.declared.words.Form.TheVariants as form
 use Rattle.otbench.specs.declared.words.Request.{Request}
-use Rattle.otbench.specs.declared.words.Request.TheVariants.{Run, Assemble, Disassemble}
+use Rattle.otbench.specs.declared.words.Request.TheVariants.{Run, Assemble, Disassemble, Judge}
 
 -- the flag --image
 abbrev pub image : Rule
@@ -18,10 +18,11 @@ required a = record a { top = record a.top { subcommand_required = true } }
 -- the program's command line
 abbrev pub otbench_app : App
 otbench_app =
-    with_subcommand (with_subcommand (with_subcommand (required (new_app (codes "otbench")))
+    with_subcommand (with_subcommand (with_subcommand (with_subcommand (required (new_app (codes "otbench")))
     (with_rule (new_app (codes "run")) image).top)
     (new_app (codes "asm")).top)
-    (new_app (codes "dis")).top
+    (new_app (codes "dis")).top)
+    (new_app (codes "judge")).top
 
 -- a flag among the rows
 abbrev pub is_true : Option Text → Bool
@@ -40,7 +41,8 @@ abbrev pub request_in_rows : Text × List Row → Option Request
 request_in_rows p =
     if bytes_eq p.0 (codes "run") then Some (Run (form_among p.1)) else
     (if bytes_eq p.0 (codes "asm") then Some Assemble else
-    (if bytes_eq p.0 (codes "dis") then Some Disassemble else None))
+    (if bytes_eq p.0 (codes "dis") then Some Disassemble else
+    (if bytes_eq p.0 (codes "judge") then Some Judge else None)))
 
 abbrev pub request_of : List Text → Option Request
 request_of words = option_and_then request_in_rows (subcommand_of otbench_app words)

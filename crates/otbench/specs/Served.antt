@@ -1,7 +1,6 @@
 -- What the program writes and answers.
 use Rattle.std.specs.Prelude.{◌≡◌, ◌≢◌, ◌⊎◌, ◌<◌, ℕ, List, [], ◌∷◌, ◌++◌, Option, Some, None, Ok, Err, codes, decimal}
-use Rattle.std.specs.Io.KnownBytes.{Appends, Keeps}
-use Rattle.streams.specs.Streams.{WritesPart}
+use Rattle.std.specs.Io.KnownBytes.{Keeps}
 use Rattle.ot_isa.specs.Program.{Program}
 use Rattle.ot_asm.specs.declared.fault.AsmFault.{AsmFault}
 use Rattle.ot_asm.specs.declared.fault.Kind as asm
@@ -17,9 +16,11 @@ use Rattle.ot_model.specs.declared.shown.Refusal.{Refusal}
 use Rattle.ot_machine.specs.declared.outcome.Run.{Run}
 use Rattle.ot_machine.specs.Ended.{IsRun}
 use Rattle.ot_report.specs.Printed.{IsReport}
+use Rattle.otbench.specs.Streams.{Streams, Complains, Gives, GivesUp}
+use Rattle.otbench.specs.Judged.{Judges}
 use Rattle.otbench.specs.declared.words.Form.TheVariants as form
 use Rattle.otbench.specs.declared.words.Request.{Request}
-use Rattle.otbench.specs.declared.words.Request.TheVariants.{Run as Running, Assemble, Disassemble}
+use Rattle.otbench.specs.declared.words.Request.TheVariants.{Run as Running, Assemble, Disassemble, Judge}
 
 -- the names of faults as they are printed
 abbrev pub line_kind : asm.Kind → List ℕ
@@ -54,30 +55,6 @@ line_fault fault = codes "otbench: line " ++ (decimal fault.line ++ (codes ": " 
 
 abbrev pub byte_fault : ImageFault → List ℕ
 byte_fault fault = codes "otbench: byte " ++ (decimal fault.at ++ (codes ": " ++ (byte_kind fault.kind ++ 10 ∷ [])))
-
-abbrev pub memory_fault : List ℕ
-memory_fault = codes "otbench: Memory" ++ 10 ∷ []
-
--- the line, or for want of memory the line that says so, or what of it could be written
-abbrev pub Complains : List ℕ → Option (List ℕ) → Option (List ℕ) → Type 0
-Complains text old new = WritesPart old new text ⊎ WritesPart old new memory_fault
-
--- the streams before and after: what was on the output and on the faults, and what is there now
-pub record Streams : Type 0 where
-  pub output : Option (List ℕ)
-  pub output' : Option (List ℕ)
-  pub faults : Option (List ℕ)
-  pub faults' : Option (List ℕ)
-
--- nothing on the output, and status 1: a fault of reading, writing or memory
-abbrev pub GivesUp : ℕ → Streams → Type 0
-GivesUp status streams = (status ≡ 1) × Keeps streams.output streams.output'
-
--- the whole output with its status, or with status 1 a first part of it
-abbrev pub Gives : ℕ → List ℕ → ℕ → Streams → Type 0
-Gives right text status streams =
-    ((status ≡ right) × Appends streams.output streams.output' text × Keeps streams.faults streams.faults')
-    ⊎ ((status ≡ 1) × WritesPart streams.output streams.output' text)
 
 -- a text that is refused: nothing on the output, and the fault's line. A fault other than Memory and ReadFault is that of the text's first faulty line
 pub record RefusesText (text : List ℕ) (status : ℕ) (streams : Streams) : Type 0 where
@@ -132,6 +109,7 @@ Serves (Running form.Text) input status streams = OfText MayReport input status 
 Serves (Running form.Image) input status streams = OfImage MayReport input status streams
 Serves Assemble input status streams = OfText GivesImage input status streams
 Serves Disassemble input status streams = OfImage GivesText input status streams
+Serves Judge input status streams = Judges input status streams
 
 -- the same where the words ask for a subcommand; else nothing is written on the output, and the status is not 0
 abbrev pub ServesWords : Option Request → List ℕ → ℕ → Streams → Type 0

@@ -2,7 +2,8 @@
 //!
 //! ```text
 //!    words ── words ──▶ Request ── serving ──▶ running      run: a schedule's reads, stop and end
-//!                                      └──▶ converting   asm, dis: between a schedule's text and its image
+//!                                      ├──▶ converting   asm, dis: between a schedule's text and its image
+//!                                      └──▶ judging      judge: whether a recorded trace has the weak list property
 //! ```
 //!
 //! [`serve`](serving::serve) does the whole work over any reader and two writers, and says by its clause what it writes and answers
@@ -11,6 +12,7 @@
 
 mod converting;
 mod faults;
+mod judging;
 mod running;
 mod serving;
 #[cfg(test)]

@@ -6,6 +6,7 @@ ghost use Rattle.otbench.specs.Served.{Serves, ServesWords};
 
 use crate::converting::{assemble, disassemble_image};
 use crate::faults::{complain, complain_of_memory};
+use crate::judging::judge_input;
 use crate::running::{run_image, run_text};
 use crate::words::{Form, Request, read_request};
 use clap::Error;
@@ -49,6 +50,7 @@ fn carry_out<I: Read, O: Write, F: Write>(
         Request::Run(Form::Image) => run_image(alloc, input, output, faults),
         Request::Assemble => assemble(alloc, input, output, faults),
         Request::Disassemble => disassemble_image(alloc, input, output, faults),
+        Request::Judge => judge_input(alloc, input, output, faults),
     }
 }
 

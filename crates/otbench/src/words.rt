@@ -25,6 +25,8 @@ pub enum Request {
     Assemble,
     /// Turns a schedule's image into its text.
     Disassemble,
+    /// Judges a trace.
+    Judge,
 }
 
 // The program's command line.
@@ -39,7 +41,8 @@ fn command<'a>(alloc: Global) -> Result<Command<'a>, AllocError>
         .subcommand_required(true)
         .subcommand(running)?
         .subcommand(Command::new(alloc, "asm"))?
-        .subcommand(Command::new(alloc, "dis"))
+        .subcommand(Command::new(alloc, "dis"))?
+        .subcommand(Command::new(alloc, "judge"))
 }
 
 // Whether a flag was given.
@@ -72,6 +75,7 @@ fn request_in(matches: &ArgMatches<'_>) -> Option<Request>
         "run" => Some(Request::Run(form_in(found))),
         "asm" => Some(Request::Assemble),
         "dis" => Some(Request::Disassemble),
+        "judge" => Some(Request::Judge),
         _ => None,
     }
 }

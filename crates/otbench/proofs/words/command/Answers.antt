@@ -14,4 +14,6 @@ returns c =
     c.in_ok-subcommand.ensures.shape (search rules) ∙ ap₂ with_subcommand top_is (ap (λ (a : App). a.top) run_is) in
     let two : app_of c.in_ok-subcommand-2.field-0 ≡ with_subcommand (with_subcommand (required (new_app (codes "otbench"))) (with_rule (new_app (codes "run")) image).top) (new_app (codes "asm")).top =
     c.in_ok-subcommand-2.ensures.shape (search rules) ∙ ap₂ with_subcommand one (ap (λ (a : App). a.top) c.new-4.ensures.app) in
-    IfOk-weaker c.subcommand-3.result _ _ (λ r h. h.shape (search rules) ∙ ap₂ with_subcommand two (ap (λ (a : App). a.top) c.new-5.ensures.app)) c.subcommand-3.ensures
+    let three : app_of c.in_ok-subcommand-3.field-0 ≡ with_subcommand (with_subcommand (with_subcommand (required (new_app (codes "otbench"))) (with_rule (new_app (codes "run")) image).top) (new_app (codes "asm")).top) (new_app (codes "dis")).top =
+    c.in_ok-subcommand-3.ensures.shape (search rules) ∙ ap₂ with_subcommand two (ap (λ (a : App). a.top) c.new-5.ensures.app) in
+    IfOk-weaker c.subcommand-4.result _ _ (λ r h. h.shape (search rules) ∙ ap₂ with_subcommand three (ap (λ (a : App). a.top) c.new-6.ensures.app)) c.subcommand-4.ensures

@@ -1,0 +1,11 @@
+pub mod Views
+pub mod TagLemmas
+pub mod Known
+pub mod Rising
+pub mod Faults
+pub mod Whole
+pub mod Filtered
+pub mod Repeated
+pub mod Making
+pub mod Spelled
+pub mod Examples

@@ -1,0 +1,9 @@
+pub mod Views
+pub mod Numbers
+pub mod Contents
+pub mod Places
+pub mod Ranks
+pub mod Making
+pub mod Reading
+pub mod Layout
+pub mod Verdict

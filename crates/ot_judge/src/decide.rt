@@ -1,0 +1,84 @@
+//! The judge of traces.
+
+ghost use Rattle.std.specs.Prelude.{◌≡◌, ◌<◌, ◌≤◌, ◌↔◌, ℕ, IfOk, List, length, All, map, Some, None, MatchOption};
+ghost use Rattle.ot_judge.specs.Views.{trace_view, views};
+ghost use Rattle.ot_judge.specs.Numbers.{IsNumbered};
+ghost use Rattle.ot_model.specs.WeakList.{EventHolds, WeakListProperty, lists};
+ghost use Rattle.ot_judge.specs.Verdict.{IsFault, IsVerdict};
+
+use crate::contents::{first_doubled, first_misplaced, first_outside, required};
+use crate::graph::make_ranks;
+use crate::ranks::find_reversal_by_rank;
+use crate::trace::{Event, Trace};
+use crate::verdict::Verdict;
+use crate::visibility::{numbers_of, sees_rightly};
+use ot_isa::Tag;
+use std::alloc::{AllocError, Global};
+
+// The fault of one event, if it has one.
+fn fault_of(
+    alloc: Global,
+    start: &[Tag],
+    events: &[Event],
+    numbers: &[usize],
+    e: usize,
+) -> Result<Option<Verdict>, AllocError>
+    requires numbered { IsNumbered (views events.now) numbers.now }
+    requires within { e < length events.now }
+    ensures { IfOk result (λ r. MatchOption r (EventHolds start.now (views events.now) e) (λ v. IsFault start.now (views events.now) e v)) }
+{
+    if !sees_rightly(events, numbers, e) {
+        return Ok(Some(Verdict::BadVisibility(e)));
+    }
+    let x = &events[e];
+    let list = x.list.as_slice();
+    if let Some(a) = first_doubled(alloc, list)? {
+        return Ok(Some(Verdict::Doubled(e, a)));
+    }
+    let wanted = required(alloc, start, events, numbers, e)?;
+    if let Some(a) = first_outside(alloc, list, wanted.as_slice())? {
+        return Ok(Some(Verdict::Missing(e, a)));
+    }
+    if let Some(a) = first_outside(alloc, wanted.as_slice(), list)? {
+        return Ok(Some(Verdict::Extra(e, a)));
+    }
+    if let Some(a) = first_misplaced(x) {
+        return Ok(Some(Verdict::WrongPlace(e, a)));
+    }
+    Ok(None)
+}
+
+// A copy of each event's list.
+fn lists_of(alloc: Global, events: &[Event]) -> Result<Vec<Vec<Tag>>, AllocError>
+    ensures { IfOk result (λ v. map (λ w. w.items) v.items ≡ lists (views events.now)) }
+{
+    let mut all = Vec::new(alloc);
+    for x in events {
+        let copy = Vec::from_slice(alloc, x.list.as_slice())?;
+        all.push(copy)?;
+    }
+    Ok(all)
+}
+
+/// The verdict of a trace: `Holds` exactly where it has the weak list property, else the first fault of the least event
+/// that has one, else two elements in both orders. Answers an error only for want of memory.
+pub fn judge(alloc: Global, trace: &Trace) -> Result<Verdict, AllocError>
+    ensures verdict { IfOk result (λ v. IsVerdict trace.now v) }
+    ensures property { IfOk result (λ v. (v ≡ Verdict.Holds) ↔ WeakListProperty trace.now) }
+{
+    let start = trace.start.as_slice();
+    let events = trace.events.as_slice();
+    let numbers = numbers_of(alloc, events)?;
+    for e in 0..events.len() {
+        if let Some(v) = fault_of(alloc, start, events, numbers.as_slice(), e)? {
+            return Ok(v);
+        }
+    }
+    let all = lists_of(alloc, events)?;
+    let lists = all.as_slice();
+    let ranks = make_ranks(alloc, lists)?;
+    match find_reversal_by_rank(alloc, &ranks, lists)? {
+        Some(r) => Ok(Verdict::Reversed(r.earlier, r.later, r.a, r.b)),
+        None => Ok(Verdict::Holds),
+    }
+}

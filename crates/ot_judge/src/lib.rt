@@ -1,0 +1,55 @@
+//! Traces of replicas that share a list, and the judge of the weak list property.
+//!
+//! A trace is what was seen of a run from outside: by event, which replica acted, which edits of each replica it had
+//! seen before, what it inserted and deleted, and the whole list that it returned. Elements are named by tags
+//! (`ot_isa::Tag`), so two equal characters are two elements.
+//!
+//! ```text
+//! event  replica  sees      does                list
+//!   0       0     none      inserts a at 0      a
+//!   1       1     none      inserts b at 0      b
+//!   2       0     0 and 1   reads               a b
+//!   3       2     none      reads
+//!   4       1     0 and 1   reads               b a         judge: Reversed(2, 4, a, b)
+//! ```
+//!
+//! The weak list property, of Attiya, Burckhardt, Gotsman, Morrison, Yang and Zawirski, "Specification and complexity of
+//! collaborative text editing", PODC 2016, with events of whole edits and exact places: each event sees its own
+//! replica's edits and all that what it sees has seen; each list holds exactly what is known as inserted and not as
+//! deleted, each element once; each inserted element stands at its place; and no two elements stand in one order in
+//! one list and in the other order in another. No order of all elements is asked for.
+//!
+//! `read_trace` reads a trace from JSON, `Trace::new` makes one from its parts, and `judge` decides the property or
+//! names the first fault. Its answer is exact. It is fast because it gives elements ranks that never fall along a list,
+//! checks them, and compares lists only among elements of equal rank.
+//!
+//! Traces as lists and their weak list property are defined in `ot_model`, in its `specs/Trace.antt`,
+//! `specs/Visibility.antt` and `specs/WeakList.antt`: the judge decides the same property that `ot_model::weak_list`
+//! proves of every run. Here, `specs/` has `Views` (the code's traces as lists), `Verdict` and `Contents` (verdicts and
+//! first faults), `Making` (what parts are a trace) and `Reading` (what trace a JSON value is). Begin with
+//! `WeakListProperty` in `ot_model`, then with `specs/Verdict.antt` and `judge` in `decide.rt`.
+#![tactic(auto)]
+
+mod contents;
+mod decide;
+mod fault;
+mod graph;
+mod layout;
+mod order;
+#[cfg(test)]
+mod plain;
+mod ranks;
+mod reading;
+#[cfg(test)]
+mod tests;
+mod trace;
+mod value;
+mod verdict;
+mod visibility;
+
+pub use decide::judge;
+pub use fault::TraceFault;
+pub use ot_model::Placed;
+pub use reading::read_trace;
+pub use trace::{Event, MOST_ENTRIES, MOST_EVENTS, Trace};
+pub use verdict::Verdict;

@@ -1,0 +1,59 @@
+use Rattle.std.proofs.Common.{rules, sym, ap, ◌∙◌}
+use Rattle.ot_model.specs.Table.{delivered}
+use Rattle.ot_isa.specs.declared.instruction.Instr.TheVariants.{Deliver}
+use Rattle.ot_machine.specs.Seats.{client_of}
+use Rattle.ot_machine.proofs.RowLaws.{seat_at, of_value, wanting}
+use Rattle.ot_machine.proofs.Delivering.{receiver_queue, receiver_may, receiver_empty, receiver_done, receiver_performs, receiver_wrong}
+use Rattle.ot_machine.proofs.Keeping.{client_record}
+use Rattle.ot_machine.proofs.machine.Machine.deliver_kept.Goals as goal
+
+pub head-requires : goal.head-requires
+head-requires c =
+    receiver_queue c.self.inside.server c.self.inside.seats.items c.self.inside.steps c.args.client c.index_mut-seat.result.now (record { kept = c.self.invariant; at = seat_at c.self.inside.seats.items c.args.client c.len.result c.index_mut-seat.result.now (search rules) (search rules) c.index_mut-seat.ensures.value; below = search rules; on = c.if-is_none.ensures })
+
+pub returns-in_default-clause-refused : goal.returns-in_default-clause-refused
+returns-in_default-clause-refused c =
+    receiver_empty c.self.inside.server c.self.inside.seats.items c.self.inside.steps c.args.client c.index_mut-seat.result.now c.args.self.now
+    (record { kept = c.self.invariant; at = seat_at c.self.inside.seats.items c.args.client c.len.result c.index_mut-seat.result.now (search rules) (search rules) c.index_mut-seat.ensures.value; below = search rules; on = c.if-is_none.ensures })
+    c.self.view_is (sym c.in_default.ensures)
+
+pub returns-then-maker-client-clause-refused : goal.returns-then-maker-client-clause-refused
+returns-then-maker-client-clause-refused c =
+    receiver_wrong c.self.inside.server c.self.inside.seats.items c.self.inside.steps c.args.client c.index_mut-seat.result.now c.in-Some.entry.now c.args.self.now
+    (record { kept = c.self.invariant; at = seat_at c.self.inside.seats.items c.args.client c.len.result c.index_mut-seat.result.now (search rules) (search rules) c.index_mut-seat.ensures.value; below = search rules; on = c.if-is_none.ensures })
+    (sym c.in-Some.ensures) (search rules) c.self.view_is
+
+pub deliver-requires : goal.deliver-requires
+deliver-requires c =
+    rw c.operation.ensures
+    (record {
+      may = receiver_may c.self.inside.server c.self.inside.seats.items c.self.inside.steps c.args.client c.index_mut-seat.result.now c.in-Some.entry.now
+          (record { kept = c.self.invariant; at = seat_at c.self.inside.seats.items c.args.client c.len.result c.index_mut-seat.result.now (search rules) (search rules) c.index_mut-seat.ensures.value; below = search rules; on = c.if-is_none.ensures })
+          (sym c.in-Some.ensures) (search rules);
+    })
+
+pub returns-in_err-before-clause-refused : goal.returns-in_err-before-clause-refused
+returns-in_err-before-clause-refused c =
+    wanting c.from_residual.result _ c.from_residual.ensures.1
+    (receiver_performs c.self.inside.server c.self.inside.seats.items c.self.inside.steps c.args.client c.index_mut-seat.result.now c.in-Some.entry.now c.args.self.now
+    (record { kept = c.self.invariant; at = seat_at c.self.inside.seats.items c.args.client c.len.result c.index_mut-seat.result.now (search rules) (search rules) c.index_mut-seat.ensures.value; below = search rules; on = c.if-is_none.ensures })
+    (sym c.in-Some.ensures) (search rules) c.self.view_is)
+
+pub invariant_of-self-2 : goal.invariant_of-self-2
+invariant_of-self-2 c =
+    (receiver_done c.self.inside.server c.self.inside.seats.items c.self.inside.steps c.args.client c.index_mut-seat.result.now c.deliver.new.seat c.in-Some.entry.now
+    (record { kept = c.self.invariant; at = seat_at c.self.inside.seats.items c.args.client c.len.result c.index_mut-seat.result.now (search rules) (search rules) c.index_mut-seat.ensures.value; below = search rules; on = c.if-is_none.ensures })
+    (sym c.in-Some.ensures) (search rules) (c.in_ok-before.ensures.ok ∙ ap (delivered (client_of c.index_mut-seat.result.now)) c.operation.ensures) c.in_ok-before.ensures.down).kept
+
+pub returns-clause-done : goal.returns-clause-done
+returns-clause-done c =
+    of_value _ _ (Deliver c.args.client) _ c.self.view_is
+    (receiver_done c.self.inside.server c.self.inside.seats.items c.self.inside.steps c.args.client c.index_mut-seat.result.now c.deliver.new.seat c.in-Some.entry.now
+    (record { kept = c.self.invariant; at = seat_at c.self.inside.seats.items c.args.client c.len.result c.index_mut-seat.result.now (search rules) (search rules) c.index_mut-seat.ensures.value; below = search rules; on = c.if-is_none.ensures })
+    (sym c.in-Some.ensures) (search rules) (c.in_ok-before.ensures.ok ∙ ap (delivered (client_of c.index_mut-seat.result.now)) c.operation.ensures) c.in_ok-before.ensures.down).row
+
+pub returns-clause-record_is : goal.returns-clause-record_is
+returns-clause-record_is c =
+    client_record c.self.inside.server c.self.inside.seats.items c.self.inside.steps c.args.client c.index_mut-seat.result.now c.deliver.new.seat c.in_ok-before.before c.args.self.now c.self.invariant
+    (seat_at c.self.inside.seats.items c.args.client c.len.result c.index_mut-seat.result.now (search rules) (search rules) c.index_mut-seat.ensures.value)
+    c.self.view_is c.in_ok-before.ensures.back

@@ -1,0 +1,107 @@
+-- What a step keeps so that it can be taken back.
+use Rattle.std.specs.Prelude.{◌≡◌, ℕ, suc, ◌-◌, true, List, ◌∷◌, Option, Some, None, length, slice_get, take, if◌then◌else◌}
+use Rattle.ot_isa.specs.declared.elements.Tagged.{Tagged}
+use Rattle.ot_text.specs.Operation.{Operation, apply}
+use Rattle.ot_client.specs.declared.sent.Sent.{Sent}
+use Rattle.ot_client.specs.Client.{message_of}
+use Rattle.ot_server.specs.History.{IsUndo}
+use Rattle.ot_model.specs.Table.{Client, Message, State, is_joined, absent, taken, with_client}
+use Rattle.ot_model.specs.Sound.{IsSound}
+use Rattle.ot_machine.specs.declared.kept.Before.{Before}
+use Rattle.ot_machine.specs.declared.undo.Record.{Record}
+use Rattle.ot_machine.specs.declared.undo.Record.TheVariants.{ClientStep, Taken, Joined, Read}
+use Rattle.ot_machine.specs.declared.undo.Undo.{Undo}
+use Rattle.ot_machine.specs.Seats.{View, phase_of, revision_of}
+
+-- the list before, from the list after
+abbrev pub list_before : Option (Operation Tagged) → List Tagged → List Tagged
+list_before None list = list
+list_before (Some inverse) list = apply inverse list
+
+-- the client as the record says
+abbrev pub reverted : Before → Client → Client
+reverted before x =
+    record {
+      revision = revision_of (Some before.client);
+      phase = phase_of (Some before.client);
+      list = list_before before.inverse x.list;
+      count = before.count;
+      message = if before.unsent then None else x.message;
+    }
+
+-- what was on the way to the client
+abbrev pub queue_before : Before → List ℕ → List ℕ
+queue_before before queue = if before.received then revision_of (Some before.client) ∷ queue else queue
+
+-- the inverse, if there is one, can be applied to the list
+abbrev pub FitsBack : Option (Operation Tagged) → List Tagged → Type 0
+FitsBack None list = Unit {0}
+FitsBack (Some inverse) list = inverse.base ≡ length list
+
+-- the record leads from the client x after a step back to the client y before it
+pub record Restores (before : Before) (y x : Client) : Type 0 where
+  pub back : reverted before x ≡ y
+  pub fits : FitsBack before.inverse x.list
+  pub joined : is_joined x.phase ≡ true
+  pub revision : x.revision ≡ (if before.received then suc y.revision else y.revision)
+
+-- the last message on the way to a client taken back
+abbrev pub unsent : View → View
+unsent v = record { client = v.client; queue = take (length v.queue - 1) v.queue }
+
+-- what is under way from the client at a place
+abbrev pub message_in : Option View → Option Message
+message_in None = None
+message_in (Some v) = v.client.message
+
+abbrev pub message_at : List View → ℕ → Option Message
+message_at views c = message_in (slice_get views c)
+
+-- the record of a step of client c that led from the earlier state to this one
+pub record IsClientStep (c : ℕ) (before : Before) (earlier s : State) : Type 0 where
+  pub was : Client
+  pub is : Client
+  pub at : slice_get earlier.clients c ≡ Some was
+  pub led : s ≡ with_client earlier c is
+  pub restores : Restores before was is
+
+-- the record of a Take
+pub record IsTaken (c : ℕ) (message : Sent Tagged) (inverse : Operation Tagged) (earlier s : State) : Type 0 where
+  pub client : Client
+  pub op : Operation Tagged
+  pub at : slice_get earlier.clients c ≡ Some client
+  pub message_is : client.message ≡ Some (message_of message)
+  pub led : s ≡ taken earlier c client op
+  pub undo : IsUndo (record { document = earlier.server; log = earlier.log }) (record { document = s.server; log = s.log }) inverse
+
+-- the record of a Join
+pub record IsJoined (c : ℕ) (earlier s : State) : Type 0 where
+  pub is : Client
+  pub at : slice_get earlier.clients c ≡ Some absent
+  pub led : s ≡ with_client earlier c is
+
+-- a read only counts
+abbrev pub IsRead : State → State → Type 0
+IsRead earlier s = s ≡ record { log = earlier.log; server = earlier.server; clients = earlier.clients; steps = suc earlier.steps }
+
+abbrev pub IsStepOf : Record → State → State → Type 0
+IsStepOf (ClientStep c before) earlier s = IsClientStep c before earlier s
+IsStepOf (Taken c message inverse) earlier s = IsTaken c message inverse earlier s
+IsStepOf (Joined c) earlier s = IsJoined c earlier s
+IsStepOf Read earlier s = IsRead earlier s
+
+-- the record is of a step that led from the earlier state, which is sound, to this one
+pub record IsRecord (earlier s : State) (kept : Record) : Type 0 where
+  pub sound : IsSound earlier
+  pub step : IsStepOf kept earlier s
+
+-- this takes the step back that led from the earlier state, which is sound, to this one
+abbrev pub Undoes : State → State → Undo → Type 0
+Undoes earlier s undo = IsRecord earlier s undo.step
+
+-- there is such an earlier state
+abbrev pub IsUndoable : State → Undo → Type 0
+IsUndoable s undo = (earlier : State) × Undoes earlier s undo
+
+abbrev pub IsUndoableRecord : State → Record → Type 0
+IsUndoableRecord s kept = (earlier : State) × IsRecord earlier s kept

@@ -1,0 +1,121 @@
+// Taking steps back.
+ghost use Rattle.std.specs.Prelude.{◌≡◌, IfErr, OnErr, OnOk};
+ghost use Rattle.ot_model.specs.Table.{State};
+ghost use Rattle.ot_machine.specs.declared.undo.Record.TheVariants.{ClientStep, Joined, Read, Taken};
+ghost use Rattle.ot_machine.specs.Undoing.{IsRecord, IsUndoable, IsUndoableRecord, Undoes};
+
+use crate::kept::{self, Before};
+use crate::machine::Machine;
+use crate::seat;
+use ot_client::Sent;
+use ot_isa::Tagged;
+use ot_text::TextOp;
+use std::alloc::AllocError;
+
+/// What takes one step of a machine back: the client's state before it, inverse operations and the message taken, but no list.
+/// `Machine::step_kept` gives it, `Machine::undo` takes it.
+#[derive(Drop)]
+pub struct Undo {
+    pub(crate) step: Record,
+}
+
+/// The kinds of steps: at a client that has joined; a Take, with the message and the inverse of the appended operation; a Join; a read.
+#[derive(Drop)]
+pub(crate) enum Record {
+    ClientStep(u16, Before),
+    Taken(u16, Sent<Tagged>, TextOp<Tagged>),
+    Joined(u16),
+    Read,
+}
+
+impl Undo {
+    fn of(step: Record) -> Undo
+        ensures { result.step ≡ step }
+    {
+        Undo { step }
+    }
+}
+
+impl Machine {
+    fn undo_client(&mut self, client: u16, before: Before) -> Result<(), (AllocError, Before)>
+        requires { IsUndoableRecord self.old (ClientStep client before) }
+        ensures ok { (earlier : State) → IsRecord earlier self.old (ClientStep client before) → OnOk result (self.new ≡ earlier) }
+        ensures err { OnErr result (self.new ≡ self.old) }
+        ensures back { IfErr result (λ e. e.1 ≡ before) }
+    {
+        let seat = &mut self.seats[client as usize];
+        kept::revert(seat, before)?;
+        self.steps -= 1;
+        Ok(())
+    }
+
+    fn undo_join(&mut self, client: u16) -> Result<(), AllocError>
+        requires { IsUndoableRecord self.old (Joined client) }
+        ensures ok { (earlier : State) → IsRecord earlier self.old (Joined client) → OnOk result (self.new ≡ earlier) }
+        ensures err { OnErr result (self.new ≡ self.old) }
+    {
+        let vacant = seat::vacant(self.server.document().allocator())?;
+        self.seats[client as usize] = vacant;
+        self.steps -= 1;
+        Ok(())
+    }
+
+    fn undo_read(&mut self)
+        requires { IsUndoableRecord self.old Read }
+        ensures { (earlier : State) → IsRecord earlier self.old Read → self.new ≡ earlier }
+    {
+        self.steps -= 1;
+    }
+
+    fn undo_take(
+        &mut self,
+        client: u16,
+        message: Sent<Tagged>,
+        inverse: TextOp<Tagged>,
+    ) -> Result<(), (AllocError, Sent<Tagged>, TextOp<Tagged>)>
+        requires { IsUndoableRecord self.old (Taken client message inverse) }
+        ensures ok { (earlier : State) → IsRecord earlier self.old (Taken client message inverse) → OnOk result (self.new ≡ earlier) }
+        ensures err { OnErr result (self.new ≡ self.old) }
+        ensures back { IfErr result (λ e. (e.1 ≡ message) × (e.2 ≡ inverse)) }
+    {
+        if let Err(e) = self.server.retract(&inverse) {
+            return Err((e, message, inverse));
+        }
+        kept::unsend_all(&mut self.seats);
+        self.seats[client as usize].up.push(message);
+        self.steps -= 1;
+        Ok(())
+    }
+
+    /// Takes the last step back, of which `step_kept` gave this: the machine is as it was before that step, its number of steps too.
+    /// For want of memory the machine is as it was, and what was given comes back.
+    pub fn undo(&mut self, undo: Undo) -> Result<(), (AllocError, Undo)>
+        requires { IsUndoable self.old undo }
+        ensures ok { (earlier : State) → Undoes earlier self.old undo → OnOk result (self.new ≡ earlier) }
+        ensures unchanged { OnErr result (self.new ≡ self.old) }
+        ensures back { IfErr result (λ e. e.1 ≡ undo) }
+    {
+        match undo.step {
+            Record::ClientStep(client, before) => match self.undo_client(client, before) {
+                Ok(()) => Ok(()),
+                Err((e, before)) => Err((e, Undo::of(Record::ClientStep(client, before)))),
+            },
+            Record::Taken(client, message, inverse) => {
+                match self.undo_take(client, message, inverse) {
+                    Ok(()) => Ok(()),
+                    Err((e, message, inverse)) => {
+                        Err((e, Undo::of(Record::Taken(client, message, inverse))))
+                    }
+                }
+            }
+            Record::Joined(client) => match self.undo_join(client) {
+                Ok(()) => Ok(()),
+                Err(e) => Err((e, Undo::of(Record::Joined(client)))),
+            },
+            Record::Read => {
+                self.undo_read();
+                Ok(())
+            }
+        }
+    }
+}

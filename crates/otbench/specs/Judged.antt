@@ -1,0 +1,69 @@
+-- What `judge` writes and answers.
+use Rattle.std.specs.Prelude.{◌≡◌, ◌≢◌, ◌⊎◌, ℕ, List, [], ◌∷◌, ◌++◌, Result, Ok, Err, codes, decimal, if◌then◌else◌}
+use Rattle.std.specs.Str.{is_utf8}
+use Rattle.ot_isa.specs.declared.elements.Tag.{Tag}
+use Rattle.ot_judge.specs.declared.verdict.Verdict.{Verdict}
+use Rattle.ot_judge.specs.declared.verdict.Verdict.TheVariants.{Holds, BadVisibility, Doubled, Missing, Extra, WrongPlace, Reversed}
+use Rattle.ot_judge.specs.declared.fault.TraceFault.{TraceFault}
+use Rattle.ot_judge.specs.declared.fault.TraceFault.TheVariants as kind
+use Rattle.ot_judge.specs.Reading.{trace_of_text}
+use Rattle.ot_judge.specs.Verdict.{IsVerdict}
+use Rattle.ot_model.specs.Trace.{TraceView}
+use Rattle.otbench.specs.Streams.{Streams, Complains, Gives, GivesUp}
+
+-- origin:serial
+abbrev pub tag_text : Tag → List ℕ
+tag_text tag = decimal tag.origin ++ 58 ∷ decimal tag.serial
+
+abbrev pub at_event : List ℕ → ℕ → Tag → List ℕ
+at_event word event tag = word ++ 32 ∷ (decimal event ++ 32 ∷ (tag_text tag ++ 10 ∷ []))
+
+-- the line of a verdict
+abbrev pub verdict_line : Verdict → List ℕ
+verdict_line Holds = codes "holds" ++ 10 ∷ []
+verdict_line (BadVisibility event) = codes "bad-visibility " ++ (decimal event ++ 10 ∷ [])
+verdict_line (Doubled event tag) = at_event (codes "doubled") event tag
+verdict_line (Missing event tag) = at_event (codes "missing") event tag
+verdict_line (Extra event tag) = at_event (codes "extra") event tag
+verdict_line (WrongPlace event tag) = at_event (codes "wrong-place") event tag
+verdict_line (Reversed first second a b) =
+    codes "reversed " ++ (decimal first ++ 32 ∷ (decimal second ++ 32 ∷ (tag_text a ++ 32 ∷ (tag_text b ++ 10 ∷ []))))
+
+-- 0 where the property holds
+abbrev pub verdict_status : Verdict → ℕ
+verdict_status Holds = 0
+verdict_status _ = 1
+
+-- the line of a fault of a trace
+abbrev pub trace_fault : TraceFault → List ℕ
+trace_fault kind.NotJson = codes "otbench: NotJson" ++ 10 ∷ []
+trace_fault kind.BadShape = codes "otbench: BadShape" ++ 10 ∷ []
+trace_fault kind.TraceFull = codes "otbench: TraceFull" ++ 10 ∷ []
+trace_fault (kind.TagTwice tag) = codes "otbench: TagTwice" ++ 10 ∷ []
+trace_fault kind.Memory = codes "otbench: Memory" ++ 10 ∷ []
+
+-- the trace that bytes are, or why they are none; bytes that are no text are no JSON
+abbrev pub trace_of_bytes : List ℕ → Result TraceView TraceFault
+trace_of_bytes bytes = if is_utf8 bytes then trace_of_text bytes else Err kind.NotJson
+
+-- an input that is no trace: nothing on the output, and the fault's line. A fault other than Memory is the input's
+pub record RefusesTrace (bytes : List ℕ) (status : ℕ) (streams : Streams) : Type 0 where
+  pub fault : TraceFault
+  pub named : fault ≢ kind.Memory → trace_of_bytes bytes ≡ Err fault
+  pub gives_up : GivesUp status streams
+  pub complains : Complains (trace_fault fault) streams.faults streams.faults'
+
+-- the verdict of the trace, as it is printed
+pub record GivesVerdict (trace : TraceView) (status : ℕ) (streams : Streams) : Type 0 where
+  pub verdict : Verdict
+  pub is_verdict : IsVerdict trace verdict
+  pub gives : Gives (verdict_status verdict) (verdict_line verdict) status streams
+
+-- the verdict, or want of memory for it
+abbrev pub MayGiveVerdict : TraceView → ℕ → Streams → Type 0
+MayGiveVerdict trace status streams = GivesVerdict trace status streams ⊎ GivesUp status streams
+
+-- what is done with an input
+abbrev pub Judges : List ℕ → ℕ → Streams → Type 0
+Judges bytes status streams =
+    RefusesTrace bytes status streams ⊎ ((trace : TraceView) × (trace_of_bytes bytes ≡ Ok trace) × MayGiveVerdict trace status streams) ⊎ GivesUp status streams

@@ -1,0 +1,142 @@
+//! `judge`: whether a recorded trace has the weak list property.
+
+ghost use Rattle.std.specs.Prelude.{◌≡◌, ◌≢◌, Ok, Err, IfErr, IfOk, IfSome, string_bytes};
+ghost use Rattle.otbench.specs.Streams.{Complains};
+ghost use Rattle.otbench.specs.Judged.{at_event, tag_text, trace_fault, trace_of_bytes, verdict_line, verdict_status, Judges, MayGiveVerdict};
+ghost use Rattle.ot_judge.specs.declared.fault.TraceFault.TheVariants as kind;
+
+use crate::faults::{complain, complain_of_input, complain_of_memory};
+use ot_asm::read_text;
+use ot_isa::Tag;
+use ot_judge::{Trace, TraceFault, Verdict, judge, read_trace};
+use std::alloc::{AllocError, Global};
+use std::io::{Read, Write};
+use streams::{put, read_whole};
+
+fn tag_name(alloc: Global, tag: Tag) -> Result<String, AllocError>
+    ensures { IfOk result (λ s. string_bytes s ≡ tag_text tag) }
+{
+    let origin = tag.origin;
+    let serial = tag.serial;
+    format!(in alloc; "{origin}:{serial}")
+}
+
+// A word, an event and a tag.
+fn event_line(alloc: Global, word: &str, event: usize, tag: Tag) -> Result<String, AllocError>
+    ensures { IfOk result (λ s. string_bytes s ≡ at_event word.now event tag) }
+{
+    let tag = tag_name(alloc, tag)?;
+    format!(in alloc; "{word} {event} {tag}\n")
+}
+
+fn reversed_line(
+    alloc: Global,
+    first: usize,
+    second: usize,
+    a: Tag,
+    b: Tag,
+) -> Result<String, AllocError>
+    ensures { IfOk result (λ s. string_bytes s ≡ verdict_line (Verdict.Reversed first second a b)) }
+{
+    let a = tag_name(alloc, a)?;
+    let b = tag_name(alloc, b)?;
+    format!(in alloc; "reversed {first} {second} {a} {b}\n")
+}
+
+// The line of a verdict.
+fn print_verdict(alloc: Global, verdict: Verdict) -> Result<String, AllocError>
+    ensures { IfOk result (λ s. string_bytes s ≡ verdict_line verdict) }
+{
+    match verdict {
+        Verdict::Holds => String::from_str(alloc, "holds\n"),
+        Verdict::BadVisibility(event) => format!(in alloc; "bad-visibility {event}\n"),
+        Verdict::Doubled(event, tag) => event_line(alloc, "doubled", event, tag),
+        Verdict::Missing(event, tag) => event_line(alloc, "missing", event, tag),
+        Verdict::Extra(event, tag) => event_line(alloc, "extra", event, tag),
+        Verdict::WrongPlace(event, tag) => event_line(alloc, "wrong-place", event, tag),
+        Verdict::Reversed(first, second, a, b) => reversed_line(alloc, first, second, a, b),
+    }
+}
+
+fn status_of(verdict: Verdict) -> u8
+    ensures { result ≡ verdict_status verdict }
+{
+    match verdict {
+        Verdict::Holds => 0,
+        _ => 1,
+    }
+}
+
+fn fault_line(fault: TraceFault) -> &'static str
+    ensures { result.now ≡ trace_fault fault }
+{
+    match fault {
+        TraceFault::NotJson => "otbench: NotJson\n",
+        TraceFault::BadShape => "otbench: BadShape\n",
+        TraceFault::TraceFull => "otbench: TraceFull\n",
+        TraceFault::TagTwice(_) => "otbench: TagTwice\n",
+        TraceFault::Memory => "otbench: Memory\n",
+    }
+}
+
+// The trace that the bytes are.
+fn trace_in(alloc: Global, bytes: &[u8]) -> Result<Trace, TraceFault>
+    ensures ok { IfOk result (λ t. trace_of_bytes bytes.now ≡ Ok t) }
+    ensures err { IfErr result (λ e. e ≢ kind.Memory → trace_of_bytes bytes.now ≡ Err e) }
+{
+    match read_text(bytes) {
+        Some(text) => {
+            let trace = read_trace(alloc, text)?;
+            Ok(trace)
+        }
+        None => Err(TraceFault::NotJson),
+    }
+}
+
+// Judges the trace and prints the verdict.
+fn give_verdict<O: Write, F: Write>(
+    alloc: Global,
+    trace: &Trace,
+    output: &mut O,
+    faults: &mut F,
+) -> u8
+    ensures { MayGiveVerdict trace.now result (record { output = O.contents output.old; output' = O.contents output.new; faults = F.contents faults.old; faults' = F.contents faults.new }) }
+{
+    let Ok(verdict) = judge(alloc, trace) else {
+        complain_of_memory(faults);
+        return 1;
+    };
+    let Ok(line) = print_verdict(alloc, verdict) else {
+        complain_of_memory(faults);
+        return 1;
+    };
+    match put(output, line.as_bytes()) {
+        Ok(()) => status_of(verdict),
+        Err(_) => 1,
+    }
+}
+
+/// Judges the trace that is the input.
+pub fn judge_input<I: Read, O: Write, F: Write>(
+    alloc: Global,
+    input: &mut I,
+    output: &mut O,
+    faults: &mut F,
+) -> u8
+    ensures { IfSome (I.remaining input.old) (λ bytes. Judges bytes result (record { output = O.contents output.old; output' = O.contents output.new; faults = F.contents faults.old; faults' = F.contents faults.new })) }
+{
+    let bytes = match read_whole(alloc, input) {
+        Ok(bytes) => bytes,
+        Err(fault) => {
+            complain_of_input(fault, faults);
+            return 1;
+        }
+    };
+    match trace_in(alloc, bytes.as_slice()) {
+        Ok(trace) => give_verdict(alloc, &trace, output, faults),
+        Err(fault) => {
+            complain(faults, fault_line(fault));
+            1
+        }
+    }
+}
