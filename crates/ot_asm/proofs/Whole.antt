@@ -1,18 +1,24 @@
 -- All lines of a reader, from nothing read ahead.
-use Rattle.std.proofs.Common.{◌≡◌, ◌<◌, ℕ, List, [], ◌∷◌, length, false, Option, None, Some, Result}
+use Rattle.std.proofs.Common.{◌≡◌, ◌<◌, ℕ, List, [], ◌∷◌, length, false, Option, None, Some, Result, Ok}
 use Rattle.std.specs.Prelude.{IfSome}
 use Rattle.std.specs.Io.KnownBytes.{prepend_known, IsAtEnd}
 use Rattle.line_reader.specs.Lines.{lines_of}
-use Rattle.ot_isa.specs.Program.{Program}
+use Rattle.ot_isa.specs.Program.{Program, IsProgram}
 use Rattle.ot_asm.specs.Stepping.{outcome, outcome_of_lines, IsFaultlessBefore}
+use Rattle.ot_asm.specs.Spelling.{Spells}
 use Rattle.ot_asm.specs.Parts.{lines_before, StopsIn}
 use Rattle.ot_asm.specs.declared.fault.AsmFault.{AsmFault}
 use Rattle.ot_asm.proofs.Running.{all_before}
+use Rattle.ot_asm.proofs.Read.{spells}
 
 pub whole_outcome : (held : List ℕ) (known : Option (List ℕ)) (result : Result Program AsmFault) → held ≡ [] → IfSome (prepend_known held known) (λ t. outcome_of_lines (lines_before false (lines_of t)) ≡ result) → IfSome known (λ t. outcome t ≡ result)
 whole_outcome held None result none h = tt
 whole_outcome held (Some text) result none h =
     let e = rw (none, all_before (lines_of text)) at h in e
+
+pub whole_spells : (known : Option (List ℕ)) (s : Program) → IfSome known (λ t. outcome t ≡ Ok s) → IsProgram s → IfSome known (λ t. Spells t s)
+whole_spells None s h limits = tt
+whole_spells (Some text) s h limits = spells text s h limits
 
 pub whole_faultless : (held : List ℕ) (known : Option (List ℕ)) (line : ℕ) → held ≡ [] → IfSome (prepend_known held known) (λ t. IsFaultlessBefore (lines_before false (lines_of t)) line) → IfSome known (λ t. IsFaultlessBefore (lines_of t) line)
 whole_faultless held None line none h = tt

@@ -5,6 +5,7 @@ ghost use Rattle.std.specs.Io.KnownBytes.{IsAtEnd};
 ghost use Rattle.line_reader.specs.Lines.{lines_of};
 ghost use Rattle.line_reader.specs.Taken.{may_take, before};
 ghost use Rattle.ot_asm.specs.Stepping.{ended, outcome, outcome_of_lines, IsFaultlessBefore};
+ghost use Rattle.ot_asm.specs.Spelling.{Spells};
 ghost use Rattle.ot_asm.specs.Parts.{lines_before, TakesPart, StopsIn};
 
 use crate::assembling::finished;
@@ -84,6 +85,7 @@ fn assemble_part<R: Read>(
 /// before was faulty, once a read failed or 2^50 bytes were read.
 pub fn assemble_from<R: Read>(alloc: Global, reader: &mut R) -> Result<Schedule, AsmFault>
     ensures ok { IfOk result (λ s. IfSome (R.remaining reader.old) (λ text. outcome text ≡ Ok s)) }
+    ensures spells { IfOk result (λ s. IfSome (R.remaining reader.old) (λ text. Spells text s)) }
     ensures short { OnOk result (IfSome (R.remaining reader.old) (λ text. length text < 2 ^ 50)) }
     ensures end { OnOk result (IsAtEnd (R.remaining reader.new)) }
     ensures err { IfErr result (λ f. f.kind ≢ Kind.Memory → f.kind ≢ Kind.ReadFault → IfSome (R.remaining reader.old) (λ text. outcome text ≡ Err f)) }
@@ -92,7 +94,10 @@ pub fn assemble_from<R: Read>(alloc: Global, reader: &mut R) -> Result<Schedule,
 {
     let mut ahead = ReadAhead::new();
     match assemble_part(alloc, &mut ahead, reader, false) {
-        Ok((schedule, _)) => Ok(schedule),
+        Ok((schedule, _)) => {
+            let _clients = schedule.clients();
+            Ok(schedule)
+        }
         Err(fault) => Err(fault),
     }
 }

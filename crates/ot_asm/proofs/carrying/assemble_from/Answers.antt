@@ -1,9 +1,14 @@
 use Rattle.std.proofs.Common.{refl, Ok, Err}
-use Rattle.ot_asm.proofs.Whole.{whole_outcome, whole_faultless, whole_end}
+use Rattle.ot_asm.proofs.Whole.{whole_outcome, whole_spells, whole_faultless, whole_end}
 use Rattle.ot_asm.proofs.carrying.assemble_from.Goals as goal
 
 pub returns-in-Ok-clause-ok : goal.returns-in-Ok-clause-ok
 returns-in-Ok-clause-ok g c = whole_outcome c.new-ahead.result.held (g.R.Read.remaining c.args.reader.now) (Ok c.in-Ok.schedule) c.new-ahead.ensures.held c.in-Ok.ensures.ok
+
+pub returns-in-Ok-clause-spells : goal.returns-in-Ok-clause-spells
+returns-in-Ok-clause-spells g c =
+    let read = whole_outcome c.new-ahead.result.held (g.R.Read.remaining c.args.reader.now) (Ok c.in-Ok.schedule) c.new-ahead.ensures.held c.in-Ok.ensures.ok in
+    whole_spells (g.R.Read.remaining c.args.reader.now) c.in-Ok.schedule read c.clients-clients.ensures.limits
 
 pub returns-in-Ok-clause-end : goal.returns-in-Ok-clause-end
 returns-in-Ok-clause-end g c = whole_end c.assemble_part.new.ahead.held (g.R.Read.remaining c.assemble_part.new.reader) (c.in-Ok.ensures.end refl)

@@ -1,0 +1,90 @@
+"""Runs the program once for each growth that it makes, with that growth refused.
+
+Each run must either answer as with all memory, or say that memory was wanting: nothing on the output and a fault
+`Memory` on the other writer, or a stop `Memory` in a report, or `no memory` among a debugger's replies, each with status 1.
+There is no third thing. Prints how many growths were refused in each case, and the first answer that is none of these.
+"""
+import os
+import re
+import subprocess
+import sys
+import tempfile
+
+ROOT = os.path.dirname(os.path.dirname(os.path.abspath(__file__)))
+PROGRAM = f"{ROOT}/crates/otbench/out/otbench"
+
+COMMANDS = b"%%\nwatch doc 0\nbreak 4\nrun\nrun\nback 2\nshow\nstep 100\nback 100\nwhere\n"
+
+
+def cases():
+    def text(name):
+        with open(f"{ROOT}/examples/{name}", "rb") as it:
+            return it.read()
+
+    yield ["run"], text("weak-order.ots")
+    yield ["run"], text("late-join.ots")
+    yield ["run", "--image"], text("late-join.img")
+    yield ["asm"], text("weak-order.ots")
+    yield ["dis"], text("late-join.img")
+    yield ["judge"], text("reversed.json")
+    yield ["check"], text("weak-order.ots")
+    yield ["debug"], text("two-clients.ots") + COMMANDS
+    yield ["debug"], text("late-join.ots") + COMMANDS
+
+
+def answer(words, given, shim, at):
+    told, tell = os.pipe()
+    if tell != 9:
+        os.dup2(tell, 9)
+        os.close(tell)
+    ran = subprocess.run([PROGRAM, *words], input=given, capture_output=True, pass_fds=(9,),
+                         env={"LD_PRELOAD": shim, "FAIL_AT": str(at)})
+    os.close(9)
+    refused = os.read(told, 1) == b"!"
+    os.close(told)
+    return refused, (ran.returncode, ran.stdout, ran.stderr)
+
+
+def wants_memory(words, whole, got):
+    """Whether the answer says that memory was wanting, and nothing else that is not so."""
+    status, out, faults = got
+    if status != 1:
+        return False
+    if not out and re.fullmatch(rb"otbench: ((line|byte) \d+: )?Memory\n", faults):
+        return True
+    if words[0] in ("run", "check"):
+        return faults == b"" and re.search(rb"^stopped at \d+: Memory$", out, re.M) is not None
+    if words[0] == "debug":
+        if faults and not re.fullmatch(rb"otbench: ((line|byte) \d+: )?Memory\n", faults):
+            return False
+        return bool(faults) or b"no memory\n" in out
+    return False
+
+
+def main():
+    bad = 0
+    with tempfile.TemporaryDirectory() as room:
+        shim = f"{room}/failing_memory.so"
+        subprocess.run(["gcc", "-O2", "-shared", "-fPIC", "-o", shim, f"{ROOT}/bench/failing_memory.c", "-ldl"], check=True)
+        for words, given in cases():
+            _, whole = answer(words, given, shim, 0)
+            at, wanting, same = 1, 0, 0
+            while True:
+                refused, got = answer(words, given, shim, at)
+                if not refused:
+                    break
+                if wants_memory(words, whole, got):
+                    wanting += 1
+                elif got == whole:
+                    same += 1
+                else:
+                    bad += 1
+                    print(f"{' '.join(words)}: growth {at} refused: {got}")
+                    break
+                at += 1
+            print(f"{' '.join(words)}: {at - 1} growths refused in turn: {wanting} answered Memory, {same} as with all memory")
+    return 1 if bad else 0
+
+
+if __name__ == "__main__":
+    sys.exit(main())

@@ -1,0 +1,5 @@
+pub mod Rows
+pub mod Places
+pub mod WatchedSteps
+pub mod Stopping
+pub mod Once

@@ -1,0 +1,118 @@
+//! The debugger.
+
+ghost use Rattle.std.specs.Prelude.{◌≡◌, IfErr, IfOk};
+ghost use Rattle.ot_debug.specs.Session.{started, IsSession};
+ghost use Rattle.ot_debug.specs.Answers.{Answers};
+ghost use Rattle.ot_debug.specs.Stepping.{IsOpening};
+
+use crate::command::{Command, Reply, Watched};
+use ot_isa::Schedule;
+use ot_machine::{Machine, Shown, Undo};
+use std::alloc::{AllocError, Global};
+use std::marker::Model;
+
+/// A schedule, and a machine that stands after some of its instructions. Its value is a session: wherever commands have led, the machine
+/// and the shown lists are those of the schedule's run after as many instructions.
+#[derive(Drop)]
+pub struct Debugger {
+    pub(crate) schedule: Schedule,
+    pub(crate) machine: Machine,
+    pub(crate) shown: Vec<Shown>,
+    pub(crate) undos: Vec<Undo>,
+    pub(crate) breaks: Vec<bool>,
+    pub(crate) watches: Vec<Watched>,
+}
+
+impl Model for Debugger {
+    ghost use Rattle.ot_debug.specs.Session.{Session};
+
+    ghost Value = { Session };
+
+    ghost use Rattle.ot_debug.specs.Stepping.{session_of, IsKept};
+
+    ghost view = { λ d. session_of d.schedule d.machine d.shown.items d.undos.items d.breaks.items d.watches.items };
+
+    ghost invariant = { λ d. IsKept d.schedule d.machine d.shown.items d.undos.items d.breaks.items d.watches.items };
+}
+
+// The machine at the schedule's opening, and for each of its places that there is no break.
+fn opening(alloc: Global, schedule: &Schedule) -> Result<(Machine, Vec<bool>), AllocError>
+    ensures { IfOk result (λ made. IsOpening schedule.now made.0 made.1.items) }
+{
+    let clients = schedule.clients();
+    let machine = Machine::with_present(alloc, clients, schedule.present(), schedule.start())?;
+    let breaks = vec![in alloc; false; schedule.len() + 1]?;
+    Ok((machine, breaks))
+}
+
+impl Debugger {
+    /// At the opening of the schedule, without breaks and watches. For want of memory the schedule comes back.
+    pub fn new(alloc: Global, schedule: Schedule) -> Result<Debugger, Schedule>
+        ensures ok { IfOk result (λ debugger. debugger ≡ started schedule) }
+        ensures err { IfErr result (λ back. back ≡ schedule) }
+    {
+        let Ok((machine, breaks)) = opening(alloc, &schedule) else {
+            return Err(schedule);
+        };
+        Ok(Debugger {
+            schedule,
+            machine,
+            shown: Vec::new(alloc),
+            undos: Vec::new(alloc),
+            breaks,
+            watches: Vec::new(alloc),
+        })
+    }
+
+    /// How many instructions are performed, 0 to the schedule's length.
+    pub fn position(&self) -> usize
+        ensures { result ≡ self.now.position }
+    {
+        self.undos.len()
+    }
+
+    /// The machine after the performed instructions.
+    pub fn machine(&self) -> &Machine
+        ensures { result.now ≡ self.now.place.state }
+    {
+        &self.machine
+    }
+
+    /// The lists that the performed reads showed, in order.
+    pub fn shown(&self) -> &[Shown]
+        ensures { result.now ≡ self.now.place.shown }
+    {
+        self.shown.as_slice()
+    }
+
+    /// The schedule. The call also tells its caller what every debugger keeps.
+    pub fn schedule(&self) -> &Schedule
+        ensures value { result.now ≡ self.now.schedule }
+        ensures kept { IsSession self.now }
+    {
+        &self.schedule
+    }
+
+    /// Performs one command and answers it.
+    ///
+    /// `Run`, `Step` and `Back` answer `Stopped`, or `Memory`: then the debugger stands after a whole number of instructions, between its
+    /// old place and the one to which the command would have gone. `Break` answers `Done`, or `NoSuchPlace` past the schedule's length;
+    /// setting a break twice is setting it once. `Clear` answers `Done`, or `NoSuchPlace` where there is no break. `Watch` answers `Done`, or
+    /// `NoSuchClient`, or `Memory`; `Unwatch` `Done`; `Position` `Place`; `Show` `Shown` or `Memory`. Breaks and watches are changed by their
+    /// own commands alone, and these do not move the debugger; `Memory` comes only where a growth was refused.
+    pub fn command(&mut self, command: Command) -> Reply
+        ensures { Answers self.old command result self.new }
+    {
+        match command {
+            Command::Run => self.run(),
+            Command::Step(count) => self.step(count),
+            Command::Back(count) => self.back(count),
+            Command::Break(place) => self.set_break(place),
+            Command::Clear(place) => self.clear_break(place),
+            Command::Watch(watch) => self.add_watch(watch),
+            Command::Unwatch => self.remove_watches(),
+            Command::Position => Reply::Place(self.position()),
+            Command::Show => self.show(),
+        }
+    }
+}

@@ -1,0 +1,38 @@
+//! A debugger of schedules that steps forth and back.
+//!
+//! ```text
+//!   place        0        1        2        3        4   ..   length
+//!   state    opening -i0-> s1 -i1-> s2 -i2-> s3 -i3-> s4
+//!   undos            u0       u1       u2        ^
+//!                                            position 3: the machine is in s3, shown are the reads of i0, i1, i2
+//!   breaks   -        -        -        -        *                (one mark a place)
+//!   watches  0: Doc(0)  1: ServerRevision  ..                    (numbered in the order of setting)
+//! ```
+//!
+//! - A [`Debugger`] is seen by contracts as a `Session` (specs/Session.antt): the schedule, the position, which is the number of
+//!   performed instructions, the state and the shown lists there, breaks and watches. Its type keeps that the state and the lists are
+//!   those of the schedule's run after as many instructions (`place_at` of `ot_model`), whatever commands came before.
+//! - [`Debugger::command`] performs one [`Command`] and answers with a [`Reply`]; specs/Answers.antt says what each command answers
+//!   and what it leaves, specs/Stops.antt where a `Run` or a `Step` stops and why.
+//! - [`laws`] says that stops are exact: a run has one stop at most, for one reason.
+//! - Each performed instruction leaves a record that takes it back (`Machine::step_kept`), and the records are kept as a stack.
+//!   `Back` takes instructions back one by one and runs nothing again.
+//! - What grows does so before anything is changed. After `Memory` the debugger stands after a whole number of instructions,
+//!   between its old place and the one to which the command would have gone.
+//!
+//! Begin reading at `Debugger` in debugger.rt, then stepping.rt (one instruction forth and back), watching.rt (what watches see) and
+//! moving.rt (the commands that move); settings.rt has the others.
+#![tactic(auto)]
+
+mod command;
+mod debugger;
+pub mod laws;
+mod moving;
+mod settings;
+mod stepping;
+#[cfg(test)]
+mod tests;
+mod watching;
+
+pub use command::{Command, Reply, Watched, Why};
+pub use debugger::Debugger;

@@ -1,0 +1,115 @@
+// The commands that move.
+ghost use Rattle.std.specs.Prelude.{◌≡◌, ◌≢◌, ◌<◌, ◌↔◌, length, IfErr, IfOk, IsTrue, MatchOption, OnErr, OnOk};
+ghost use Rattle.ot_model.specs.declared.shown.Refusal.TheVariants.{Memory};
+ghost use Rattle.ot_debug.specs.Session.{IsBreak};
+ghost use Rattle.ot_debug.specs.Stops.{ChangesFirst, ChangesNone, IsRefusedAt, IsRunStop, IsStepStop};
+ghost use Rattle.ot_debug.specs.Answers.{MovesBack, MovesForth};
+ghost use Rattle.ot_debug.specs.Stepping.{Advances};
+
+use crate::command::{Reply, Why};
+use crate::debugger::Debugger;
+use crate::watching::{first_other, look};
+use ot_machine::Refusal;
+
+// The answer where the next instruction is not performed.
+fn halted(at: usize, refusal: Refusal) -> Reply
+    ensures memory { refusal ≡ Memory → result ≡ Reply.Memory }
+    ensures other { refusal ≢ Memory → result ≡ Reply.Stopped at (Why.Refused refusal) }
+{
+    match refusal {
+        Refusal::Memory => Reply::Memory,
+        other => Reply::Stopped {
+            at,
+            why: Why::Refused(other),
+        },
+    }
+}
+
+impl Debugger {
+    // Performs the next instruction, and gives the first watch that it changed.
+    fn forward_watched(&mut self) -> Result<Option<usize>, Refusal>
+        requires { self.old.position < length self.old.schedule.instrs }
+        ensures done { OnOk result (Advances self.old self.new) }
+        ensures watch { IfOk result (λ changed. MatchOption changed (ChangesNone self.old self.old.position) (λ number. ChangesFirst self.old self.old.position number)) }
+        ensures refused { IfErr result (λ r. r ≢ Memory → IsRefusedAt self.old.schedule self.old.position r) }
+        ensures unchanged { OnErr result (self.new ≡ self.old) }
+    {
+        let seen = look(
+            *self.watches.allocator(),
+            &self.machine,
+            self.watches.as_slice(),
+        )?;
+        self.forward()?;
+        Ok(first_other(&self.machine, self.watches.as_slice(), seen.as_slice()))
+    }
+
+    // There is a break at the place.
+    fn is_break(&self, place: usize) -> bool
+        ensures { IsTrue result ↔ IsBreak self.now place }
+    {
+        matches!(self.breaks.get(place), Some(true))
+    }
+
+    /// Goes on to the next stop.
+    pub(crate) fn run(&mut self) -> Reply
+        ensures { MovesForth (λ s q reason. IsRunStop s s.position q reason) self.old result self.new }
+    {
+        for place in self.position()..self.schedule.len() {
+            match self.forward_watched() {
+                Ok(None) => {}
+                Ok(Some(number)) => {
+                    return Reply::Stopped {
+                        at: place + 1,
+                        why: Why::Watch(number),
+                    };
+                }
+                Err(refusal) => return halted(place, refusal),
+            }
+            if self.is_break(place + 1) {
+                return Reply::Stopped {
+                    at: place + 1,
+                    why: Why::Break,
+                };
+            }
+        }
+        Reply::Stopped {
+            at: self.position(),
+            why: Why::End,
+        }
+    }
+
+    /// Performs so many instructions, or as many as can be.
+    pub(crate) fn step(&mut self, count: u32) -> Reply
+        ensures { MovesForth (λ s q reason. IsStepStop s s.position count q reason) self.old result self.new }
+    {
+        let end = self.schedule.len();
+        for _ in 0..count {
+            let at = self.position();
+            if at >= end {
+                return Reply::Stopped { at, why: Why::End };
+            }
+            if let Err(refusal) = self.forward() {
+                return halted(at, refusal);
+            }
+        }
+        Reply::Stopped {
+            at: self.position(),
+            why: Why::Count,
+        }
+    }
+
+    /// Takes so many instructions back, or all.
+    pub(crate) fn back(&mut self, count: u32) -> Reply
+        ensures { MovesBack count self.old result self.new }
+    {
+        for _ in 0..self.position().min(count as usize) {
+            if let Err(_e) = self.backward() {
+                return Reply::Memory;
+            }
+        }
+        Reply::Stopped {
+            at: self.position(),
+            why: Why::Count,
+        }
+    }
+}
