@@ -19,9 +19,9 @@
 //! deleted, each element once; each inserted element stands at its place; and no two elements stand in one order in
 //! one list and in the other order in another. No order of all elements is asked for.
 //!
-//! `read_trace` reads a trace from JSON, `Trace::new` makes one from its parts, and `judge` decides the property or
-//! names the first fault. Its answer is exact. It is fast because it gives elements ranks that never fall along a list,
-//! checks them, and compares lists only among elements of equal rank.
+//! `read_trace` reads a trace from JSON, `Trace::new` makes one from its parts (`Trace::from_parts` where they are known
+//! to be one), and `judge` decides the property or names the first fault. Its answer is exact. It is fast because it gives
+//! elements ranks that never fall along a list, checks them, and compares lists only among elements of equal rank.
 //!
 //! Traces as lists and their weak list property are defined in `ot_model`, in its `specs/Trace.antt`,
 //! `specs/Visibility.antt` and `specs/WeakList.antt`: the judge decides the same property that `ot_model::weak_list`

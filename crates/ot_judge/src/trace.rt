@@ -4,7 +4,7 @@ ghost use Rattle.std.specs.Prelude.{◌≡◌, ◌≢◌, ◌⊎◌, ◌<◌, �
 ghost use Rattle.std.specs.List.{flat_map, list_all};
 ghost use Rattle.ot_judge.specs.Making.{IsSized, entries, first_again, is_event, trace_from};
 ghost use Rattle.ot_judge.specs.Views.{event_view, trace_view, views};
-ghost use Rattle.ot_model.specs.Trace.{inserted_tags};
+ghost use Rattle.ot_model.specs.Trace.{inserted_tags, IsTrace};
 
 use crate::fault::TraceFault;
 use ot_isa::Tag;
@@ -167,6 +167,18 @@ impl Trace {
                 events,
             }),
             Err(fault) => Err((fault, start, events)),
+        }
+    }
+
+    /// The trace of parts that are known to be one, with no look at them.
+    pub fn from_parts(replicas: usize, start: Vec<Tag>, events: Vec<Event>) -> Trace
+        requires { IsTrace (trace_view replicas start.items events.items) }
+        ensures { result ≡ trace_view replicas start.items events.items }
+    {
+        Trace {
+            replicas,
+            start,
+            events,
         }
     }
 

@@ -1,0 +1,5 @@
+use Rattle.ot_check.proofs.Placing.{IsPlacedTo}
+use Rattle.ot_check.proofs.event.insertions_of.Given as goal
+
+abbrev pub invariant-loop-component : goal.invariant-loop-component
+invariant-loop-component l = IsPlacedTo l.components l.origin l.first l.component-index l.serial l.place l.placed.items

@@ -1,0 +1,5 @@
+pub mod Convergence
+pub mod Laws
+pub mod Rows
+pub mod Following
+pub mod Insertions

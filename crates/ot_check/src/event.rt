@@ -1,0 +1,174 @@
+//! One event of a trace.
+
+ghost use Rattle.std.specs.Prelude.{◌≡◌, ◌+◌, ◌≤◌, ◌<◌, ◌++◌, ◌||◌, filter, not, length, IfOk, OnOk};
+ghost use Rattle.std.specs.HashSet.{contains as set_contains};
+ghost use Rattle.ot_isa.specs.declared.elements.Tag.{Tag};
+ghost use Rattle.ot_isa.specs.Tagging.{tagged_operation};
+ghost use Rattle.ot_text.specs.Operation.{news};
+ghost use Rattle.ot_text.specs.Run.{base_of, image_from, operation_of};
+ghost use Rattle.ot_text.specs.Components.{runs};
+ghost use Rattle.ot_model.specs.Trace.{contains, same_tag};
+ghost use Rattle.ot_model.specs.Events.{insertions_from, tags};
+ghost use Rattle.ot_judge.specs.Views.{event_view};
+ghost use Rattle.ot_check.specs.Insertions.{placed_run};
+ghost use Rattle.ot_check.specs.Rows.{edit_made, read_event};
+
+use ot_isa::{Tag, Tagged};
+use ot_judge::{Event, Placed};
+use ot_text::{Component, Doc, TextOp};
+use std::alloc::{AllocError, Global};
+use std::collections::HashSet;
+
+// The tags of a list, in order.
+pub(crate) fn tags_of(alloc: Global, document: &Doc<Tagged>) -> Result<Vec<Tag>, AllocError>
+    ensures { IfOk result (λ v. v.items ≡ tags document.now) }
+{
+    let items = document.to_vec()?;
+    items.iter().map(|item| item.tag).collect(alloc)
+}
+
+// The tags of a list as a set.
+#[tactic(auto, using(ot_judge::proofs::TagLemmas::tag_steps))]
+fn set_of(alloc: Global, list: &[Tag]) -> Result<HashSet<Tag>, AllocError>
+    ensures { IfOk result (λ s. (q : Tag) → set_contains same_tag s q ≡ contains list.now q) }
+{
+    let mut set = HashSet::new(alloc);
+    for tag in list {
+        set.insert(*tag)?;
+    }
+    Ok(set)
+}
+
+// Those tags of a list that are not in a set, in order.
+fn outside(alloc: Global, set: &HashSet<Tag>, list: &[Tag]) -> Result<Vec<Tag>, AllocError>
+    ensures { IfOk result (λ v. v.items ≡ filter (λ t. not (set_contains same_tag set.now t)) list.now) }
+{
+    list.iter()
+        .copied()
+        .filter(|tag| !set.contains(tag))
+        .collect(alloc)
+}
+
+// Those tags of the list before that are not in the one after, in order.
+fn deletions(alloc: Global, before: &[Tag], after: &[Tag]) -> Result<Vec<Tag>, AllocError>
+    ensures { IfOk result (λ v. v.items ≡ filter (λ t. not (contains after.now t)) before.now) }
+{
+    let kept = set_of(alloc, after)?;
+    outside(alloc, &kept, before)
+}
+
+// Adds `count` neighbours, of one maker, numbered from `first` on, the first at `place`.
+fn push_placed(
+    placed: &mut Vec<Placed>,
+    origin: u16,
+    first: u32,
+    place: usize,
+    count: usize,
+) -> Result<(), AllocError>
+    requires serials { first + count ≤ 15000 }
+    requires places { place + count ≤ 1000000 }
+    ensures { OnOk result (placed.new.items ≡ placed.old.items ++ placed_run origin first place count) }
+{
+    for i in 0..count {
+        let tag = Tag {
+            origin,
+            serial: first + i as u32,
+        };
+        placed.push(Placed {
+            tag,
+            place: place + i,
+        })?;
+    }
+    Ok(())
+}
+
+// What the components insert, with its places in the list after them.
+fn insertions_of(
+    alloc: Global,
+    components: &[Component<char>],
+    origin: u16,
+    first: u32,
+) -> Result<Vec<Placed>, AllocError>
+    requires serials { first + length (news (image_from 0 (runs components.now))) ≤ 15000 }
+    requires base { base_of (runs components.now) ≤ 1000000 }
+    requires target { length (image_from 0 (runs components.now)) ≤ 1000000 }
+    ensures { IfOk result (λ v. v.items ≡ insertions_from 0 (tagged_operation (operation_of (runs components.now)) origin first).image) }
+{
+    let mut placed = Vec::new(alloc);
+    let mut serial = first;
+    let mut place: usize = 0;
+    for component in components {
+        match component {
+            Component::Retain(count) => place += *count,
+            Component::Insert(text) => {
+                push_placed(&mut placed, origin, serial, place, text.len())?;
+                serial += text.len() as u32;
+                place += text.len();
+            }
+            Component::Delete(_count) => {}
+        }
+    }
+    Ok(placed)
+}
+
+// What the operation inserts: of this maker, numbered from `first` on from left to right.
+fn insertions(
+    alloc: Global,
+    op: &TextOp<char>,
+    origin: u16,
+    first: u32,
+) -> Result<Vec<Placed>, AllocError>
+    requires { first + length (news op.now.image) ≤ 15000 }
+    ensures { IfOk result (λ v. v.items ≡ insertions_from 0 (tagged_operation op.now origin first).image) }
+{
+    let _base = op.base_len();
+    let _target = op.target_len();
+    insertions_of(alloc, op.components(), origin, first)
+}
+
+// The event of an edit: `before` are the tags of the client's list before it, `document` is its list after it, and `first`
+// the serial number of what it inserts.
+pub(crate) fn edit_event(
+    alloc: Global,
+    client: u16,
+    op: &TextOp<char>,
+    first: u32,
+    seen: Vec<u32>,
+    before: &[Tag],
+    document: &Doc<Tagged>,
+) -> Result<Event, AllocError>
+    requires { first + length (news op.now.image) ≤ 15000 }
+    ensures { IfOk result (λ x. event_view x ≡ edit_made client (tagged_operation op.now client first) before.now (tags document.now) seen.items) }
+{
+    let list = tags_of(alloc, document)?;
+    let inserted = insertions(alloc, op, client, first)?;
+    let deleted = deletions(alloc, before, list.as_slice())?;
+    Ok(Event {
+        replica: client as usize,
+        edit: true,
+        seen,
+        inserted,
+        deleted,
+        list,
+    })
+}
+
+// The event of a read.
+pub(crate) fn read_event(
+    alloc: Global,
+    replica: usize,
+    seen: Vec<u32>,
+    document: &Doc<Tagged>,
+) -> Result<Event, AllocError>
+    ensures { IfOk result (λ x. event_view x ≡ read_event replica (tags document.now) seen.items) }
+{
+    let list = tags_of(alloc, document)?;
+    Ok(Event {
+        replica,
+        edit: false,
+        seen,
+        inserted: Vec::new(alloc),
+        deleted: Vec::new(alloc),
+        list,
+    })
+}
