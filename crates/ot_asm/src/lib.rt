@@ -45,6 +45,8 @@ pub use disassembling::disassemble;
 pub use fault::{AsmFault, Kind};
 pub use json_text::read_text;
 pub use laws::{canonical_spells, spells_at_most_one};
+pub use number::read_number;
+pub use words::{split_word, trimmed};
 pub use writing::{WriteStop, disassemble_to};
 
 #[cfg(test)]

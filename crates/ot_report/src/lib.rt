@@ -1,10 +1,23 @@
-//! What is printed of a run.
+//! What is printed of a run, and of the verdicts on it.
+//!
+//! ```text
+//!   Run ── print_run ──▶ its reads, its stop, and its end (print_end: the state of any machine)
+//!    └──── find ───────▶ its stop, whether all is quiet with one list, and the verdict of the schedule's trace
+//! ```
+//!
+//! Every line ends with LF; a text is printed as a JSON string. Each call answers an error only for want of memory, and its contract
+//! says every byte: `specs/Printed.antt` has the lines of a run, `specs/Verdicts.antt` those of verdicts, `specs/Findings.antt` what is
+//! found of a schedule. Begin with [`print_run`] and [`find`].
 #![tactic(auto)]
 
 mod ending;
+mod findings;
 mod lines;
 mod running;
+mod verdicts;
 
 pub use ending::print_end;
+pub use findings::{Findings, find};
 pub use lines::{print_client, print_read, print_server, print_stop, quiet_text, refusal_name};
 pub use running::print_run;
+pub use verdicts::{print_convergence, print_verdict};

@@ -22,7 +22,7 @@ fn reads_text(alloc: Global, shown: &[Shown]) -> Result<String, AllocError>
 }
 
 // The line of the stop, if there was one.
-fn push_stop(
+pub(crate) fn push_stop(
     alloc: Global,
     text: &mut String,
     stopped: Option<(usize, Refusal)>,

@@ -1,0 +1,24 @@
+-- What `check` prints of a schedule.
+use Rattle.std.specs.Prelude.{ℕ, List, ◌++◌, Option, Some, None, codes, if◌then◌else◌}
+use Rattle.ot_isa.specs.Program.{Program}
+use Rattle.ot_model.specs.Events.{trace_of}
+use Rattle.ot_judge.specs.declared.verdict.Verdict.{Verdict}
+use Rattle.ot_judge.specs.declared.verdict.Verdict.TheVariants.{Holds}
+use Rattle.ot_machine.specs.declared.outcome.Run.{Run}
+use Rattle.ot_check.specs.Convergence.{convergence_of}
+use Rattle.ot_judge.specs.Making.{is_full}
+use Rattle.ot_report.specs.Printed.{line, stop_text}
+use Rattle.ot_report.specs.Verdicts.{convergence_line, verdict_line}
+
+-- the trace of every schedule has the weak list property; a trace that is too large is not judged
+abbrev pub verdict_of : Program → Option Verdict
+verdict_of schedule = if is_full (trace_of schedule) then None else Some Holds
+
+-- the line of a trace's verdict
+abbrev pub trace_text : Option Verdict → List ℕ
+trace_text None = line (codes "trace full")
+trace_text (Some verdict) = verdict_line verdict
+
+-- the stop, if there was one; whether all is quiet, with one list, where the run ended; and the verdict of the trace
+abbrev pub findings : Program → Run → List ℕ
+findings schedule run = stop_text run.stopped ++ convergence_line (convergence_of run.machine) ++ trace_text (verdict_of schedule)
