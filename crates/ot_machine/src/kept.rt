@@ -90,11 +90,18 @@ pub(crate) fn deliver(seat: &mut Seat, op: &TextOp<Tagged>) -> Result<Before, Al
     };
     let (next, applied) = seat::after(client.copy()?, op.copy()?)?;
     let inverse = inverse_of(&applied, &seat.list)?;
-    let before = keep(seat, Some(inverse), true)?;
     seat.list.change(&applied)?;
-    seat.client = Some(next);
+    let Some(was) = seat.client.replace(next) else {
+        unreachable!()
+    };
     let _ = seat.down.pop();
-    Ok(before)
+    Ok(Before {
+        client: was,
+        count: seat.count,
+        inverse: Some(inverse),
+        unsent: seat.up.is_empty(),
+        received: true,
+    })
 }
 
 // Takes the first message, the acknowledgement of the client's own operation, and gives the client before it.
