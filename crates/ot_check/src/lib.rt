@@ -20,7 +20,7 @@
 //!   log entries                rows (clients 0 and 1, server)
 //!                              0 0 0
 //!   0: of 1                    0 1 0      an edit of client 0 at revision 1, after two edits of its own,
-//!   1: of 0                    1 1 0      sees row 1 with its own count: 2 1 0
+//!   1: of 0                    1 1 0      sees the second row with its own count: 2 1 0
 //!   2: of 0, its buffer of 2   3 1 0
 //! ```
 //!

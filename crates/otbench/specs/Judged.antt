@@ -1,33 +1,15 @@
 -- What `judge` writes and answers.
-use Rattle.std.specs.Prelude.{◌≡◌, ◌≢◌, ◌⊎◌, ℕ, List, [], ◌∷◌, ◌++◌, Result, Ok, Err, codes, decimal, if◌then◌else◌}
+use Rattle.std.specs.Prelude.{◌≡◌, ◌≢◌, ◌⊎◌, ℕ, List, [], ◌∷◌, ◌++◌, Result, Ok, Err, codes, if◌then◌else◌}
 use Rattle.std.specs.Str.{is_utf8}
-use Rattle.ot_isa.specs.declared.elements.Tag.{Tag}
 use Rattle.ot_judge.specs.declared.verdict.Verdict.{Verdict}
-use Rattle.ot_judge.specs.declared.verdict.Verdict.TheVariants.{Holds, BadVisibility, Doubled, Missing, Extra, WrongPlace, Reversed}
+use Rattle.ot_judge.specs.declared.verdict.Verdict.TheVariants.{Holds}
 use Rattle.ot_judge.specs.declared.fault.TraceFault.{TraceFault}
 use Rattle.ot_judge.specs.declared.fault.TraceFault.TheVariants as kind
 use Rattle.ot_judge.specs.Reading.{trace_of_text}
 use Rattle.ot_judge.specs.Verdict.{IsVerdict}
 use Rattle.ot_model.specs.Trace.{TraceView}
+use Rattle.ot_report.specs.Verdicts.{verdict_line}
 use Rattle.otbench.specs.Streams.{Streams, Complains, Gives, GivesUp}
-
--- origin:serial
-abbrev pub tag_text : Tag → List ℕ
-tag_text tag = decimal tag.origin ++ 58 ∷ decimal tag.serial
-
-abbrev pub at_event : List ℕ → ℕ → Tag → List ℕ
-at_event word event tag = word ++ 32 ∷ (decimal event ++ 32 ∷ (tag_text tag ++ 10 ∷ []))
-
--- the line of a verdict
-abbrev pub verdict_line : Verdict → List ℕ
-verdict_line Holds = codes "holds" ++ 10 ∷ []
-verdict_line (BadVisibility event) = codes "bad-visibility " ++ (decimal event ++ 10 ∷ [])
-verdict_line (Doubled event tag) = at_event (codes "doubled") event tag
-verdict_line (Missing event tag) = at_event (codes "missing") event tag
-verdict_line (Extra event tag) = at_event (codes "extra") event tag
-verdict_line (WrongPlace event tag) = at_event (codes "wrong-place") event tag
-verdict_line (Reversed first second a b) =
-    codes "reversed " ++ (decimal first ++ 32 ∷ (decimal second ++ 32 ∷ (tag_text a ++ 32 ∷ (tag_text b ++ 10 ∷ []))))
 
 -- 0 where the property holds
 abbrev pub verdict_status : Verdict → ℕ

@@ -6,7 +6,7 @@ use Rattle.clap.specs.declared.builder.ArgAction.TheVariants.{SetTrue}
 use Rattle.otbench.specs.declared.words.Form.{Form}
 use Rattle.otbench.specs.declared.words.Form.TheVariants as form
 use Rattle.otbench.specs.declared.words.Request.{Request}
-use Rattle.otbench.specs.declared.words.Request.TheVariants.{Run, Assemble, Disassemble, Judge}
+use Rattle.otbench.specs.declared.words.Request.TheVariants.{Run, Check, Debug, Assemble, Disassemble, Judge}
 
 -- the flag --image
 abbrev pub image : Rule
@@ -15,14 +15,17 @@ image = record (new_rule (codes "image")) { long = Some (codes "image"); action 
 abbrev pub required : App → App
 required a = record a { top = record a.top { subcommand_required = true } }
 
+-- the program with the subcommands that run a schedule
+abbrev pub running_app : App
+running_app =
+    with_subcommand (with_subcommand (with_subcommand (required (new_app (codes "otbench")))
+    (with_rule (new_app (codes "run")) image).top)
+    (new_app (codes "check")).top)
+    (new_app (codes "debug")).top
+
 -- the program's command line
 abbrev pub otbench_app : App
-otbench_app =
-    with_subcommand (with_subcommand (with_subcommand (with_subcommand (required (new_app (codes "otbench")))
-    (with_rule (new_app (codes "run")) image).top)
-    (new_app (codes "asm")).top)
-    (new_app (codes "dis")).top)
-    (new_app (codes "judge")).top
+otbench_app = with_subcommand (with_subcommand (with_subcommand running_app (new_app (codes "asm")).top) (new_app (codes "dis")).top) (new_app (codes "judge")).top
 
 -- a flag among the rows
 abbrev pub is_true : Option Text → Bool
@@ -40,9 +43,11 @@ form_among rows = if flag_among (codes "image") rows then form.Image else form.T
 abbrev pub request_in_rows : Text × List Row → Option Request
 request_in_rows p =
     if bytes_eq p.0 (codes "run") then Some (Run (form_among p.1)) else
+    (if bytes_eq p.0 (codes "check") then Some Check else
+    (if bytes_eq p.0 (codes "debug") then Some Debug else
     (if bytes_eq p.0 (codes "asm") then Some Assemble else
     (if bytes_eq p.0 (codes "dis") then Some Disassemble else
-    (if bytes_eq p.0 (codes "judge") then Some Judge else None)))
+    (if bytes_eq p.0 (codes "judge") then Some Judge else None)))))
 
 abbrev pub request_of : List Text → Option Request
 request_of words = option_and_then request_in_rows (subcommand_of otbench_app words)

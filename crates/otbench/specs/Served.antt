@@ -1,79 +1,22 @@
 -- What the program writes and answers.
-use Rattle.std.specs.Prelude.{◌≡◌, ◌≢◌, ◌⊎◌, ◌<◌, ℕ, List, [], ◌∷◌, ◌++◌, Option, Some, None, Ok, Err, codes, decimal}
+use Rattle.std.specs.Prelude.{◌≡◌, ◌⊎◌, ◌<◌, ℕ, List, Option, Some, None, Ok}
 use Rattle.std.specs.Io.KnownBytes.{Keeps}
+use Rattle.line_reader.specs.Lines.{lines_of}
 use Rattle.ot_isa.specs.Program.{Program}
-use Rattle.ot_asm.specs.declared.fault.AsmFault.{AsmFault}
-use Rattle.ot_asm.specs.declared.fault.Kind as asm
-use Rattle.ot_asm.specs.declared.fault.Kind.TheVariants as line
 use Rattle.ot_asm.specs.Stepping.{outcome}
 use Rattle.ot_asm.specs.Canonical.{canonical}
-use Rattle.ot_image.specs.declared.fault.ImageFault.{ImageFault}
-use Rattle.ot_image.specs.declared.fault.Kind as image
-use Rattle.ot_image.specs.declared.fault.Kind.TheVariants as byte
 use Rattle.ot_image.specs.Spelling.{bytes2, IsImageOf}
-use Rattle.ot_image.specs.Reading.{image_of}
-use Rattle.ot_model.specs.declared.shown.Refusal.{Refusal}
 use Rattle.ot_machine.specs.declared.outcome.Run.{Run}
 use Rattle.ot_machine.specs.Ended.{IsRun}
 use Rattle.ot_report.specs.Printed.{IsReport}
-use Rattle.otbench.specs.Streams.{Streams, Complains, Gives, GivesUp}
+use Rattle.otbench.specs.Streams.{Streams, Gives, GivesUp, stop_status}
+use Rattle.otbench.specs.Faults.{RefusesLines, RefusesImage}
 use Rattle.otbench.specs.Judged.{Judges}
+use Rattle.otbench.specs.Checked.{MayFind}
+use Rattle.otbench.specs.Debugged.{Debugs}
 use Rattle.otbench.specs.declared.words.Form.TheVariants as form
 use Rattle.otbench.specs.declared.words.Request.{Request}
-use Rattle.otbench.specs.declared.words.Request.TheVariants.{Run as Running, Assemble, Disassemble, Judge}
-
--- the names of faults as they are printed
-abbrev pub line_kind : asm.Kind → List ℕ
-line_kind line.BadText = codes "BadText"
-line_kind line.NoClients = codes "NoClients"
-line_kind line.UnknownWord = codes "UnknownWord"
-line_kind line.BadNumber = codes "BadNumber"
-line_kind line.BadClient = codes "BadClient"
-line_kind line.BadOperation = codes "BadOperation"
-line_kind line.Extra = codes "Extra"
-line_kind line.TooLong = codes "TooLong"
-line_kind line.TooMany = codes "TooMany"
-line_kind line.Memory = codes "Memory"
-line_kind line.ReadFault = codes "ReadFault"
-
-abbrev pub byte_kind : image.Kind → List ℕ
-byte_kind byte.Cut = codes "Cut"
-byte_kind byte.BadMagic = codes "BadMagic"
-byte_kind byte.BadNumber = codes "BadNumber"
-byte_kind byte.TooLong = codes "TooLong"
-byte_kind byte.TooMany = codes "TooMany"
-byte_kind byte.BadScalar = codes "BadScalar"
-byte_kind byte.BadOpcode = codes "BadOpcode"
-byte_kind byte.BadClient = codes "BadClient"
-byte_kind byte.NotNormal = codes "NotNormal"
-byte_kind byte.Trailing = codes "Trailing"
-byte_kind byte.Memory = codes "Memory"
-
--- otbench: line L: Kind, and otbench: byte B: Kind
-abbrev pub line_fault : AsmFault → List ℕ
-line_fault fault = codes "otbench: line " ++ (decimal fault.line ++ (codes ": " ++ (line_kind fault.kind ++ 10 ∷ [])))
-
-abbrev pub byte_fault : ImageFault → List ℕ
-byte_fault fault = codes "otbench: byte " ++ (decimal fault.at ++ (codes ": " ++ (byte_kind fault.kind ++ 10 ∷ [])))
-
--- a text that is refused: nothing on the output, and the fault's line. A fault other than Memory and ReadFault is that of the text's first faulty line
-pub record RefusesText (text : List ℕ) (status : ℕ) (streams : Streams) : Type 0 where
-  pub fault : AsmFault
-  pub named : fault.kind ≢ line.Memory → fault.kind ≢ line.ReadFault → outcome text ≡ Err fault
-  pub gives_up : GivesUp status streams
-  pub complains : Complains (line_fault fault) streams.faults streams.faults'
-
--- an image that is refused. A fault other than Memory is that of the image's first bad field
-pub record RefusesImage (bytes : List ℕ) (status : ℕ) (streams : Streams) : Type 0 where
-  pub fault : ImageFault
-  pub named : fault.kind ≢ byte.Memory → image_of bytes ≡ Err fault
-  pub gives_up : GivesUp status streams
-  pub complains : Complains (byte_fault fault) streams.faults streams.faults'
-
--- 0 where all instructions were performed, 1 where one was not
-abbrev pub stop_status : Option (ℕ × Refusal) → ℕ
-stop_status None = 0
-stop_status (Some stop) = 1
+use Rattle.otbench.specs.declared.words.Request.TheVariants.{Run as Running, Check, Debug, Assemble, Disassemble, Judge}
 
 -- the run of the schedule, as it is printed
 pub record Reports (schedule : Program) (status : ℕ) (streams : Streams) : Type 0 where
@@ -86,7 +29,7 @@ pub record Reports (schedule : Program) (status : ℕ) (streams : Streams) : Typ
 -- what the input spells, and what is done with the schedule
 abbrev pub OfText : (Program → ℕ → Streams → Type 0) → List ℕ → ℕ → Streams → Type 0
 OfText does text status streams =
-    RefusesText text status streams ⊎ ((schedule : Program) × (outcome text ≡ Ok schedule) × does schedule status streams) ⊎ GivesUp status streams
+    RefusesLines (lines_of text) status streams ⊎ ((schedule : Program) × (outcome text ≡ Ok schedule) × does schedule status streams) ⊎ GivesUp status streams
 
 abbrev pub OfImage : (Program → ℕ → Streams → Type 0) → List ℕ → ℕ → Streams → Type 0
 OfImage does bytes status streams =
@@ -107,6 +50,8 @@ GivesText schedule status streams = Gives 0 (canonical schedule) status streams
 abbrev pub Serves : Request → List ℕ → ℕ → Streams → Type 0
 Serves (Running form.Text) input status streams = OfText MayReport input status streams
 Serves (Running form.Image) input status streams = OfImage MayReport input status streams
+Serves Check input status streams = OfText MayFind input status streams
+Serves Debug input status streams = Debugs input status streams
 Serves Assemble input status streams = OfText GivesImage input status streams
 Serves Disassemble input status streams = OfImage GivesText input status streams
 Serves Judge input status streams = Judges input status streams

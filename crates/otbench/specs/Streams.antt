@@ -1,7 +1,8 @@
 -- What is written on the output and on the faults.
-use Rattle.std.specs.Prelude.{◌≡◌, ◌⊎◌, ℕ, List, [], ◌∷◌, ◌++◌, Option, codes}
+use Rattle.std.specs.Prelude.{◌≡◌, ◌⊎◌, ℕ, List, [], ◌∷◌, ◌++◌, Option, Some, None, codes}
 use Rattle.std.specs.Io.KnownBytes.{Appends, Keeps}
 use Rattle.streams.specs.Streams.{WritesPart}
+use Rattle.ot_model.specs.declared.shown.Refusal.{Refusal}
 
 abbrev pub memory_fault : List ℕ
 memory_fault = codes "otbench: Memory" ++ 10 ∷ []
@@ -26,3 +27,8 @@ abbrev pub Gives : ℕ → List ℕ → ℕ → Streams → Type 0
 Gives right text status streams =
     ((status ≡ right) × Appends streams.output streams.output' text × Keeps streams.faults streams.faults')
     ⊎ ((status ≡ 1) × WritesPart streams.output streams.output' text)
+
+-- 0 where all instructions were performed, 1 where one was not
+abbrev pub stop_status : Option (ℕ × Refusal) → ℕ
+stop_status None = 0
+stop_status (Some stop) = 1

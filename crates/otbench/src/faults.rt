@@ -2,7 +2,7 @@
 
 ghost use Rattle.std.specs.Prelude.{◌≡◌, IfOk, string_bytes};
 ghost use Rattle.streams.specs.Streams.{WritesPart};
-ghost use Rattle.otbench.specs.Served.{byte_fault, byte_kind, line_fault, line_kind};
+ghost use Rattle.otbench.specs.Faults.{byte_fault, byte_kind, line_fault, line_kind};
 ghost use Rattle.otbench.specs.Streams.{memory_fault, Complains};
 
 use ot_asm::AsmFault;

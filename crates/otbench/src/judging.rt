@@ -1,62 +1,16 @@
 //! `judge`: whether a recorded trace has the weak list property.
 
-ghost use Rattle.std.specs.Prelude.{◌≡◌, ◌≢◌, Ok, Err, IfErr, IfOk, IfSome, string_bytes};
-ghost use Rattle.otbench.specs.Streams.{Complains};
-ghost use Rattle.otbench.specs.Judged.{at_event, tag_text, trace_fault, trace_of_bytes, verdict_line, verdict_status, Judges, MayGiveVerdict};
+ghost use Rattle.std.specs.Prelude.{◌≡◌, ◌≢◌, Ok, Err, IfErr, IfOk, IfSome};
+ghost use Rattle.otbench.specs.Judged.{trace_fault, trace_of_bytes, verdict_status, Judges, MayGiveVerdict};
 ghost use Rattle.ot_judge.specs.declared.fault.TraceFault.TheVariants as kind;
 
 use crate::faults::{complain, complain_of_input, complain_of_memory};
 use ot_asm::read_text;
-use ot_isa::Tag;
 use ot_judge::{Trace, TraceFault, Verdict, judge, read_trace};
-use std::alloc::{AllocError, Global};
+use ot_report::print_verdict;
+use std::alloc::Global;
 use std::io::{Read, Write};
 use streams::{put, read_whole};
-
-fn tag_name(alloc: Global, tag: Tag) -> Result<String, AllocError>
-    ensures { IfOk result (λ s. string_bytes s ≡ tag_text tag) }
-{
-    let origin = tag.origin;
-    let serial = tag.serial;
-    format!(in alloc; "{origin}:{serial}")
-}
-
-// A word, an event and a tag.
-fn event_line(alloc: Global, word: &str, event: usize, tag: Tag) -> Result<String, AllocError>
-    ensures { IfOk result (λ s. string_bytes s ≡ at_event word.now event tag) }
-{
-    let tag = tag_name(alloc, tag)?;
-    format!(in alloc; "{word} {event} {tag}\n")
-}
-
-fn reversed_line(
-    alloc: Global,
-    first: usize,
-    second: usize,
-    a: Tag,
-    b: Tag,
-) -> Result<String, AllocError>
-    ensures { IfOk result (λ s. string_bytes s ≡ verdict_line (Verdict.Reversed first second a b)) }
-{
-    let a = tag_name(alloc, a)?;
-    let b = tag_name(alloc, b)?;
-    format!(in alloc; "reversed {first} {second} {a} {b}\n")
-}
-
-// The line of a verdict.
-fn print_verdict(alloc: Global, verdict: Verdict) -> Result<String, AllocError>
-    ensures { IfOk result (λ s. string_bytes s ≡ verdict_line verdict) }
-{
-    match verdict {
-        Verdict::Holds => String::from_str(alloc, "holds\n"),
-        Verdict::BadVisibility(event) => format!(in alloc; "bad-visibility {event}\n"),
-        Verdict::Doubled(event, tag) => event_line(alloc, "doubled", event, tag),
-        Verdict::Missing(event, tag) => event_line(alloc, "missing", event, tag),
-        Verdict::Extra(event, tag) => event_line(alloc, "extra", event, tag),
-        Verdict::WrongPlace(event, tag) => event_line(alloc, "wrong-place", event, tag),
-        Verdict::Reversed(first, second, a, b) => reversed_line(alloc, first, second, a, b),
-    }
-}
 
 fn status_of(verdict: Verdict) -> u8
     ensures { result ≡ verdict_status verdict }

@@ -2,6 +2,8 @@
 //!
 //! ```text
 //!    words ── words ──▶ Request ── serving ──▶ running      run: a schedule's reads, stop and end
+//!                                      ├──▶ checking     check: a run's stop, whether all is quiet, the verdict of its trace
+//!                                      ├──▶ debugging    debug: forth and back through a run, by commands
 //!                                      ├──▶ converting   asm, dis: between a schedule's text and its image
 //!                                      └──▶ judging      judge: whether a recorded trace has the weak list property
 //! ```
@@ -10,7 +12,9 @@
 //! (`specs/Served.antt`); `main` hands it the process's own words and streams.
 #![tactic(auto)]
 
+mod checking;
 mod converting;
+mod debugging;
 mod faults;
 mod judging;
 mod running;
@@ -23,14 +27,21 @@ use serving::serve;
 use std::process::ExitCode;
 use std::{env, io};
 
+// Says that memory for the program's own words was wanting.
+fn wants_memory(rt: &impl Eprint) -> ExitCode {
+    let _ = eprintln!(rt; "otbench: Memory");
+    ExitCode::FAILURE
+}
+
 fn main(rt: HostRuntime) -> ExitCode {
     let alloc = rt.alloc();
-    let Ok(all) = env::args(&rt) else {
-        return ExitCode::from(2);
+    let all = match env::args(&rt) {
+        Ok(all) => all,
+        Err(error) if error.kind() == io::ErrorKind::OutOfMemory => return wants_memory(&rt),
+        Err(_) => return ExitCode::from(2),
     };
     let Ok(words) = all.collect::<Vec<String>>(alloc) else {
-        let _ = eprintln!(rt; "otbench: Memory");
-        return ExitCode::FAILURE;
+        return wants_memory(&rt);
     };
     let mut input = rt.reader();
     let mut output = io::writer(&rt);

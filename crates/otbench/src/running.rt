@@ -1,7 +1,8 @@
 //! `run`: a schedule's reads, its stop and its end.
 
 ghost use Rattle.std.specs.Prelude.{◌≡◌, IfSome};
-ghost use Rattle.otbench.specs.Served.{stop_status, MayReport, OfImage, OfText};
+ghost use Rattle.otbench.specs.Streams.{stop_status};
+ghost use Rattle.otbench.specs.Served.{MayReport, OfImage, OfText};
 
 use crate::faults::{complain_of_byte, complain_of_input, complain_of_line, complain_of_memory};
 use ot_asm::assemble_from;
@@ -13,8 +14,8 @@ use std::alloc::Global;
 use std::io::{Read, Write};
 use streams::{put, read_whole};
 
-// The status of a run.
-fn status_of(run: &Run) -> u8
+/// The status of a run: 0 where all instructions were performed, else 1.
+pub fn status_of(run: &Run) -> u8
     ensures { result ≡ stop_status run.now.stopped }
 {
     match run.stopped {

@@ -4,7 +4,9 @@ ghost use Rattle.std.specs.Prelude.{◌≡◌, ◌<◌, IfSome, map};
 ghost use Rattle.otbench.specs.Requests.{request_of};
 ghost use Rattle.otbench.specs.Served.{Serves, ServesWords};
 
+use crate::checking::check_text;
 use crate::converting::{assemble, disassemble_image};
+use crate::debugging::debug_text;
 use crate::faults::{complain, complain_of_memory};
 use crate::judging::judge_input;
 use crate::running::{run_image, run_text};
@@ -48,6 +50,8 @@ fn carry_out<I: Read, O: Write, F: Write>(
     match request {
         Request::Run(Form::Text) => run_text(alloc, input, output, faults),
         Request::Run(Form::Image) => run_image(alloc, input, output, faults),
+        Request::Check => check_text(alloc, input, output, faults),
+        Request::Debug => debug_text(alloc, input, output, faults),
         Request::Assemble => assemble(alloc, input, output, faults),
         Request::Disassemble => disassemble_image(alloc, input, output, faults),
         Request::Judge => judge_input(alloc, input, output, faults),
@@ -55,7 +59,8 @@ fn carry_out<I: Read, O: Write, F: Write>(
 }
 
 /// Does what the words ask for (the program's name is the first of them), and answers the status: 0 where it was done; 1 for a refused
-/// input, a refused instruction, or a fault of reading, writing or memory; 2 where the words ask for no subcommand, or for help.
+/// input, a refused instruction, a verdict against a trace or a trace that is too large, a bad command, or a fault of reading, writing or
+/// memory; 2 where the words ask for no subcommand, or for help.
 #[tactic(auto, using(crate::proofs::Outcomes::none_served))]
 pub fn serve<'a, R: Alloc<A = Global>, S: AsStr, I: Read, O: Write, F: Write>(
     rt: &R,

@@ -2,7 +2,7 @@
 
 ghost use Rattle.std.specs.Prelude.{◌≡◌, Some, IfOk, IfErr, IsSome, map, true, option_and_then};
 ghost use Rattle.clap.specs.Words.{app_of, found_of, kind_of, rows_of, subcommand_rows_of, takes};
-ghost use Rattle.otbench.specs.Requests.{otbench_app, flag_among, form_among, request_of, request_in_rows};
+ghost use Rattle.otbench.specs.Requests.{otbench_app, running_app, flag_among, form_among, request_of, request_in_rows};
 
 use clap::error::ErrorKind;
 use clap::{Arg, ArgAction, ArgMatches, Command, Error};
@@ -21,6 +21,10 @@ pub enum Form {
 pub enum Request {
     /// Runs a schedule and prints what it shows and where it ends.
     Run(Form),
+    /// Runs a schedule and prints what is found of it: a stop, whether all is quiet, and whether its trace has the weak list property.
+    Check,
+    /// Steps through a schedule by commands, forth and back.
+    Debug,
     /// Turns a schedule's text into its image.
     Assemble,
     /// Turns a schedule's image into its text.
@@ -29,9 +33,9 @@ pub enum Request {
     Judge,
 }
 
-// The program's command line.
-fn command<'a>(alloc: Global) -> Result<Command<'a>, AllocError>
-    ensures { IfOk result (λ c. app_of c ≡ otbench_app) }
+// The program with the subcommands that run a schedule.
+fn running_command<'a>(alloc: Global) -> Result<Command<'a>, AllocError>
+    ensures { IfOk result (λ c. app_of c ≡ running_app) }
 {
     let image = Arg::new(alloc, "image")
         .long("image")
@@ -40,6 +44,15 @@ fn command<'a>(alloc: Global) -> Result<Command<'a>, AllocError>
     Command::new(alloc, "otbench")
         .subcommand_required(true)
         .subcommand(running)?
+        .subcommand(Command::new(alloc, "check"))?
+        .subcommand(Command::new(alloc, "debug"))
+}
+
+// The program's command line.
+fn command<'a>(alloc: Global) -> Result<Command<'a>, AllocError>
+    ensures { IfOk result (λ c. app_of c ≡ otbench_app) }
+{
+    running_command(alloc)?
         .subcommand(Command::new(alloc, "asm"))?
         .subcommand(Command::new(alloc, "dis"))?
         .subcommand(Command::new(alloc, "judge"))
@@ -73,6 +86,8 @@ fn request_in(matches: &ArgMatches<'_>) -> Option<Request>
     let (name, found) = matches.subcommand()?;
     match name {
         "run" => Some(Request::Run(form_in(found))),
+        "check" => Some(Request::Check),
+        "debug" => Some(Request::Debug),
         "asm" => Some(Request::Assemble),
         "dis" => Some(Request::Disassemble),
         "judge" => Some(Request::Judge),

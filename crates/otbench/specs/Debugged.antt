@@ -1,0 +1,64 @@
+-- What `debug` writes and answers.
+use Rattle.std.specs.Prelude.{◌≡◌, ◌⊎◌, ◌+◌, ◌-◌, ◌++◌, ℕ, Bool, true, List, Option, Ok, length, if◌then◌else◌}
+use Rattle.std.specs.Io.KnownBytes.{Keeps}
+use Rattle.line_reader.specs.Lines.{lines_of}
+use Rattle.ot_isa.specs.Program.{Program}
+use Rattle.ot_asm.specs.declared.fault.Kind.TheVariants as line
+use Rattle.ot_asm.specs.Parts.{lines_before, lines_behind}
+use Rattle.ot_asm.specs.Stepping.{outcome_of_lines}
+use Rattle.ot_debug.specs.Session.{Session, started}
+use Rattle.ot_console.specs.declared.talking.TalkStop.{TalkStop}
+use Rattle.ot_console.specs.declared.talking.TalkStop.TheVariants as stop
+use Rattle.ot_console.specs.Talking.{Talks, IsWritten, IsNumber}
+use Rattle.otbench.specs.Streams.{Streams, Complains, Gives, GivesUp}
+use Rattle.otbench.specs.Faults.{RefusesLines, line_fault}
+
+-- 1 where a reply was `bad command`, a refused instruction or `no memory`, else 0
+abbrev pub talk_status : Bool → ℕ
+talk_status faulted = if faulted then 1 else 0
+
+-- from the schedule's opening on, each line is answered
+pub record Converses (schedule : Program) (lines : List (List ℕ)) (status : ℕ) (streams : Streams) : Type 0 where
+  pub after : Session
+  pub text : List ℕ
+  pub faulted : Bool
+  pub talks : Talks (started schedule) lines after text faulted
+  pub gives : Gives (talk_status faulted) text status streams
+
+-- the fault's line of a talk that breaks off; none where writing failed
+abbrev pub TellsStop : TalkStop → Option (List ℕ) → Option (List ℕ) → Type 0
+TellsStop (stop.ReadFault number) old new = Complains (line_fault (record { line = number; kind = line.ReadFault })) old new
+TellsStop (stop.Memory number) old new = Complains (line_fault (record { line = number; kind = line.Memory })) old new
+TellsStop stop.WriteFault old new = Keeps old new
+
+-- a talk that breaks off: the first lines are answered, and the next one could not be read, or a reply could not be written whole.
+-- The fault's line counts the lines before the talk too
+pub record BreaksOff (schedule : Program) (lines : List (List ℕ)) (earlier : ℕ) (status : ℕ) (streams : Streams) : Type 0 where
+  pub stop : TalkStop
+  pub answered : List (List ℕ)
+  pub left : List (List ℕ)
+  pub front : lines ≡ answered ++ left
+  pub after : Session
+  pub text : List ℕ
+  pub faulted : Bool
+  pub talks : Talks (started schedule) answered after text faulted
+  pub written : IsWritten stop streams.output streams.output' text
+  pub number : IsNumber stop (earlier + length answered)
+  pub tells : TellsStop stop streams.faults streams.faults'
+  pub status_is : status ≡ 1
+
+-- a talk about the schedule, a first part of one, or want of memory for it
+abbrev pub MayConverse : Program → List (List ℕ) → ℕ → ℕ → Streams → Type 0
+MayConverse schedule lines earlier status streams =
+    Converses schedule lines status streams ⊎ BreaksOff schedule lines earlier status streams ⊎ GivesUp status streams
+
+-- how many lines stand before those behind the mark: the schedule's, and the mark
+abbrev pub lines_up_to_mark : List (List ℕ) → ℕ
+lines_up_to_mark lines = length lines - length (lines_behind true lines)
+
+-- the lines before the mark are a schedule, and those behind it are answered
+abbrev pub Debugs : List ℕ → ℕ → Streams → Type 0
+Debugs text status streams =
+    RefusesLines (lines_before true (lines_of text)) status streams
+    ⊎ ((schedule : Program) × (outcome_of_lines (lines_before true (lines_of text)) ≡ Ok schedule)
+    × MayConverse schedule (lines_behind true (lines_of text)) (lines_up_to_mark (lines_of text)) status streams)

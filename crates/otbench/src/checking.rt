@@ -1,0 +1,63 @@
+//! `check`: what is found of a schedule's run.
+
+ghost use Rattle.std.specs.Prelude.{◌≡◌, IfSome};
+ghost use Rattle.otbench.specs.Checked.{check_status, MayFind};
+ghost use Rattle.otbench.specs.Served.{OfText};
+
+use crate::faults::{complain_of_line, complain_of_memory};
+use crate::running::status_of;
+use ot_asm::assemble_from;
+use ot_isa::Schedule;
+use ot_machine::{Run, run};
+use ot_report::find;
+use std::alloc::Global;
+use std::io::{Read, Write};
+use streams::put;
+
+// The status of a run and of its trace.
+fn check_status(run: &Run, full: bool) -> u8
+    ensures { result ≡ check_status full run.now.stopped }
+{
+    if full { 1 } else { status_of(run) }
+}
+
+// Runs the schedule and prints what is found.
+fn report_findings<O: Write, F: Write>(
+    alloc: Global,
+    schedule: &Schedule,
+    output: &mut O,
+    faults: &mut F,
+) -> u8
+    ensures { MayFind schedule.now result (record { output = O.contents output.old; output' = O.contents output.new; faults = F.contents faults.old; faults' = F.contents faults.new }) }
+{
+    let Ok(run) = run(alloc, schedule) else {
+        complain_of_memory(faults);
+        return 1;
+    };
+    let Ok(found) = find(alloc, schedule, &run) else {
+        complain_of_memory(faults);
+        return 1;
+    };
+    match put(output, found.text.as_bytes()) {
+        Ok(()) => check_status(&run, found.full),
+        Err(_) => 1,
+    }
+}
+
+/// Runs the schedule whose text is the input, and prints what is found of it.
+pub fn check_text<I: Read, O: Write, F: Write>(
+    alloc: Global,
+    input: &mut I,
+    output: &mut O,
+    faults: &mut F,
+) -> u8
+    ensures { IfSome (I.remaining input.old) (λ text. OfText MayFind text result (record { output = O.contents output.old; output' = O.contents output.new; faults = F.contents faults.old; faults' = F.contents faults.new })) }
+{
+    match assemble_from(alloc, input) {
+        Ok(schedule) => report_findings(alloc, &schedule, output, faults),
+        Err(fault) => {
+            complain_of_line(alloc, fault, faults);
+            1
+        }
+    }
+}
