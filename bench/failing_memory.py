@@ -46,19 +46,16 @@ def answer(words, given, shim, at):
 
 
 def wants_memory(words, whole, got):
-    """Whether the answer says that memory was wanting, and nothing else that is not so."""
+    """Whether the answer says that memory was wanting, and is the whole answer up to where it says so. What follows a stop or a
+    reply `no memory` is not compared: it depends on the place where the program then stands."""
     status, out, faults = got
-    if status != 1:
+    if status != 1 or not re.fullmatch(rb"(otbench: ((line|byte) \d+: )?Memory\n)?", faults):
         return False
-    if not out and re.fullmatch(rb"otbench: ((line|byte) \d+: )?Memory\n", faults):
-        return True
-    if words[0] in ("run", "check"):
-        return faults == b"" and re.search(rb"^stopped at \d+: Memory$", out, re.M) is not None
-    if words[0] == "debug":
-        if faults and not re.fullmatch(rb"otbench: ((line|byte) \d+: )?Memory\n", faults):
-            return False
-        return bool(faults) or b"no memory\n" in out
-    return False
+    if faults:
+        return whole[1].startswith(out) if words[0] == "debug" else not out
+    said = {"run": rb"^stopped at \d+: Memory$", "check": rb"^stopped at \d+: Memory$", "debug": rb"^no memory$"}.get(words[0])
+    found = said and re.search(said, out, re.M)
+    return bool(found) and whole[1].startswith(out[:found.start()])
 
 
 def main():
