@@ -31,7 +31,7 @@ pub value_kept :
     → place_of op.image i ≡ Some p → slice_get (apply op document) p ≡ slice_get document i
 unfolding apply
 value_kept op document i p rises fits in_p =
-    slice_get-filter_map (value_in document) op.image (each_value document 0 op.base op.image rises (omega (arith, fits))) p
+    slice_get-filter_map (value_in document) op.image (each_value document zero op.base op.image rises (omega (arith, fits))) p
     ∙ ap (option_and_then (value_in document)) (place_stands op.image 0 op.image i (StandsAt-whole op.image) p in_p)
 
 -- what both operations keep stands in the document that both orders make
@@ -54,7 +54,7 @@ unfolding apply
 apply_keeps_order op document i j p q rises fits in_p in_q less =
     let at_p = place_stands op.image 0 op.image i (StandsAt-whole op.image) p in_p in
     let at_q = place_stands op.image 0 op.image j (StandsAt-whole op.image) q in_q in
-    let given = each_value document 0 op.base op.image rises (omega (arith, fits)) in (
+    let given = each_value document zero op.base op.image rises (omega (arith, fits)) in (
       in_order 0 op.base op.image i j p q rises at_p at_q less,
       slice_get-filter_map (value_in document) op.image given p ∙ ap (option_and_then (value_in document)) at_p,
       slice_get-filter_map (value_in document) op.image given q ∙ ap (option_and_then (value_in document)) at_q,

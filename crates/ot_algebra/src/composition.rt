@@ -22,9 +22,9 @@ pub fn compose<T: Element>(
     requires { length a.now.image ≡ b.now.base }
     ensures { IfOk result (λ op. op ≡ composition a.now b.now) }
 {
-    let mut built = TextOp::new(alloc);
     let mut at_a = cursor::start(a.components());
     let mut at_b = cursor::start(b.components());
+    let mut built = TextOp::with_capacity(alloc, a.components().len())?;
     loop {
         if let Head::Delete(count) = at_a.head {
             only_memory(built.delete(count))?;

@@ -21,9 +21,9 @@ pub fn transform_first<T: Element>(
     requires fits { a.now.base + length (news a.now.image) + length (news b.now.image) ≤ 1000000 }
     ensures { IfOk result (λ op. op ≡ first_after a.now b.now) }
 {
-    let mut first = TextOp::new(alloc);
     let mut at_a = cursor::start(a.components());
     let mut at_b = cursor::start(b.components());
+    let mut first = TextOp::with_capacity(alloc, a.components().len())?;
     loop {
         if let Head::Insert(text) = at_a.head {
             only_memory(first.insert(text))?;

@@ -26,10 +26,10 @@ pub fn transform<T: Element>(
     requires fits { a.now.base + length (news a.now.image) + length (news b.now.image) ≤ 1000000 }
     ensures { IfOk result (λ pair. pair ≡ (first_after a.now b.now, second_after a.now b.now)) }
 {
-    let mut first = TextOp::new(alloc);
-    let mut second = TextOp::new(alloc);
     let mut at_a = cursor::start(a.components());
     let mut at_b = cursor::start(b.components());
+    let mut first = TextOp::with_capacity(alloc, a.components().len())?;
+    let mut second = TextOp::with_capacity(alloc, b.components().len())?;
     loop {
         if let Head::Insert(text) = at_a.head {
             only_memory(first.insert(text))?;

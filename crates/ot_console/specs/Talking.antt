@@ -18,14 +18,14 @@ IsPrinted session reply text faulted =
     (IsReplyText session reply text × (faulted ≡ is_fault reply)) ⊎ (IsMade reply × (text ≡ no_memory) × (faulted ≡ true))
 
 -- a line that is no command changes nothing; a command is performed, and its reply printed
-abbrev pub IsPerformed : Session → Option Command → Session → List ℕ → Bool → Type 0
-IsPerformed before None after text faulted = (after ≡ before) × (text ≡ bad_command) × (faulted ≡ true)
-IsPerformed before (Some command) after text faulted = (reply : Reply) × Answers before command reply after × IsPrinted after reply text faulted
+abbrev pub IsCommandTurn : Session → Option Command → Session → List ℕ → Bool → Type 0
+IsCommandTurn before None after text faulted = (after ≡ before) × (text ≡ bad_command) × (faulted ≡ true)
+IsCommandTurn before (Some command) after text faulted = (reply : Reply) × Answers before command reply after × IsPrinted after reply text faulted
 
 -- a line is answered: an empty one by nothing
 abbrev pub IsTurn : Session → List ℕ → Session → List ℕ → Bool → Type 0
 IsTurn before line after text faulted =
-    MatchBool (is_blank_line line) ((after ≡ before) × (text ≡ []) × (faulted ≡ false)) (IsPerformed before (command_of line) after text faulted)
+    MatchBool (is_blank_line line) ((after ≡ before) × (text ≡ []) × (faulted ≡ false)) (IsCommandTurn before (command_of line) after text faulted)
 
 -- one line's session, text and fault
 pub record Turn (before : Session) (line : List ℕ) : Type 0 where

@@ -3,7 +3,7 @@
 ghost use Rattle.std.specs.Prelude.{◌≡◌};
 ghost use Rattle.std.specs.Cow.{cow_str_bytes};
 ghost use Rattle.ot_console.specs.Commands.{is_blank_line};
-ghost use Rattle.ot_console.specs.Talking.{IsPerformed, IsPrinted, IsTurn};
+ghost use Rattle.ot_console.specs.Talking.{IsCommandTurn, IsPrinted, IsTurn};
 
 use crate::commands::read_command;
 use crate::replies::{is_fault, print_reply};
@@ -39,7 +39,7 @@ fn printed(alloc: Global, debugger: &Debugger, reply: &Reply) -> Response
 
 // Performs a command, where the line is one.
 fn perform(alloc: Global, debugger: &mut Debugger, command: Option<Command>) -> Response
-    ensures { IsPerformed debugger.old command debugger.new (cow_str_bytes result.text) result.faulted }
+    ensures { IsCommandTurn debugger.old command debugger.new (cow_str_bytes result.text) result.faulted }
 {
     match command {
         None => Response {

@@ -5,12 +5,12 @@ use Rattle.ot_debug.specs.declared.command.Watched.{Watched}
 use Rattle.ot_debug.specs.declared.command.Watched.TheVariants as watched
 use Rattle.ot_debug.specs.declared.watching.Seen.{Seen}
 use Rattle.ot_debug.specs.declared.watching.Seen.TheVariants as seen
-use Rattle.ot_debug.specs.Stops.{list_of, phase_of}
+use Rattle.ot_debug.specs.Stops.{list_of, phase_at}
 
 -- what the watch looks at
 abbrev pub sight : State → Watched → Seen
 sight s (watched.Doc c) = seen.List (list_of s c)
-sight s (watched.State c) = seen.Phase (phase_of s c)
+sight s (watched.State c) = seen.Phase (phase_at s c)
 sight s watched.ServerRevision = seen.Revision (length s.log)
 
 -- the first of what is seen are those that were seen

@@ -21,13 +21,13 @@ abbrev pub list_of : State → ℕ → List Tagged
 list_of s c = unwrap_or (option_map (λ (x : Client). x.list) (slice_get s.clients c)) []
 
 -- which of the four phases client c, which is there, is in
-abbrev pub phase_of : State → ℕ → Phase
-phase_of s c = unwrap_or (option_map (λ (x : Client). phase_name x.phase) (slice_get s.clients c)) NotJoined
+abbrev pub phase_at : State → ℕ → Phase
+phase_at s c = unwrap_or (option_map (λ (x : Client). phase_name x.phase) (slice_get s.clients c)) NotJoined
 
 -- what the watch looks at differs between the two states
 abbrev pub IsChanged : Watched → State → State → Type 0
 IsChanged (watched.Doc c) s t = list_of s c ≢ list_of t c
-IsChanged (watched.State c) s t = phase_of s c ≢ phase_of t c
+IsChanged (watched.State c) s t = phase_at s c ≢ phase_at t c
 IsChanged watched.ServerRevision s t = length s.log ≢ length t.log
 
 -- instruction q leads from one place of the run to the next, and changes what the watch looks at

@@ -46,7 +46,8 @@ fn opening(alloc: Global, schedule: &Schedule) -> Result<(Machine, Vec<bool>), A
 }
 
 impl Debugger {
-    /// At the opening of the schedule, without breaks and watches. For want of memory the schedule comes back.
+    /// At the opening of the schedule, without breaks and watches, with room for one record an instruction. For want of memory the
+    /// schedule comes back.
     pub fn new(alloc: Global, schedule: Schedule) -> Result<Debugger, Schedule>
         ensures ok { IfOk result (λ debugger. debugger ≡ started schedule) }
         ensures err { IfErr result (λ back. back ≡ schedule) }
@@ -54,11 +55,14 @@ impl Debugger {
         let Ok((machine, breaks)) = opening(alloc, &schedule) else {
             return Err(schedule);
         };
+        let Ok(undos) = Vec::with_capacity(alloc, schedule.len()) else {
+            return Err(schedule);
+        };
         Ok(Debugger {
             schedule,
             machine,
             shown: Vec::new(alloc),
-            undos: Vec::new(alloc),
+            undos,
             breaks,
             watches: Vec::new(alloc),
         })

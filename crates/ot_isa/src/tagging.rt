@@ -45,7 +45,7 @@ fn tagged_components(
     requires target { length (image_from 0 (runs components.now)) ≤ 1000000 }
     ensures { IfOk result (λ op. op ≡ tagged_operation (operation_of (runs components.now)) origin first) }
 {
-    let mut op = TextOp::new(alloc);
+    let mut op = TextOp::with_capacity(alloc, components.len())?;
     let mut serial = first;
     for component in components {
         match component {

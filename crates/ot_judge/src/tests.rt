@@ -3,6 +3,7 @@ use crate::plain::{Random, is_right, random_trace};
 use crate::{Event, Placed, Trace, Verdict, judge, read_trace};
 use ot_isa::Tag;
 use std::alloc::{AllocError, Global};
+use std::process::Abort;
 use std::test::Fail;
 
 const fn tag(origin: u16, serial: u32) -> Tag {
@@ -148,109 +149,62 @@ fn holds_on_a_cycle(rt: HostRuntime) -> Result<(), Fail> {
     Ok(())
 }
 
-#[test]
-fn texts_that_are_no_trace(rt: HostRuntime) -> Result<(), Fail> {
-    let alloc = rt.alloc();
-    let texts = [
-        ("", TraceFault::NotJson),
-        (
-            "{\"replicas\":1,\"start\":[],\"events\":[]",
-            TraceFault::NotJson,
-        ),
-        (
-            "{\"replicas\":1,\"start\":[],\"events\":[],}",
-            TraceFault::NotJson,
-        ),
-        (
-            "{\"replicas\":01,\"start\":[],\"events\":[]}",
-            TraceFault::NotJson,
-        ),
-        ("null", TraceFault::BadShape),
-        ("[]", TraceFault::BadShape),
-        ("{}", TraceFault::BadShape),
-        ("{\"start\":[],\"events\":[]}", TraceFault::BadShape),
-        ("{\"replicas\":1,\"events\":[]}", TraceFault::BadShape),
-        ("{\"replicas\":1,\"start\":[]}", TraceFault::BadShape),
-        (
-            "{\"replicas\":0,\"start\":[],\"events\":[]}",
-            TraceFault::BadShape,
-        ),
-        (
-            "{\"replicas\":66,\"start\":[],\"events\":[]}",
-            TraceFault::BadShape,
-        ),
-        (
-            "{\"replicas\":1.0,\"start\":[],\"events\":[]}",
-            TraceFault::BadShape,
-        ),
-        (
-            "{\"replicas\":-1,\"start\":[],\"events\":[]}",
-            TraceFault::BadShape,
-        ),
-        (
-            "{\"replicas\":18446744073709551617,\"start\":[],\"events\":[]}",
-            TraceFault::BadShape,
-        ),
-        (
-            "{\"replicas\":\"1\",\"start\":[],\"events\":[]}",
-            TraceFault::BadShape,
-        ),
-        (
-            "{\"replicas\":1,\"start\":{},\"events\":[]}",
-            TraceFault::BadShape,
-        ),
-        (
-            "{\"replicas\":1,\"start\":[0],\"events\":[]}",
-            TraceFault::BadShape,
-        ),
-        (
-            "{\"replicas\":1,\"start\":[[0]],\"events\":[]}",
-            TraceFault::BadShape,
-        ),
-        (
-            "{\"replicas\":1,\"start\":[[0,0,0]],\"events\":[]}",
-            TraceFault::BadShape,
-        ),
-        (
-            "{\"replicas\":1,\"start\":[[65536,0]],\"events\":[]}",
-            TraceFault::BadShape,
-        ),
-        (
-            "{\"replicas\":1,\"start\":[[0,4294967296]],\"events\":[]}",
-            TraceFault::BadShape,
-        ),
-        (
-            "{\"replicas\":1,\"start\":[[-0,0]],\"events\":[]}",
-            TraceFault::BadShape,
-        ),
-        (
-            "{\"replicas\":1,\"start\":[[0,1e0]],\"events\":[]}",
-            TraceFault::BadShape,
-        ),
-        (
-            "{\"replicas\":1,\"start\":[[0,null]],\"events\":[]}",
-            TraceFault::BadShape,
-        ),
-        (
-            "{\"replicas\":1,\"start\":[],\"events\":{}}",
-            TraceFault::BadShape,
-        ),
-        (
-            "{\"replicas\":1,\"start\":[],\"events\":[0]}",
-            TraceFault::BadShape,
-        ),
-        (
-            "{\"replicas\":1,\"replicas\":0,\"start\":[],\"events\":[]}",
-            TraceFault::BadShape,
-        ),
-    ];
-    for (text, fault) in texts {
+// Each of the texts has this fault.
+fn assert_faults(
+    rt: &impl Abort,
+    alloc: Global,
+    texts: &[&str],
+    fault: TraceFault,
+) -> Result<(), Fail> {
+    for text in texts {
         match read_trace(alloc, text) {
             Ok(_) => return Err(Fail::from("a trace was read")),
             Err(found) => assert_eq!(rt; found, fault, "at {text}"),
         }
     }
     Ok(())
+}
+
+#[test]
+fn texts_that_are_not_json(rt: HostRuntime) -> Result<(), Fail> {
+    let texts = [
+        "",
+        "{\"replicas\":1,\"start\":[],\"events\":[]",
+        "{\"replicas\":1,\"start\":[],\"events\":[],}",
+        "{\"replicas\":01,\"start\":[],\"events\":[]}",
+    ];
+    assert_faults(&rt, rt.alloc(), &texts, TraceFault::NotJson)
+}
+
+#[test]
+fn texts_of_another_shape(rt: HostRuntime) -> Result<(), Fail> {
+    let texts = [
+        "null",
+        "[]",
+        "{}",
+        "{\"start\":[],\"events\":[]}",
+        "{\"replicas\":1,\"events\":[]}",
+        "{\"replicas\":1,\"start\":[]}",
+        "{\"replicas\":0,\"start\":[],\"events\":[]}",
+        "{\"replicas\":66,\"start\":[],\"events\":[]}",
+        "{\"replicas\":1.0,\"start\":[],\"events\":[]}",
+        "{\"replicas\":-1,\"start\":[],\"events\":[]}",
+        "{\"replicas\":18446744073709551617,\"start\":[],\"events\":[]}",
+        "{\"replicas\":\"1\",\"start\":[],\"events\":[]}",
+        "{\"replicas\":1,\"start\":{},\"events\":[]}",
+        "{\"replicas\":1,\"start\":[0],\"events\":[]}",
+        "{\"replicas\":1,\"start\":[[0]],\"events\":[]}",
+        "{\"replicas\":1,\"start\":[[0,0,0]],\"events\":[]}",
+        "{\"replicas\":1,\"start\":[[65536,0]],\"events\":[]}",
+        "{\"replicas\":1,\"start\":[[0,4294967296]],\"events\":[]}",
+        "{\"replicas\":1,\"start\":[[-0,0]],\"events\":[]}",
+        "{\"replicas\":1,\"start\":[[0,1e0]],\"events\":[]}",
+        "{\"replicas\":1,\"start\":[[0,null]],\"events\":[]}",
+        "{\"replicas\":1,\"start\":[],\"events\":{}}",
+        "{\"replicas\":1,\"start\":[],\"events\":[0]}",
+        "{\"replicas\":1,\"replicas\":0,\"start\":[],\"events\":[]}",
+    ];
+    assert_faults(&rt, rt.alloc(), &texts, TraceFault::BadShape)
 }
 
 #[test]

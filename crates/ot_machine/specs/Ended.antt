@@ -14,13 +14,13 @@ reached s None = length s.instrs
 reached s (Some stop) = stop.0
 
 -- the table refuses the instruction at this place for this reason
-abbrev pub IsRefusedAt : Program → State → ℕ → Refusal → Type 0
-IsRefusedAt s state place refusal = (i : Instr) × (slice_get s.instrs place ≡ Some i) × (step state i ≡ Refused refusal)
+abbrev pub IsRefusedIn : Program → State → ℕ → Refusal → Type 0
+IsRefusedIn s state place refusal = (i : Instr) × (slice_get s.instrs place ≡ Some i) × (step state i ≡ Refused refusal)
 
 -- memory may be wanting before an instruction that the table performs; any other stop is the table's
 abbrev pub IsStopAt : Program → State → ℕ → Refusal → Type 0
 IsStopAt s state place Memory = place < done s
-IsStopAt s state place refusal = (place ≡ done s) × IsRefusedAt s state place refusal
+IsStopAt s state place refusal = (place ≡ done s) × IsRefusedIn s state place refusal
 
 -- a run that does not stop has performed every instruction
 abbrev pub IsStop : Program → State → Option (ℕ × Refusal) → Type 0

@@ -1,14 +1,16 @@
 // Steps at a client's place that give what takes them back.
-ghost use Rattle.std.specs.Prelude.{◌≡◌, ◌+◌, ◌≤◌, ◌↔◌, drop, length, map, true, IfErr, IfOk, IsTrue, None, OnErr, OnOk, Some};
+ghost use Rattle.std.specs.Prelude.{◌≡◌, ◌+◌, ◌≤◌, ◌<◌, ◌↔◌, drop, length, map, true, IfErr, IfOk, IsTrue, None, OnErr, OnOk, Some};
+ghost use Rattle.std.specs.Option.{option_map};
 ghost use Rattle.ot_text.specs.Operation.{apply, news};
-ghost use Rattle.ot_client.specs.Client.{message_of};
+ghost use Rattle.ot_client.specs.State as state;
+ghost use Rattle.ot_client.specs.Client.{message_of, state_of};
 ghost use Rattle.ot_server.specs.History.{fault_of, received, IsUndo};
 ghost use Rattle.ot_model.specs.Table.{acknowledged, delivered, edited, is_joined};
 ghost use Rattle.ot_machine.specs.Seats.{client_of, phase_of, revision_of, view_of, Follows, MaySend, MaySeatAcknowledge, MaySeatDeliver, IsReceivable, emptied, outstanding_at, outstanding_of, received_from, sent};
 ghost use Rattle.ot_machine.specs.Undoing.{message_at, queue_before, reverted, unsent, FitsBack, Restores};
 
 use crate::seat::{self, Seat};
-use ot_client::{Client, Sent};
+use ot_client::{Client, Sent, Synchronized};
 use ot_isa::Tagged;
 use ot_server::Server;
 use ot_text::{Doc, TextOp};
@@ -19,32 +21,42 @@ use std::alloc::AllocError;
 #[derive(Drop)]
 pub(crate) struct Before {
     pub client: Client<Tagged>,
-    pub count: u32,
     pub inverse: Option<TextOp<Tagged>>,
+    pub count: u32,
     pub unsent: bool,
     pub received: bool,
 }
 
-// What is kept of a client that has joined.
-fn keep(seat: &Seat, inverse: Option<TextOp<Tagged>>, received: bool) -> Result<Before, AllocError>
-    requires { is_joined (phase_of seat.now.client) ≡ true }
-    ensures phase { IfOk result (λ before. phase_of (Some before.client) ≡ phase_of seat.now.client) }
-    ensures revision { IfOk result (λ before. revision_of (Some before.client) ≡ revision_of seat.now.client) }
-    ensures count { IfOk result (λ before. before.count ≡ seat.now.count) }
-    ensures inverse { IfOk result (λ before. before.inverse ≡ inverse) }
-    ensures unsent { IfOk result (λ before. IsTrue before.unsent ↔ (seat.now.up ≡ None)) }
-    ensures received { IfOk result (λ before. before.received ≡ received) }
+// Puts a joined client's next state into its place, and gives what is kept of the one before.
+fn exchange(
+    seat: &mut Seat,
+    next: Client<Tagged>,
+    inverse: Option<TextOp<Tagged>>,
+    received: bool,
+) -> Before
+    requires { is_joined (phase_of seat.old.client) ≡ true }
+    ensures next { seat.new.client ≡ Some next }
+    ensures list { seat.new.list ≡ seat.old.list }
+    ensures inserted { seat.new.count ≡ seat.old.count }
+    ensures up { seat.new.up ≡ seat.old.up }
+    ensures down { seat.new.down ≡ seat.old.down }
+    ensures phase { phase_of (Some result.client) ≡ phase_of seat.old.client }
+    ensures revision { revision_of (Some result.client) ≡ revision_of seat.old.client }
+    ensures count { result.count ≡ seat.old.count }
+    ensures inverse { result.inverse ≡ inverse }
+    ensures unsent { IsTrue result.unsent ↔ (seat.old.up ≡ None) }
+    ensures received { result.received ≡ received }
 {
-    let Some(client) = &seat.client else {
+    let Some(client) = seat.client.replace(next) else {
         unreachable!()
     };
-    Ok(Before {
-        client: client.copy()?,
-        count: seat.count,
+    Before {
+        client,
         inverse,
+        count: seat.count,
         unsent: seat.up.is_empty(),
         received,
-    })
+    }
 }
 
 // What takes the operation back from the list that it makes of this one.
@@ -71,9 +83,15 @@ pub(crate) fn edit(seat: &mut Seat, op: &TextOp<Tagged>) -> Result<Before, Alloc
     ensures err { OnErr result (seat.new ≡ seat.old) }
     ensures back { IfOk result (λ before. Restores before (client_of seat.old) (client_of seat.new)) }
 {
+    let Some(client) = &seat.client else {
+        unreachable!()
+    };
+    let (next, sent) = seat::edited_client(client, op)?;
     let inverse = inverse_of(op, &seat.list)?;
-    let before = keep(seat, Some(inverse), false)?;
-    seat::edit(seat, op)?;
+    seat.list.change(op)?;
+    let before = exchange(seat, next, Some(inverse), false);
+    seat::put_up(&mut seat.up, sent);
+    seat.count += op.inserted() as u32;
     Ok(before)
 }
 
@@ -91,17 +109,32 @@ pub(crate) fn deliver(seat: &mut Seat, op: &TextOp<Tagged>) -> Result<Before, Al
     let (next, applied) = seat::after(client.copy()?, op.copy()?)?;
     let inverse = inverse_of(&applied, &seat.list)?;
     seat.list.change(&applied)?;
-    let Some(was) = seat.client.replace(next) else {
-        unreachable!()
-    };
+    let before = exchange(seat, next, Some(inverse), true);
     let _ = seat.down.pop();
-    Ok(Before {
-        client: was,
-        count: seat.count,
-        inverse: Some(inverse),
-        unsent: seat.up.is_empty(),
-        received: true,
-    })
+    Ok(before)
+}
+
+// The client after an acknowledgement, and what it sends.
+fn acknowledged_client(
+    client: &Client<Tagged>,
+) -> Result<(Client<Tagged>, Option<Sent<Tagged>>), AllocError>
+    requires awaiting { state.IsAwaiting (state_of client.now).phase }
+    requires revision { (state_of client.now).revision < 1000000 }
+    ensures revision { IfOk result (λ given. (state_of given.0).revision ≡ (state_of client.now).revision + 1) }
+    ensures phase { IfOk result (λ given. state.phase_acknowledged (state_of client.now).phase ≡ Some (state_of given.0).phase) }
+    ensures sent { IfOk result (λ given. option_map message_of given.1 ≡ state.message_acknowledged ((state_of client.now).revision + 1) (state_of client.now).phase) }
+{
+    match client {
+        Client::Synchronized(_) => unreachable!(),
+        Client::AwaitingConfirm(client) => {
+            let next = Synchronized::new(client.revision() + 1);
+            Ok((Client::Synchronized(next), None))
+        }
+        Client::AwaitingWithBuffer(client) => match client.copy()?.acknowledge() {
+            Ok((client, sent)) => Ok((Client::AwaitingConfirm(client), Some(sent))),
+            Err(_client) => Err(AllocError),
+        },
+    }
 }
 
 // Takes the first message, the acknowledgement of the client's own operation, and gives the client before it.
@@ -112,8 +145,13 @@ pub(crate) fn acknowledge(seat: &mut Seat) -> Result<Before, AllocError>
     ensures err { OnErr result (seat.new ≡ seat.old) }
     ensures back { IfOk result (λ before. Restores before (client_of seat.old) (client_of seat.new)) }
 {
-    let before = keep(seat, None, true)?;
-    seat::acknowledge(seat)?;
+    let Some(client) = &seat.client else {
+        unreachable!()
+    };
+    let (next, sent) = acknowledged_client(client)?;
+    let before = exchange(seat, next, None, true);
+    seat::put_up(&mut seat.up, sent);
+    let _ = seat.down.pop();
     Ok(before)
 }
 

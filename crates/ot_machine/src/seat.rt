@@ -81,7 +81,7 @@ pub(crate) fn add_vacant(alloc: Global, seats: &mut Vec<Seat>, count: u16) -> Re
 }
 
 // The client after the user's edit, and what it sends.
-fn edited_client(
+pub(crate) fn edited_client(
     client: &Client<Tagged>,
     op: &TextOp<Tagged>,
 ) -> Result<(Client<Tagged>, Option<Sent<Tagged>>), AllocError>
@@ -107,7 +107,7 @@ fn edited_client(
 }
 
 // Puts what the client sends, if anything, on its link.
-fn put_up(up: &mut Uplink<Sent<Tagged>>, sent: Option<Sent<Tagged>>)
+pub(crate) fn put_up(up: &mut Uplink<Sent<Tagged>>, sent: Option<Sent<Tagged>>)
     requires { MayPush sent up.old }
     ensures { up.new ≡ under_way sent up.old }
 {

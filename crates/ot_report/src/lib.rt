@@ -14,6 +14,8 @@ mod ending;
 mod findings;
 mod lines;
 mod running;
+#[cfg(test)]
+mod tests;
 mod verdicts;
 
 pub use ending::print_end;

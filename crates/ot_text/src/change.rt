@@ -73,7 +73,7 @@ pub fn invert_components<T: Element>(
     requires target_fits { length (image_from 0 (runs components.now)) ≤ 1000000 }
     ensures { IfOk result (λ op. op ≡ invert (operation_of (runs components.now)) (joined (lists chunks.now))) }
 {
-    let mut inverse = TextOp::new(alloc);
+    let mut inverse = TextOp::with_capacity(alloc, components.len())?;
     let mut cursor = Cursor::start();
     for component in components {
         match component {

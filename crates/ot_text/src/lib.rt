@@ -112,6 +112,16 @@ impl<T: Element> TextOp<T> {
         }
     }
 
+    /// The operation without components, on the empty document, with room for `count` components from `alloc`: so many are added
+    /// without one more growth of the list of components. `Err` where memory for them was refused.
+    pub fn with_capacity(alloc: Global, count: usize) -> Result<TextOp<T>, AllocError>
+        ensures { IfOk result (λ op. op ≡ empty) }
+    {
+        let mut op = TextOp::new(alloc);
+        op.components = Vec::with_capacity(alloc, count)?;
+        Ok(op)
+    }
+
     /// Keeps the next `count` elements of the document; 0 adds nothing, and a retain at the end is lengthened.
     ///
     /// `TooLong` exactly where the base or the target length would pass 1,000,000; else `Memory` where a growth was

@@ -33,7 +33,8 @@ fn build_whole<T: Element>(
     a: &[T],
     b: &[T],
 ) -> Result<TextOp<T>, OpRefusal> {
-    let mut op = TextOp::new(alloc);
+    let mut op = TextOp::with_capacity(alloc, 1)?;
+    assert!(rt; op.equals(&TextOp::new(alloc)) && op.base_len() == 0);
     op.insert(a)?;
     op.delete(1)?;
     op.insert(b)?;

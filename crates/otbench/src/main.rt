@@ -33,12 +33,18 @@ fn wants_memory(rt: &impl Eprint) -> ExitCode {
     ExitCode::FAILURE
 }
 
+// Says that a word is no text.
+fn is_not_text(rt: &impl Eprint) -> ExitCode {
+    let _ = eprintln!(rt; "error: invalid UTF-8 was detected in one or more arguments");
+    ExitCode::from(2)
+}
+
 fn main(rt: HostRuntime) -> ExitCode {
     let alloc = rt.alloc();
     let all = match env::args(&rt) {
         Ok(all) => all,
         Err(error) if error.kind() == io::ErrorKind::OutOfMemory => return wants_memory(&rt),
-        Err(_) => return ExitCode::from(2),
+        Err(_) => return is_not_text(&rt),
     };
     let Ok(words) = all.collect::<Vec<String>>(alloc) else {
         return wants_memory(&rt);

@@ -39,23 +39,40 @@ fn running_command<'a>(alloc: Global) -> Result<Command<'a>, AllocError>
 {
     let image = Arg::new(alloc, "image")
         .long("image")
-        .action(ArgAction::SetTrue);
-    let running = Command::new(alloc, "run").arg(image)?;
+        .action(ArgAction::SetTrue)
+        .help("Read a schedule's image in place of its text");
+    let running = Command::new(alloc, "run")
+        .about("Run a schedule: its reads, a stop if an instruction is refused, and where it ends")
+        .arg(image)?;
+    let checking = Command::new(alloc, "check").about(
+        "Run a schedule and judge it: convergence, and the weak list specification",
+    );
+    let debugging = Command::new(alloc, "debug").about(
+        "Step through a schedule, forth and back: its text, a line '%%', then commands",
+    );
     Command::new(alloc, "otbench")
+        .about("A proved test bench for ot.js sessions; all input is read from standard input")
         .subcommand_required(true)
         .subcommand(running)?
-        .subcommand(Command::new(alloc, "check"))?
-        .subcommand(Command::new(alloc, "debug"))
+        .subcommand(checking)?
+        .subcommand(debugging)
 }
 
 // The program's command line.
 fn command<'a>(alloc: Global) -> Result<Command<'a>, AllocError>
     ensures { IfOk result (λ c. app_of c ≡ otbench_app) }
 {
+    let assembling = Command::new(alloc, "asm").about("Turn a schedule's text into its image");
+    let disassembling = Command::new(alloc, "dis").about(
+        "Turn a schedule's image into its canonical text",
+    );
+    let judging = Command::new(alloc, "judge").about(
+        "Judge a recorded trace (JSON) by the weak list specification",
+    );
     running_command(alloc)?
-        .subcommand(Command::new(alloc, "asm"))?
-        .subcommand(Command::new(alloc, "dis"))?
-        .subcommand(Command::new(alloc, "judge"))
+        .subcommand(assembling)?
+        .subcommand(disassembling)?
+        .subcommand(judging)
 }
 
 // Whether a flag was given.

@@ -1,4 +1,4 @@
-//! Readers and writers that fail, and words that name no subcommand.
+//! Readers and writers that fail, and words that name no subcommand or ask for help.
 
 use crate::serving::serve;
 use std::alloc::Global;
@@ -148,20 +148,41 @@ fn a_writer_that_fails(rt: HostRuntime) {
     );
 }
 
-#[test]
-fn no_subcommand(rt: HostRuntime) {
+// What is said of words that name no subcommand; nothing is put on the output.
+fn said_of(rt: &(impl Abort + Alloc<A = Global>), words: &[&str]) -> Vec<u8> {
     let mut reader = b"".as_slice();
     let mut written = Vec::new(rt.alloc());
     let mut complaints = Vec::new(rt.alloc());
-    let words = ["otbench", "jump"];
-    let status = serve(
-        &rt,
-        words.as_slice(),
-        &mut reader,
-        &mut written,
-        &mut complaints,
-    );
+    let status = serve(rt, words, &mut reader, &mut written, &mut complaints);
     assert_eq!(rt; status, 2);
     assert_eq!(rt; written.len(), 0);
-    assert!(rt; complaints.len() > 0);
+    complaints
+}
+
+#[test]
+fn no_subcommand(rt: HostRuntime) {
+    let said = said_of(&rt, ["otbench", "jump"].as_slice());
+    assert!(rt; said.len() > 0);
+}
+
+#[test]
+fn help_says_what_each_subcommand_does(rt: HostRuntime) {
+    let said = said_of(&rt, ["otbench", "--help"].as_slice());
+    let lines = [
+        "  run    Run a schedule: its reads, a stop if an instruction is refused, and where it ends\n",
+        "  check  Run a schedule and judge it: convergence, and the weak list specification\n",
+        "  debug  Step through a schedule, forth and back: its text, a line '%%', then commands\n",
+        "  asm    Turn a schedule's text into its image\n",
+        "  dis    Turn a schedule's image into its canonical text\n",
+        "  judge  Judge a recorded trace (JSON) by the weak list specification\n",
+    ];
+    for line in lines {
+        assert!(rt;
+            str::from_utf8(said.as_slice()).is_ok_and(|text| text.contains(line)),
+            "{line}"
+        );
+    }
+    let said = said_of(&rt, ["otbench", "run", "--help"].as_slice());
+    let line = "--image  Read a schedule's image in place of its text\n";
+    assert!(rt; str::from_utf8(said.as_slice()).is_ok_and(|text| text.contains(line)));
 }

@@ -10,7 +10,7 @@ use Rattle.ot_algebra.proofs.one_sided.transform_first.Goals as goal
 
 pub loop-at_a-init : goal.loop-at_a-init
 loop-at_a-init g c =
-    rw (c.new-first.ensures, c.start-at_a.ensures, c.start-at_b.ensures) (
+    rw (c.in_ok-first.ensures, c.start-at_a.ensures, c.start-at_b.ensures) (
       empty,
       progress_begin c.args.a.now c.args.b.now (map run_of c.components.result.now) (map run_of c.components-2.result.now)
           c.components.ensures.spells c.components-2.ensures.spells c.components.ensures.normal c.components-2.ensures.normal c.requires.same_base,

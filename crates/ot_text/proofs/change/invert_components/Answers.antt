@@ -6,7 +6,7 @@ use Rattle.ot_text.proofs.change.invert_components.Goals as goal
 use Rattle.ot_text.proofs.change.invert_components.Goals.{in-Retain+in_ok-only_memory-in-Retain, in-Insert+in_ok-only_memory-in-Insert, in-Delete+in_ok-text-in-Delete+in_ok-read-in-Delete+in_ok-only_memory-in-Delete}
 
 pub loop-component-init : goal.loop-component-init
-loop-component-init g c = rw (c.new-inverse.ensures, c.start-cursor.ensures.chunk, c.start-cursor.ensures.offset) (inverting_none _ _ c.requires.chunked c.requires.base)
+loop-component-init g c = rw (c.in_ok-inverse.ensures, c.start-cursor.ensures.chunk, c.start-cursor.ensures.offset) (inverting_none _ _ c.requires.chunked c.requires.base)
 
 pub loop-component-preserved : goal.loop-component-preserved
 loop-component-preserved g c =
