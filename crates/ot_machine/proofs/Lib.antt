@@ -14,3 +14,6 @@ pub mod Undoing
 pub mod Reverting
 pub mod Keeping
 pub mod Retaking
+pub mod Parting
+pub mod Installing
+pub mod Lending

@@ -4,3 +4,4 @@ pub mod Readers
 pub mod Ended
 pub mod Laws
 pub mod Undoing
+pub mod Parts

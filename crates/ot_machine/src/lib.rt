@@ -20,6 +20,9 @@
 //!   (its maker's) or another's operation. A client that has not joined has no client state at all.
 //! - [`Machine::clients`] and the calls beside it read the fields of the state
 //!   (specs/Readers.antt); [`Machine::state`] copies what a user looks at.
+//! - [`Machine::part`] copies a joined client with its downlink, [`Machine::begins`] says whether such a
+//!   part still begins the client that is here, and [`Machine::install`] puts a client back that made
+//!   steps off the machine (specs/Parts.antt, over specs/Part.antt and specs/Session.antt of `ot_model`).
 //! - [`laws`] has the theorems of all runs: every state is sound, and where a run is quiet, all lists
 //!   are one (specs/Laws.antt).
 //! - [`run`] performs a whole schedule up to its first instruction that is not performed
@@ -36,6 +39,9 @@ mod kept;
 pub mod laws;
 mod machine;
 mod outcome;
+mod part;
+#[cfg(test)]
+mod part_tests;
 mod readers;
 mod rows_kept;
 mod running;
@@ -50,6 +56,7 @@ mod undo_tests;
 pub use machine::{INSERTED_LIMIT, Machine, STEP_LIMIT};
 pub use ot_model::{Reader, Refusal, Shown};
 pub use outcome::Run;
+pub use part::{Message, Part};
 pub use running::run;
 pub use state::{ClientView, Head, Phase, State};
 pub use undo::Undo;

@@ -6,8 +6,11 @@ pub mod Accepted
 pub mod Downlinks
 pub mod Laws
 pub mod Runs
+pub mod Locality
+pub mod Sessions
 pub mod Fitting
 pub mod Examples
+pub mod PartExamples
 pub mod Vertices
 pub mod Traces
 pub mod Knowledge
@@ -43,3 +46,8 @@ pub mod Traced
 pub mod TraceExamples
 pub mod Readers
 pub mod Ring
+pub mod Exchanging
+pub mod Earlier
+pub mod Reordering
+pub mod OrderExamples
+pub mod ShownCounts

@@ -164,8 +164,10 @@ same_room p q m n e f = let l : length p ≡ length q = ap length e in omega ari
 room_after : (i a a' b b' x y p q : ℕ) → i + a ≤ b → a' + x ≡ a + y → b' + p ≡ b + q → y + p ≤ x + q → i + a' ≤ b'
 room_after i a a' b b' x y p q h e f k = omega arith
 
-pub with_client_sound : (start : List Tagged) (text : List ℕ) (s : State) (c : ℕ) (x y : Client) → IsSoundFrom start text s → s.steps < 1000000 → slice_get s.clients c ≡ Some x → IsKept c start s.log x y → IsSoundFrom start text (with_client s c y)
-with_client_sound start text s c x y sound below at kept =
+-- a client changed by what keeps it sound, after n steps
+pub client_changed_sound : (start : List Tagged) (text : List ℕ) (s : State) (c : ℕ) (x y : Client) (n : ℕ) → IsSoundFrom start text s → length s.log ≤ n → n ≤ 1000000 → slice_get s.clients c ≡ Some x → IsKept c start s.log x y
+    → IsSoundFrom start text (record { log = s.log; server = s.server; clients = set s.clients c y; steps = n })
+client_changed_sound start text s c x y n sound logged steps at kept =
     let inside : c < length s.clients = slice_get_within s.clients c x at in
     let was : get_or s.clients c x ≡ x = get_or_from_slice_get s.clients c x x at in
     let pendings : sum_by pending (set s.clients c y) + pending x ≡ sum_by pending s.clients + pending y = rw was at (sum_by-set pending s.clients c y x inside) in
@@ -183,9 +185,14 @@ with_client_sound start text s c x y sound below at kept =
       own = each_after (λ d z. IsOwn d s.log z) (λ d z. IsOwn d s.log z) s.clients c x y at sound.own kept.own (λ d z other h. h);
       counts = each_after (λ d z. z.count ≤ 15000) (λ d z. z.count ≤ 15000) s.clients c x y at sound.counts kept.count (λ d z other h. h);
       room = room_after _ _ _ _ _ _ _ _ _ sound.room pendings counts kept.room;
-      logged = omega arith;
-      steps = omega arith;
+      logged = logged;
+      steps = steps;
     }
+
+pub with_client_sound : (start : List Tagged) (text : List ℕ) (s : State) (c : ℕ) (x y : Client) → IsSoundFrom start text s → s.steps < 1000000 → slice_get s.clients c ≡ Some x → IsKept c start s.log x y → IsSoundFrom start text (with_client s c y)
+with_client_sound start text s c x y sound below at kept =
+    let logged = sound.logged in
+    client_changed_sound start text s c x y (suc s.steps) sound (omega arith) (omega arith) at kept
 
 -- Join: the client stands where the server stands
 pub joined_kept : (start : List Tagged) (text : List ℕ) (s : State) (c : ℕ) (x : Client) → IsSoundFrom start text s → slice_get s.clients c ≡ Some x → is_joined x.phase ≡ false → IsKept c start s.log x (joined s x)

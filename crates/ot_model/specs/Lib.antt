@@ -3,9 +3,14 @@ pub mod Table
 pub mod Runs
 pub mod Sound
 pub mod Limits
+pub mod Part
+pub mod Session
 pub mod Laws
+pub mod SessionLaws
 pub mod Trace
 pub mod Visibility
 pub mod WeakList
 pub mod Events
 pub mod TraceLaws
+pub mod Orders
+pub mod OrderLaws

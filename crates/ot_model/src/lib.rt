@@ -25,23 +25,39 @@
 //!   it (`opening_sound`, `step_sound`), and of it follow convergence (`convergence`) and that no
 //!   call of a client or of the server finds its condition broken (`server_accepts`, `may_deliver`,
 //!   `lengths_fit`).
+//! - *Parts and sessions* (`specs/Part.antt`, `specs/Session.antt`): a client off the table with a
+//!   copy of its downlink, its rows there, and what a session of such steps keeps. The table performs
+//!   the steps as one block wherever the start still begins the client (`session_block`), and it does
+//!   so whatever others do meanwhile (`session_waits`).
+//! - *Orders* (`specs/Orders.antt`, `specs/OrderLaws.antt`): logs of several machines give each
+//!   machine's own order of instructions, and none between machines. Every order that keeps these
+//!   leads to the same state (`any_order`), unless something is received before it was sent
+//!   (`any_order_runs`). Neighbours that are independent can be exchanged (`commute`, `exchange`).
 //! - *Traces* (`specs/Trace.antt`, `specs/Events.antt`): what each replica did, saw and returned, and
 //!   the trace of a schedule.
 //! - *The weak list property* (`specs/Visibility.antt`, `specs/WeakList.antt`) of Attiya et al., PODC
 //!   2016: the definition that a judge of traces decides, and that every run has (`weak_list`).
 //!
-//! The laws are public functions with empty bodies: their contracts, spelled out in `specs/Laws.antt`
-//! and `specs/TraceLaws.antt`, are the theorems, and nothing is assumed in them. Begin with
-//! `specs/Table.antt`; `proofs/Examples.antt` has worked runs that the checker computes, and
-//! `proofs/TraceExamples.antt` has their traces.
+//! The laws are public functions with empty bodies: their contracts, spelled out in `specs/Laws.antt`,
+//! `specs/SessionLaws.antt`, `specs/OrderLaws.antt` and `specs/TraceLaws.antt`, are the theorems, and nothing is assumed in
+//! them. Begin with `specs/Table.antt`; `proofs/Examples.antt` has worked runs that the checker computes,
+//! `proofs/OrderExamples.antt` has one in two orders, `proofs/TraceExamples.antt` has the runs' traces, and
+//! `proofs/PartExamples.antt` has worked steps of parts.
 #![tactic(auto)]
 
 mod list_laws;
+mod order_laws;
+mod part_laws;
 mod session_laws;
 mod shown;
 mod trace;
 
 pub use list_laws::{lists_agree, not_one_order, one_has_both, trace_shape, weak_list};
+pub use order_laws::{any_order, any_order_runs, commute, exchange, same_multiset};
+pub use part_laws::{
+    part_begins, present_sound, runs_go_on, sends_once, session_block, session_sound,
+    session_waits, sessions_go_on,
+};
 pub use session_laws::{
     convergence, lengths_fit, may_deliver, opening_sound, quiet_same, run_sound, runs_reach,
     schedules_run, server_accepts, step_sound,

@@ -1,0 +1,5 @@
+mod Tiles
+mod Heads
+mod Moves
+mod Boarding
+mod Owning

@@ -1,0 +1,4 @@
+pub mod Tiling
+pub mod Sessions
+pub mod Lents
+pub mod Boards
