@@ -17,3 +17,4 @@ pub mod Retaking
 pub mod Parting
 pub mod Installing
 pub mod Lending
+pub mod Orders

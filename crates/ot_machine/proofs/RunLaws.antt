@@ -12,7 +12,7 @@ use Rattle.ot_model.proofs.Laws.{laws}
 use Rattle.ot_model.proofs.Steps.{opening_sound, run_sound, quiet_same}
 use Rattle.ot_machine.specs.Laws.{RunsSound, RunsConverge}
 
-instr_is : (n : ℕ) (i : Instr) → isa.IsInstr n i → IsInstr i
+pub instr_is : (n : ℕ) (i : Instr) → isa.IsInstr n i → IsInstr i
 instr_is n (Edit c op) is = is.1.operation
 instr_is n (Take c) is = tt
 instr_is n (Deliver c) is = tt
@@ -21,7 +21,7 @@ instr_is n (Join c) is = tt
 instr_is n (Read c) is = tt
 instr_is n ReadServer is = tt
 
-instrs_are : (n : ℕ) (is : List Instr) → All (isa.IsInstr n) is → AreInstrs is
+pub instrs_are : (n : ℕ) (is : List Instr) → All (isa.IsInstr n) is → AreInstrs is
 instrs_are n [] all = tt
 instrs_are n (i ∷ is) all = (instr_is n i (all 0 i (omega arith)), instrs_are n is (λ k d below. all (suc k) d (omega arith)))
 

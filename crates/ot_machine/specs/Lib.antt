@@ -5,3 +5,4 @@ pub mod Ended
 pub mod Laws
 pub mod Undoing
 pub mod Parts
+pub mod Orders

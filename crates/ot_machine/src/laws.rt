@@ -5,6 +5,7 @@ ghost use Rattle.ot_isa.specs.declared.elements.Tagged.{Tagged};
 ghost use Rattle.ot_machine.specs.Laws.{RunsConverge, RunsSound};
 ghost use Rattle.ot_model.specs.TraceLaws.{ListsAgree, OneHasBoth, WeakList};
 
+pub use crate::order_laws::{any_order, runs_beside};
 use ot_isa::Tagged;
 
 /// After any number of performed instructions of any schedule the state is sound.

@@ -24,7 +24,8 @@
 //!   part still begins the client that is here, and [`Machine::install`] puts a client back that made
 //!   steps off the machine (specs/Parts.antt, over specs/Part.antt and specs/Session.antt of `ot_model`).
 //! - [`laws`] has the theorems of all runs: every state is sound, and where a run is quiet, all lists
-//!   are one (specs/Laws.antt).
+//!   are one (specs/Laws.antt). Logs of several machines need no order between machines:
+//!   [`laws::any_order`] (specs/Orders.antt).
 //! - [`run`] performs a whole schedule up to its first instruction that is not performed
 //!   (specs/Ended.antt, over `place_at` and `done` of specs/Runs.antt).
 //!
@@ -38,6 +39,7 @@
 mod kept;
 pub mod laws;
 mod machine;
+mod order_laws;
 mod outcome;
 mod part;
 #[cfg(test)]

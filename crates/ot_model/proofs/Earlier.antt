@@ -43,7 +43,7 @@ grew_on j s t u first second = record {
   was_joined = λ c is z at on. (let y = second.was_joined c is z at on in first.was_joined c is y.0 y.1 y.2);
 }
 
-other_client : (s : State) (d c : ℕ) (x y : Client) → d ≢ c → slice_get (set s.clients d x) c ≡ Some y → slice_get s.clients c ≡ Some y
+pub other_client : (s : State) (d c : ℕ) (x y : Client) → d ≢ c → slice_get (set s.clients d x) c ≡ Some y → slice_get s.clients c ≡ Some y
 other_client s d c x y other at = sym (slice_get-set_other s.clients d c x (λ e. other (sym e))) ∙ at
 
 grew_moves : (i j : Instr) (s t : State) (a : Option Shown) → ((w : Machine) → is_at w i ≡ true → is_at w j ≡ false) → (is_at ServerMachine j ≡ true → is_at ServerMachine i ≡ false) → Moves s i t a → Grew j s t
@@ -80,9 +80,26 @@ grew_step i j s t a apart back e = elim (kind s i t a e) [
   | inr (inr r) ↦ rw r.after (record { steps = omega arith; more = []; log = sym (append-nil s.log); was = λ c at_j y at. (y, at, refl); was_joined = λ c is y at on. (y, at, on) })
 ]
 
+-- client c's message is under way
+abbrev pub HasMessage : ℕ → State → Type 0
+HasMessage c s = (x : Client) × (m : Message) × (slice_get s.clients c ≡ Some x) × (x.message ≡ Some m)
+
+-- what j receives is not there in s, and is in t
+abbrev pub Missing : State → State → Instr → Type 0
+Missing s t (Edit c op) = ⊥
+Missing s t (Take c) = (HasMessage c s → ⊥) × HasMessage c t
+Missing s t (Deliver c) = (k : ℕ) × (h : Entry) × (slice_get s.log k ≡ None) × (slice_get t.log k ≡ Some h) × (h.maker ≢ c)
+Missing s t (Acknowledge c) = (k : ℕ) × (h : Entry) × (slice_get s.log k ≡ None) × (slice_get t.log k ≡ Some h) × (h.maker ≡ c)
+Missing s t (Join c) = ⊥
+Missing s t (Read c) = ⊥
+Missing s t ReadServer = ⊥
+
 -- an instruction is performed, or it receives what is not sent yet
-abbrev pub PerformedOrEarly : State → Instr → Type 0
-PerformedOrEarly s j = ((t : State) × (b : Option Shown) × (step s j ≡ Performed t b)) ⊎ (step s j ≡ Refused LinkEmpty)
+abbrev pub PerformedOrEarly : State → State → Instr → Type 0
+PerformedOrEarly s t j = ((u : State) × (b : Option Shown) × (step s j ≡ Performed u b)) ⊎ ((step s j ≡ Refused LinkEmpty) × Missing s t j)
+
+no_message : (s : State) (c : ℕ) (x : Client) → slice_get s.clients c ≡ Some x → x.message ≡ None → HasMessage c s → ⊥
+no_message s c x at none (y, m, at_y, sent) = let same : x ≡ y = same_Some x y (sym at ∙ at_y) in let both : None ≡ Some m = sym none ∙ ap (λ (w : Client). w.message) same ∙ sent in cc
 
 take_early : (s : State) (c : ℕ) (x : Client) → slice_get s.clients c ≡ Some x → s.steps < 1000000 → is_joined x.phase ≡ true → x.message ≡ None → step s (Take c) ≡ Refused LinkEmpty
 take_early s c x at below on none = rw (at, lt-leb 1000000 s.steps below, on, none) refl
@@ -105,9 +122,9 @@ same_phase x y e = ap (λ (w : Client). w.phase) e
 joined_too : (x y : Client) → emptied x ≡ emptied y → (on : Bool) → is_joined y.phase ≡ on → is_joined x.phase ≡ on
 joined_too x y e on is = ap is_joined (same_phase x y e) ∙ is
 
-earlier_edit : (s t u : State) (c : ℕ) (op : Operation ℕ) (b : Option Shown) → Grew (Edit c op) s t → is_at (ClientMachine c) (Edit c op) ≡ true → step t (Edit c op) ≡ Performed u b → PerformedOrEarly s (Edit c op)
+earlier_edit : (s t u : State) (c : ℕ) (op : Operation ℕ) (b : Option Shown) → Grew (Edit c op) s t → is_at (ClientMachine c) (Edit c op) ≡ true → step t (Edit c op) ≡ Performed u b → PerformedOrEarly s t (Edit c op)
 earlier_edit s t u c op b grew own e =
-    by_edit (λ o. o ≡ Performed u b → PerformedOrEarly s (Edit c op)) (λ r f. absurd (cc)) t c op
+    by_edit (λ o. o ≡ Performed u b → PerformedOrEarly s t (Edit c op)) (λ r f. absurd (cc)) t c op
     (λ y at below on base few f.
     let x = grew.was c own y at in
     let list : length x.0.list ≡ length y.list = ap (λ (w : Client). length w.list) x.2 in
@@ -116,50 +133,50 @@ earlier_edit s t u c op b grew own e =
     inl (_, _, edit_now s c op x.0 x.1 (omega arith) (joined_too x.0 y x.2 true on) (base ∙ sym list) (omega arith)))
     e
 
-earlier_read : (s t u : State) (c : ℕ) (b : Option Shown) → Grew (Read c) s t → is_at (ClientMachine c) (Read c) ≡ true → step t (Read c) ≡ Performed u b → PerformedOrEarly s (Read c)
+earlier_read : (s t u : State) (c : ℕ) (b : Option Shown) → Grew (Read c) s t → is_at (ClientMachine c) (Read c) ≡ true → step t (Read c) ≡ Performed u b → PerformedOrEarly s t (Read c)
 earlier_read s t u c b grew own e =
-    by_read (λ o. o ≡ Performed u b → PerformedOrEarly s (Read c)) (λ r f. absurd (cc)) t c
+    by_read (λ o. o ≡ Performed u b → PerformedOrEarly s t (Read c)) (λ r f. absurd (cc)) t c
     (λ y at below on f.
     let x = grew.was c own y at in
     let steps = grew.steps in
     inl (_, _, read_now s c x.0 x.1 (omega arith) (joined_too x.0 y x.2 true on)))
     e
 
-earlier_join : (s t u : State) (c : ℕ) (b : Option Shown) → Grew (Join c) s t → is_at (ClientMachine c) (Join c) ≡ true → step t (Join c) ≡ Performed u b → PerformedOrEarly s (Join c)
+earlier_join : (s t u : State) (c : ℕ) (b : Option Shown) → Grew (Join c) s t → is_at (ClientMachine c) (Join c) ≡ true → step t (Join c) ≡ Performed u b → PerformedOrEarly s t (Join c)
 earlier_join s t u c b grew own e =
-    by_join (λ o. o ≡ Performed u b → PerformedOrEarly s (Join c)) (λ r f. absurd (cc)) t c
+    by_join (λ o. o ≡ Performed u b → PerformedOrEarly s t (Join c)) (λ r f. absurd (cc)) t c
     (λ y at below off f.
     let x = grew.was c own y at in
     let steps = grew.steps in
     inl (_, _, join_now s c x.0 x.1 (omega arith) (joined_too x.0 y x.2 false off)))
     e
 
-earlier_server : (s t u : State) (b : Option Shown) → Grew ReadServer s t → step t ReadServer ≡ Performed u b → PerformedOrEarly s ReadServer
+earlier_server : (s t u : State) (b : Option Shown) → Grew ReadServer s t → step t ReadServer ≡ Performed u b → PerformedOrEarly s t ReadServer
 earlier_server s t u b grew e =
-    by_read_server (λ o. o ≡ Performed u b → PerformedOrEarly s ReadServer) (λ r f. absurd (cc)) t
+    by_read_server (λ o. o ≡ Performed u b → PerformedOrEarly s t ReadServer) (λ r f. absurd (cc)) t
     (λ below f. let steps = grew.steps in inl (_, _, read_server_now s (omega arith)))
     e
 
-earlier_take : (s t u : State) (c : ℕ) (b : Option Shown) → Grew (Take c) s t → step t (Take c) ≡ Performed u b → PerformedOrEarly s (Take c)
+earlier_take : (s t u : State) (c : ℕ) (b : Option Shown) → Grew (Take c) s t → step t (Take c) ≡ Performed u b → PerformedOrEarly s t (Take c)
 earlier_take s t u c b grew e =
-    by_take (λ o. o ≡ Performed u b → PerformedOrEarly s (Take c)) (λ r f. absurd (cc)) t c
+    by_take (λ o. o ≡ Performed u b → PerformedOrEarly s t (Take c)) (λ r f. absurd (cc)) t c
     (λ y m at below on sent f.
     let x = grew.was_joined c refl y at on in
     let steps = grew.steps in
-    go x.0 x.1 (omega arith) x.2 x.0.message refl)
+    go (y, m, at, sent) x.0 x.1 (omega arith) x.2 x.0.message refl)
     e
   where
-    go : (x : Client) → slice_get s.clients c ≡ Some x → s.steps < 1000000 → is_joined x.phase ≡ true → (o : Option Message) → x.message ≡ o → PerformedOrEarly s (Take c)
-    go x at below on None is = inr (take_early s c x at below on is)
-    go x at below on (Some m) is = inl (_, _, take_now s c x m at below on is)
+    go : HasMessage c t → (x : Client) → slice_get s.clients c ≡ Some x → s.steps < 1000000 → is_joined x.phase ≡ true → (o : Option Message) → x.message ≡ o → PerformedOrEarly s t (Take c)
+    go has x at below on None is = inr (take_early s c x at below on is, (no_message s c x at is, has))
+    go has x at below on (Some m) is = inl (_, _, take_now s c x m at below on is)
 
 -- the log was shorter, so that an entry was there already, or none
 same_entry : (s t : State) (more : List Entry) (k : ℕ) (h h' : Entry) → t.log ≡ s.log ++ more → slice_get t.log k ≡ Some h → slice_get s.log k ≡ Some h' → h' ≡ h
 same_entry s t more k h h' log later early = same_Some h' h (sym (longer t s more k h' log early) ∙ later)
 
-earlier_deliver : (s t u : State) (c : ℕ) (b : Option Shown) → Grew (Deliver c) s t → is_at (ClientMachine c) (Deliver c) ≡ true → step t (Deliver c) ≡ Performed u b → PerformedOrEarly s (Deliver c)
+earlier_deliver : (s t u : State) (c : ℕ) (b : Option Shown) → Grew (Deliver c) s t → is_at (ClientMachine c) (Deliver c) ≡ true → step t (Deliver c) ≡ Performed u b → PerformedOrEarly s t (Deliver c)
 earlier_deliver s t u c b grew own e =
-    by_deliver (λ o. o ≡ Performed u b → PerformedOrEarly s (Deliver c)) (λ r f. absurd (cc)) t c
+    by_deliver (λ o. o ≡ Performed u b → PerformedOrEarly s t (Deliver c)) (λ r f. absurd (cc)) t c
     (λ y h at below on head other f.
     let x = grew.was c own y at in
     let steps = grew.steps in
@@ -167,15 +184,15 @@ earlier_deliver s t u c b grew own e =
     go x.0 h x.1 (omega arith) (joined_too x.0 y x.2 true on) (ap (slice_get t.log) revision ∙ head) other (slice_get s.log x.0.revision) refl)
     e
   where
-    go : (x : Client) (h : Entry) → slice_get s.clients c ≡ Some x → s.steps < 1000000 → is_joined x.phase ≡ true → slice_get t.log x.revision ≡ Some h → h.maker ≢ c → (o : Option Entry) → slice_get s.log x.revision ≡ o → PerformedOrEarly s (Deliver c)
-    go x h at below on later other None is = inr (deliver_early s c x at below on is)
+    go : (x : Client) (h : Entry) → slice_get s.clients c ≡ Some x → s.steps < 1000000 → is_joined x.phase ≡ true → slice_get t.log x.revision ≡ Some h → h.maker ≢ c → (o : Option Entry) → slice_get s.log x.revision ≡ o → PerformedOrEarly s t (Deliver c)
+    go x h at below on later other None is = inr (deliver_early s c x at below on is, (x.revision, h, is, later, other))
     go x h at below on later other (Some h') is =
         let same = same_entry s t grew.more x.revision h h' grew.log later is in
         inl (_, _, deliver_now s c x h' at below on is (λ e. other (ap (λ (w : Entry). w.maker) (sym same) ∙ e)))
 
-earlier_acknowledge : (s t u : State) (c : ℕ) (b : Option Shown) → Grew (Acknowledge c) s t → is_at (ClientMachine c) (Acknowledge c) ≡ true → step t (Acknowledge c) ≡ Performed u b → PerformedOrEarly s (Acknowledge c)
+earlier_acknowledge : (s t u : State) (c : ℕ) (b : Option Shown) → Grew (Acknowledge c) s t → is_at (ClientMachine c) (Acknowledge c) ≡ true → step t (Acknowledge c) ≡ Performed u b → PerformedOrEarly s t (Acknowledge c)
 earlier_acknowledge s t u c b grew own e =
-    by_acknowledge (λ o. o ≡ Performed u b → PerformedOrEarly s (Acknowledge c)) (λ r f. absurd (cc)) t c
+    by_acknowledge (λ o. o ≡ Performed u b → PerformedOrEarly s t (Acknowledge c)) (λ r f. absurd (cc)) t c
     (λ y h at below on head mine f.
     let x = grew.was c own y at in
     let steps = grew.steps in
@@ -183,19 +200,19 @@ earlier_acknowledge s t u c b grew own e =
     first y x.0 h x.1 (omega arith) (joined_too x.0 y x.2 true on) (ap (slice_get t.log) revision ∙ head) mine (same_phase x.0 y x.2) (acknowledged y y.phase) refl f)
     e
   where
-    go : (x w : Client) (h : Entry) → slice_get s.clients c ≡ Some x → s.steps < 1000000 → is_joined x.phase ≡ true → slice_get t.log x.revision ≡ Some h → h.maker ≡ c → acknowledged x x.phase ≡ Some w → (o : Option Entry) → slice_get s.log x.revision ≡ o → PerformedOrEarly s (Acknowledge c)
-    go x w h at below on later mine is_w None is = inr (acknowledge_early s c x at below on is)
+    go : (x w : Client) (h : Entry) → slice_get s.clients c ≡ Some x → s.steps < 1000000 → is_joined x.phase ≡ true → slice_get t.log x.revision ≡ Some h → h.maker ≡ c → acknowledged x x.phase ≡ Some w → (o : Option Entry) → slice_get s.log x.revision ≡ o → PerformedOrEarly s t (Acknowledge c)
+    go x w h at below on later mine is_w None is = inr (acknowledge_early s c x at below on is, (x.revision, h, is, later, mine))
     go x w h at below on later mine is_w (Some h') is =
         let same = same_entry s t grew.more x.revision h h' grew.log later is in
         inl (_, _, acknowledge_now s c x w h' at below on is (ap (λ (k : Entry). k.maker) same ∙ mine) is_w)
 
-    first : (y x : Client) (h : Entry) → slice_get s.clients c ≡ Some x → s.steps < 1000000 → is_joined x.phase ≡ true → slice_get t.log x.revision ≡ Some h → h.maker ≡ c → x.phase ≡ y.phase → (o : Option Client) → acknowledged y y.phase ≡ o → with_row t c o ≡ Performed u b → PerformedOrEarly s (Acknowledge c)
+    first : (y x : Client) (h : Entry) → slice_get s.clients c ≡ Some x → s.steps < 1000000 → is_joined x.phase ≡ true → slice_get t.log x.revision ≡ Some h → h.maker ≡ c → x.phase ≡ y.phase → (o : Option Client) → acknowledged y y.phase ≡ o → with_row t c o ≡ Performed u b → PerformedOrEarly s t (Acknowledge c)
     first y x h at below on later mine phase None is f = absurd (cc)
     first y x h at below on later mine phase (Some z) is f =
         let w = acknowledged_some x y z y.phase is in
         go x w.0 h at below on later mine (ap (acknowledged x) phase ∙ w.1) (slice_get s.log x.revision) refl
 
-pub earlier : (s t u : State) (j : Instr) (b : Option Shown) → Grew j s t → step t j ≡ Performed u b → PerformedOrEarly s j
+pub earlier : (s t u : State) (j : Instr) (b : Option Shown) → Grew j s t → step t j ≡ Performed u b → PerformedOrEarly s t j
 earlier s t u (Edit c op) b grew e = earlier_edit s t u c op b grew (eq-eqb c c refl) e
 earlier s t u (Take c) b grew e = earlier_take s t u c b grew e
 earlier s t u (Deliver c) b grew e = earlier_deliver s t u c b grew (eq-eqb c c refl) e

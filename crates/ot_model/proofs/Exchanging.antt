@@ -14,7 +14,7 @@ use Rattle.ot_model.specs.declared.shown.Reader.TheVariants as reader
 use Rattle.ot_server.specs.History.{transform_over}
 use Rattle.ot_model.specs.Sound.{NoneBy, IsPhaseSound, IsSound}
 use Rattle.ot_model.specs.OrderLaws.{Commute, Exchange}
-use Rattle.ot_model.specs.Orders.{ClientMachine, ServerMachine, is_at, is_take}
+use Rattle.ot_model.specs.Orders.{ClientMachine, ServerMachine, is_at, is_take, may_send}
 use Rattle.ot_model.proofs.States.{slice_get-set_same, slice_get-set_other, drop_entry, joined_edited, joined_delivered}
 use Rattle.ot_model.proofs.Outcomes.{by_edit, by_take, by_deliver, by_acknowledge, by_join, by_read, by_read_server}
 
@@ -111,6 +111,7 @@ pub record Moves (s : State) (i : Instr) (t : State) (a : Option Shown) : Type 0
   pub on : is_at ServerMachine i ≡ false → is_joined x.phase ≡ true
   pub after : t ≡ with_client s c y
   pub shows : (l : Shown) → a ≡ Some l → l.who ≡ reader.Client c
+  pub unsent : may_send c i ≡ false → y.message ≡ x.message
   pub again : Again s i a c x y
   pub untaken : Untaken s i a c x y
 
@@ -167,6 +168,7 @@ edit_moves s c op t a e =
       on = λ away. on;
       after = sym (same_state _ t None a f);
       shows = λ l is_l. absurd (let nothing : None ≡ Some l = none ∙ is_l in cc);
+      unsent = λ off. absurd (let on = eq-eqb c c refl in cc);
       again = λ r more log server at_r below_r. rw (sym none) (edit_now r c op x at_r below_r on base few);
       untaken = λ m sent other ahead away. (
         message_kept x.phase x (tag_operation c x.count op) other ∙ sent,
@@ -191,6 +193,7 @@ deliver_moves s c t a e =
       on = λ away. on;
       after = sym (same_state _ t None a f);
       shows = λ l is_l. absurd (let nothing : None ≡ Some l = none ∙ is_l in cc);
+      unsent = λ off. refl;
       again = λ r more log server at_r below_r. rw (sym none) (deliver_now r c x h at_r below_r on (longer r s more x.revision h log head) other);
       untaken = λ m sent not_idle ahead away. (
         sent,
@@ -222,6 +225,7 @@ acknowledge_moves s c t a e =
           on = λ away. on;
           after = sym (same_state _ t None a f);
           shows = λ l is_l. absurd (let nothing : None ≡ Some l = none ∙ is_l in cc);
+          unsent = λ off. absurd (let on = eq-eqb c c refl in cc);
           again = λ r more log server at_r below_r. rw (sym none) (acknowledge_now r c x y h at_r below_r on (longer r s more x.revision h log head) own is);
           untaken = λ m sent not_idle ahead away. absurd ((subst (NoneBy c) (drop_entry s.log x.revision h head) ahead).0 own);
         }
@@ -241,6 +245,7 @@ join_moves s c t a e =
       on = λ away. absurd (cc);
       after = sym (same_state _ t None a f);
       shows = λ l is_l. absurd (let nothing : None ≡ Some l = none ∙ is_l in cc);
+      unsent = λ off. refl;
       again = λ r more log server at_r below_r. rw (sym none, sym (same_joined r s more x log (server refl))) (join_now r c x at_r below_r off);
       untaken = λ m sent not_idle ahead away. absurd (cc);
     })
@@ -261,6 +266,7 @@ read_moves s c t a e =
       on = λ away. on;
       after = sym (same_state _ t _ a f) ∙ same_clients s c x at;
       shows = λ l is_l. ap (λ (w : Shown). w.who) (same_Some l (record { who = reader.Client c; list = x.list }) (sym is_l ∙ sym list));
+      unsent = λ off. refl;
       again = λ r more log server at_r below_r. rw (sym list) (read_now r c x at_r below_r on);
       untaken = λ m sent not_idle ahead away. (sent, on, λ r more log server at_r below_r. rw (sym list) (read_now r c (emptied x) at_r below_r on));
     })

@@ -48,6 +48,7 @@ pub mod Readers
 pub mod Ring
 pub mod Exchanging
 pub mod Earlier
+pub mod Awaiting
 pub mod Reordering
 pub mod OrderExamples
 pub mod ShownCounts

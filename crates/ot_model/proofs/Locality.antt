@@ -341,7 +341,7 @@ sends_once (i ∷ is) p q start text s m rest acc shown sound begins all e =
     elim (local.sends start text sound) [
       | inr none ↦ inr none
       | inl same ↦ elim later [
-          | inr none ↦ inr (ap (λ (w : Option Message). or_else w m) (sym same) ∙ none)
-          | inl kept ↦ inl (kept ∙ same)
-        ]
+        | inr none ↦ inr (ap (λ (w : Option Message). or_else w m) (sym same) ∙ none)
+        | inl kept ↦ inl (kept ∙ same)
+      ]
     ]

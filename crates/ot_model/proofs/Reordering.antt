@@ -1,24 +1,28 @@
 -- Two runs of the same instructions, with each machine's in the same order, lead to the same state.
-use Rattle.std.proofs.Common.{◌≡◌, ℕ, suc, ◌<◌, List, [], ◌∷◌, ◌++◌, refl, sym, ap, ◌∙◌, subst, inl, inr, Option, Some, None, Bool, true, false}
+use Rattle.std.proofs.Common.{◌≡◌, ℕ, suc, ◌<◌, ◌≤◌, List, [], ◌∷◌, ◌++◌, refl, sym, ap, ◌∙◌, subst, arith, inl, inr, Option, Some, None, Bool, true, false, cond}
 use Rattle.std.proofs.lemmas.Option.{same_Some}
 use Rattle.std.proofs.lemmas.List.{append-nil}
 use Rattle.std.proofs.lemmas.Bool.{eqb-true, eq-eqb, ne_eqb}
 use Rattle.std.proofs.lemmas.List.Elements.{filter-append}
-use Rattle.std.specs.Prelude.{◌⊎◌, ◌==◌}
+use Rattle.std.proofs.lemmas.List.Sums.{sum_by-cons, sum_by-append}
+use Rattle.std.specs.Prelude.{◌⊎◌, ◌==◌, count_by}
+use Rattle.ot_model.specs.declared.shown.Refusal.TheVariants.{LinkEmpty}
 use Rattle.std.specs.List.{filter}
-use Rattle.ot_model.specs.Table.{State, Place, Outcome, Performed, Refused, NoRow, step, run, begin, with_shown}
+use Rattle.ot_model.specs.Table.{State, Place, Performed, Refused, step, run, begin, with_shown}
 use Rattle.ot_isa.specs.declared.instruction.Instr.{Instr}
 use Rattle.ot_isa.specs.declared.instruction.Instr.TheVariants.{Edit, Take, Deliver, Acknowledge, Join, Read, ReadServer}
 use Rattle.ot_model.specs.declared.shown.Shown.{Shown}
 use Rattle.ot_model.specs.declared.shown.Reader.{Reader}
 use Rattle.ot_model.specs.declared.shown.Reader.TheVariants as reader
 use Rattle.ot_model.specs.Sound.{IsSound, IsInstr, AreInstrs, IsOutcomeSound}
-use Rattle.ot_model.specs.OrderLaws.{AnyOrder, AnyOrderRuns, IsTooEarly}
-use Rattle.ot_model.specs.Orders.{Machine, ClientMachine, ServerMachine, is_at, is_take, is_of, IsIndependent, AreSameOrders, AreSameShown}
+use Rattle.ot_model.specs.OrderLaws.{AnyOrder, AnyOrderRuns, IsTooEarly, SameInstructions, TooEarlyStops}
+use Rattle.ot_model.specs.Orders.{Machine, ClientMachine, ServerMachine, is_at, is_take, is_of, IsIndependent, AreSameOrders, AreSameShown, awaits}
 use Rattle.ot_model.proofs.Laws.{laws}
 use Rattle.ot_model.proofs.Steps.{step_sound, opening_sound}
 use Rattle.ot_model.proofs.Exchanging.{kind, commute, steps_of}
-use Rattle.ot_model.proofs.Earlier.{Grew, grew_nothing, grew_on, grew_step, PerformedOrEarly, earlier}
+use Rattle.ot_model.proofs.Earlier.{Grew, grew_nothing, grew_on, grew_step, earlier}
+use Rattle.ot_model.proofs.Awaiting.{run_first, sent_between}
+use Rattle.ot_model.proofs.Runs.{run-append}
 
 -- no machine performs both
 abbrev IsApart : Instr → Instr → Type 0
@@ -157,6 +161,32 @@ same_rest j is js same w = go (is_at w j) refl
     go true on = same_tail j j (filter (is_at w) is) (filter (is_at w) js) (sym (filter_yes (is_at w) j is on) ∙ same w ∙ filter_yes (is_at w) j js on)
     go false off = sym (filter_no (is_at w) j is off) ∙ same w ∙ filter_no (is_at w) j js off
 
+none_left : (is : List Instr) → AreSameOrders is [] → is ≡ []
+none_left [] same = refl
+none_left (i ∷ is) same = absurd (let m = some_machine i in let e = sym (filter_yes (is_at m.0) i is m.1) ∙ same m.0 in cc)
+
+-- an element counts the same wherever it stands
+pub count-moved : {X : Type 0} (p : X → Bool) (pre post : List X) (y : X) → count_by p (pre ++ y ∷ post) ≡ count_by p (y ∷ (pre ++ post))
+count-moved {X} p pre post y =
+    let f : X → ℕ = λ x. cond (p x) 1 0 in
+    omega (arith, sum_by-append f pre (y ∷ post), sum_by-cons f y post, sum_by-cons f y (pre ++ post), sum_by-append f pre post)
+
+pub count-cons : {X : Type 0} (p : X → Bool) (y : X) (xs ys : List X) → count_by p xs ≡ count_by p ys → count_by p (y ∷ xs) ≡ count_by p (y ∷ ys)
+count-cons {X} p y xs ys e =
+    let f : X → ℕ = λ x. cond (p x) 1 0 in
+    omega (arith, sum_by-cons f y xs, sum_by-cons f y ys, e)
+
+-- however they are counted
+same_counts : (js is : List Instr) → AreSameOrders is js → (p : Instr → Bool) → count_by p is ≡ count_by p js
+same_counts [] is same p = ap (count_by p) (none_left is same)
+same_counts (j ∷ js) is same p =
+    let cut = found is j (λ w at. (filter (is_at w) js, same w ∙ filter_yes (is_at w) j js at)) in
+    let orders = same_rest j (cut.0 ++ cut.1) js (λ w. sym (moved_front cut.0 cut.1 j cut.3 w) ∙ ap (filter (is_at w)) (sym cut.2) ∙ same w) in
+    ap (count_by p) cut.2 ∙ count-moved p cut.0 cut.1 j ∙ count-cons p j (cut.0 ++ cut.1) js (same_counts js (cut.0 ++ cut.1) orders p)
+
+pub same_instructions : SameInstructions
+same_instructions is js = same_counts js is
+
 AreInstrs_split : (pre post : List Instr) (j : Instr) → AreInstrs (pre ++ j ∷ post) → IsInstr j × AreInstrs pre × AreInstrs (pre ++ post)
 AreInstrs_split [] post j all = (all.0, tt, all.1)
 AreInstrs_split (i ∷ pre) post j all = let rest = AreInstrs_split pre post j all.1 in (rest.0, (all.0, rest.1), (all.0, rest.2))
@@ -203,16 +233,7 @@ shown_at s i t a e w l is of = elim (kind s i t a e) [
       subst (λ (k : Instr). is_at w k ≡ true) (sym r.is) (server_of w (subst (λ (x : Reader). is_of w x ≡ true) who of))
 ]
 
--- a run's first instruction
-run_first : (i : Instr) (is : List Instr) (p q : Place) → run (i ∷ is) p ≡ Some q → (t : State) × (a : Option Shown) × (step p.state i ≡ Performed t a) × (run is (record { state = t; shown = with_shown p.shown a }) ≡ Some q)
-run_first i is p q e = go (step p.state i) refl e
-  where
-    go : (o : Outcome) → step p.state i ≡ o → (elim o [ Performed s list ↦ run is (record { state = s; shown = with_shown p.shown list }) | Refused r ↦ None | NoRow ↦ None ]) ≡ Some q
-        → (t : State) × (a : Option Shown) × (step p.state i ≡ Performed t a) × (run is (record { state = t; shown = with_shown p.shown a }) ≡ Some q)
-    go (Performed t a) first f = (t, a, first, f)
-    go (Refused r) first f = absurd (cc)
-    go NoRow first f = absurd (cc)
-
+-- a run goes on from its first instruction
 run_then : (i : Instr) (is : List Instr) (p : Place) (t : State) (a : Option Shown) → step p.state i ≡ Performed t a → run (i ∷ is) p ≡ run is (record { state = t; shown = with_shown p.shown a })
 run_then i is p t a e = rw (run, e) refl
 
@@ -267,10 +288,6 @@ to_front (i ∷ pre) post j p q t b sound are all e first =
 abbrev AreSame : Place → Place → Type 0
 AreSame q r = (q.state ≡ r.state) × AreSameShown q.shown r.shown
 
-none_left : (is : List Instr) → AreSameOrders is [] → is ≡ []
-none_left [] same = refl
-none_left (i ∷ is) same = absurd (let m = some_machine i in let e = sym (filter_yes (is_at m.0) i is m.1) ∙ same m.0 in cc)
-
 -- by the second run's instructions: each is moved to the front of the first run
 any_order_from : (js is : List Instr) (p p' q r : Place) → IsSound p.state → AreInstrs is → AreSameOrders is js → p.state ≡ p'.state → AreSameShown p.shown p'.shown
     → run is p ≡ Some q → run js p' ≡ Some r → AreSame q r
@@ -298,21 +315,33 @@ any_order clients present text is js q r few within short are same first second 
     any_order_from js is (begin clients present text) (begin clients present text) q r (opening_sound clients present text few within short) are same refl (λ w. refl) first second
 
 -- the place where j is performed in the first run, and what has changed there for j
-grown : (pre post : List Instr) (j : Instr) (p q : Place) → AllApart pre j → run (pre ++ j ∷ post) p ≡ Some q → (r : Place) × Grew j p.state r.state × (run (j ∷ post) r ≡ Some q)
+grown : (pre post : List Instr) (j : Instr) (p q : Place) → AllApart pre j → run (pre ++ j ∷ post) p ≡ Some q → (r : Place) × Grew j p.state r.state × (run (j ∷ post) r ≡ Some q) × (run pre p ≡ Some r)
 unfolding AllApart
-grown [] post j p q all e = (p, grew_nothing j p.state, e)
+grown [] post j p q all e = (p, grew_nothing j p.state, e, refl)
 grown (i ∷ pre) post j p q all e =
     let f = run_first i (pre ++ j ∷ post) p q e in
     let after : Place = record { state = f.0; shown = with_shown p.shown f.1 } in
     let rest = grown pre post j after q all.1 f.3 in
     let first = grew_step i j p.state f.0 f.1 all.0 (apart_back i j all.0 ServerMachine) f.2 in
-    (rest.0, grew_on j p.state f.0 rest.0.state first rest.1, rest.2)
+    (rest.0, grew_on j p.state f.0 rest.0.state first rest.1, rest.2, run_then i pre p f.0 f.1 f.2 ∙ rest.3)
 
-first_or_early : (pre post : List Instr) (j : Instr) (p q : Place) → AllApart pre j → run (pre ++ j ∷ post) p ≡ Some q → PerformedOrEarly p.state j
+-- it is performed first, or what it awaits is sent before it in the first run
+first_or_early : (pre post : List Instr) (j : Instr) (p q : Place) → AllApart pre j → run (pre ++ j ∷ post) p ≡ Some q
+    → ((t : State) × (b : Option Shown) × (step p.state j ≡ Performed t b)) ⊎ ((step p.state j ≡ Refused LinkEmpty) × (1 ≤ count_by (awaits j) pre))
 first_or_early pre post j p q all e =
     let there = grown pre post j p q all e in
     let f = run_first j post there.0 q there.2 in
-    earlier p.state there.0.state f.0 j f.1 there.1 f.2
+    elim (earlier p.state there.0.state f.0 j f.1 there.1 f.2) [
+      | inl now ↦ inl now
+      | inr (empty, missing) ↦ inr (empty, sent_between j pre p there.0 there.3 missing)
+    ]
+
+-- so that it stands behind the instruction in the second order
+sent_later : (pre post js : List Instr) (p : Instr → Bool) → AreSameOrders (pre ++ post) js → 1 ≤ count_by p pre → 1 ≤ count_by p js
+sent_later pre post js p same some =
+    let all = same_counts js (pre ++ post) same p in
+    let parts = sum_by-append (λ (x : Instr). cond (p x) 1 0) pre post in
+    omega (arith, all, parts, some)
 
 later_early : (j : Instr) (js : List Instr) (p : Place) (t : State) (b : Option Shown) → step p.state j ≡ Performed t b → IsTooEarly js (record { state = t; shown = with_shown p.shown b }) → IsTooEarly (j ∷ js) p
 later_early j js p t b e early = record {
@@ -323,6 +352,7 @@ later_early j js p t b e early = record {
   place = early.place;
   reached = run_then j early.before p t b e ∙ early.reached;
   refused = early.refused;
+  awaited = early.awaited;
 }
 
 -- the second order runs as far as each message was sent before it is received
@@ -335,7 +365,7 @@ any_order_runs_from (j ∷ js) is p q sound are same first =
     let parts = AreInstrs_split cut.0 cut.1 j (subst AreInstrs cut.2 are) in
     let orders = same_rest j (cut.0 ++ cut.1) js (λ w. sym (moved_front cut.0 cut.1 j cut.3 w) ∙ ap (filter (is_at w)) (sym cut.2) ∙ same w) in
     elim (first_or_early cut.0 cut.1 j p q cut.3 run_cut) [
-      | inr early ↦ inr (record { before = []; early = j; after = js; split = refl; place = p; reached = refl; refused = early })
+      | inr (empty, sent) ↦ inr (record { before = []; early = j; after = js; split = refl; place = p; reached = refl; refused = empty; awaited = sent_later cut.0 cut.1 js (awaits j) orders sent })
       | inl (t, b, e) ↦
           let moved = to_front cut.0 cut.1 j p q t b sound parts.1 cut.3 run_cut e in
           let there : Place = record { state = t; shown = with_shown p.shown b } in
@@ -351,3 +381,11 @@ any_order_runs clients present text is js q few within short are same first =
       | inl (r, second) ↦ inl (let alike = any_order clients present text is js q r few within short are same first second in (r, second, alike.0, alike.1))
       | inr early ↦ inr early
     ]
+
+-- past a refusal no run comes
+stops_at : (i : Instr) (is : List Instr) (p : Place) → step p.state i ≡ Refused LinkEmpty → run (i ∷ is) p ≡ None
+stops_at i is p e = rw (run, e) refl
+
+pub too_early_stops : TooEarlyStops
+too_early_stops is p early =
+    ap (λ (ks : List Instr). run ks p) early.split ∙ run-append early.before (early.early ∷ early.after) p early.place early.reached ∙ stops_at early.early early.after early.place early.refused

@@ -1,7 +1,6 @@
 -- Where each machine shows the same lists in the same order, all together are the same lists, each as often.
-use Rattle.std.proofs.Common.{◌≡◌, ℕ, List, [], ◌∷◌, ◌++◌, refl, sym, ap, ◌∙◌, arith, Bool, true, false, cond}
+use Rattle.std.proofs.Common.{◌≡◌, List, [], ◌∷◌, ◌++◌, refl, sym, ap, ◌∙◌, Bool, true, false}
 use Rattle.std.proofs.lemmas.Bool.{eqb-true, eq-eqb}
-use Rattle.std.proofs.lemmas.List.Sums.{sum_by-cons, sum_by-append}
 use Rattle.std.specs.Prelude.{count_by}
 use Rattle.std.specs.List.{filter}
 use Rattle.ot_model.specs.declared.shown.Shown.{Shown}
@@ -9,7 +8,7 @@ use Rattle.ot_model.specs.declared.shown.Reader.{Reader}
 use Rattle.ot_model.specs.declared.shown.Reader.TheVariants as reader
 use Rattle.ot_model.specs.Orders.{Machine, ClientMachine, ServerMachine, is_of, AreSameShown}
 use Rattle.ot_model.specs.OrderLaws.{SameMultiset}
-use Rattle.ot_model.proofs.Reordering.{filter_yes, filter_no, same_head, same_tail}
+use Rattle.ot_model.proofs.Reordering.{filter_yes, filter_no, same_head, same_tail, count-moved, count-cons}
 
 abbrev by : Machine → Shown → Bool
 by w x = is_of w x.who
@@ -63,16 +62,6 @@ without y xs ys same w = go (by w y) refl
     go : (b : Bool) → by w y ≡ b → filter (by w) xs ≡ filter (by w) ys
     go true on = same_tail y y (filter (by w) xs) (filter (by w) ys) (sym (filter_yes (by w) y xs on) ∙ same w ∙ filter_yes (by w) y ys on)
     go false off = sym (filter_no (by w) y xs off) ∙ same w ∙ filter_no (by w) y ys off
-
-count-moved : (p : Shown → Bool) (pre post : List Shown) (y : Shown) → count_by p (pre ++ y ∷ post) ≡ count_by p (y ∷ (pre ++ post))
-count-moved p pre post y =
-    let f : Shown → ℕ = λ x. cond (p x) 1 0 in
-    omega (arith, sum_by-append f pre (y ∷ post), sum_by-cons f y post, sum_by-cons f y (pre ++ post), sum_by-append f pre post)
-
-count-cons : (p : Shown → Bool) (y : Shown) (xs ys : List Shown) → count_by p xs ≡ count_by p ys → count_by p (y ∷ xs) ≡ count_by p (y ∷ ys)
-count-cons p y xs ys e =
-    let f : Shown → ℕ = λ x. cond (p x) 1 0 in
-    omega (arith, sum_by-cons f y xs, sum_by-cons f y ys, e)
 
 none_shown : (xs : List Shown) → AreSameShown xs [] → xs ≡ []
 none_shown [] same = refl

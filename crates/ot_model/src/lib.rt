@@ -53,7 +53,9 @@ mod shown;
 mod trace;
 
 pub use list_laws::{lists_agree, not_one_order, one_has_both, trace_shape, weak_list};
-pub use order_laws::{any_order, any_order_runs, commute, exchange, same_multiset};
+pub use order_laws::{
+    any_order, any_order_runs, commute, exchange, same_instructions, same_multiset, too_early_stops,
+};
 pub use part_laws::{
     part_begins, present_sound, runs_go_on, sends_once, session_block, session_sound,
     session_waits, sessions_go_on,

@@ -1,5 +1,5 @@
 // The laws of instructions in other orders, each as the contract of a function that does nothing.
-ghost use Rattle.ot_model.specs.OrderLaws.{AnyOrder, AnyOrderRuns, Commute, Exchange, SameMultiset};
+ghost use Rattle.ot_model.specs.OrderLaws.{AnyOrder, AnyOrderRuns, Commute, Exchange, SameInstructions, SameMultiset, TooEarlyStops};
 
 /// Of two independent instructions that are each performed in a sound state, either can come first:
 /// both orders lead to the same state and show the same lists.
@@ -23,9 +23,22 @@ pub fn any_order()
 
 /// Another order of a run's instructions, with each machine's own in the same order, is a run to the
 /// same state, where each machine shows the same lists, or it comes to an instruction that receives
-/// what is not sent yet and is refused with `LinkEmpty`. Nothing else is ever refused.
+/// what is not sent yet and is refused with `LinkEmpty`, while an instruction that may send it stands
+/// behind it. Nothing else is ever refused.
 pub fn any_order_runs()
     ensures { AnyOrderRuns }
+{}
+
+/// A run that comes to an instruction that receives what is not sent yet does not reach its end: the
+/// two cases of `any_order_runs` exclude each other.
+pub fn too_early_stops()
+    ensures { TooEarlyStops }
+{}
+
+/// Where each machine has the same instructions in the same order, all together are the same
+/// instructions, each as often, so that the one order is a permutation of the other.
+pub fn same_instructions()
+    ensures { SameInstructions }
 {}
 
 /// Where each machine shows the same lists in the same order, all together are the same lists, each
