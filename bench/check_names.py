@@ -16,7 +16,9 @@ NAMED = ["README.md", "docs/PROOFS.md", "docs/DEFINITIONS.md", "docs/DECISIONS.m
 FILE = re.compile(r"^[\w./-]+\.(?:antt|rt|py|js|c|h|ots|json|img|txt|md|html|edit|svg)$")
 WORD = re.compile(r"[A-Za-z_][A-Za-z0-9_'-]*")
 # What documents cite of other projects and of the toolchain.
-ELSEWHERE = {"byteorder", "rattle-kit-13b", "logic", "dac8208d650f15bf", "crates", "CRATE-NAME"}
+ELSEWHERE = {"byteorder", "rattle-kit-13b", "logic", "dac8208d650f15bf", "crates", "CRATE-NAME", "my-driver"}
+# What commands of the documents write.
+WRITTEN = {"session.html"}
 # What stands for a name.
 PLACE = re.compile(r"\b(?:CRATE-NAME|FILE|FUNCTION|NAME)\b")
 
@@ -42,7 +44,7 @@ def main():
         for number, line in enumerate((TOP / path).read_text(encoding="utf-8").split("\n"), 1):
             for cited in re.findall(r"`([^`]+)`", line):
                 if FILE.match(cited):
-                    unknown = [] if cited.removeprefix("./") in ends or PLACE.search(cited) else [cited]
+                    unknown = [] if cited.removeprefix("./") in ends | WRITTEN or PLACE.search(cited) else [cited]
                 elif str(path) in NAMED and "*" not in cited and ".." not in cited:
                     unknown = [word for word in WORD.findall(cited) if len(word) > 2 and word not in words]
                 else:

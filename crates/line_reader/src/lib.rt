@@ -14,8 +14,6 @@
 
 mod ahead;
 mod splitting;
-#[cfg(test)]
-mod tests;
 
 pub use ahead::{LineFault, MOST_BYTES, ReadAhead};
 pub use splitting::split_line;

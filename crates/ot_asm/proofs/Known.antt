@@ -5,12 +5,13 @@ use Rattle.std.specs.Io.KnownBytes.{prepend_known}
 use Rattle.line_reader.specs.Lines.{lines_of}
 use Rattle.line_reader.specs.Taken.{TakesLine, Spends, LosesPiece}
 use Rattle.ot_isa.specs.Program.{Program}
-use Rattle.ot_asm.specs.Stepping.{Draft, line_step, ended, outcome_of_lines, IsFaultlessBefore}
+use Rattle.ot_asm.specs.Stepping.{Draft, line_step, ended, outcome_of_lines, IsFaultlessBefore, HidesOnlyJson, WantsMemoryIn}
+use Rattle.ot_asm.specs.Words.{trimmed, first_word, keyword_of}
 use Rattle.ot_asm.specs.Parts.{is_mark, lines_before, TakesPart, StopsIn}
 use Rattle.ot_asm.specs.declared.fault.Kind.{Kind}
 use Rattle.ot_asm.specs.declared.fault.Kind.TheVariants.{Memory}
 use Rattle.ot_asm.specs.declared.fault.AsmFault.{AsmFault}
-use Rattle.ot_asm.proofs.Running.{IsTaken, taken_start, taken_step, taken_fault, taken_mark, mark_behind, taken_end, end_behind, rest_is, faultless, fault_is, no_lines}
+use Rattle.ot_asm.proofs.Running.{IsTaken, taken_start, taken_step, taken_fault, taken_want, taken_mark, mark_behind, taken_end, end_behind, rest_is, faultless, fault_is, no_lines}
 
 -- the lines before line number `line` made the draft, where the bytes are known
 abbrev pub IsTakenKnown : Bool → Option (List ℕ) → Option (List ℕ) → ℕ → Option Draft → Type 0
@@ -33,6 +34,12 @@ faulted_known marked None now next l line draft kind h t other e = tt
 faulted_known marked (Some text) None next l line draft kind h t other e = absurd h
 faulted_known marked (Some text) (Some now) None l line draft kind h t other e = absurd t
 faulted_known marked (Some text) (Some now) (Some next) l line draft kind h t other e = let taken = rw t at h in taken_fault l (lines_of next) taken other e
+
+pub wanting_known : (marked : Bool) (text now next : Option (List ℕ)) (l : List ℕ) (line : ℕ) (draft : Option Draft) → IsTakenKnown marked text now line draft → TakesLine now next true l → (marked && is_mark l) ≡ false → HidesOnlyJson (keyword_of (first_word (trimmed l))) (line_step draft l) → IfSome text (λ t. WantsMemoryIn (lines_before marked (lines_of t)) line)
+wanting_known marked None now next l line draft h t other hides = tt
+wanting_known marked (Some text) None next l line draft h t other hides = absurd h
+wanting_known marked (Some text) (Some now) None l line draft h t other hides = absurd t
+wanting_known marked (Some text) (Some now) (Some next) l line draft h t other hides = let taken = rw t at h in taken_want l (lines_of next) taken other hides
 
 pub faultless_known : (marked : Bool) (text now : Option (List ℕ)) (line : ℕ) (draft : Option Draft) → IsTakenKnown marked text now line draft → IfSome text (λ t. IsFaultlessBefore (lines_before marked (lines_of t)) line)
 faultless_known marked None now line draft h = tt

@@ -14,3 +14,4 @@ pub mod Formed
 pub mod Numbered
 pub mod WholeLines
 pub mod CanonicalSpelled
+pub mod Only

@@ -4,7 +4,8 @@ use Rattle.std.specs.Prelude.{IfOk}
 use Rattle.std.proofs.Math.Seq.{take-append-add, drop-append-add}
 use Rattle.line_reader.specs.Lines.{lines_of, lacks}
 use Rattle.line_reader.proofs.Ends.{lines_last}
-use Rattle.ot_asm.specs.Stepping.{Draft, line_step, go_on, run, ended, outcome_of_lines, IsFaultlessBefore}
+use Rattle.ot_asm.specs.Stepping.{Draft, line_step, go_on, run, ended, outcome_of_lines, IsFaultlessBefore, HidesOnlyJson, WantsMemoryIn}
+use Rattle.ot_asm.specs.Words.{trimmed, first_word, keyword_of}
 use Rattle.ot_asm.specs.Parts.{is_mark, lines_before, lines_behind}
 use Rattle.ot_isa.specs.Program.{Program}
 use Rattle.ot_asm.specs.declared.fault.Kind.{Kind}
@@ -78,6 +79,24 @@ faultless {lines} {rest} {line} {draft} h =
       rw (front, h.drafted_is) refl,
     )
 
+back_of : (front rest : List (List ℕ)) → drop (length front) (front ++ rest) ≡ rest
+back_of front rest =
+    let z : length front + 0 ≡ length front = omega arith in
+    rw (← z) (drop-append-add front rest 0)
+
+-- memory ran out in the line after those that were read
+pub wanting : {lines : List (List ℕ)} (l : List ℕ) (below : List (List ℕ)) {line : ℕ} {draft : Option Draft} → HasRead lines (l ∷ below) line draft → HidesOnlyJson (keyword_of (first_word (trimmed l))) (line_step draft l) → WantsMemoryIn lines line
+wanting l below {line} {draft} h hides =
+    let back : line - 1 ≡ length h.before = omega (arith, h.number) in
+    record {
+      draft = draft;
+      before = rw (back, h.all, front_of h.before (l ∷ below)) h.drafted_is;
+      text = l;
+      below = below;
+      here = rw (back, h.all) (back_of h.before (l ∷ below));
+      hides = hides;
+    }
+
 pub fault_of : {R : Type 0} (kind : Kind) {P : Type 0} → (kind ≡ Memory) ⊎ P → (P → R) → (kind ≡ Memory) ⊎ R
 fault_of kind (inl e) f = inl e
 fault_of kind (inr p) f = inr (f p)
@@ -142,6 +161,9 @@ taken_step {marked} {lines} l ls h other e =
 pub taken_fault : {marked : Bool} {lines : List (List ℕ)} (l : List ℕ) (ls : List (List ℕ)) {line : ℕ} {draft : Option Draft} {kind : Kind} → IsTaken marked lines (l ∷ ls) line draft → (marked && is_mark l) ≡ false → line_step draft l ≡ Err kind → outcome_of_lines (lines_before marked lines) ≡ Err (record { line = line; kind = kind })
 taken_fault {marked} l ls h other e = let read = rw (before_other marked l ls other) at h.read in faulted l (lines_before marked ls) read e
 
+pub taken_want : {marked : Bool} {lines : List (List ℕ)} (l : List ℕ) (ls : List (List ℕ)) {line : ℕ} {draft : Option Draft} → IsTaken marked lines (l ∷ ls) line draft → (marked && is_mark l) ≡ false → HidesOnlyJson (keyword_of (first_word (trimmed l))) (line_step draft l) → WantsMemoryIn (lines_before marked lines) line
+taken_want {marked} l ls h other hides = let read = rw (before_other marked l ls other) at h.read in wanting l (lines_before marked ls) read hides
+
 pub taken_mark : {marked : Bool} {lines : List (List ℕ)} (l : List ℕ) (ls : List (List ℕ)) {line : ℕ} {draft : Option Draft} {result : Result Program AsmFault} → IsTaken marked lines (l ∷ ls) line draft → (marked && is_mark l) ≡ true → ((count : ℕ) → count + 1 ≡ line → ended count (Ok draft) ≡ result) → outcome_of_lines (lines_before marked lines) ≡ result
 taken_mark {marked} l ls h mark e = let read = rw (before_mark marked l ls mark) at h.read in at_last read e
 
@@ -153,11 +175,6 @@ taken_end {marked} h e = let read = rw (before_none marked) at h.read in at_last
 
 pub end_behind : {marked : Bool} {lines : List (List ℕ)} {line : ℕ} {draft : Option Draft} → IsTaken marked lines [] line draft → ([] ≡ lines_behind marked lines) × (length lines ≡ (line - 1) + length {A = List ℕ} [])
 end_behind {marked} h = (sym (behind_none marked) ∙ h.behind, omega (arith, h.number, ap length h.all, length-append h.front []))
-
-back_of : (front rest : List (List ℕ)) → drop (length front) (front ++ rest) ≡ rest
-back_of front rest =
-    let z : length front + 0 ≡ length front = omega arith in
-    rw (← z) (drop-append-add front rest 0)
 
 pub rest_is : {marked : Bool} {lines rest : List (List ℕ)} {line : ℕ} {draft : Option Draft} → IsTaken marked lines rest line draft → drop (line - 1) lines ≡ rest
 rest_is {marked} {lines} {rest} {line} h =

@@ -1,5 +1,5 @@
 -- What one line does, and the first fault of a text.
-use Rattle.std.specs.Prelude.{◌≤◌, ℕ, ◌+◌, ◌-◌, take, IsOk, ◌||◌, nat_lt, nat_le, List, [], ◌∷◌, length, Option, Some, None, option_map, option_and_then, Result, Ok, Err, if◌then◌else◌}
+use Rattle.std.specs.Prelude.{◌≡◌, ◌≤◌, ℕ, ◌+◌, ◌-◌, take, drop, IsOk, ◌||◌, nat_lt, nat_le, List, [], ◌∷◌, length, Option, Some, None, option_map, option_and_then, Result, Ok, Err, if◌then◌else◌}
 use Rattle.std.specs.Str.{chars, is_utf8}
 use Rattle.serde_json.specs.Data.{Data}
 use Rattle.serde_json.specs.Find.{as_str}
@@ -194,3 +194,12 @@ IsBehindJson keyword kind = ⊥
 abbrev pub HidesOnlyJson : {A : Type 0} → Keyword → Result A Kind → Type 0
 HidesOnlyJson keyword (Ok x) = Unit {0}
 HidesOnlyJson keyword (Err kind) = IsBehindJson keyword kind
+
+-- memory ran out in line number `line`: no line before it has a fault, and it has none but one that only its JSON text tells
+pub record WantsMemoryIn (lines : List (List ℕ)) (line : ℕ) : Type 0 where
+  pub draft : Option Draft
+  pub before : run 1 None (take (line - 1) lines) ≡ Ok draft
+  pub text : List ℕ
+  pub below : List (List ℕ)
+  pub here : drop (line - 1) lines ≡ text ∷ below
+  pub hides : HidesOnlyJson (keyword_of (first_word (trimmed text))) (line_step draft text)

@@ -2,8 +2,8 @@
 
 ghost use Rattle.std.specs.Prelude.{◌≡◌, ◌⊎◌, ◌∷◌, ◌+◌, ◌<◌, ℕ, Ok, Err, IfOk, IfErr, length};
 ghost use Rattle.line_reader.specs.Lines.{lines_of};
-ghost use Rattle.ot_isa.specs.Program.{IsProgram};
-ghost use Rattle.ot_asm.specs.Stepping.{ended, outcome, IsFaultlessBefore};
+ghost use Rattle.ot_isa.specs.Program.{IsProgram, Program};
+ghost use Rattle.ot_asm.specs.Stepping.{ended, outcome, IsFaultlessBefore, WantsMemoryIn};
 ghost use Rattle.ot_asm.specs.Spelling.{Spells};
 
 use crate::body::Body;
@@ -45,12 +45,13 @@ pub fn finished(body: Option<Body>, line: u64) -> Result<Schedule, AsmFault>
     }
 }
 
-/// The schedule that a text spells, or the fault of its first faulty line.
-pub fn assemble(alloc: Global, text: &str) -> Result<Schedule, AsmFault>
+// The same with its clauses about the outcome.
+fn assembled(alloc: Global, text: &str) -> Result<Schedule, AsmFault>
     ensures ok { IfOk result (λ s. outcome text.now ≡ Ok s) }
-    ensures spells { IfOk result (λ s. Spells text.now s) }
+    ensures limits { IfOk result (λ s. IsProgram s) }
     ensures err { IfErr result (λ f. (f.kind ≡ Kind.Memory) ⊎ (outcome text.now ≡ Err f)) }
     ensures faultless { IfErr result (λ f. IsFaultlessBefore (lines_of text.now) f.line) }
+    ensures memory { IfErr result (λ f. f.kind ≡ Kind.Memory → WantsMemoryIn (lines_of text.now) f.line) }
 {
     let mut body: Option<Body> = None;
     let mut rest = text.as_bytes();
@@ -65,4 +66,18 @@ pub fn assemble(alloc: Global, text: &str) -> Result<Schedule, AsmFault>
         line += 1;
     }
     finished(body, line)
+}
+
+/// The schedule that a text spells, or the fault of its first faulty line. `Memory` names the line for which a growth was refused: no
+/// line before it has a fault, nor has it one itself, save one that only its JSON text tells.
+pub fn assemble(alloc: Global, text: &str) -> Result<Schedule, AsmFault>
+    ensures ok { IfOk result (λ s. outcome text.now ≡ Ok s) }
+    ensures spells { IfOk result (λ s. Spells text.now s) }
+    // The schedule that the text spells is what is given, unless memory runs out.
+    ensures only { (p : Program) → Spells text.now p → IfOk result (λ s. s ≡ p) × IfErr result (λ f. f.kind ≡ Kind.Memory) }
+    ensures err { IfErr result (λ f. (f.kind ≡ Kind.Memory) ⊎ (outcome text.now ≡ Err f)) }
+    ensures faultless { IfErr result (λ f. IsFaultlessBefore (lines_of text.now) f.line) }
+    ensures memory { IfErr result (λ f. f.kind ≡ Kind.Memory → WantsMemoryIn (lines_of text.now) f.line) }
+{
+    assembled(alloc, text)
 }

@@ -1,11 +1,12 @@
 //! From the lines of a reader to a schedule.
 
-ghost use Rattle.std.specs.Prelude.{◌≡◌, ◌≢◌, ◌+◌, ◌<◌, ◌^◌, ℕ, true, false, Ok, Err, IfOk, IfErr, IfSome, OnOk, length};
+ghost use Rattle.std.specs.Prelude.{◌≡◌, ◌≢◌, ◌⊎◌, ◌+◌, ◌<◌, ◌^◌, ℕ, true, false, Ok, Err, IfOk, IfErr, IfSome, OnOk, length};
 ghost use Rattle.std.specs.Io.KnownBytes.{IsAtEnd};
 ghost use Rattle.line_reader.specs.Lines.{lines_of};
 ghost use Rattle.line_reader.specs.Taken.{may_take, before};
-ghost use Rattle.ot_asm.specs.Stepping.{ended, outcome, outcome_of_lines, IsFaultlessBefore};
+ghost use Rattle.ot_asm.specs.Stepping.{ended, outcome, outcome_of_lines, IsFaultlessBefore, WantsMemoryIn};
 ghost use Rattle.ot_asm.specs.Spelling.{Spells};
+ghost use Rattle.ot_isa.specs.Program.{Program};
 ghost use Rattle.ot_asm.specs.Parts.{lines_before, TakesPart, StopsIn};
 
 use crate::assembling::finished;
@@ -45,6 +46,7 @@ fn assemble_part<R: Read>(
     ensures short { OnOk result (marked ≡ false → IfSome (before ahead.old (R.remaining reader.old)) (λ text. length text < may_take ahead.old)) }
     ensures err { IfErr result (λ f. f.kind ≢ Kind.Memory → f.kind ≢ Kind.ReadFault → IfSome (before ahead.old (R.remaining reader.old)) (λ text. outcome_of_lines (lines_before marked (lines_of text)) ≡ Err f)) }
     ensures faultless { IfErr result (λ f. IfSome (before ahead.old (R.remaining reader.old)) (λ text. IsFaultlessBefore (lines_before marked (lines_of text)) f.line)) }
+    ensures memory { IfErr result (λ f. f.kind ≡ Kind.Memory → IfSome (before ahead.old (R.remaining reader.old)) (λ text. WantsMemoryIn (lines_before marked (lines_of text)) f.line) ⊎ StopsIn (before ahead.old (R.remaining reader.old)) (before ahead.new (R.remaining reader.new)) f.line) }
     ensures stop { IfErr result (λ f. f.kind ≡ Kind.ReadFault → StopsIn (before ahead.old (R.remaining reader.old)) (R.remaining reader.new) f.line) }
 {
     let _most = ahead.may_take();
@@ -86,6 +88,8 @@ fn assemble_part<R: Read>(
 pub fn assemble_from<R: Read>(alloc: Global, reader: &mut R) -> Result<Schedule, AsmFault>
     ensures ok { IfOk result (λ s. IfSome (R.remaining reader.old) (λ text. outcome text ≡ Ok s)) }
     ensures spells { IfOk result (λ s. IfSome (R.remaining reader.old) (λ text. Spells text s)) }
+    // The schedule that the bytes spell is what is given, unless reading fails or memory runs out.
+    ensures only { (p : Program) → IfSome (R.remaining reader.old) (λ text. Spells text p → IfOk result (λ s. s ≡ p) × IfErr result (λ f. (f.kind ≡ Kind.Memory) ⊎ (f.kind ≡ Kind.ReadFault))) }
     ensures short { OnOk result (IfSome (R.remaining reader.old) (λ text. length text < 2 ^ 50)) }
     ensures end { OnOk result (IsAtEnd (R.remaining reader.new)) }
     ensures err { IfErr result (λ f. f.kind ≢ Kind.Memory → f.kind ≢ Kind.ReadFault → IfSome (R.remaining reader.old) (λ text. outcome text ≡ Err f)) }
@@ -113,6 +117,8 @@ pub fn assemble_until_mark<R: Read>(
     ensures part { IfOk result (λ p. TakesPart true (before ahead.old (R.remaining reader.old)) (before ahead.new (R.remaining reader.new)) p.1) }
     ensures err { IfErr result (λ f. f.kind ≢ Kind.Memory → f.kind ≢ Kind.ReadFault → IfSome (before ahead.old (R.remaining reader.old)) (λ text. outcome_of_lines (lines_before true (lines_of text)) ≡ Err f)) }
     ensures faultless { IfErr result (λ f. IfSome (before ahead.old (R.remaining reader.old)) (λ text. IsFaultlessBefore (lines_before true (lines_of text)) f.line)) }
+    // Want of memory names a line that has no fault but one of its JSON text, or one that was not read to its end.
+    ensures memory { IfErr result (λ f. f.kind ≡ Kind.Memory → IfSome (before ahead.old (R.remaining reader.old)) (λ text. WantsMemoryIn (lines_before true (lines_of text)) f.line) ⊎ StopsIn (before ahead.old (R.remaining reader.old)) (before ahead.new (R.remaining reader.new)) f.line) }
     ensures stop { IfErr result (λ f. f.kind ≡ Kind.ReadFault → StopsIn (before ahead.old (R.remaining reader.old)) (R.remaining reader.new) f.line) }
 {
     assemble_part(alloc, ahead, reader, true)

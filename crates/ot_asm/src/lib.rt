@@ -7,7 +7,7 @@
 //! clients 2                  the first line that counts: 1 to 64 clients
 //! present 1                  optional, directly below: how many are there from the start, all by default
 //! start "x"                  optional, below these: the start text, a JSON string
-//! edit 0 [1,"a"]             instructions: an edit with its operation as JSON, by `ot_json::read_op`
+//! edit 0 [1,"a"]             instructions: an edit with its operation as JSON, by `ot_json::op_of_value`
 //! take 0                     .. and deliver, ack, read, join, each with a client's number
 //! read-server
 //! ```
@@ -48,6 +48,3 @@ pub use laws::{canonical_spells, spells_at_most_one};
 pub use number::read_number;
 pub use words::{split_word, trimmed};
 pub use writing::{WriteStop, disassemble_to};
-
-#[cfg(test)]
-mod tests;

@@ -3,3 +3,4 @@ mod Heads
 mod Moves
 mod Boarding
 mod Owning
+pub mod Replaying

@@ -14,9 +14,9 @@ use Rattle.ot_model.specs.declared.shown.Shown.{Shown}
 use Rattle.ot_model.specs.Operation.{Operation, apply, inserted}
 use Rattle.ot_model.proofs.States.{length-news-tag_items}
 use Rattle.std.proofs.lemmas.Bool.Decides.{nat_tests}
-use Rattle.ot_model.specs.Table.{Client, Phase, Entry, Head, Ack, Op, Message, head_for, is_joined, NotJoined, Synchronized, AwaitingConfirm, AwaitingWithBuffer, carried, delivered, phase_delivered, edited, phase_edited, message_edited, tag_operation}
+use Rattle.ot_model.specs.Table.{Client, Phase, Entry, Head, Ack, Op, Message, acknowledged, head_for, is_joined, NotJoined, Synchronized, AwaitingConfirm, AwaitingWithBuffer, carried, delivered, phase_delivered, edited, phase_edited, message_edited, tag_operation}
 use Rattle.ot_model.specs.Laws.{IsDeliverable, MayDeliver}
-use Rattle.ot_model.specs.Sound.{IsInstr, AreInstrs, IsPhaseSound, IsSoundFrom, apply_entries}
+use Rattle.ot_model.specs.Sound.{IsInstr, AreInstrs, IsPhaseSound, IsSynchronizedSound, IsSoundFrom, NoneBy, apply_entries}
 use Rattle.ot_model.specs.Part.{Part, PartPerformed, part_row, part_acknowledge, part_deliver, part_edit, part_with, part_read, with_part}
 use Rattle.ot_model.specs.Session.{Session, IsAllowed, installed, or_else}
 use Rattle.ot_model.proofs.Fitting.{deliverable}
@@ -27,7 +27,7 @@ use Rattle.ot_machine.specs.declared.part.Part.{Part as ProgramPart}
 use Rattle.ot_machine.specs.declared.part.Message.{Message as ProgramMessage}
 use Rattle.ot_machine.specs.Parts.{part_in, head_in}
 use Rattle.ot_machine.specs.Seats.{phase_in}
-use Rattle.ot_board.specs.Sessions.{session_in, IsNextHead, IsNext, MayEdit, shown_by, acknowledged_now, client_in}
+use Rattle.ot_board.specs.Sessions.{session_in, IsNextHead, IsNext, MayEdit, shown_by, client_in}
 use Rattle.ot_board.proofs.Heads.{own}
 
 -- the head of a downlink is the log's entry
@@ -143,12 +143,12 @@ moved_delivered x start steps steps' st st' list list' count incoming incoming' 
     let phase : phase_in st'.phase ≡ phase_delivered (phase_in st.phase) h = subst (λ (y : Session). phase_in st'.phase ≡ phase_delivered y.now.client.phase h) (sym view) carried_on in
     let is : applied ≡ carried (phase_in st.phase) h = subst (λ (y : Session). applied ≡ carried y.now.client.phase h) (sym view) by in
     let row : part_row v.now (Deliver start.number) ≡ PartPerformed (with_part v.now (delivered v.now.client h) next.rest) None =
-        own v.now start.number (part_deliver v.now v.now.incoming) refl ∙ ap (part_deliver v.now) next.incoming_is in
+    own v.now start.number (part_deliver v.now v.now.incoming) refl ∙ ap (part_deliver v.now) next.incoming_is in
     subst (λ (y : Session). IsMoved y (Deliver start.number) None (session_in start steps' st' list' count incoming' sent)) view
-      (moved v (session_in start steps' st' list' count incoming' sent) (Deliver start.number) (with_part v.now (delivered v.now.client h) next.rest) None allowed next.room tt row
-        (same_after (part_in start) start.number _ _ _ _ _ _ (sym one)
-            (same_client _ _ count _ _ _ _ _ _ (sym revision) (sym phase) (ap (λ (o : Operation Tagged). apply o list) (sym is) ∙ sym changed) refl)
-            (sym (rest_of incoming (Op h) next.rest next.incoming_is) ∙ ap (map head_in) (sym left))))
+    (moved v (session_in start steps' st' list' count incoming' sent) (Deliver start.number) (with_part v.now (delivered v.now.client h) next.rest) None allowed next.room tt row
+    (same_after (part_in start) start.number _ _ _ _ _ _ (sym one)
+    (same_client _ _ count _ _ _ _ _ _ (sym revision) (sym phase) (ap (λ (o : Operation Tagged). apply o list) (sym is) ∙ sym changed) refl)
+    (sym (rest_of incoming (Op h) next.rest next.incoming_is) ∙ ap (map head_in) (sym left))))
 
 sent_in : (new old : Option (Sent Tagged)) → option_map message_of (option_or new old) ≡ or_else (option_map message_of new) (option_map message_of old)
 sent_in None old = refl
@@ -180,19 +180,19 @@ moved_edited x start steps steps' st st' list list' count count' incoming sent s
     let revision : st'.revision ≡ st.revision = subst (λ (y : Session). st'.revision ≡ y.now.client.revision) (sym view) risen in
     let phase : phase_in st'.phase ≡ phase_edited (phase_in st.phase) made = subst (λ (y : Session). phase_in st'.phase ≡ phase_edited y.now.client.phase made) (sym view) goes in
     let message : or_else (option_map message_of new) (option_map message_of sent) ≡ message_edited (phase_in st.phase) v.now.client made =
-        subst (λ (y : Session). or_else (option_map message_of new) y.now.client.message ≡ message_edited y.now.client.phase y.now.client made) (sym view) sends in
+    subst (λ (y : Session). or_else (option_map message_of new) y.now.client.message ≡ message_edited y.now.client.phase y.now.client made) (sym view) sends in
     let many : inserted made ≡ inserted op = ap inserted tag ∙ length-news-tag_items start.number count op.image in
     let i = Edit start.number op in
     let left = edited v.now.client made in
     let row : part_row v.now i ≡ PartPerformed (with_part v.now left v.now.incoming) None =
-        edit_row v.now op may.base may.count ∙ ap (λ (o : Operation Tagged). PartPerformed (with_part v.now (edited v.now.client o) v.now.incoming) None) (sym tag) in
+    edit_row v.now op may.base may.count ∙ ap (λ (o : Operation Tagged). PartPerformed (with_part v.now (edited v.now.client o) v.now.incoming) None) (sym tag) in
     let y = session_in start steps' st' list' count' incoming sent' in
     let client : left ≡ y.now.client =
-        ap (λ (r : ℕ). record { revision = r; phase = phase_edited (phase_in st.phase) made; list = apply made list; count = count + inserted made; message = message_edited (phase_in st.phase) v.now.client made }) (sym revision)
-        ∙ same_edited st'.revision _ _ _ _ _ _ _ _ (sym phase) (sym changed) (ap (λ (k : ℕ). count + k) many ∙ sym more) (sym message ∙ sym (sent_in new sent) ∙ ap (option_map message_of) (sym put)) in
+    ap (λ (r : ℕ). record { revision = r; phase = phase_edited (phase_in st.phase) made; list = apply made list; count = count + inserted made; message = message_edited (phase_in st.phase) v.now.client made }) (sym revision)
+    ∙ same_edited st'.revision _ _ _ _ _ _ _ _ (sym phase) (sym changed) (ap (λ (k : ℕ). count + k) many ∙ sym more) (sym message ∙ sym (sent_in new sent) ∙ ap (option_map message_of) (sym put)) in
     subst (λ (z : Session). IsMoved z i None y) view
-      (moved v y i (with_part v.now left v.now.incoming) None allowed may.room may.rises row
-        (same_after (part_in start) start.number _ _ _ _ _ _ (sym one) client refl))
+    (moved v y i (with_part v.now left v.now.incoming) None allowed may.room may.rises row
+    (same_after (part_in start) start.number _ _ _ _ _ _ (sym one) client refl))
 
 -- a read
 pub moved_read :
@@ -205,8 +205,8 @@ moved_read x start steps steps' st list count incoming sent view allowed room on
     let i = Read start.number in
     let y = session_in start steps' st list count incoming sent in
     subst (λ (z : Session). IsMoved z i (Some (shown_by z list)) y) view
-      (moved v y i v.now (Some (shown_by v list)) allowed room tt (own v.now start.number (part_read v.now) refl)
-        (same_after (part_in start) start.number _ _ _ _ _ _ (sym one) refl refl))
+    (moved v y i v.now (Some (shown_by v list)) allowed room tt (own v.now start.number (part_read v.now) refl)
+    (same_after (part_in start) start.number _ _ _ _ _ _ (sym one) refl refl))
 
 -- an acknowledgement that is next stands in the log
 pub next_below : (x : Session) → IsAllowed x → IsNextHead x Ack → x.now.client.revision < 1000000
@@ -219,6 +219,28 @@ next_below x allowed next =
     let logged = from.logged in
     let steps = from.steps in
     omega arith
+
+-- a synchronized client has no entry of its own ahead
+no_ack : (c : ℕ) (log : List Entry) (ys : List Head) → NoneBy c log → map (head_for c) log ≡ Ack ∷ ys → ⊥
+no_ack c [] ys none e = cc
+no_ack c (h ∷ log) ys none e = none.0 (eqb-true h.maker c (head_ack h (h.maker == c) (cc)))
+
+-- so it never meets an acknowledgement
+pub no_next_ack : (x : Session) → IsAllowed x → x.now.client.phase ≡ Synchronized → IsNextHead x Ack → ⊥
+no_next_ack x allowed synchronized next =
+    let (s, m, rest, sound, over) = present_sound x allowed in
+    let (start, text, from) = sound in
+    let line : map (head_for x.now.number) (drop x.now.client.revision s.log) ≡ Ack ∷ (next.rest ++ rest) = over.downlink ∙ ap (λ (l : List Head). l ++ rest) next.incoming_is in
+    let now = from.clients x.now.number (installed x.now.client m) over.client in
+    let seen = take x.now.client.revision s.log in
+    let ahead = drop x.now.client.revision s.log in
+    let here : IsSynchronizedSound x.now.number (apply_entries start seen) ahead x.now.client.list (or_else x.now.client.message m) =
+    subst (λ (p : Phase). IsPhaseSound x.now.number p start seen ahead x.now.client.list (or_else x.now.client.message m)) synchronized now in
+    no_ack x.now.number ahead (next.rest ++ rest) here.none line
+
+-- the client after the acknowledgement
+abbrev acknowledged_now : Session → Option Client
+acknowledged_now x = acknowledged x.now.client x.now.client.phase
 
 -- its own operation acknowledged
 pub moved_acknowledged :
@@ -233,11 +255,11 @@ moved_acknowledged x start steps steps' st st' list count incoming incoming' sen
     let i = Acknowledge start.number in
     let y = session_in start steps' st' list count incoming' sent' in
     let row : part_row v.now i ≡ PartPerformed (with_part v.now y.now.client next.rest) None =
-        own v.now start.number (part_acknowledge v.now v.now.incoming) refl ∙ ap (part_acknowledge v.now) next.incoming_is ∙ ap (λ (o : Option Client). part_with v.now o next.rest) is in
+    own v.now start.number (part_acknowledge v.now v.now.incoming) refl ∙ ap (part_acknowledge v.now) next.incoming_is ∙ ap (λ (o : Option Client). part_with v.now o next.rest) is in
     subst (λ (z : Session). IsMoved z i None y) view
-      (moved v y i (with_part v.now y.now.client next.rest) None allowed next.room tt row
-        (same_after (part_in start) start.number _ _ _ _ _ _ (sym one) refl
-            (sym (rest_of incoming Ack next.rest next.incoming_is) ∙ ap (map head_in) (sym left))))
+    (moved v y i (with_part v.now y.now.client next.rest) None allowed next.room tt row
+    (same_after (part_in start) start.number _ _ _ _ _ _ (sym one) refl
+    (sym (rest_of incoming Ack next.rest next.incoming_is) ∙ ap (map head_in) (sym left))))
 
 -- a session that was lent has sent nothing before
 pub start_unsent : (x : Session) → IsAllowed x → x.start.client.message ≡ None

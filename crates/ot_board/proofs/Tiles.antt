@@ -9,7 +9,10 @@ use Rattle.std.specs.Prelude.{slice_get, slice_index_or, Vec, vec_items}
 use Rattle.std.specs.List.{All}
 use Rattle.std.specs.declared.alloc.Global.{Global}
 use Rattle.ot_board.specs.declared.receipt.Receipt.{Receipt}
-use Rattle.ot_board.specs.Tiling.{lists, end_of, times_in, times_covered, capped, IsBackwards, AreRising}
+use Rattle.ot_isa.specs.declared.instruction.Instr.{Instr}
+use Rattle.ot_board.specs.declared.auditing.AuditFault.{AuditFault}
+use Rattle.ot_board.specs.declared.auditing.AuditFault.TheVariants.{Missing, Backwards, Doubled, Uncovered, Memory}
+use Rattle.ot_board.specs.Tiling.{lists, end_of, times_in, times_covered, capped, IsThere, IsBackwards, AreRising, IsTiling, IsFault}
 
 -- what holds of as many as there are holds of all
 pub all_taken : {X : Type 0} (P : X → Type 0) (xs : List X) (i : ℕ) → length xs ≤ i → All P (take i xs) → All P xs
@@ -96,3 +99,23 @@ block_at [] ys (suc n) i same below = ap (λ zs. slice_get zs i) same
 block_at (x ∷ xs) ys (suc n) zero same below = ap (λ zs. slice_get zs 0) same
 block_at (x ∷ xs) [] (suc n) (suc i) same below = absurd (cc)
 block_at (x ∷ xs) (y ∷ ys) (suc n) (suc i) same below = block_at xs ys n i (cc) (omega arith)
+
+-- what holds of all holds of each
+at_in : {X : Type 0} (P : X → Type 0) (xs : List X) (i : ℕ) (x : X) → All P xs → slice_get xs i ≡ Some x → P x
+at_in P xs i x all is = subst P (get_or_from_slice_get xs i x x is) (all i x (slice_get_within xs i x is))
+
+-- where receipts tile a record, nothing but want of memory is found
+pub tiled_fault : (log : List Instr) (workers : List (List Receipt)) → IsTiling log workers → (f : AuditFault) → IsFault log workers f → f ≡ Memory
+tiled_fault log workers tiles (Missing w i) first =
+    let missing = first.bad in
+    absurd (missing.missing (at_in (IsThere log) first.receipts i missing.receipt (at_in (All (IsThere log)) workers w first.receipts tiles.there first.receipts_are) missing.receipt_is))
+tiled_fault log workers tiles (Backwards w i) (there, first) = absurd (at_in AreRising workers w first.receipts tiles.rising first.receipts_are i first.bad.backwards)
+tiled_fault log workers tiles (Doubled at) (there, rising, times, more, uneven) =
+    let once = tiles.once at uneven.within in
+    let is = uneven.times_are in
+    absurd (omega arith)
+tiled_fault log workers tiles (Uncovered at) (there, rising, uneven) =
+    let once = tiles.once at uneven.within in
+    let is = uneven.times_are in
+    absurd (omega arith)
+tiled_fault log workers tiles Memory both = refl

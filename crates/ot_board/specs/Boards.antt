@@ -5,12 +5,15 @@ use Rattle.ot_isa.specs.declared.instruction.Instr.{Instr}
 use Rattle.ot_isa.specs.declared.instruction.Instr.TheVariants.{Take, Join}
 use Rattle.ot_isa.specs.Program.{Program}
 use Rattle.ot_isa.specs.Program as program
+use Rattle.ot_model.specs.declared.shown.Refusal.{Refusal}
 use Rattle.ot_model.specs.declared.shown.Refusal.TheVariants as table
 use Rattle.ot_model.specs.Table.{Client, State, is_joined, opening, step, Refused}
 use Rattle.ot_model.specs.Runs.{opening_of}
 use Rattle.ot_model.specs.Session.{Session, Begins, IsPartIn, RunsTo}
 use Rattle.ot_machine.specs.Answers.{IsPerformed}
+use Rattle.ot_machine.specs.Ended.{IsRun}
 use Rattle.ot_machine.specs.Readers.{ClientHas}
+use Rattle.ot_machine.specs.declared.outcome.Run.{Run}
 use Rattle.ot_board.specs.declared.lent.Lent.{Lent}
 use Rattle.ot_board.specs.declared.receipt.Receipt.{Receipt}
 use Rattle.ot_board.specs.declared.refusal.BoardRefusal.{BoardRefusal}
@@ -157,3 +160,12 @@ pub record IsFinished (b : BoardView) (schedule : Program) (machine : State) : T
   pub machine_is : machine ≡ b.state
   pub replays : RunsTo (opening_of schedule) schedule.instrs machine
   pub nobody : AreIn b.out
+
+-- where a run of a schedule ends that only want of memory stops before its end
+abbrev pub EndsIn : Option (ℕ × Refusal) → State → State → Type 0
+EndsIn None reached state = reached ≡ state
+EndsIn (Some stop) reached state = stop.1 ≡ table.Memory
+
+-- each run of the schedule ends in this state, or for want of memory before it
+abbrev pub RunsEndIn : Program → State → Type 0
+RunsEndIn s state = (run : Run) → IsRun s run → EndsIn run.stopped run.machine state

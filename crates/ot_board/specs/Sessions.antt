@@ -10,7 +10,7 @@ use Rattle.ot_model.specs.declared.shown.Reader.TheVariants as reader
 use Rattle.ot_model.specs.Operation.{Operation, IsOperation, inserted}
 use Rattle.std.specs.Option.{option_map}
 use Rattle.ot_client.specs.Client.{message_of}
-use Rattle.ot_model.specs.Table.{Client, Head, Ack, Op, acknowledged}
+use Rattle.ot_model.specs.Table.{Client, Head}
 use Rattle.ot_model.specs.Part as model
 use Rattle.ot_model.specs.Part.{PartOutcome, PartPerformed, PartRefused, PartNoRow, part_row}
 use Rattle.ot_model.specs.Session.{Session}
@@ -90,7 +90,3 @@ pub record IsNextHead (x : Session) (head : Head) : Type 0 where
   pub room : length x.steps < 64
   pub rest : List Head
   pub incoming_is : x.now.incoming ≡ head ∷ rest
-
--- the client after the acknowledgement
-abbrev pub acknowledged_now : Session → Option Client
-acknowledged_now x = acknowledged x.now.client x.now.client.phase

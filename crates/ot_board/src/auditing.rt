@@ -1,10 +1,10 @@
-//! Whether receipts account for a record.
+// Whether receipts account for a record: first each block, then each worker, then each place.
 ghost use Rattle.std.specs.Prelude.{◌≡◌, ◌+◌, ◌<◌, ◌≤◌, ◌↔◌, length, map, take, drop, slice_get, IfOk, IfErr, IfSome, IfNone, IsTrue, OnOk, ℕ, slice_index, if◌then◌else◌};
 ghost use Rattle.std.specs.List.{All};
 ghost use Rattle.ot_board.specs.Tiling.{end_of, IsThere, IsBackwards, AreRising, covers, times_in, times_covered, capped, lists, AreMarks, IsUneven, IsTiling, IsFirstMissing, IsFirstBackwards, IsFirst, IsFault};
 
-use crate::receipt::Receipt;
 use crate::board::Finished;
+use crate::receipt::Receipt;
 use ot_isa::Schedule;
 use std::alloc::Global;
 
@@ -168,19 +168,24 @@ fn check_once(alloc: Global, log: &Schedule, workers: &[Vec<Receipt>]) -> Result
     check_marks(marks.as_slice())
 }
 
-/// Whether the workers' receipts, one list per worker, account for the finished board's record: each block lies in it and holds there exactly its steps, each worker's blocks rise
-/// without overlap, and each place of the record lies in exactly one block. A fault is the first of its kind, by worker and receipt
-/// or by place; `Memory` may come before `Doubled` and `Uncovered`.
-pub fn audit(
-    alloc: Global,
-    finished: &Finished,
-    workers: &[Vec<Receipt>],
-) -> Result<(), AuditFault>
-    ensures ok { OnOk result (IsTiling finished.now.schedule.instrs (lists workers.now)) }
-    ensures err { IfErr result (λ f. IsFault finished.now.schedule.instrs (lists workers.now) f) }
+// What the audit finds, in its order.
+fn check_all(alloc: Global, log: &Schedule, workers: &[Vec<Receipt>]) -> Result<(), AuditFault>
+    ensures ok { OnOk result (IsTiling log.now.instrs (lists workers.now)) }
+    ensures err { IfErr result (λ f. IsFault log.now.instrs (lists workers.now) f) }
 {
-    let log = &finished.schedule;
     check_there(log, workers)?;
     check_rising(log, workers)?;
     check_once(alloc, log, workers)
+}
+
+/// Whether the workers' receipts, one list per worker, account for the finished board's record: each block lies in it and holds there
+/// exactly its steps, each worker's blocks rise without overlap, and each place of the record lies in exactly one block. A fault is the
+/// first of its kind, by worker and receipt or by place. `Memory` may come before `Doubled` and `Uncovered`; where the receipts account
+/// for the record there is no other fault. The time is linear in the record and the receipts' steps.
+pub fn audit(alloc: Global, finished: &Finished, workers: &[Vec<Receipt>]) -> Result<(), AuditFault>
+    ensures ok { OnOk result (IsTiling finished.now.schedule.instrs (lists workers.now)) }
+    ensures err { IfErr result (λ f. IsFault finished.now.schedule.instrs (lists workers.now) f) }
+    ensures exact { IsTiling finished.now.schedule.instrs (lists workers.now) → IfErr result (λ f. f ≡ AuditFault.Memory) }
+{
+    check_all(alloc, &finished.schedule, workers)
 }

@@ -1,4 +1,4 @@
-//! The board.
+// The board: what it lends, what it takes back, and what it records.
 ghost use Rattle.std.specs.Prelude.{◌≡◌, ◌+◌, ◌*◌, ◌<◌, ◌≤◌, ◌↔◌, true, false, None, Some, length, map, replicate, set, slice_get, [], ◌∷◌, ◌++◌, IfErr, IfNone, IfOk, IfSome, IsTrue, OnErr, OnOk};
 ghost use Rattle.ot_isa.specs.Program.{with_instr, AreClients, IsForClients};
 ghost use Rattle.ot_isa.specs.declared.instruction.Instr.TheVariants.{Join, Take};
@@ -26,7 +26,7 @@ use std::marker::Model;
 #[derive(Drop)]
 pub struct Board {
     machine: Machine,
-    record: Builder,
+    recorded: Builder,
     out: Vec<bool>,
     slots: Vec<Option<Lent>>,
     alloc: Global,
@@ -48,20 +48,20 @@ impl Model for Board {
 
     ghost Value = { BoardView };
 
-    ghost view = { λ b. board_in b.machine b.record.program b.out.items b.slots.items };
+    ghost view = { λ b. board_in b.machine b.recorded.program b.out.items b.slots.items };
 
-    ghost invariant = { λ b. IsBoard (board_in b.machine b.record.program b.out.items b.slots.items) };
+    ghost invariant = { λ b. IsBoard (board_in b.machine b.recorded.program b.out.items b.slots.items) };
 }
 
 // Adds the instruction to a record that takes it and has the room.
-fn append(record: &mut Builder, instr: Instr)
-    requires client { IsForClients record.old.program.clients instr }
-    requires fits { length record.old.program.instrs < 100000 }
-    requires room { 0 < record.old.room }
-    ensures program { record.new.program ≡ with_instr record.old.program instr }
-    ensures room { record.new.room + 1 ≡ record.old.room }
+fn append(builder: &mut Builder, instr: Instr)
+    requires client { IsForClients builder.old.program.clients instr }
+    requires fits { length builder.old.program.instrs < 100000 }
+    requires room { 0 < builder.old.room }
+    ensures program { builder.new.program ≡ with_instr builder.old.program instr }
+    ensures room { builder.new.room + 1 ≡ builder.old.room }
 {
-    match record.push(instr) {
+    match builder.push(instr) {
         Ok(()) => {}
         Err((PushFault::BadClient, _)) => unreachable!(),
         Err((PushFault::TooMany, _)) => unreachable!(),
@@ -70,7 +70,7 @@ fn append(record: &mut Builder, instr: Instr)
 }
 
 impl Board {
-    ghost use Rattle.ot_board.specs.Boards.{board_in, fresh, outside, with_out, with_parked, HasRoomFor, IsBoard, IsHere, IsJoinRefusal, IsLendRefusal, IsPickUpRefusal, IsRecorded, IsSettleRefusal, IsTakeRefusal, AreIn, IsFinished, IsLeastOut};
+    ghost use Rattle.ot_board.specs.Boards.{board_in, fresh, outside, with_out, with_parked, HasRoomFor, IsBoard, IsHere, IsJoinRefusal, IsLendRefusal, IsPickUpRefusal, IsRecorded, IsSettleRefusal, IsTakeRefusal, AreIn, IsFinished, IsLeastOut, RunsEndIn};
 
     /// The board at the opening, with all of its 1 to 64 clients joined, nothing recorded and nobody out. The start text has at most 40,000 scalars.
     pub fn new(alloc: Global, clients: u16, start: &[char]) -> Result<Board, AllocError>
@@ -94,15 +94,15 @@ impl Board {
         ensures { IfOk result (λ board. board ≡ fresh clients present start.now) }
     {
         let machine = Machine::with_present(alloc, clients, present, start)?;
-        let record = match Builder::with_present(alloc, clients, present, start) {
-            Ok(record) => record,
+        let recorded = match Builder::with_present(alloc, clients, present, start) {
+            Ok(recorded) => recorded,
             Err(_) => return Err(AllocError),
         };
         let out = vec![in alloc; false; clients as usize]?;
         let slots = empty_slots(alloc, clients as usize)?;
         Ok(Board {
             machine,
-            record,
+            recorded,
             out,
             slots,
             alloc,
@@ -114,7 +114,7 @@ impl Board {
         ensures value { result.now ≡ self.now.recorded.instrs }
         ensures kept { IsBoard self.now }
     {
-        self.record.instrs()
+        self.recorded.instrs()
     }
 
     /// The machine, as the recorded instructions lead to it from the opening.
@@ -153,7 +153,7 @@ impl Board {
         requires { count ≤ 64 }
         ensures { IsTrue result ↔ HasRoomFor self.now count }
     {
-        self.record.instrs().len() + STEP_LIMIT * self.outside() + count <= INSTR_LIMIT
+        self.recorded.instrs().len() + STEP_LIMIT * self.outside() + count <= INSTR_LIMIT
     }
 
     // Performs the instruction, which the table performs, and records it.
@@ -166,13 +166,13 @@ impl Board {
     {
         let mut steps = Vec::with_capacity(self.alloc, 1)?;
         let copy = instr.copy()?;
-        self.record.reserve(1)?;
-        let first = self.record.instrs().len();
+        self.recorded.reserve(1)?;
+        let first = self.recorded.instrs().len();
         match self.machine.step(&instr) {
             Ok(_shown) => {}
             Err(_) => return Err(AllocError),
         }
-        append(&mut self.record, copy);
+        append(&mut self.recorded, copy);
         steps.push_reserved(instr);
         Ok(Receipt { first, steps })
     }
@@ -305,15 +305,15 @@ impl Board {
         let Ok(copies) = copy_instrs(self.alloc, lent.steps()) else {
             return Err((SettleRefusal::Memory, lent));
         };
-        match self.record.reserve(copies.len()) {
+        match self.recorded.reserve(copies.len()) {
             Ok(()) => {}
             Err(_) => return Err((SettleRefusal::Memory, lent)),
         }
-        let first = self.record.instrs().len();
+        let first = self.recorded.instrs().len();
         let client = lent.client() as usize;
         let Remains { start, now, steps } = lent.into_remains();
         self.machine.install(&start, now, steps.as_slice());
-        append_all(&mut self.record, copies);
+        append_all(&mut self.recorded, copies);
         self.out[client] = false;
         Ok(Receipt { first, steps })
     }
@@ -332,8 +332,10 @@ impl Board {
     }
 
     /// The recorded schedule and the machine that it leads to, where no client is out; else the least client that is out, and the board back.
+    /// `ot_machine::run` of the schedule gives a machine in the same state, want of memory aside. It takes no memory.
     pub fn finish(self) -> Result<Finished, (StillOut, Board)>
         ensures ok { IfOk result (λ finished. IsFinished self finished.schedule finished.machine) }
+        ensures runs { IfOk result (λ finished. RunsEndIn finished.schedule finished.machine) }
         ensures out { IfErr result (λ e. IsLeastOut self.out e.0.0) }
         ensures back { IfErr result (λ e. e.1 ≡ self) }
     {
@@ -341,7 +343,7 @@ impl Board {
             return Err((StillOut(client), self));
         }
         Ok(Finished {
-            schedule: self.record.finish(),
+            schedule: self.recorded.finish(),
             machine: self.machine,
         })
     }
@@ -389,14 +391,14 @@ fn copy_instrs(alloc: Global, instrs: &[Instr]) -> Result<Vec<Instr>, AllocError
 }
 
 // Adds the instructions to a record that takes them and has the room.
-fn append_all(record: &mut Builder, instrs: Vec<Instr>)
-    requires clients { All (IsForClients record.old.program.clients) instrs.items }
-    requires fits { length record.old.program.instrs + length instrs.items ≤ 100000 }
-    requires room { length instrs.items ≤ record.old.room }
-    ensures { record.new.program ≡ with_steps record.old.program instrs.items }
+fn append_all(builder: &mut Builder, instrs: Vec<Instr>)
+    requires clients { All (IsForClients builder.old.program.clients) instrs.items }
+    requires fits { length builder.old.program.instrs + length instrs.items ≤ 100000 }
+    requires room { length instrs.items ≤ builder.old.room }
+    ensures { builder.new.program ≡ with_steps builder.old.program instrs.items }
 {
     for instr in instrs {
-        append(record, instr);
+        append(builder, instr);
     }
 }
 

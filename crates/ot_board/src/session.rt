@@ -1,9 +1,10 @@
-//! Typed sessions.
-ghost use Rattle.std.specs.Prelude.{◌≡◌, ◌<◌, ◌≤◌, suc, length, None, Some, IfErr, IfOk, IfNone, IfSome};
+// Typed sessions: a client off the machine, and the steps that it makes there.
+ghost use Rattle.std.specs.Prelude.{◌≡◌, ◌≢◌, ◌<◌, ◌≤◌, suc, length, None, Some, IfErr, IfOk, IfNone, IfSome};
 ghost use Rattle.ot_isa.specs.declared.instruction.Instr.TheVariants.{Acknowledge, Deliver, Edit, Read};
 ghost use Rattle.ot_model.specs.Session.{IsAllowed, IsSoundPart, or_else};
 ghost use Rattle.ot_machine.specs.Parts.{part_in};
 ghost use Rattle.std.specs.Prelude.{[], vec_capacity};
+ghost use Rattle.ot_model.specs.Table as table;
 ghost use Rattle.ot_model.specs.Table.{Ack, Op, carried, message_edited, phase_delivered, phase_edited, tag_operation};
 ghost use Rattle.ot_client.specs.Client.{message_of};
 ghost use Rattle.std.specs.Option.{option_map};
@@ -65,6 +66,14 @@ impl<S: ClientState> Session<S> {
         self.steps.as_slice()
     }
 
+    /// The client's state.
+    pub fn state(&self) -> &S
+        ensures revision { (S.as_state result.now).revision ≡ self.now.now.client.revision }
+        ensures phase { phase_in (S.as_state result.now).phase ≡ self.now.now.client.phase }
+    {
+        &self.state
+    }
+
     /// The client's list.
     pub fn document(&self) -> &Doc<Tagged>
         ensures { result.now ≡ self.now.now.client.list }
@@ -107,6 +116,7 @@ impl<S: ClientState> Session<S> {
     fn next_operation(&self) -> Result<&TextOp<Tagged>, SessionRefusal>
         ensures ok { IfOk result (λ op. IsNextHead self.now (Op op.now)) }
         ensures err { IfErr result (λ r. IsStepRefusal self.now (Deliver self.now.start.number) r) }
+        ensures never { self.now.now.client.phase ≡ table.Synchronized → IfErr result (λ r. r ≢ SessionRefusal.WrongHead) }
     {
         if self.steps.len() >= STEP_LIMIT {
             return Err(SessionRefusal::SessionFull);
@@ -122,6 +132,7 @@ impl<S: ClientState> Session<S> {
     fn next_acknowledged(&self) -> Result<(), SessionRefusal>
         ensures ok { IfOk result (λ _. IsNextHead self.now Ack) }
         ensures err { IfErr result (λ r. IsStepRefusal self.now (Acknowledge self.now.start.number) r) }
+        ensures never { IfErr result (λ r. r ≢ SessionRefusal.Memory) }
     {
         if self.steps.len() >= STEP_LIMIT {
             return Err(SessionRefusal::SessionFull);
@@ -145,10 +156,11 @@ impl<S: ClientState> Session<S> {
     }
 
     /// Takes the next message, another's operation, off the session's own part of the downlink. Refusals in order: `SessionFull`, `LinkEmpty`,
-    /// `WrongHead`, `Memory`; the session then comes back as it was.
+    /// `WrongHead`, `Memory`; the session then comes back as it was. A synchronized client never meets an acknowledgement.
     pub fn deliver(mut self) -> Result<Session<S>, (SessionRefusal, Session<S>)>
         ensures ok { IfOk result (λ next. IsNext self (Deliver self.start.number) None next) }
         ensures refused { IfErr result (λ back. IsStepRefusal self (Deliver self.start.number) back.0) }
+        ensures never { self.now.client.phase ≡ table.Synchronized → IfErr result (λ back. back.0 ≢ SessionRefusal.WrongHead) }
         ensures back { IfErr result (λ back. back.1 ≡ self) }
     {
         let given = match self.next_operation() {
@@ -169,9 +181,7 @@ impl<S: ClientState> Session<S> {
     }
 
     /// Shows the client's list. Refusals in order: `SessionFull`, `Memory`; the session then comes back as it was.
-    pub fn read(
-        mut self,
-    ) -> Result<(Session<S>, Doc<Tagged>), (SessionRefusal, Session<S>)>
+    pub fn read(mut self) -> Result<(Session<S>, Doc<Tagged>), (SessionRefusal, Session<S>)>
         ensures ok { IfOk result (λ given. IsNext self (Read self.start.number) (Some (shown_by self given.1)) given.0) }
         ensures refused { IfErr result (λ back. IsStepRefusal self (Read self.start.number) back.0) }
         ensures back { IfErr result (λ back. back.1 ≡ self) }
@@ -309,6 +319,7 @@ impl Session<AwaitingConfirm<Tagged>> {
     ) -> Result<Session<Synchronized>, (SessionRefusal, Session<AwaitingConfirm<Tagged>>)>
         ensures ok { IfOk result (λ next. IsNext self (Acknowledge self.start.number) None next) }
         ensures refused { IfErr result (λ back. IsStepRefusal self (Acknowledge self.start.number) back.0) }
+        ensures never { IfErr result (λ back. back.0 ≢ SessionRefusal.Memory) }
         ensures back { IfErr result (λ back. back.1 ≡ self) }
     {
         match self.next_acknowledged() {

@@ -1,4 +1,4 @@
-//! The three states of a client.
+// The three states of a client, as a session has them.
 ghost use Rattle.std.specs.Prelude.{◌≡◌, ◌<◌, IfOk};
 ghost use Rattle.std.specs.Option.{option_map};
 ghost use Rattle.ot_client.specs.State as state;
@@ -35,10 +35,7 @@ pub trait EditedState: ClientState {
     type Edited: ClientState;
 
     /// The client after the user's edit, and what it sends. This one stays as it is.
-    fn edited(
-        &self,
-        op: TextOp<Tagged>,
-    ) -> Result<(Self::Edited, Option<Sent<Tagged>>), AllocError>
+    fn edited(&self, op: TextOp<Tagged>) -> Result<(Self::Edited, Option<Sent<Tagged>>), AllocError>
         requires { state.MayEdit (Self.as_state self.now).phase op }
         ensures state { IfOk result (λ given. Self.Edited.as_state given.0 ≡ state.edited (Self.as_state self.now) op) }
         ensures sent { IfOk result (λ given. option_map message_of given.1 ≡ state.message_edited (Self.as_state self.now).revision (Self.as_state self.now).phase op) };

@@ -15,8 +15,8 @@
 //! the document is to be changed by comes back. Where memory is wanting, the state and the operation come back as they were.
 //! These are the functions `applyClient`, `applyServer` and `serverAck` of the three states in ot.js' `Client`.
 //!
-//! Contracts see a state as `State` of `specs/State.antt`: a revision and a `Phase`. `edited`, `delivered` and `phase_acknowledged` are the
-//! three rules, `carried` what a delivery applies, `message_edited` and `message_acknowledged` what is sent. The types' own values are a revision, a
+//! Contracts see a state as `State` of `specs/State.antt`: a revision and a `Phase`. `edited` and `delivered` are two of the rules, `carried` what a
+//! delivery applies; what an acknowledgement leaves, and what is sent, each call's clause says itself. The types' own values are a revision, a
 //! `Confirming` and a `Buffering`; `synchronized`, `confirming` and `buffering` give each as a `State`, and `state_of` of `specs/Client.antt` a [`Client`].
 //!
 //! Begin reading at the rules in `specs/State.antt`, then at [`AwaitingConfirm`].

@@ -10,3 +10,4 @@ pub mod Instructions
 pub mod Images
 pub mod Written
 pub mod Examples
+pub mod Past

@@ -26,7 +26,7 @@ onward_then read more on then_on s = reaches_then s.at (read s) more (on s) then
 -- what fails, fails with what comes after it
 pub fails_then : {A B : Type 0} (e : ReadError) (r : Result (A × Spot) ImageFault) (more : A × Spot → Result (B × Spot) ImageFault)
     → Fails e r → ((x : A) → IsOnward (λ s. more (x, s))) → Fails e (r >>= more)
-fails_then (errors.Memory at) r more h on = reaches_then at r more h on
+fails_then (errors.Memory at) r more h on = reaches_then (at + 1) r more h on
 fails_then (errors.Fault f) r more h on = ap (λ k. k >>= more) h
 
 module _ {A : Type 0} (step : A → Spot → Result (A × Spot) ImageFault) where
@@ -52,3 +52,8 @@ module _ {A : Type 0} (step : A → Spot → Result (A × Spot) ImageFault) wher
 
   pub stops : ((x : A) → IsOnward (step x)) → (count i : ℕ) (x : A) (s : Spot) (total : Result (A × Spot) ImageFault) → times step (count - i) x s ≡ total → Reaches s.at total
   stops on count i x s total so_far = subst (λ r. Reaches s.at r) so_far (times_onward on (count - i) x s)
+
+  -- a step that did not fail goes past its place
+  pub goes_past : ((x : A) → IsOnward (step x)) → (count i : ℕ) (x : A) (s : Spot) (y : A) (t : Spot) (total : Result (A × Spot) ImageFault) → i < count → step x s ≡ Ok (y, t) → s.at < t.at → times step (count - i) x s ≡ total → Reaches (s.at + 1) total
+  goes_past on count i x s y t total lt is further so_far =
+      reaches_before (s.at + 1) t.at total (omega arith) (stops on count (i + 1) y t total (goes_on count i x s y t total lt is so_far))

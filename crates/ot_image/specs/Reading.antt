@@ -1,5 +1,5 @@
 -- Reading an image from left to right, with the first fault and its place.
-use Rattle.std.specs.Prelude.{◌≡◌, ◌≤◌, ◌+◌, ℕ, zero, suc, List, [], ◌∷◌, ◌++◌, length, take, drop, Result, Ok, Err, IfErr, nat_lt, nat_le, ◌==◌, ◌&&◌, not, Bool, if◌then◌else◌}
+use Rattle.std.specs.Prelude.{◌≡◌, ◌<◌, ◌≤◌, ◌+◌, ℕ, zero, suc, List, [], ◌∷◌, ◌++◌, length, take, drop, Result, Ok, Err, IfErr, nat_lt, nat_le, ◌==◌, ◌&&◌, not, Bool, if◌then◌else◌}
 use Rattle.std.specs.Int.{Width, w8, w16, w32, byte_len, from_be_bytes}
 use Rattle.std.specs.Str.{bytes_eq}
 use Rattle.std.proofs.Math.Utf8.{scalar}
@@ -9,7 +9,7 @@ use Rattle.ot_isa.specs.declared.instruction.Instr.TheVariants as instr
 use Rattle.ot_isa.specs.Program.{Program, opening, with_instr}
 use Rattle.ot_image.specs.declared.fault.ImageFault.{ImageFault}
 use Rattle.ot_image.specs.declared.fault.Kind.{Kind}
-use Rattle.ot_image.specs.declared.fault.Kind.TheVariants.{Cut, BadMagic, BadNumber, TooLong, TooMany, BadScalar, BadOpcode, BadClient, NotNormal, Trailing}
+use Rattle.ot_image.specs.declared.fault.Kind.TheVariants.{Cut, BadMagic, BadNumber, TooLong, TooMany, BadScalar, BadOpcode, BadClient, NotNormal, Trailing, Memory}
 use Rattle.ot_image.specs.declared.fault.ReadError.{ReadError}
 use Rattle.ot_image.specs.declared.fault.ReadError.TheVariants as errors
 
@@ -31,14 +31,14 @@ abbrev pub IsRead : {X Y : Type 0} → (X → Y) → Result X ImageFault → Res
 IsRead view (Ok x) read = read ≡ Ok (view x)
 IsRead view (Err f) read = read ≡ Err f
 
--- reading gets past this place with no fault before it
+-- reading gets as far as this place with no fault before it
 abbrev pub Reaches : {A : Type 0} → ℕ → Result (A × Spot) ImageFault → Type 0
 Reaches at (Ok x) = at ≤ x.1.at
 Reaches at (Err f) = at ≤ f.at
 
--- reading fails so, or gets to the field at which memory ran out
+-- reading fails so, or gets past the field at which memory ran out
 abbrev pub Fails : {A : Type 0} → ReadError → Result (A × Spot) ImageFault → Type 0
-Fails (errors.Memory at) read = Reaches at read
+Fails (errors.Memory at) read = Reaches (at + 1) read
 Fails (errors.Fault f) read = read ≡ Err f
 
 -- The same as IsRead of a function that takes memory.
@@ -49,7 +49,7 @@ Gives view (Err e) read = Fails e read
 -- The same of a whole image.
 abbrev pub Loads : {X Y : Type 0} → (X → Y) → Result X ReadError → Result Y ImageFault → Type 0
 Loads view (Ok x) read = read ≡ Ok (view x)
-Loads view (Err (errors.Memory at)) read = IfErr read (λ f. at ≤ f.at)
+Loads view (Err (errors.Memory at)) read = IfErr read (λ f. at < f.at)
 Loads view (Err (errors.Fault f)) read = read ≡ Err f
 
 abbrev pub past : ℕ → Spot → Spot
@@ -205,3 +205,7 @@ image_at s = program_at s >>= λ p. if length p.1.rest == 0 then Ok p.0 else Err
 
 abbrev pub image_of : List ℕ → Result Program ImageFault
 image_of bytes = image_at (record { at = 0; rest = bytes })
+
+-- memory ran out at a field; neither it nor one before it is at fault
+abbrev pub IsWant : List ℕ → ImageFault → Type 0
+IsWant bytes want = (want.kind ≡ Memory) × IfErr (image_of bytes) (λ f. want.at < f.at)

@@ -58,7 +58,7 @@ fn filled<'a>(
 ) -> Result<(u8, Spot<'a>), ReadError>
     requires base { (code ≡ 17) ⊎ (op.old.base + count ≤ 1000000) }
     requires target { (code ≡ 18) ⊎ (length op.old.image + count ≤ 1000000) }
-    requires place { at ≤ spot.at }
+    requires place { at < spot.at }
     ensures { Gives (λ x. (record { last = x.0; op = op.new }, seen x.1)) result (filled_at code count op.old (seen spot.entry)) }
 {
     let _base = op.base_len();

@@ -42,8 +42,6 @@ mod fault;
 mod loading;
 mod reading;
 mod spot;
-#[cfg(test)]
-mod tests;
 mod writing;
 
 pub use fault::{ImageFault, Kind};

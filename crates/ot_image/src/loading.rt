@@ -2,7 +2,7 @@
 
 ghost use Rattle.std.specs.Prelude.{◌≡◌, ◌≤◌, ◌<◌, ◌⊎◌, ◌+◌, [], length, OnOk, IsOk, IfOk, IfErr, Ok, Err, Some};
 ghost use Rattle.ot_isa.specs.Program.{Program, client_of, IsForClients, IsProgram};
-ghost use Rattle.ot_image.specs.Reading.{IsRead, Gives, Loads, times, named_at, instr_at, push_instr, head_at, program_at, image_at, image_of, plain_instr};
+ghost use Rattle.ot_image.specs.Reading.{IsRead, Gives, Loads, times, named_at, instr_at, push_instr, head_at, program_at, image_at, image_of, plain_instr, IsWant};
 ghost use Rattle.ot_image.specs.Spelling.{IsImageOf, ImagesDiffer};
 ghost use Rattle.ot_image.specs.Views.{seen};
 
@@ -108,8 +108,8 @@ fn head_of<'a>(alloc: Global, bytes: &'a [u8]) -> Result<((u8, Builder), Spot<'a
     let (version, spot) = version_of(Spot { at: 0, rest: bytes })?;
     let (clients, spot) = clients_of(spot)?;
     let (present, spot) = present_of(version, clients, spot)?;
-    let (count, spot) = start_count_of(spot)?;
-    let (start, after) = chars_of(alloc, count, spot)?;
+    let (count, behind) = start_count_of(spot)?;
+    let (start, after) = chars_of(alloc, count, behind)?;
     match Builder::with_present(alloc, clients, present, start.as_slice()) {
         Ok(builder) => Ok(((version, builder), after)),
         Err(OpeningFault::Memory) => Err(ReadError::Memory(spot.at)),
@@ -146,8 +146,7 @@ fn schedule_of(alloc: Global, bytes: &[u8]) -> Result<Schedule, ReadError>
 fn loaded(alloc: Global, bytes: &[u8]) -> Result<Schedule, ImageFault>
     ensures ok { IfOk result (λ s. image_of bytes.now ≡ Ok s) }
     ensures limits { IfOk result (λ s. IsProgram s) }
-    ensures err { IfErr result (λ f. (f.kind ≡ Kind.Memory) ⊎ (image_of bytes.now ≡ Err f)) }
-    ensures memory { IfErr result (λ f. f.kind ≡ Kind.Memory → IfErr (image_of bytes.now) (λ g. f.at ≤ g.at)) }
+    ensures err { IfErr result (λ f. (image_of bytes.now ≡ Err f) ⊎ IsWant bytes.now f) }
 {
     match schedule_of(alloc, bytes) {
         Ok(schedule) => {
@@ -165,16 +164,14 @@ fn loaded(alloc: Global, bytes: &[u8]) -> Result<Schedule, ImageFault>
 /// The schedule of which the bytes are an image, of either version, or their first fault from left to right.
 ///
 /// The fault's place is the offset of the faulty field's first byte, for `Cut` the number of bytes given. `Memory` comes
-/// at the field for which a growth was refused, and only where no field before it is at fault.
+/// at the field for which a growth was refused, and only where neither this field nor one before it is at fault.
 pub fn load(alloc: Global, bytes: &[u8]) -> Result<Schedule, ImageFault>
     // What is loaded has these bytes as an image.
     ensures found { IfOk result (λ s. IsImageOf bytes.now s) }
     // Of what these bytes are an image, that is loaded, unless memory runs out.
     ensures only { (p : Program) → IsImageOf bytes.now p → IfOk result (λ s. s ≡ p) × IfErr result (λ f. f.kind ≡ Kind.Memory) }
-    // Which fault it is.
-    ensures fault { IfErr result (λ f. (f.kind ≡ Kind.Memory) ⊎ (image_of bytes.now ≡ Err f)) }
-    // Nothing before a field for which there was no memory is at fault.
-    ensures memory { IfErr result (λ f. f.kind ≡ Kind.Memory → IfErr (image_of bytes.now) (λ g. f.at ≤ g.at)) }
+    // Which fault it is; or memory ran out, at a field before it.
+    ensures fault { IfErr result (λ f. (image_of bytes.now ≡ Err f) ⊎ IsWant bytes.now f) }
 {
     loaded(alloc, bytes)
 }

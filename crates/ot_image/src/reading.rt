@@ -127,6 +127,7 @@ pub fn present_of<'a>(
 pub fn start_count_of<'a>(spot: Spot<'a>) -> Result<(u32, Spot<'a>), ImageFault>
     ensures read { IsRead (λ x. (x.0, seen x.1)) result (start_count_at (seen spot.entry)) }
     ensures range { IfOk result (λ x. x.0 ≤ 40000) }
+    ensures onward { IfOk result (λ x. spot.entry.at < x.1.at) }
 {
     let (count, after) = u32_at(spot)?;
     if count > 40_000 {
@@ -151,7 +152,8 @@ pub fn instr_count_of<'a>(spot: Spot<'a>) -> Result<(u32, Spot<'a>), ImageFault>
 /// A character.
 #[tactic(auto, unfolding(crate::specs::Reading::scalar_at))]
 pub fn char_of<'a>(spot: Spot<'a>) -> Result<(char, Spot<'a>), ImageFault>
-    ensures { IsRead (λ x. (x.0, seen x.1)) result (scalar_at (seen spot.entry)) }
+    ensures read { IsRead (λ x. (x.0, seen x.1)) result (scalar_at (seen spot.entry)) }
+    ensures onward { IfOk result (λ x. spot.entry.at < x.1.at) }
 {
     let (code, after) = u32_at(spot)?;
     match char::from_u32(code) {
@@ -212,7 +214,7 @@ pub fn length_of<'a>(
     ensures read { IsRead (λ x. (x.0, seen x.1)) result (length_at code op.now (seen spot.entry)) }
     ensures base { IfOk result (λ x. (code ≡ 17) ⊎ (op.now.base + x.0 ≤ 1000000)) }
     ensures target { IfOk result (λ x. (code ≡ 18) ⊎ (length op.now.image + x.0 ≤ 1000000)) }
-    ensures onward { IfOk result (λ x. spot.entry.at ≤ x.1.at) }
+    ensures onward { IfOk result (λ x. spot.entry.at < x.1.at) }
 {
     let (count, after) = u32_at(spot)?;
     if count == 0 {

@@ -62,7 +62,8 @@ fn tagged_components(
 }
 
 /// The operation over tagged characters: what it inserts is of this maker, numbered from `first` on from left to
-/// right; what it keeps and deletes stays. A client makes at most 15,000 characters.
+/// right; what it keeps and deletes stays. A client makes at most 15,000 characters: `first` and the number of inserted characters together
+/// are at most that.
 pub fn tagged(
     alloc: Global,
     op: &TextOp<char>,
@@ -77,7 +78,7 @@ pub fn tagged(
     tagged_components(alloc, op.components(), origin, first)
 }
 
-/// The document that a run starts with: the characters are tagged 65,535:0, 65,535:1, and so on.
+/// The document that a run starts with, of at most 40,000 characters: they are tagged 65,535:0, 65,535:1, and so on.
 pub fn start_doc(alloc: Global, start: &[char]) -> Result<Doc<Tagged>, AllocError>
     requires { length start.now ≤ 40000 }
     ensures value { IfOk result (λ d. d ≡ tagged_chars 65535 0 start.now) }

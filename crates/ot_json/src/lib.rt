@@ -24,6 +24,3 @@ mod writing;
 pub use fault::OpFault;
 pub use reading::{op_of_value, read_op};
 pub use writing::write_op;
-
-#[cfg(test)]
-mod tests;

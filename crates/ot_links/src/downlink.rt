@@ -32,7 +32,8 @@ impl<M: Drop> Downlink<M> {
         }
     }
 
-    /// Makes room for at least one more message. Only where there is none does it ask for memory; then it makes as much room as there are messages.
+    /// Makes room for at least one more message. Only where there is none does it ask for memory; then it asks for as much room as there are messages,
+    /// at least four. After an error messages and room are as they were.
     pub fn reserve_one(&mut self) -> Result<(), AllocError>
         ensures items { self.new.items ≡ self.old.items }
         ensures room { OnOk result (0 < self.new.room) }

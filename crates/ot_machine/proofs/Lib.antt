@@ -16,5 +16,4 @@ pub mod Keeping
 pub mod Retaking
 pub mod Parting
 pub mod Installing
-pub mod Lending
 pub mod Orders

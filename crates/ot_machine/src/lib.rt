@@ -42,8 +42,6 @@ mod machine;
 mod order_laws;
 mod outcome;
 mod part;
-#[cfg(test)]
-mod part_tests;
 mod readers;
 mod rows_kept;
 mod running;

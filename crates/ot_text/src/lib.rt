@@ -112,8 +112,8 @@ impl<T: Element> TextOp<T> {
         }
     }
 
-    /// The operation without components, on the empty document, with room for `count` components from `alloc`: so many are added
-    /// without one more growth of the list of components. `Err` where memory for them was refused.
+    /// The operation without components, on the empty document, which asks `alloc` for room for `count` components beforehand. `Err` where that
+    /// was refused. Room is no part of the operation's value.
     pub fn with_capacity(alloc: Global, count: usize) -> Result<TextOp<T>, AllocError>
         ensures { IfOk result (λ op. op ≡ empty) }
     {

@@ -1,22 +1,31 @@
 -- What is written and answered, from its parts.
-use Rattle.std.proofs.Common.{◌≡◌, ◌<◌, ℕ, List, Option, Some, None, Ok, inl, inr}
-use Rattle.std.specs.Prelude.{IfSome}
+use Rattle.std.proofs.Common.{◌≡◌, ◌⊎◌, ℕ, List, Option, Some, None, inl, inr, refl, arith, true}
+use Rattle.std.specs.Prelude.{IfSome, IsSome}
 use Rattle.std.proofs.KnownBytes.{Keeps-refl}
-use Rattle.ot_isa.specs.Program.{Program}
-use Rattle.ot_asm.specs.Stepping.{outcome}
-use Rattle.otbench.specs.declared.words.Request.{Request}
-use Rattle.otbench.specs.Streams.{Streams}
-use Rattle.otbench.specs.Served.{GivesImage, OfText, ServesWords}
+use Rattle.streams.specs.Streams.{WritesPart}
+use Rattle.clap.specs.Words.{Text, takes}
+use Rattle.outcomes.specs.Outcomes.{Streams, memory_fault}
+use Rattle.otbench.specs.declared.words.Asked.{Asked}
+use Rattle.otbench.specs.Requests.{otbench_app, request_of}
+use Rattle.otbench.specs.Served.{ServesAsked, ServesWords}
 
--- the image of the schedule that the text spells
-pub image_given : (input : Option (List ℕ)) (schedule : Program) (status : ℕ) (streams : Streams)
-    → IfSome input (λ text. outcome text ≡ Ok schedule) → GivesImage schedule status streams
-    → IfSome input (λ text. OfText GivesImage text status streams)
-image_given None schedule status streams spelled given = tt
-image_given (Some text) schedule status streams spelled given = inr (inl (schedule, spelled, given))
+-- a subcommand
+pub served : (words : List Text) (input : Option (List ℕ)) (asked : Asked) (status : ℕ) (streams : Streams) → request_of words ≡ Some asked
+    → IfSome input (λ text. ServesAsked asked text status streams) → IfSome input (λ text. ServesWords words text status streams)
+served words None asked status streams says serves = tt
+served words (Some text) asked status streams says serves = inl (asked, says, serves)
+
+-- a request that is not there
+none_of : (request : Option Asked) → (IsSome request → ⊥) → request ≡ None
+none_of None missing = refl
+none_of (Some request) missing = absurd (missing refl)
 
 -- no subcommand
-pub none_served : (request : Option Request) (text : List ℕ) (status : ℕ) (output faults faults' : Option (List ℕ)) → 0 < status
-    → ServesWords request text status (record { output = output; output' = output; faults = faults; faults' = faults' })
-none_served None text status output faults faults' above = (above, Keeps-refl output)
-none_served (Some request) text status output faults faults' above = inr (above, Keeps-refl output)
+pub none_served : (words : List Text) (input output faults faults' : Option (List ℕ)) (status : ℕ)
+    → (takes otbench_app words ≡ true → IsSome (request_of words) → status ≡ 1)
+    → (status ≡ 2 → (text : List ℕ) × WritesPart faults faults' text) → ((status ≡ 1) × WritesPart faults faults' memory_fault) ⊎ (status ≡ 2)
+    → IfSome input (λ text. ServesWords words text status (record { output = output; output' = output; faults = faults; faults' = faults' }))
+none_served words None output faults faults' status refused told wanting = tt
+none_served words (Some text) output faults faults' status refused told (inl wanting) = inr (inr (wanting.0, Keeps-refl output, wanting.1))
+none_served words (Some text) output faults faults' status refused told (inr two) =
+    inr (inl ((λ taken. none_of (request_of words) (λ some. absurd (omega (arith, two, refused taken some)))), (two, Keeps-refl output, told two)))

@@ -10,7 +10,7 @@ use Rattle.ot_asm.specs.Stepping.{outcome_of_lines}
 use Rattle.ot_debug.specs.Session.{Session, started}
 use Rattle.ot_console.specs.declared.talking.TalkStop.{TalkStop}
 use Rattle.ot_console.specs.Talking.{TalksAll, TalksPart}
-use Rattle.otbench.specs.Streams.{Streams}
+use Rattle.outcomes.specs.Outcomes.{Streams}
 use Rattle.otbench.specs.Debugged.{talk_status, Debugs, MayConverse, TellsStop}
 
 -- each line was answered
@@ -24,7 +24,7 @@ converses schedule before after faulted (Some rest) earlier old new faults begun
       text = said.text;
       faulted = faulted;
       talks = rw (said.all, ← begun) said.talks;
-      gives = inl (refl, said.written, Keeps-refl faults);
+      gives = (inl (refl, said.written), Keeps-refl faults);
     })
 
 -- the talk broke off

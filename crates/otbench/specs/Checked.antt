@@ -7,7 +7,8 @@ use Rattle.ot_model.specs.declared.shown.Refusal.{Refusal}
 use Rattle.ot_machine.specs.declared.outcome.Run.{Run}
 use Rattle.ot_machine.specs.Ended.{IsRun}
 use Rattle.ot_report.specs.Findings.{findings}
-use Rattle.otbench.specs.Streams.{Streams, Gives, GivesUp, stop_status}
+use Rattle.outcomes.specs.Outcomes.{Streams, Gives, WantsMemory}
+use Rattle.otbench.specs.Ran.{stop_status}
 
 -- 1 for an instruction that was not performed and for a trace that is too large, else 0
 abbrev pub check_status : Bool → Option (ℕ × Refusal) → ℕ
@@ -21,4 +22,4 @@ pub record Finds (schedule : Program) (status : ℕ) (streams : Streams) : Type 
 
 -- what is found, or want of memory for it
 abbrev pub MayFind : Program → ℕ → Streams → Type 0
-MayFind schedule status streams = Finds schedule status streams ⊎ GivesUp status streams
+MayFind schedule status streams = Finds schedule status streams ⊎ WantsMemory status streams

@@ -10,8 +10,8 @@ use Rattle.ot_debug.specs.Session.{Session, started}
 use Rattle.ot_console.specs.declared.talking.TalkStop.{TalkStop}
 use Rattle.ot_console.specs.declared.talking.TalkStop.TheVariants as stop
 use Rattle.ot_console.specs.Talking.{Talks, IsWritten, IsNumber}
-use Rattle.otbench.specs.Streams.{Streams, Complains, Gives, GivesUp}
-use Rattle.otbench.specs.Faults.{RefusesLines, line_fault}
+use Rattle.outcomes.specs.Outcomes.{Streams, Complains, Gives, WantsMemory}
+use Rattle.ot_input.specs.Faults.{RefusesLines, line_fault}
 
 -- 1 where a reply was `bad command`, a refused instruction or `no memory`, else 0
 abbrev pub talk_status : Bool → ℕ
@@ -50,7 +50,7 @@ pub record BreaksOff (schedule : Program) (lines : List (List ℕ)) (earlier : �
 -- a talk about the schedule, a first part of one, or want of memory for it
 abbrev pub MayConverse : Program → List (List ℕ) → ℕ → ℕ → Streams → Type 0
 MayConverse schedule lines earlier status streams =
-    Converses schedule lines status streams ⊎ BreaksOff schedule lines earlier status streams ⊎ GivesUp status streams
+    Converses schedule lines status streams ⊎ BreaksOff schedule lines earlier status streams ⊎ WantsMemory status streams
 
 -- how many lines stand before those behind the mark: the schedule's, and the mark
 abbrev pub lines_up_to_mark : List (List ℕ) → ℕ

@@ -9,7 +9,7 @@ use Rattle.ot_judge.specs.Reading.{trace_of_text}
 use Rattle.ot_judge.specs.Verdict.{IsVerdict}
 use Rattle.ot_model.specs.Trace.{TraceView}
 use Rattle.ot_report.specs.Verdicts.{verdict_line}
-use Rattle.otbench.specs.Streams.{Streams, Complains, Gives, GivesUp}
+use Rattle.outcomes.specs.Outcomes.{Streams, Refuses, Gives, GivesUp, WantsMemory}
 
 -- 0 where the property holds
 abbrev pub verdict_status : Verdict → ℕ
@@ -32,8 +32,7 @@ trace_of_bytes bytes = if is_utf8 bytes then trace_of_text bytes else Err kind.N
 pub record RefusesTrace (bytes : List ℕ) (status : ℕ) (streams : Streams) : Type 0 where
   pub fault : TraceFault
   pub named : fault ≢ kind.Memory → trace_of_bytes bytes ≡ Err fault
-  pub gives_up : GivesUp status streams
-  pub complains : Complains (trace_fault fault) streams.faults streams.faults'
+  pub refuses : Refuses (trace_fault fault) status streams
 
 -- the verdict of the trace, as it is printed
 pub record GivesVerdict (trace : TraceView) (status : ℕ) (streams : Streams) : Type 0 where
@@ -43,9 +42,9 @@ pub record GivesVerdict (trace : TraceView) (status : ℕ) (streams : Streams) :
 
 -- the verdict, or want of memory for it
 abbrev pub MayGiveVerdict : TraceView → ℕ → Streams → Type 0
-MayGiveVerdict trace status streams = GivesVerdict trace status streams ⊎ GivesUp status streams
+MayGiveVerdict trace status streams = GivesVerdict trace status streams ⊎ WantsMemory status streams
 
--- what is done with an input
+-- the bytes were not read whole, or they are refused, or they are a trace, which is judged
 abbrev pub Judges : List ℕ → ℕ → Streams → Type 0
 Judges bytes status streams =
-    RefusesTrace bytes status streams ⊎ ((trace : TraceView) × (trace_of_bytes bytes ≡ Ok trace) × MayGiveVerdict trace status streams) ⊎ GivesUp status streams
+    GivesUp status streams ⊎ RefusesTrace bytes status streams ⊎ ((trace : TraceView) × (trace_of_bytes bytes ≡ Ok trace) × MayGiveVerdict trace status streams)

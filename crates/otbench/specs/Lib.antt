@@ -1,6 +1,6 @@
 pub mod Requests
-pub mod Streams
-pub mod Faults
+pub mod Ran
+pub mod Converted
 pub mod Judged
 pub mod Checked
 pub mod Debugged

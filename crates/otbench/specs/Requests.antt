@@ -1,31 +1,57 @@
 -- What the program's words ask for, as `clap` reads them.
-use Rattle.std.specs.Prelude.{Bool, true, false, List, Option, Some, None, option_and_then, codes, if◌then◌else◌}
+use Rattle.std.specs.Prelude.{◌≡◌, Bool, true, false, List, Option, Some, None, option_and_then, codes, if◌then◌else◌}
 use Rattle.std.specs.Str.{bytes_eq}
 use Rattle.clap.specs.Words.{App, Row, Rule, Text, new_app, new_rule, with_rule, with_subcommand, subcommand_of, first_of}
 use Rattle.clap.specs.declared.builder.ArgAction.TheVariants.{SetTrue}
 use Rattle.otbench.specs.declared.words.Form.{Form}
 use Rattle.otbench.specs.declared.words.Form.TheVariants as form
 use Rattle.otbench.specs.declared.words.Request.{Request}
-use Rattle.otbench.specs.declared.words.Request.TheVariants.{Run, Check, Debug, Assemble, Disassemble, Judge}
+use Rattle.otbench.specs.declared.words.Request.TheVariants.{Run, Check, Debug, Assemble, Disassemble, Judge, Steps}
+use Rattle.otbench.specs.declared.words.Asked.{Asked}
+use Rattle.otbench.specs.declared.words.Asked.TheVariants.{Plainly, Threads}
 
--- the flag --image
-abbrev pub image : Rule
-image = record (new_rule (codes "image")) { long = Some (codes "image"); action = Some SetTrue }
+-- the flag `--ID`
+abbrev pub flag_rule : Text → Rule
+flag_rule id = record (new_rule id) { long = Some id; action = Some SetTrue }
+
+-- a subcommand without arguments, and one with one flag
+abbrev pub plain_app : Text → App
+plain_app name = new_app name
+
+abbrev pub flagged_app : Text → Text → App
+flagged_app name flag = with_rule (new_app name) (flag_rule flag)
+
+-- the program without its subcommands: it tells its version, and wants a subcommand
+abbrev pub versioned : App → App
+versioned a = record a { top = record a.top { has_version = true } }
 
 abbrev pub required : App → App
 required a = record a { top = record a.top { subcommand_required = true } }
 
--- the program with the subcommands that run a schedule
-abbrev pub running_app : App
-running_app =
-    with_subcommand (with_subcommand (with_subcommand (required (new_app (codes "otbench")))
-    (with_rule (new_app (codes "run")) image).top)
-    (new_app (codes "check")).top)
-    (new_app (codes "debug")).top
+abbrev pub top_app : App
+top_app = required (versioned (new_app (codes "otbench")))
+
+-- none of the command's arguments is one of its subcommands too
+abbrev pub IsPlain : App → Type 0
+IsPlain app = app.top.is_plain ≡ true
+
+-- one subcommand more
+infixl 10 ◌+>◌
+abbrev pub ◌+>◌ : App → App → App
+app +> sub = with_subcommand app sub.top
 
 -- the program's command line
 abbrev pub otbench_app : App
-otbench_app = with_subcommand (with_subcommand (with_subcommand running_app (new_app (codes "asm")).top) (new_app (codes "dis")).top) (new_app (codes "judge")).top
+otbench_app =
+    top_app
+    +> flagged_app (codes "run") (codes "image")
+    +> plain_app (codes "check")
+    +> plain_app (codes "debug")
+    +> plain_app (codes "asm")
+    +> plain_app (codes "dis")
+    +> plain_app (codes "judge")
+    +> flagged_app (codes "steps") (codes "documents")
+    +> plain_app (codes "threads")
 
 -- a flag among the rows
 abbrev pub is_true : Option Text → Bool
@@ -40,14 +66,16 @@ abbrev pub form_among : List Row → Form
 form_among rows = if flag_among (codes "image") rows then form.Image else form.Text
 
 -- the request of a subcommand
-abbrev pub request_in_rows : Text × List Row → Option Request
+abbrev pub request_in_rows : Text × List Row → Option Asked
 request_in_rows p =
-    if bytes_eq p.0 (codes "run") then Some (Run (form_among p.1)) else
-    (if bytes_eq p.0 (codes "check") then Some Check else
-    (if bytes_eq p.0 (codes "debug") then Some Debug else
-    (if bytes_eq p.0 (codes "asm") then Some Assemble else
-    (if bytes_eq p.0 (codes "dis") then Some Disassemble else
-    (if bytes_eq p.0 (codes "judge") then Some Judge else None)))))
+    if bytes_eq p.0 (codes "run") then Some (Plainly (Run (form_among p.1))) else
+    (if bytes_eq p.0 (codes "check") then Some (Plainly Check) else
+    (if bytes_eq p.0 (codes "debug") then Some (Plainly Debug) else
+    (if bytes_eq p.0 (codes "asm") then Some (Plainly Assemble) else
+    (if bytes_eq p.0 (codes "dis") then Some (Plainly Disassemble) else
+    (if bytes_eq p.0 (codes "judge") then Some (Plainly Judge) else
+    (if bytes_eq p.0 (codes "steps") then Some (Plainly (Steps (flag_among (codes "documents") p.1))) else
+    (if bytes_eq p.0 (codes "threads") then Some Threads else None)))))))
 
-abbrev pub request_of : List Text → Option Request
+abbrev pub request_of : List Text → Option Asked
 request_of words = option_and_then request_in_rows (subcommand_of otbench_app words)

@@ -1,18 +1,18 @@
 //! `check`: what is found of a schedule's run.
 
 ghost use Rattle.std.specs.Prelude.{◌≡◌, IfSome};
+ghost use Rattle.ot_input.specs.Inputs.{OfText};
 ghost use Rattle.otbench.specs.Checked.{check_status, MayFind};
-ghost use Rattle.otbench.specs.Served.{OfText};
 
-use crate::faults::{complain_of_line, complain_of_memory};
 use crate::running::status_of;
 use ot_asm::assemble_from;
+use ot_input::complain_of_line;
 use ot_isa::Schedule;
 use ot_machine::{Run, run};
 use ot_report::find;
+use outcomes::{complain_of_memory, give};
 use std::alloc::Global;
 use std::io::{Read, Write};
-use streams::put;
 
 // The status of a run and of its trace.
 fn check_status(run: &Run, full: bool) -> u8
@@ -38,10 +38,11 @@ fn report_findings<O: Write, F: Write>(
         complain_of_memory(faults);
         return 1;
     };
-    match put(output, found.text.as_bytes()) {
-        Ok(()) => check_status(&run, found.full),
-        Err(_) => 1,
-    }
+    give(
+        found.text.as_bytes(),
+        check_status(&run, found.full),
+        output,
+    )
 }
 
 /// Runs the schedule whose text is the input, and prints what is found of it.

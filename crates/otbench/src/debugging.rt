@@ -5,12 +5,13 @@ ghost use Rattle.line_reader.specs.Lines.{lines_of};
 ghost use Rattle.line_reader.specs.Taken.{before};
 ghost use Rattle.otbench.specs.Debugged.{talk_status, Debugs, MayConverse, TellsStop};
 
-use crate::faults::{complain_of_line, complain_of_memory};
 use line_reader::ReadAhead;
 use ot_asm::{AsmFault, Kind, assemble_until_mark};
 use ot_console::{TalkStop, talk};
 use ot_debug::Debugger;
+use ot_input::complain_of_line;
 use ot_isa::Schedule;
+use outcomes::complain_of_memory;
 use std::alloc::Global;
 use std::io::{Read, Write};
 

@@ -4,13 +4,13 @@ ghost use Rattle.std.specs.Prelude.{◌≡◌, ◌≢◌, Ok, Err, IfErr, IfOk, 
 ghost use Rattle.otbench.specs.Judged.{trace_fault, trace_of_bytes, verdict_status, Judges, MayGiveVerdict};
 ghost use Rattle.ot_judge.specs.declared.fault.TraceFault.TheVariants as kind;
 
-use crate::faults::{complain, complain_of_input, complain_of_memory};
 use ot_asm::read_text;
 use ot_judge::{Trace, TraceFault, Verdict, judge, read_trace};
 use ot_report::print_verdict;
+use outcomes::{complain, complain_of_input, complain_of_memory, give};
 use std::alloc::Global;
 use std::io::{Read, Write};
-use streams::{put, read_whole};
+use streams::read_whole;
 
 fn status_of(verdict: Verdict) -> u8
     ensures { result ≡ verdict_status verdict }
@@ -64,10 +64,7 @@ fn give_verdict<O: Write, F: Write>(
         complain_of_memory(faults);
         return 1;
     };
-    match put(output, line.as_bytes()) {
-        Ok(()) => status_of(verdict),
-        Err(_) => 1,
-    }
+    give(line.as_bytes(), status_of(verdict), output)
 }
 
 /// Judges the trace that is the input.

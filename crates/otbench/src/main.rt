@@ -1,11 +1,13 @@
 //! A proved test bench for ot.js sessions: the program.
 //!
 //! ```text
-//!    words ── words ──▶ Request ── serving ──▶ running      run: a schedule's reads, stop and end
-//!                                      ├──▶ checking     check: a run's stop, whether all is quiet, the verdict of its trace
-//!                                      ├──▶ debugging    debug: forth and back through a run, by commands
-//!                                      ├──▶ converting   asm, dis: between a schedule's text and its image
-//!                                      └──▶ judging      judge: whether a recorded trace has the weak list property
+//!    words ── words ──▶ Asked ── serving ──▶ running      run: a schedule's reads, stop and end
+//!                                    ├──▶ checking     check: a run's stop, whether all is quiet, the verdict of its trace
+//!                                    ├──▶ debugging    debug: forth and back through a run, by commands
+//!                                    ├──▶ converting   asm, dis: between a schedule's text and its image
+//!                                    ├──▶ judging      judge: whether a recorded trace has the weak list property
+//!                                    ├──▶ ot_steps_command  steps: a run as lines of JSON
+//!                                    └──▶ ot_threads   threads: a plan that workers on threads type, as the schedule that they record
 //! ```
 //!
 //! [`serve`](serving::serve) does the whole work over any reader and two writers, and says by its clause what it writes and answers
@@ -15,12 +17,10 @@
 mod checking;
 mod converting;
 mod debugging;
-mod faults;
+mod help;
 mod judging;
 mod running;
 mod serving;
-#[cfg(test)]
-mod tests;
 mod words;
 
 use serving::serve;

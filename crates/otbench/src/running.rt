@@ -1,18 +1,19 @@
 //! `run`: a schedule's reads, its stop and its end.
 
 ghost use Rattle.std.specs.Prelude.{◌≡◌, IfSome};
-ghost use Rattle.otbench.specs.Streams.{stop_status};
-ghost use Rattle.otbench.specs.Served.{MayReport, OfImage, OfText};
+ghost use Rattle.ot_input.specs.Inputs.{OfImage, OfText};
+ghost use Rattle.otbench.specs.Ran.{MayReport, stop_status};
 
-use crate::faults::{complain_of_byte, complain_of_input, complain_of_line, complain_of_memory};
 use ot_asm::assemble_from;
 use ot_image::load;
+use ot_input::{complain_of_byte, complain_of_line};
 use ot_isa::Schedule;
 use ot_machine::{Run, run};
 use ot_report::print_run;
+use outcomes::{complain_of_input, complain_of_memory, give};
 use std::alloc::Global;
 use std::io::{Read, Write};
-use streams::{put, read_whole};
+use streams::read_whole;
 
 /// The status of a run: 0 where all instructions were performed, else 1.
 pub fn status_of(run: &Run) -> u8
@@ -41,10 +42,7 @@ fn report<O: Write, F: Write>(
         complain_of_memory(faults);
         return 1;
     };
-    match put(output, text.as_bytes()) {
-        Ok(()) => status_of(&run),
-        Err(_) => 1,
-    }
+    give(text.as_bytes(), status_of(&run), output)
 }
 
 /// Runs the schedule whose text is the input.

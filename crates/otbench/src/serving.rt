@@ -1,25 +1,34 @@
 //! The whole program over any streams.
 
-ghost use Rattle.std.specs.Prelude.{◌≡◌, ◌<◌, IfSome, map};
-ghost use Rattle.otbench.specs.Requests.{request_of};
-ghost use Rattle.otbench.specs.Served.{Serves, ServesWords};
+ghost use Rattle.std.specs.Prelude.{◌≡◌, ◌⊎◌, List, ℕ, IfSome, map};
+ghost use Rattle.streams.specs.Streams.{WritesPart};
+ghost use Rattle.clap.specs.Values.{kind_of};
+ghost use Rattle.clap.specs.declared.error.kind.ErrorKind.TheVariants.{OutOfMemory};
+ghost use Rattle.outcomes.specs.Outcomes.{memory_fault};
+ghost use Rattle.otbench.specs.Served.{Serves, ServesAsked, ServesWords};
 
 use crate::checking::check_text;
 use crate::converting::{assemble, disassemble_image};
 use crate::debugging::debug_text;
-use crate::faults::{complain, complain_of_memory};
 use crate::judging::judge_input;
 use crate::running::{run_image, run_text};
-use crate::words::{Form, Request, read_request};
+use crate::words::{Asked, Form, Request, read_request};
 use clap::Error;
 use clap::error::ErrorKind;
+use ot_steps_command::run_steps;
+use ot_threads::run_threads;
+use outcomes::{complain, complain_of_memory};
 use std::alloc::Global;
 use std::convert::AsStr;
 use std::io::{Read, Write};
+use std::sync::Wait;
+use std::thread::Threads;
 
 // Writes `clap`'s text where the words gave no subcommand.
 fn no_matches<F: Write>(alloc: Global, error: &Error, faults: &mut F) -> u8
-    ensures { 0 < result }
+    ensures text { result ≡ 2 → (text : List ℕ) × WritesPart (F.contents faults.old) (F.contents faults.new) text }
+    ensures memory { ((result ≡ 1) × WritesPart (F.contents faults.old) (F.contents faults.new) memory_fault) ⊎ (result ≡ 2) }
+    ensures kind { kind_of error.now ≡ OutOfMemory → result ≡ 1 }
 {
     if error.kind() == ErrorKind::OutOfMemory {
         complain_of_memory(faults);
@@ -37,7 +46,7 @@ fn no_matches<F: Write>(alloc: Global, error: &Error, faults: &mut F) -> u8
     }
 }
 
-// Carries out a subcommand.
+// Carries out a subcommand that needs no handle.
 fn carry_out<I: Read, O: Write, F: Write>(
     alloc: Global,
     request: Request,
@@ -55,25 +64,44 @@ fn carry_out<I: Read, O: Write, F: Write>(
         Request::Assemble => assemble(alloc, input, output, faults),
         Request::Disassemble => disassemble_image(alloc, input, output, faults),
         Request::Judge => judge_input(alloc, input, output, faults),
+        Request::Steps(documents) => run_steps(alloc, documents, input, output, faults),
+    }
+}
+
+// Carries out what was asked for; `threads` alone may wait.
+fn serve_asked<R: Threads + Wait + Sync, I: Read, O: Write, F: Write>(
+    rt: &R,
+    alloc: Global,
+    asked: Asked,
+    input: &mut I,
+    output: &mut O,
+    faults: &mut F,
+) -> u8
+    ensures { IfSome (I.remaining input.old) (λ text. ServesAsked asked text result (record { output = O.contents output.old; output' = O.contents output.new; faults = F.contents faults.old; faults' = F.contents faults.new })) }
+{
+    match asked {
+        Asked::Plainly(request) => carry_out(alloc, request, input, output, faults),
+        Asked::Threads => run_threads(rt, alloc, input, output, faults),
     }
 }
 
 /// Does what the words ask for (the program's name is the first of them), and answers the status: 0 where it was done; 1 for a refused
 /// input, a refused instruction, a verdict against a trace or a trace that is too large, a bad command, or a fault of reading, writing or
-/// memory; 2 where the words ask for no subcommand, or for help.
-#[tactic(auto, using(crate::proofs::Outcomes::none_served))]
-pub fn serve<'a, R: Alloc<A = Global>, S: AsStr, I: Read, O: Write, F: Write>(
-    rt: &R,
-    words: &'a [S],
-    input: &mut I,
-    output: &mut O,
-    faults: &mut F,
-) -> u8
-    ensures { IfSome (I.remaining input.old) (λ text. ServesWords (request_of (map S.text words.entry.now)) text result (record { output = O.contents output.old; output' = O.contents output.new; faults = F.contents faults.old; faults' = F.contents faults.new })) }
+/// memory, or of a plan's workers; 2 where the words ask for no subcommand, or for help. Only `threads` waits; every other subcommand
+/// returns, whatever its input.
+pub fn serve<
+    'a,
+    R: Alloc<A = Global> + Threads + Wait + Sync,
+    S: AsStr,
+    I: Read,
+    O: Write,
+    F: Write,
+>(rt: &R, words: &'a [S], input: &mut I, output: &mut O, faults: &mut F) -> u8
+    ensures { IfSome (I.remaining input.old) (λ text. ServesWords (map S.text words.entry.now) text result (record { output = O.contents output.old; output' = O.contents output.new; faults = F.contents faults.old; faults' = F.contents faults.new })) }
 {
     let alloc = rt.alloc();
     match read_request(alloc, words) {
-        Ok(request) => carry_out(alloc, request, input, output, faults),
+        Ok(asked) => serve_asked(rt, alloc, asked, input, output, faults),
         Err(error) => no_matches(alloc, &error, faults),
     }
 }

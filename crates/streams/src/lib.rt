@@ -11,9 +11,6 @@ ghost use Rattle.std.specs.Io.KnownBytes.{Appends, Consumes, IsAtEnd};
 ghost use Rattle.streams.specs.Streams.{WritesPart, Loses};
 ghost use Rattle.streams.specs.declared.InputFault.TheVariants.{Memory};
 
-#[cfg(test)]
-mod tests;
-
 use std::alloc::{AllocError, Global};
 use std::io::{Read, Write};
 

@@ -1,8 +1,8 @@
-use Rattle.std.proofs.Common.{◌≡◌, ◌<◌, ◌&&◌, true, false, rules, arith, Ok, Err}
+use Rattle.std.proofs.Common.{inl, ◌≡◌, ◌<◌, ◌&&◌, true, false, rules, arith, Ok, Err}
 use Rattle.std.proofs.lemmas.Result.{IfOk-weaker, IfErr-weaker}
 use Rattle.line_reader.specs.Taken.{may_take, before}
 use Rattle.ot_asm.specs.Parts.{is_mark}
-use Rattle.ot_asm.proofs.Known.{started_known, stepped_known, faulted_known, marked_known, marked_part, ended_known, ended_part, spends_none, spends_more, other_fault, named, on_ok}
+use Rattle.ot_asm.proofs.Known.{started_known, stepped_known, faulted_known, wanting_known, marked_known, marked_part, ended_known, ended_part, spends_none, spends_more, other_fault, named, on_ok}
 use Rattle.ot_asm.proofs.carrying.assemble_part.Goals as goal
 
 pub loop-body-init : goal.loop-body-init
@@ -55,6 +55,14 @@ returns-in-Err-clause-err g c not_memory not_read =
     let step = rw c.as_slice-in-loop-body.ensures.value at (other_fault not_memory c.in-Err.ensures.err) in
     named c.args.marked c.in-Err.fault c.loop-body.line (before c.args.ahead.now (remaining c.args.reader.now)) c.in-Err.ensures.number
     (faulted_known c.args.marked (before c.args.ahead.now (remaining c.args.reader.now)) (before c.loop-body.ahead (remaining c.loop-body.reader)) (before c.next_line.new.self (remaining c.next_line.new.reader)) c.next_line.new.line.items c.loop-body.line c.loop-body.body c.in-Err.fault.kind c.loop-body.invariant.taken taken other step)
+
+pub returns-in-Err-clause-memory : goal.returns-in-Err-clause-memory
+returns-in-Err-clause-memory g c = λ memory.
+    let remaining = g.R.Read.remaining in
+    let taken = rw c.in-Ok-true.field-0-test at c.in-Ok-true.ensures.ok in
+    let other : (c.args.marked && is_mark c.next_line.new.line.items) ≡ false = search rules in
+    let hides = rw c.as_slice-in-loop-body.ensures.value at (c.in-Err.ensures.memory memory) in
+    inl (rw c.in-Err.ensures.number (wanting_known c.args.marked (before c.args.ahead.now (remaining c.args.reader.now)) (before c.loop-body.ahead (remaining c.loop-body.reader)) (before c.next_line.new.self (remaining c.next_line.new.reader)) c.next_line.new.line.items c.loop-body.line c.loop-body.body c.loop-body.invariant.taken taken other hides))
 
 pub loop-body-preserved : goal.loop-body-preserved
 loop-body-preserved g c =

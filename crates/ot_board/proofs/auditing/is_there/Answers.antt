@@ -11,6 +11,6 @@ loop-place-preserved c =
     let within : place < length c.args.receipt.now.steps.items = search rules in
     let same = c.if-not-equals.ensures.0 (search rules) in
     let there : slice_get c.args.receipt.now.steps.items place ≡ Some c.index.result.now =
-        slice_get_read c.args.receipt.now.steps.items (length c.args.receipt.now.steps.items) place c.index.result.now refl within c.index.ensures in
+    slice_get_read c.args.receipt.now.steps.items (length c.args.receipt.now.steps.items) place c.index.result.now refl within c.index.ensures in
     front_more (drop first c.args.log.now.instrs) c.args.receipt.now.steps.items place c.in-Some.instr.now c.loop-place.invariant
-        (behind_at c.args.log.now.instrs first place ∙ c.in-Some.ensures.some) (there ∙ ap Some (sym same))
+    (behind_at c.args.log.now.instrs first place ∙ c.in-Some.ensures.some) (there ∙ ap Some (sym same))

@@ -8,9 +8,9 @@ use Rattle.ot_board.proofs.auditing.mark_workers.Goals as goal
 pub mark_all-requires-clause-within : goal.mark_all-requires-clause-within
 mark_all-requires-clause-within c =
     let lie : All (λ (r : Receipt). end_of r ≤ length c.args.marks.now) c.index-workers-w.result.items =
-        worker_has (All (λ (r : Receipt). end_of r ≤ length c.args.marks.now)) c.args.workers.now c.loop-w.w _ c.loop-w-test.true c.index-workers-w.is c.requires.within in
+    worker_has (All (λ (r : Receipt). end_of r ≤ length c.args.marks.now)) c.args.workers.now c.loop-w.w _ c.loop-w-test.true c.index-workers-w.is c.requires.within in
     subst (λ (n : ℕ). All (λ (r : Receipt). end_of r ≤ n) c.as_slice.result.now) (sym c.loop-w.auto.marks)
-        (subst (λ (rs : List Receipt). All (λ (r : Receipt). end_of r ≤ length c.args.marks.now) rs) (sym c.as_slice.ensures.value) lie)
+    (subst (λ (rs : List Receipt). All (λ (r : Receipt). end_of r ≤ length c.args.marks.now) rs) (sym c.as_slice.ensures.value) lie)
 
 pub loop-w-preserved : goal.loop-w-preserved
 loop-w-preserved c = λ at below.

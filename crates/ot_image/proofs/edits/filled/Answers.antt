@@ -1,4 +1,4 @@
-use Rattle.std.proofs.Common.{arith}
+use Rattle.std.proofs.Common.{◌+◌, arith}
 use Rattle.std.proofs.lemmas.Result.{err_from_is_err_and}
 use Rattle.ot_image.specs.Views.{seen}
 use Rattle.ot_image.proofs.Steps.{retain_fits, insert_fits}
@@ -18,4 +18,4 @@ grown-requires-2 c = λ k.
 pub returns-in_err-grown-3 : goal.returns-in_err-grown-3
 returns-in_err-grown-3 c =
     let p = err_from_is_err_and c.from_residual-in_err-grown-3.result c.from_residual-in_err-grown-3.ensures.1 in
-    rw (p.1, p.2, c.in_err-grown-3.ensures.err) (reaches_before c.args.at c.args.spot.at (filled_at c.args.code c.args.count c.args.op.now (seen c.args.spot)) c.requires.place (filled_onward c.args.code c.args.count c.args.op.now (seen c.args.spot)))
+    rw (p.1, p.2, c.in_err-grown-3.ensures.err) (reaches_before (c.args.at + 1) c.args.spot.at (filled_at c.args.code c.args.count c.args.op.now (seen c.args.spot)) (omega (arith, c.requires.place)) (filled_onward c.args.code c.args.count c.args.op.now (seen c.args.spot)))

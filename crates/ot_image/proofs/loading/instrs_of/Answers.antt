@@ -3,8 +3,9 @@ use Rattle.std.proofs.lemmas.Result.{err_from_is_err_and}
 use Rattle.ot_isa.specs.Program.{Program, with_instr}
 use Rattle.ot_image.specs.Reading.{push_instr}
 use Rattle.ot_image.specs.Views.{seen}
-use Rattle.ot_image.proofs.Loop.{goes_on, ends, is_done, stops}
+use Rattle.ot_image.proofs.Loop.{goes_on, goes_past, ends, is_done}
 use Rattle.ot_image.proofs.Onward.{push_instr_onward}
+use Rattle.ot_image.proofs.Past.{instr_past}
 use Rattle.ot_image.proofs.Fields.{instr_pushed, instr_refused}
 use Rattle.ot_image.proofs.loading.instrs_of.Goals as goal
 
@@ -15,7 +16,12 @@ returns-in_err-instr c =
     rw (p.1, p.2) (ends (push_instr c.args.version) (push_instr_onward c.args.version) c.in_err-instr.field-0.0 c.args.count c.loop.counter c.loop.builder.program (seen c.loop.rest) _ c.loop-test.true (instr_refused c.args.version c.loop.builder.program (seen c.loop.rest) c.in_err-instr.field-0.0 fails) c.loop.invariant.read)
 
 pub returns-in-Err-Memory-default : goal.returns-in-Err-Memory-default
-returns-in-Err-Memory-default c = stops (push_instr c.args.version) (push_instr_onward c.args.version) c.args.count c.loop.counter c.loop.builder.program (seen c.loop.rest) _ c.loop.invariant.read
+returns-in-Err-Memory-default c =
+    let old = c.loop.builder.program in
+    let instr = c.in_ok-instr.instr in
+    let read = rw c.loop.invariant.clients at c.in_ok-instr.ensures.read in
+    goes_past (push_instr c.args.version) (push_instr_onward c.args.version) c.args.count c.loop.counter old (seen c.loop.rest) (with_instr old instr) (seen c.in_ok-instr.after) _ c.loop-test.true
+    (instr_pushed c.args.version old (seen c.loop.rest) instr _ read) (instr_past c.args.version old.clients (seen c.loop.rest) instr (seen c.in_ok-instr.after) read) c.loop.invariant.read
 
 pub loop-preserved : goal.loop-preserved
 loop-preserved c =

@@ -3,7 +3,7 @@ use Rattle.std.specs.Prelude.{IfOk, IfErr}
 use Rattle.ot_isa.specs.Program.{Program, IsProgram}
 use Rattle.ot_image.specs.declared.fault.ImageFault.{ImageFault}
 use Rattle.ot_image.specs.declared.fault.Kind.TheVariants.{Memory}
-use Rattle.ot_image.specs.Reading.{image_of}
+use Rattle.ot_image.specs.Reading.{image_of, IsWant}
 use Rattle.ot_image.specs.Spelling.{IsImageOf}
 use Rattle.ot_image.proofs.Fields.{ok_is}
 use Rattle.ot_image.proofs.Spelled.{IsBytes}
@@ -14,11 +14,11 @@ is_found : (bytes : List ℕ) (r : Result Program ImageFault) → IsBytes bytes 
 is_found bytes (Ok s) fits is read = (is, image_found bytes s fits read)
 is_found bytes (Err f) fits is read = tt
 
-is_only : (bytes : List ℕ) (r : Result Program ImageFault) (p : Program) → IsImageOf bytes p → IfOk r (λ s. image_of bytes ≡ Ok s) → IfErr r (λ f. (f.kind ≡ Memory) ⊎ (image_of bytes ≡ Err f))
+is_only : (bytes : List ℕ) (r : Result Program ImageFault) (p : Program) → IsImageOf bytes p → IfOk r (λ s. image_of bytes ≡ Ok s) → IfErr r (λ f. (image_of bytes ≡ Err f) ⊎ IsWant bytes f)
     → IfOk r (λ s. s ≡ p) × IfErr r (λ f. f.kind ≡ Memory)
 is_only bytes (Ok s) p is read err = (ok_is s p (sym read ∙ image_only bytes p is), tt)
-is_only bytes (Err f) p is read (inl memory) = (tt, memory)
-is_only bytes (Err f) p is read (inr fault) = (tt, absurd (ok_err p f (sym (image_only bytes p is) ∙ fault)))
+is_only bytes (Err f) p is read (inr want) = (tt, want.0)
+is_only bytes (Err f) p is read (inl fault) = (tt, absurd (ok_err p f (sym (image_only bytes p is) ∙ fault)))
   where
     ok_err : (q : Program) (g : ImageFault) → ◌≡◌ {A = Result Program ImageFault} (Ok q) (Err g) → ⊥
     ok_err q g e = absurd cc

@@ -1,14 +1,30 @@
-use Rattle.std.proofs.Common.{rules, ap, ap₂, codes, ◌≡◌, ◌∙◌}
+use Rattle.std.proofs.Common.{ap, ap₂, codes, rules, ◌≡◌, ◌∙◌}
 use Rattle.std.proofs.lemmas.Result.{IfOk-weaker}
-use Rattle.clap.specs.Words.{App, app_of, new_app, with_subcommand}
-use Rattle.clap.specs.Simple.{app_of_fields}
-use Rattle.otbench.specs.Requests.{running_app}
+use Rattle.clap.specs.Words.{App, app_of, with_rule}
+use Rattle.otbench.specs.Requests.{◌+>◌, flag_rule, flagged_app, top_app}
+use Rattle.otbench.proofs.Shapes.{plain_of}
 use Rattle.otbench.proofs.words.command.Goals as goal
 
 pub returns : goal.returns
 returns c =
-    let one : app_of c.in_ok-subcommand.field-0 ≡ with_subcommand running_app (new_app (codes "asm")).top =
-    c.in_ok-subcommand.ensures.shape (search rules) ∙ ap₂ with_subcommand c.in_ok-running_command.ensures (ap (λ (a : App). a.top) (ap app_of_fields c.about-assembling.ensures ∙ c.new.ensures.app)) in
-    let two : app_of c.in_ok-subcommand-2.field-0 ≡ with_subcommand (with_subcommand running_app (new_app (codes "asm")).top) (new_app (codes "dis")).top =
-    c.in_ok-subcommand-2.ensures.shape (search rules) ∙ ap₂ with_subcommand one (ap (λ (a : App). a.top) (ap app_of_fields c.about-disassembling.ensures ∙ c.new-2.ensures.app)) in
-    IfOk-weaker c.subcommand-3.result _ _ (λ r h. h.shape (search rules) ∙ ap₂ with_subcommand two (ap (λ (a : App). a.top) (ap app_of_fields c.about-judging.ensures ∙ c.new-3.ensures.app))) c.subcommand-3.ensures
+    let run : app_of c.in_ok-run.run' ≡ flagged_app (codes "run") (codes "image") =
+    c.in_ok-run.ensures ∙ ap (λ (a : App). with_rule a (flag_rule (codes "image"))) c.plain.ensures in
+    let one = c.in_ok-program.ensures (ap plain_of run) ∙ ap₂ (◌+>◌) c.top.ensures run in
+    let two = c.in_ok-program-2.ensures (ap plain_of c.plain-check.ensures) ∙ ap₂ (◌+>◌) one c.plain-check.ensures in
+    let three = c.in_ok-program-3.ensures (ap plain_of c.plain-debug.ensures) ∙ ap₂ (◌+>◌) two c.plain-debug.ensures in
+    let four = c.in_ok-program-4.ensures (ap plain_of c.plain-asm.ensures) ∙ ap₂ (◌+>◌) three c.plain-asm.ensures in
+    let five = c.in_ok-program-5.ensures (ap plain_of c.plain-dis.ensures) ∙ ap₂ (◌+>◌) four c.plain-dis.ensures in
+    let six = c.in_ok-program-6.ensures (ap plain_of c.plain-judge.ensures) ∙ ap₂ (◌+>◌) five c.plain-judge.ensures in
+    let steps : app_of c.in_ok-steps.steps ≡ flagged_app (codes "steps") (codes "documents") =
+    c.in_ok-steps.ensures ∙ ap (λ (a : App). with_rule a (flag_rule (codes "documents"))) c.plain-2.ensures in
+    let seven = c.in_ok-program-7.ensures (ap plain_of steps) ∙ ap₂ (◌+>◌) six steps in
+    IfOk-weaker c.joined-8.result _ _ (λ r h. h (ap plain_of c.plain-threads.ensures) ∙ ap₂ (◌+>◌) seven c.plain-threads.ensures) c.joined-8.ensures
+
+pub returns-in_err-program : goal.returns-in_err-program
+returns-in_err-program c = let r = c.from_residual-in_err-program.ensures in search rules
+
+pub returns-in_err-program-2 : goal.returns-in_err-program-2
+returns-in_err-program-2 c = let r = c.from_residual-in_err-program-2.ensures in search rules
+
+pub returns-in_err-program-3 : goal.returns-in_err-program-3
+returns-in_err-program-3 c = let r = c.from_residual-in_err-program-3.ensures in search rules

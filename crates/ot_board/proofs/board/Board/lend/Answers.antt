@@ -7,7 +7,7 @@ use Rattle.ot_board.proofs.board.Board.lend.Goals as goal
 
 pub invariant_of-self : goal.invariant_of-self
 invariant_of-self c =
-    let b = board_in c.self.inside.machine c.self.inside.record.program c.self.inside.out.items c.self.inside.slots.items in
+    let b = board_in c.self.inside.machine c.self.inside.recorded.program c.self.inside.out.items c.self.inside.slots.items in
     let room = subst (λ (v : BoardView). HasRoomFor v 64) (sym c.self.view_is) (c.if-not-has_room_for.ensures.0 (search rules)) in
     let outs = c.self.invariant.outs in
     let clients = c.self.invariant.clients in

@@ -9,7 +9,7 @@ use Rattle.ot_board.proofs.board.Board.pick_up.Goals as goal
 
 pub invariant_of-self : goal.invariant_of-self
 invariant_of-self c =
-    let b = board_in c.self.inside.machine c.self.inside.record.program c.self.inside.out.items c.self.inside.slots.items in
+    let b = board_in c.self.inside.machine c.self.inside.recorded.program c.self.inside.out.items c.self.inside.slots.items in
     kept_parked b _ c.args.client None c.self.invariant (ap (map (option_map session_of)) c.empty.ensures.rest ∙ slots_set c.self.inside.slots.items c.args.client None) (λ x is. absurd (cc))
 
 pub returns-clause-ok : goal.returns-clause-ok
@@ -18,6 +18,6 @@ returns-clause-ok c =
 
 pub returns-clause-left : goal.returns-clause-left
 returns-clause-left c =
-    let b = board_in c.self.inside.machine c.self.inside.record.program c.self.inside.out.items c.self.inside.slots.items in
+    let b = board_in c.self.inside.machine c.self.inside.recorded.program c.self.inside.out.items c.self.inside.slots.items in
     ap (λ (slots : List (Option Session)). with_slots b slots) (ap (map (option_map session_of)) c.empty.ensures.rest ∙ slots_set c.self.inside.slots.items c.args.client None)
     ∙ ap (λ (v : BoardView). with_parked v c.args.client None) c.self.view_is

@@ -9,20 +9,20 @@ use Rattle.ot_board.proofs.board.Board.record_step.Goals as goal
 
 pub invariant_of-self-2 : goal.invariant_of-self-2
 invariant_of-self-2 c =
-    let b = board_in c.self.inside.machine c.self.inside.record.program c.self.inside.out.items c.self.inside.slots.items in
-    let a = board_in c.step.new.self c.append.new.record.program c.self.inside.out.items c.self.inside.slots.items in
+    let b = board_in c.self.inside.machine c.self.inside.recorded.program c.self.inside.out.items c.self.inside.slots.items in
+    let a = board_in c.step.new.self c.append.new.builder.program c.self.inside.out.items c.self.inside.slots.items in
     let recorded : a.recorded ≡ with_steps b.recorded (c.args.instr ∷ []) =
-        c.append.ensures.program ∙ ap (λ (p : Program). with_instr p c.in_ok-copy.copy) c.reserve.ensures.program ∙ ap (λ (i : Instr). with_instr b.recorded i) c.in_ok-copy.ensures in
+    c.append.ensures.program ∙ ap (λ (p : Program). with_instr p c.in_ok-copy.copy) c.reserve.ensures.program ∙ ap (λ (i : Instr). with_instr b.recorded i) c.in_ok-copy.ensures in
     let ran : RunsTo b.state (c.args.instr ∷ []) a.state = runs_one c.self.inside.machine c.step.new.self c.args.instr c.in-Ok._shown c.in-Ok.ensures.done in
     let room = subst (λ (v : BoardView). HasRoomFor v 1) (sym c.self.view_is) c.requires.room in
     kept b a (c.args.instr ∷ []) c.self.invariant recorded ran (omega arith) refl refl c.self.invariant.waiting
 
 pub returns-clause-ok : goal.returns-clause-ok
 returns-clause-ok c =
-    let b = board_in c.self.inside.machine c.self.inside.record.program c.self.inside.out.items c.self.inside.slots.items in
-    let a = board_in c.step.new.self c.append.new.record.program c.self.inside.out.items c.self.inside.slots.items in
+    let b = board_in c.self.inside.machine c.self.inside.recorded.program c.self.inside.out.items c.self.inside.slots.items in
+    let a = board_in c.step.new.self c.append.new.builder.program c.self.inside.out.items c.self.inside.slots.items in
     let recorded : a.recorded ≡ with_steps b.recorded (c.args.instr ∷ []) =
-        c.append.ensures.program ∙ ap (λ (p : Program). with_instr p c.in_ok-copy.copy) c.reserve.ensures.program ∙ ap (λ (i : Instr). with_instr b.recorded i) c.in_ok-copy.ensures in
+    c.append.ensures.program ∙ ap (λ (p : Program). with_instr p c.in_ok-copy.copy) c.reserve.ensures.program ∙ ap (λ (i : Instr). with_instr b.recorded i) c.in_ok-copy.ensures in
     let ran : RunsTo b.state (c.args.instr ∷ []) a.state = runs_one c.self.inside.machine c.step.new.self c.args.instr c.in-Ok._shown c.in-Ok.ensures.done in
     let receipt : Receipt = record { first = length c.instrs-first.result.now; steps = c.push_reserved.new.self } in
     subst (λ (v : BoardView). IsRecorded v (c.args.instr ∷ []) v.out a receipt) c.self.view_is (record {

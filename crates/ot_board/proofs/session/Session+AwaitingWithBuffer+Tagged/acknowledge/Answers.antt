@@ -8,7 +8,7 @@ use Rattle.ot_board.proofs.session.Session+AwaitingWithBuffer+Tagged.acknowledge
 pub acknowledge-requires : goal.acknowledge-requires
 acknowledge-requires c =
     subst (λ (x : Buffering Tagged). x.revision < 1000000) (sym c.in-Ok-copy.ensures)
-        (subst (λ (x : Session). x.now.client.revision < 1000000) (sym c.self.view_is) (next_below c.args.self (subst IsAllowed c.self.view_is c.self.invariant.0) c.in-Ok.ensures.ok))
+    (subst (λ (x : Session). x.now.client.revision < 1000000) (sym c.self.view_is) (next_below c.args.self (subst IsAllowed c.self.view_is c.self.invariant.0) c.in-Ok.ensures.ok))
 
 pub invariant_of-result : goal.invariant_of-result
 invariant_of-result c = (
@@ -16,7 +16,7 @@ invariant_of-result c = (
       c.self.inside.list c.self.inside.count c.self.inside.incoming.items c.pop.new.self.items c.self.inside.sent (Some c.in-Ok-acknowledge.sent)
       c.self.view_is c.self.invariant.0 c.in-Ok.ensures.ok
       (acknowledged_buffer c.self.inside.start c.self.inside.steps.items c.self.inside.state c.in-Ok-copy.copy c.in-Ok-acknowledge.state c.self.inside.list c.self.inside.count c.self.inside.incoming.items c.self.inside.sent c.in-Ok-acknowledge.sent
-          c.in-Ok-copy.ensures c.in-Ok-acknowledge.ensures.state c.in-Ok-acknowledge.ensures.sent)
+      c.in-Ok-copy.ensures c.in-Ok-acknowledge.ensures.state c.in-Ok-acknowledge.ensures.sent)
       c.pop.ensures.rest c.push_reserved.ensures.items).allowed,
   search rules,
 )

@@ -1,0 +1,177 @@
+#!/usr/bin/env python3
+"""The lines of `otbench steps` against the debugger and, where node is there, against the sample port.
+
+    python3 bench/steps.py [--count N] [--seed S] [--program PROGRAM] [--debugger PROGRAM] [--port DRIVER]
+
+Writes N (1,000) seeded schedules: one to five clients, some of them late, delayed links, reads, characters that JSON escapes, and now and then an
+instruction that is refused. For each, the lines are folded as docs/FORMATS.md says (with `apply` and nothing else), and at each place what the
+fold has of clients and server is what `otbench debug` shows there; with --documents each document of a line is the fold's. The port's driver (examples/port/driver.js)
+performs the same schedule, and what it prints of each key is what `steps` prints. Ends at the first difference, with the schedule.
+"""
+import argparse
+import json
+import os
+import random
+import shutil
+import subprocess
+import sys
+
+from storms import Sim
+
+HERE = os.path.dirname(os.path.abspath(__file__))
+TOP = os.path.dirname(HERE)
+LETTERS = ['a', 'b', 'c', ' ', '"', '\\', '\n', '\u0001', 'é', '\U0001d4b3']
+WAITING = ('revision', 'state', 'outstanding', 'buffer')
+PRINTED = ('do', 'client', 'edit') + WAITING + ('sent', 'applied', 'appended', 'document', 'end')
+
+
+class Session(Sim):
+    """A session with late joiners, of which the simulator keeps lengths."""
+
+    def __init__(self, clients, present, start):
+        Sim.__init__(self, clients, '')
+        self.lines = ['clients %d' % clients, 'present %d' % present, 'start ' + json.dumps(start, ensure_ascii=False)]
+        self.joined = [c < present for c in range(clients)]
+        self.len = [len(start)] * clients
+        self.server_len = len(start)
+
+    def join(self, c):
+        self.joined[c], self.rev[c], self.len[c] = True, len(self.log), self.server_len
+        self.lines.append('join %d' % c)
+
+    def random_edit(self, r, c):
+        op, left = [], self.len[c]
+        while left > 0 or not op:
+            if r.random() < .4 or left == 0:
+                op.append(''.join(r.choice(LETTERS) for _ in range(r.randint(1, 3))))
+            if left > 0:
+                n = r.randint(1, left)
+                op.append(n if r.random() < .7 else -n)
+                left -= n
+        self.edit(c, op)
+
+
+def schedule(r):
+    clients = r.randint(1, 5)
+    s = Session(clients, r.randint(0, clients), ''.join(r.choice(LETTERS) for _ in range(r.randint(0, 6))))
+    for _ in range(r.randint(0, 40)):
+        c, what = r.randrange(clients), r.random()
+        if not s.joined[c]:
+            s.join(c)
+        elif what < .35:
+            s.random_edit(r, c)
+        elif what < .6 and s.msg[c]:
+            s.take(c)
+        elif what < .9 and s.backlog(c):
+            s.down(c)
+        elif what < .95:
+            s.lines.append('read %d' % c if what < .93 else 'read-server')
+    if r.random() < .2:
+        s.lines.append(r.choice(['take', 'deliver', 'ack', 'join', 'read']) + ' %d' % r.randrange(clients))
+    return s.text()
+
+
+def apply(operation, text):
+    out, i = [], 0
+    for x in operation:
+        if isinstance(x, str):
+            out.append(x)
+        else:
+            if x > 0:
+                out.append(text[i:i + x])
+            i += abs(x)
+    assert i == len(text)
+    return ''.join(out)
+
+
+class Fold:
+    def __init__(self, opening):
+        joined = {'revision': 0, 'state': 'synchronized', 'outstanding': None, 'buffer': None, 'document': opening['start'], 'sent': None}
+        absent = dict(joined, state='not-joined', document='')
+        self.clients = [dict(joined if c < opening['present'] else absent) for c in range(opening['clients'])]
+        self.document, self.log = opening['start'], []
+
+    def line(self, line):
+        do = line.get('do')
+        if do in (None, 'read', 'read-server') or 'stopped' in line:
+            return
+        client = self.clients[line['client']]
+        if do == 'take':
+            client['sent'] = None
+            self.document = apply(line['appended'], self.document)
+            self.log.append((line['client'], line['appended']))
+            return
+        if do == 'join':
+            client['document'] = line['document']
+        elif do != 'ack':
+            client['document'] = apply(line['edit' if do == 'edit' else 'applied'], client['document'])
+        client.update({key: line.get(key) for key in WAITING})
+        client['sent'] = line.get('sent', client['sent'])
+
+    def is_quiet(self):
+        return all(x['state'] == 'not-joined' or x['state'] == 'synchronized' and not x['sent'] and x['revision'] == len(self.log) for x in self.clients)
+
+    def shown(self):
+        """What the debugger shows of this state."""
+        quoted = lambda text: json.dumps(text, ensure_ascii=False)
+        rows = ['client %d rev %d %s %s' % (c, x['revision'], x['state'], quoted(x['document'])) for c, x in enumerate(self.clients)]
+        return rows + ['server rev %d %s' % (len(self.log), quoted(self.document)), 'quiet' if self.is_quiet() else 'not quiet']
+
+
+def output(words, text):
+    done = subprocess.run(words, input=text.encode(), stdout=subprocess.PIPE)
+    return done.returncode, done.stdout.decode().split('\n')[:-1]
+
+
+def check(words, text, driver):
+    status, raw = output(words.program.split() + ['steps'], text)
+    lines = [json.loads(line) for line in raw]
+    for line, written in zip(lines, raw):
+        assert written == json.dumps(line, ensure_ascii=False, separators=(',', ':')), written
+    assert status == (1 if any('stopped' in line for line in lines) else 0), status
+    places = lines[-1]['at']
+    _, shown = output(words.debugger.split() + ['debug'], text + '%%\nshow\n' + 'step 1\nshow\n' * places)
+    fold, rows = Fold(lines[0]), lines[0]['clients'] + 2
+    _, with_documents = output(words.program.split() + ['steps', '--documents'], text)
+    for p in range(places + 1):
+        fold.line(lines[p])
+        here = shown[p * (rows + 1):p * (rows + 1) + rows]
+        assert here == fold.shown(), (p, here, fold.shown())
+        if p > 0:
+            line = json.loads(with_documents[p])
+            mover = fold.document if line['do'] in ('take', 'read-server') else fold.clients[line['client']]['document']
+            assert line['document'] == mover, (p, line)
+    if driver:
+        _, port = output(['node', driver, '--short'], text)
+        assert len(port) == len(lines), (len(port), len(lines))
+        for line, other in zip(lines, map(json.loads, port)):
+            assert ('stopped' in line) == ('stopped' in other), (line, other)
+            for key in PRINTED:
+                if key in line or 'do' in line and 'stopped' not in line and key in WAITING and not line['do'].startswith('read') and line['do'] != 'take':
+                    assert line.get(key) == other.get(key), (key, line, other)
+    return places
+
+
+def main():
+    words = argparse.ArgumentParser()
+    words.add_argument('--count', type=int, default=1000)
+    words.add_argument('--seed', type=int, default=1)
+    words.add_argument('--program', default=os.path.join(TOP, 'otbench'))
+    words.add_argument('--debugger', default=os.path.join(TOP, 'otbench'))
+    words.add_argument('--port', default=os.path.join(TOP, 'examples', 'port', 'driver.js'))
+    words = words.parse_args()
+    driver = words.port if shutil.which('node') and os.path.exists(words.port) else None
+    states = 0
+    for seed in range(words.seed, words.seed + words.count):
+        text = schedule(random.Random(seed))
+        try:
+            states += check(words, text, driver) + 1
+        except AssertionError:
+            print(text, end='')
+            print('seed %d differs' % seed)
+            raise
+    print('%d schedules, %d states: the fold is what the debugger shows%s' % (words.count, states, ', and the lines are those of the port' if driver else '; no port'))
+
+
+if __name__ == '__main__':
+    main()

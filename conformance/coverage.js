@@ -1,0 +1,55 @@
+#!/usr/bin/env node
+/*
+ * Which sessions of the corpus find which faults. `conformance/COVERAGE.md` is what this prints:
+ *
+ *     node conformance/coverage.js > conformance/COVERAGE.md
+ */
+"use strict";
+const fs = require("node:fs");
+const path = require("node:path");
+const { drive } = require("../examples/port/driver.js");
+const { bugs } = require("./faults.js");
+const { ourLines, firstDifference, faultyPort } = require("./lines.js");
+
+const FOLDER = path.join(__dirname, "sessions");
+const SHOWN = 4;
+
+function readCorpus() {
+  const names = fs.readdirSync(FOLDER).filter((name) => name.endsWith(".ots")).map((name) => name.slice(0, -4)).sort();
+  return names.map((name) => ({ name, text: fs.readFileSync(path.join(FOLDER, `${name}.ots`), "utf8") }));
+}
+
+/* Of each fault the sessions that find it, those first that find the fewest faults. */
+function coverage() {
+  const corpus = readCorpus().map(({ name, text }) => ({ name, text, ours: ourLines(text), found: 0 }));
+  const finders = Object.entries(bugs).map(([fault, plant]) => {
+    const port = faultyPort(plant);
+    return { fault, sessions: corpus.filter(({ text, ours }) => firstDifference(ours, drive(text, port)) !== null) };
+  });
+  for (const { sessions } of finders) for (const session of sessions) session.found++;
+  for (const { sessions } of finders) sessions.sort((a, b) => a.found - b.found || (a.name < b.name ? -1 : 1));
+  return { corpus, finders };
+}
+
+function page({ corpus, finders }) {
+  const row = ({ fault, sessions }) => {
+    const named = sessions.slice(0, SHOWN).map(({ name }) => name).join(", ");
+    const more = sessions.length > SHOWN ? ` and ${sessions.length - SHOWN} more` : "";
+    return `| ${fault} | ${sessions.length} | ${named}${more} |`;
+  };
+  return [
+    "# Which sessions find which faults",
+    "",
+    `Printed by \`conformance/coverage.js\`. The faults are those of \`conformance/faults.js\`, ${finders.length} in all; the corpus has ${corpus.length} sessions.`,
+    `A session finds a fault where a line of the faulty port is another than ot.js' own. Of each fault's sessions at most ${SHOWN} are named, those that find the fewest faults.`,
+    "",
+    "| Fault | Found by | Sessions |",
+    "|---|---|---|",
+    ...finders.map(row),
+    "",
+  ].join("\n");
+}
+
+module.exports = { coverage, page, readCorpus };
+
+if (require.main === module) process.stdout.write(page(coverage()));

@@ -1,0 +1,94 @@
+/*
+ * Faults of ports, one for each branch of ot.js: `bugs`, in the form of examples/port/bugs.js, whose five are among them.
+ * Each is an edit of a method's source: what stands there, and what the faulty port has instead.
+ */
+"use strict";
+const { bugs: five, waitingStates } = require("../examples/port/bugs.js");
+
+/* [name, method, what ot.js has, what the fault has]; blanks are one blank each, and comments are left out. */
+const EDITS = [
+  ["transform-first-inserts", "transform", "operation2prime.retain(op1.length)", "operation2prime.retain(1)"],
+  ["transform-second-inserts", "transform", "operation1prime.retain(op2.length)", "operation1prime.retain(1)"],
+  ["transform-retain-longer", "transform", "if (op1 > op2) { minl = op2;", "if (op1 > op2) { minl = op1;"],
+  ["transform-retain-equal", "transform", "(op1 === op2) { minl = op2; op1 = ops1[i1++];", "(op1 === op2) { minl = op2;"],
+  ["transform-retain-shorter", "transform", "minl = op1; op2 = op2 - op1;", "minl = op2; op2 = op2 - op1;"],
+  ["transform-delete-longer", "transform", "if (-op1 > -op2) { op1 = op1 - op2;", "if (-op1 > -op2) { op1 = ops1[i1++];"],
+  ["transform-delete-equal", "transform", "(op1 === op2) { op1 = ops1[i1++];", "(op1 === op2) { operation1prime['delete'](op1); op1 = ops1[i1++];"],
+  ["transform-delete-shorter", "transform", "else { op2 = op2 - op1;", "else { op2 = ops2[i2++];"],
+  ["transform-delete-retain-longer", "transform", "minl = op2; op1 = op1 + op2;", "minl = -op1; op1 = op1 + op2;"],
+  ["transform-delete-retain-equal", "transform", "(-op1 === op2) { minl = op2;", "(-op1 === op2) { minl = 0;"],
+  ["transform-delete-retain-shorter", "transform", "minl = -op1; op2 = op2 + op1;", "minl = op2; op2 = op2 + op1;"],
+  ["transform-retain-delete-longer", "transform", "minl = -op2; op1 = op1 + op2;", "minl = op1; op1 = op1 + op2;"],
+  ["transform-retain-delete-equal", "transform", "(op1 === -op2) { minl = op1;", "(op1 === -op2) { minl = 0;"],
+  ["transform-retain-delete-shorter", "transform", "minl = op1; op2 = op2 + op1;", "minl = -op2; op2 = op2 + op1;"],
+
+  ["compose-first-deletes", "compose", "operation['delete'](op1); op1 = ops1[i1++]; continue;", "op1 = ops1[i1++]; continue;"],
+  ["compose-second-inserts", "compose", "operation.insert(op2);", "operation.insert(op2.slice(0, 1));"],
+  ["compose-retain-longer", "compose", "operation.retain(op2); op1 = op1 - op2;", "operation.retain(op1); op1 = op1 - op2;"],
+  ["compose-retain-equal", "compose", "(op1 === op2) { operation.retain(op1);", "(op1 === op2) {"],
+  ["compose-retain-shorter", "compose", "operation.retain(op1); op2 = op2 - op1;", "operation.retain(op2); op2 = op2 - op1;"],
+  ["compose-insert-delete-longer", "compose", "op1 = op1.slice(-op2);", "op1 = op1.slice(0, op2);"],
+  ["compose-insert-delete-equal", "compose", "(op1.length === -op2) {", "(op1.length === -op2) { operation.insert(op1); operation['delete'](op2);"],
+  ["compose-insert-delete-shorter", "compose", "op2 = op2 + op1.length;", "operation['delete'](op1.length); op2 = op2 + op1.length;"],
+  ["compose-insert-retain-longer", "compose", "operation.insert(op1.slice(0, op2)); op1 = op1.slice(op2);", "operation.insert(op1); op1 = op1.slice(op2);"],
+  ["compose-insert-retain-equal", "compose", "(op1.length === op2) { operation.insert(op1);", "(op1.length === op2) { operation.retain(op2);"],
+  ["compose-insert-retain-shorter", "compose", "operation.insert(op1); op2 = op2 - op1.length;", "operation.insert(op1); op2 = ops2[i2++];"],
+  ["compose-retain-delete-longer", "compose", "operation['delete'](op2); op1 = op1 + op2;", "operation['delete'](op1); op1 = op1 + op2;"],
+  ["compose-retain-delete-equal", "compose", "(op1 === -op2) { operation['delete'](op2);", "(op1 === -op2) {"],
+  ["compose-retain-delete-shorter", "compose", "operation['delete'](op1); op2 = op2 + op1;", "operation['delete'](op2); op2 = op2 + op1;"],
+
+  ["insert-not-merged", "insert", "if (isInsert(ops[ops.length - 1])) {", "if (false) {"],
+  ["insert-behind-a-replacement", "insert", "if (isInsert(ops[ops.length - 2])) {", "if (false) {"],
+  ["retain-not-merged", "retain", "if (isRetain(this.ops[this.ops.length - 1])) {", "if (false) {"],
+  ["delete-not-merged", "delete", "if (isDelete(this.ops[this.ops.length - 1])) {", "if (false) {"],
+
+  ["synchronized-deliver", "Synchronized.applyServer", "client.applyOperation(operation);", ""],
+  ["confirm-deliver-applies-the-message", "AwaitingConfirm.applyServer", "client.applyOperation(pair[1]);", "client.applyOperation(operation);"],
+  ["confirm-deliver-keeps-outstanding", "AwaitingConfirm.applyServer", "new AwaitingConfirm(pair[0])", "new AwaitingConfirm(this.outstanding)"],
+  ["buffer-deliver-skips-outstanding", "AwaitingWithBuffer.applyServer", "transform(this.buffer, pair1[1])", "transform(this.buffer, operation)"],
+  ["buffer-deliver-applies-half", "AwaitingWithBuffer.applyServer", "client.applyOperation(pair2[1]);", "client.applyOperation(pair1[1]);"],
+  ["buffer-deliver-keeps-outstanding", "AwaitingWithBuffer.applyServer", "new AwaitingWithBuffer(pair1[0],", "new AwaitingWithBuffer(this.outstanding,"],
+  ["deliver-keeps-revision", "Client.applyServer", "this.revision++;", ""],
+  ["confirm-ack-stays", "AwaitingConfirm.serverAck", "return synchronized_;", "return this;"],
+  ["buffer-ack-sends-nothing", "AwaitingWithBuffer.serverAck", "client.sendOperation(client.revision, this.buffer);", ""],
+  ["buffer-ack-forgets-the-buffer", "AwaitingWithBuffer.serverAck", "return new AwaitingConfirm(this.buffer);", "return synchronized_;"],
+  ["ack-keeps-revision", "Client.serverAck", "this.revision++;", ""],
+  ["buffer-replaced", "AwaitingWithBuffer.applyClient", "this.buffer.compose(operation)", "operation"],
+
+  ["receive-first-alone", "Server.receiveOperation", "slice(revision)", "slice(revision, revision + 1)"],
+  ["receive-skips-one", "Server.receiveOperation", "slice(revision)", "slice(revision + 1)"],
+  ["receive-not-transformed", "Server.receiveOperation", "operation = transform(operation, concurrentOperations[i])[0];", ""],
+  ["receive-newest-first", "Server.receiveOperation", "concurrentOperations[i]", "concurrentOperations[concurrentOperations.length - 1 - i]"],
+  ["receive-first-goes-first", "Server.receiveOperation", "transform(operation, concurrentOperations[i])[0]", "transform(concurrentOperations[i], operation)[1]"],
+];
+
+/* Where a method stands: the object that has it and its name there. */
+function placeOf(port, method) {
+  const { TextOperation, Client, Server } = port;
+  const [owner, name] = method.split(".");
+  if (method === "transform") return [TextOperation, method];
+  if (name === undefined) return [TextOperation.prototype, method];
+  const Synchronized = new Client(0).state.constructor;
+  return [{ Client, Server, Synchronized, ...waitingStates(port) }[owner].prototype, name];
+}
+
+/* Puts an edited method into a port. The edit has to stand once in the method. */
+function edit(port, method, from, to) {
+  const [owner, name] = placeOf(port, method);
+  const source = owner[name].toString().replace(/\/\/.*$/gm, "").replace(/\s+/g, " ");
+  if (source.split(from).length !== 2) throw new Error(`${method} does not have once: ${from}`);
+  const names = {
+    TextOperation: port.TextOperation,
+    isRetain: (component) => component > 0,
+    isInsert: (component) => typeof component === "string",
+    isDelete: (component) => component < 0,
+    synchronized_: new port.Client(0).state,
+    ...waitingStates(port),
+  };
+  owner[name] = new Function(...Object.keys(names), `return ${source.replace(from, () => to)};`)(...Object.values(names));
+}
+
+const bugs = { ...five };
+for (const [name, method, from, to] of EDITS) bugs[name] = (port) => edit(port, method, from, to);
+
+module.exports = { bugs };

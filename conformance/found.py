@@ -1,0 +1,104 @@
+#!/usr/bin/env python3
+"""How soon sessions made at random find each fault of `conformance/faults.js`, and how small they are reduced.
+
+    python3 conformance/found.py [--seeds N] [--sessions N] [--clients C] [--instructions M] [FAULT ..]
+
+For each fault and each of N seeds (3): the first of --sessions (200) sessions in which ot.js with the fault parts from ot.js, and
+the instructions and clients that are left of it. Printed are the medians and the most. The status is 1 where a fault was not found.
+"""
+import argparse
+import json
+import pathlib
+import statistics
+import subprocess
+import sys
+
+from generate import generated
+from reduce import reduced
+
+HERE = pathlib.Path(__file__).resolve().parent
+
+
+class Differences:
+    """`differences.js`, asked for one schedule after another."""
+
+    def __init__(self):
+        self.child = subprocess.Popen(["node", HERE / "differences.js"], stdin=subprocess.PIPE, stdout=subprocess.PIPE, encoding="utf-8")
+
+    def __enter__(self):
+        return self
+
+    def __exit__(self, *_):
+        self.child.stdin.close()
+        self.child.stdout.close()
+        self.child.wait()
+
+    def place(self, fault, schedule):
+        """Where ot.js with the fault parts from ot.js, or None."""
+        self.child.stdin.write(json.dumps([fault, schedule.text()]) + "\n")
+        self.child.stdin.flush()
+        return json.loads(self.child.stdout.readline())
+
+    def first(self, fault, schedules):
+        """The first schedule in which they part, and the place."""
+        for schedule in schedules:
+            place = self.place(fault, schedule)
+            if place is not None:
+                return schedule, place
+        return None
+
+
+def find(differences, fault, sessions):
+    """How many sessions it took, and the reduced one; or None."""
+    for count, schedule in enumerate(sessions, 1):
+        if differences.place(fault, schedule) is not None:
+            return count, reduced(schedule, lambda candidates: differences.first(fault, candidates))
+    return None
+
+
+def fault_names():
+    names = "console.log(JSON.stringify(Object.keys(require('./faults.js').bugs)))"
+    return json.loads(subprocess.run(["node", "-e", names], cwd=HERE, check=True, capture_output=True).stdout)
+
+
+def row(fault, found):
+    """A line of the table: of what was found, the medians and the most."""
+    counts = [count for count, _ in found]
+    sizes = [len(schedule.instructions) for _, schedule in found]
+    return f"| {fault} | {statistics.median(counts):g}, {max(counts)} | {statistics.median(sizes):g}, {max(sizes)} |"
+
+
+def arguments():
+    words = argparse.ArgumentParser()
+    words.add_argument("--seeds", type=int, default=3)
+    words.add_argument("--sessions", type=int, default=200)
+    words.add_argument("--clients", type=int, default=4)
+    words.add_argument("--instructions", type=int, default=60)
+    words.add_argument("faults", nargs="*")
+    return words.parse_args()
+
+
+def main():
+    words = arguments()
+    sessions = [[generated(seed, number, words.clients, words.instructions) for number in range(words.sessions)]
+                for seed in range(1, words.seeds + 1)]
+    print(f"""# How soon each fault is found at random
+
+Printed by `conformance/found.py --seeds {words.seeds}`: at most {words.sessions} sessions of {words.clients} clients and {words.instructions} instructions for each of {words.seeds} seeds. Found means
+that a line of the faulty port is another than ot.js' own.
+
+| Fault | Sessions to find it: median, most | Instructions after reducing: median, most |
+|---|---|---|""")
+    missed = []
+    with Differences() as differences:
+        for fault in words.faults or fault_names():
+            found = [find(differences, fault, of_seed) for of_seed in sessions]
+            missed += [fault] * found.count(None)
+            if any(found):
+                print(row(fault, [it for it in found if it]), flush=True)
+    print("\nNot found: " + (", ".join(missed) or "none."))
+    return 1 if missed else 0
+
+
+if __name__ == "__main__":
+    sys.exit(main())

@@ -1,0 +1,70 @@
+"""A schedule's text as values, and back."""
+import dataclasses
+import json
+import re
+
+BLANKS = " \t"
+
+
+@dataclasses.dataclass(frozen=True)
+class Instruction:
+    """A word, its client (none for `read-server`), and the operation of an edit as ot.js' `toJSON` has it."""
+    word: str
+    client: int | None = None
+    edit: tuple = ()
+
+    def line(self):
+        if self.client is None:
+            return self.word
+        operation = " " + json_of(list(self.edit)) if self.word == "edit" else ""
+        return f"{self.word} {self.client}{operation}"
+
+
+@dataclasses.dataclass(frozen=True)
+class Schedule:
+    """Clients below `present` are there from the beginning, the others join."""
+    clients: int
+    present: int
+    start: str
+    instructions: tuple
+
+    def text(self):
+        lines = [f"clients {self.clients}"]
+        if self.present != self.clients:
+            lines.append(f"present {self.present}")
+        if self.start:
+            lines.append(f"start {json_of(self.start)}")
+        lines += [instruction.line() for instruction in self.instructions]
+        return "".join(line + "\n" for line in lines)
+
+
+def json_of(value):
+    return json.dumps(value, ensure_ascii=False, separators=(",", ":"))
+
+
+def read_schedule(text):
+    """The values of a text that otbench accepts."""
+    clients, present, start, instructions = 0, None, "", []
+    for line in text.split("\n"):
+        line = line.removesuffix("\r").strip(BLANKS)
+        if line == "" or line[0] == ";":
+            continue
+        word, _, rest = re.sub(r"[ \t]+", " ", line, count=1).partition(" ")
+        if word == "clients":
+            clients = int(rest)
+        elif word == "present":
+            present = int(rest)
+        elif word == "start":
+            start = json.loads(rest)
+        else:
+            instructions.append(read_instruction(word, rest))
+    return Schedule(clients, clients if present is None else present, start, tuple(instructions))
+
+
+def read_instruction(word, rest):
+    if word == "read-server":
+        return Instruction(word)
+    if word != "edit":
+        return Instruction(word, int(rest))
+    client, operation = re.split(r"[ \t]+", rest, maxsplit=1)
+    return Instruction(word, int(client), tuple(json.loads(operation)))

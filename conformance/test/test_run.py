@@ -1,0 +1,106 @@
+"""The runner: drivers of every kind, and what is printed of them."""
+import os
+import subprocess
+import sys
+import tempfile
+import time
+import unittest
+
+from paths import JUDGE, KIT
+from port import Driver
+
+BUILT = KIT.parent / "crates" / "otbench" / "out" / "otbench"
+
+
+def python(text):
+    """A driver in a line."""
+    return [sys.executable, "-c", text]
+
+
+class Drivers(unittest.TestCase):
+    def test_what_is_printed_and_how_it_ended(self):
+        read = "import sys, os, time; text = sys.stdin.read(); "
+        rows = [
+            (read + "print(text)", b"clients 1\n\n", None),
+            ("print(1)", b"1\n", None),
+            (read + "sys.exit('at the end')", b"", "the driver ended with status 1: at the end"),
+            (read + "print(2, flush=True); os.kill(os.getpid(), 11)", b"2\n", "the driver was ended by signal 11"),
+            ("import time; print(3, flush=True); time.sleep(60)", b"3\n", "the driver was ended: it took more than 2 s"),
+            ("import os, time; os.close(1); os.close(2); time.sleep(60)", b"", "the driver was ended: it took more than 2 s"),
+        ]
+        for text, printed, trouble in rows:
+            self.assertEqual(Driver(python(text), 2, 1000).perform("clients 1\n"), (printed, trouble), text)
+
+    def test_one_that_prints_without_end(self):
+        printed, trouble = Driver(["yes"], 60, 100_000).perform("clients 1\n")
+        self.assertEqual((printed[:4], trouble), (b"y\ny\n", "the driver was ended: it printed more than 100,000 bytes"))
+
+    def test_what_a_driver_has_started_is_ended_too(self):
+        with tempfile.NamedTemporaryFile() as file:
+            Driver(["sh", "-c", f"(sleep 3; echo still there >{file.name}) & sleep 60"], 1, 1000).perform("clients 1\n")
+            time.sleep(3)
+            self.assertEqual(os.path.getsize(file.name), 0)
+
+
+class Runs(unittest.TestCase):
+    def run_kit(self, driver, *words, judge=JUDGE):
+        call = [KIT / "run", "--judge", judge, "--sessions", "5", "--jobs", "2", *words, *driver]
+        ran = subprocess.run(call, capture_output=True, encoding="utf-8", check=False)
+        return ran.returncode, ran.stdout, ran.stderr
+
+    def test_a_port_that_conforms(self):
+        status, printed, _ = self.run_kit(["echo", "a line"])
+        sessions = len(list((KIT / "sessions").glob("*.ots")))
+        said = f"corpus: {sessions} sessions conform\nat random: 5 sessions conform\ncompared do {2 * (sessions + 5)}\n"
+        self.assertEqual((status, printed), (0, said))
+
+    def test_a_port_that_differs_is_reduced(self):
+        driver = ["sh", "-c", "if grep -q join; then echo wrong 99; fi"]
+        with tempfile.NamedTemporaryFile("r") as file:
+            status, printed, _ = self.run_kit(driver, "--save", file.name)
+            self.assertEqual(file.read(), "clients 1\npresent 0\njoin 0\n")
+        said = ("fails: join-an-emptied-document, 15 instructions of 2 clients; here reduced to 1 of 1\n\n"
+                "clients 1\npresent 0\njoin 0\n\ndiffers at 99: deliver 0: line\nfound \"wrong 99\"\n")
+        self.assertEqual((status, printed), (1, said))
+
+    def test_a_port_that_differs_in_a_session_made_at_random(self):
+        driver = ["sh", "-c", "if grep -q 'clients 7'; then echo wrong 0; fi"]
+        status, printed, _ = self.run_kit(driver, "--clients", "7", "--seed", "b")
+        said = r"^corpus: [0-9]+ sessions conform\nfails: session 0 of seed b, [0-9]+ instructions of 7 clients; here reduced to 0 of 7\n\nclients 7\n\ndiffers at 0: "
+        self.assertEqual(status, 1)
+        self.assertRegex(printed, said)
+
+    def test_a_port_that_dies_is_named(self):
+        status, printed, _ = self.run_kit(["sh", "-c", "cat >/dev/null; echo gone >&2; exit 7"])
+        self.assertEqual(status, 1)
+        self.assertTrue(printed.endswith("to 0 of 1\n\nclients 1\n\nthe driver ended with status 7: gone\nconforms\ncompared do 0\n"), printed)
+
+    def test_what_cannot_be_tried(self):
+        rows = [
+            (["echo", "refused"], JUDGE, f"run: {JUDGE}: judge: refused\n"),
+            (["/there/is/none"], JUDGE, "run: [Errno 2] No such file or directory: '/there/is/none'\n"),
+            (["true"], "/there/is/none", "run: [Errno 2] No such file or directory: '/there/is/none'\n"),
+        ]
+        for driver, judge, said in rows:
+            self.assertEqual(self.run_kit(driver, judge=judge), (2, "", said))
+        self.assertEqual(self.run_kit([])[0], 2)
+
+
+def has_steps():
+    if not BUILT.exists():
+        return False
+    return b"steps" in subprocess.run([BUILT, "--help"], capture_output=True, check=False).stdout
+
+
+@unittest.skipUnless(has_steps(), "the program is not built, or has no steps")
+class Together(unittest.TestCase):
+    def test_a_fault_of_the_sample_port(self):
+        driver = ["node", KIT.parent / "examples/port/driver.js", "--faults", KIT / "faults.js", "--bug", "compose-insert-delete-longer"]
+        ran = subprocess.run([KIT / "run", "--jobs", "2", *driver], capture_output=True, encoding="utf-8", check=False)
+        self.assertEqual(ran.returncode, 1, ran.stderr)
+        self.assertRegex(ran.stdout, r"^fails: compose-insert-longer-than-delete, ")
+        self.assertRegex(ran.stdout, r"\ndiffers at 3: edit 0: buffer\n")
+
+
+if __name__ == "__main__":
+    unittest.main()

@@ -1,0 +1,10 @@
+use Rattle.std.proofs.Common.{◌≡◌, drop, ◌++◌}
+use Rattle.std.specs.Prelude.{option_map}
+use Rattle.serde_json.specs.View.{items_view}
+use Rattle.json_fields.specs.Fields.{all_of}
+use Rattle.ot_typing.specs.Typing.{row_view}
+use Rattle.ot_plan.specs.Layout.{action_in_range}
+use Rattle.ot_plan.proofs.reading.actions_from.Given as goal
+
+abbrev pub invariant-loop-value : goal.invariant-loop-value
+invariant-loop-value l = option_map (λ xs. row_view l.found ++ xs) (all_of action_in_range (items_view (drop l.value-index l.items))) ≡ all_of action_in_range (items_view l.items)

@@ -1,0 +1,8 @@
+mod Examples
+mod Folding
+mod Running
+mod Untagging
+mod Delivering
+mod Texts
+mod Progress
+mod Quiet

@@ -1,0 +1,221 @@
+-- The lines of a schedule's run.
+use Rattle.std.specs.Prelude.{ℕ, suc, List, [], ◌∷◌, ◌++◌, ◌-◌, ◌||◌, ◌&&◌, length, drop, take, get_or, slice_get, not, is_none, if◌then◌else◌, Bool, true, false, Option, Some, None}
+use Rattle.std.specs.Option.{option_map}
+use Rattle.ot_isa.specs.Program.{Program, client_of}
+use Rattle.ot_isa.specs.Tagging.{chars_of}
+use Rattle.ot_isa.specs.declared.instruction.Instr.{Instr}
+use Rattle.ot_isa.specs.declared.instruction.Instr.TheVariants.{Edit, Take, Deliver, Acknowledge, Join, Read, ReadServer}
+use Rattle.ot_model.specs.declared.shown.Refusal.{Refusal}
+use Rattle.ot_model.specs.Operation.{Operation}
+use Rattle.ot_model.specs.Table.{Phase, NotJoined, Synchronized, AwaitingConfirm, AwaitingWithBuffer, Client, absent, State, Entry, Head, Ack, Op, Performed, Refused, NoRow, carried, downlink, is_joined, step}
+use Rattle.ot_model.specs.Runs.{opening_of}
+use Rattle.ot_machine.specs.Readers.{phase_name}
+use Rattle.ot_machine.specs.Ended.{reached}
+use Rattle.ot_steps.specs.Lines.{Line, Message, bare, plain_message, plain_operation, word_of}
+
+-- ---- what stands in the states
+
+abbrev pub client_in : State → ℕ → Client
+client_in s c = get_or s.clients c absent
+
+abbrev pub outstanding_of : Phase → Option (Operation ℕ)
+outstanding_of NotJoined = None
+outstanding_of Synchronized = None
+outstanding_of (AwaitingConfirm o) = Some (plain_operation o)
+outstanding_of (AwaitingWithBuffer o b) = Some (plain_operation o)
+
+abbrev pub buffer_of : Phase → Option (Operation ℕ)
+buffer_of NotJoined = None
+buffer_of Synchronized = None
+buffer_of (AwaitingConfirm o) = None
+buffer_of (AwaitingWithBuffer o b) = Some (plain_operation b)
+
+abbrev pub is_synchronized : Phase → Bool
+is_synchronized NotJoined = false
+is_synchronized Synchronized = true
+is_synchronized (AwaitingConfirm o) = false
+is_synchronized (AwaitingWithBuffer o b) = false
+
+abbrev pub has_buffer : Phase → Bool
+has_buffer NotJoined = false
+has_buffer Synchronized = false
+has_buffer (AwaitingConfirm o) = false
+has_buffer (AwaitingWithBuffer o b) = true
+
+-- whether an instruction puts a message on a client's link to the server: an edit in Synchronized, and an acknowledgement that sends the buffer
+abbrev pub sends : Instr → State → Bool
+sends (Edit c op) s = is_synchronized (client_in s c).phase
+sends (Take c) s = false
+sends (Deliver c) s = false
+sends (Acknowledge c) s = has_buffer (client_in s c).phase
+sends (Join c) s = false
+sends (Read c) s = false
+sends ReadServer s = false
+
+-- what a client makes of the message at the head of its downlink, if that is another's operation
+abbrev pub carried_head : Phase → Option Head → Option (Operation ℕ)
+carried_head phase None = None
+carried_head phase (Some Ack) = None
+carried_head phase (Some (Op op)) = Some (plain_operation (carried phase op))
+
+abbrev pub delivers : State → ℕ → Option (Operation ℕ)
+delivers s c = carried_head (client_in s c).phase (slice_get (downlink s c (client_in s c)) 0)
+
+-- the operation that an instruction applies to the client's document by a delivery
+abbrev pub applies : Instr → State → Option (Operation ℕ)
+applies (Edit c op) s = None
+applies (Take c) s = None
+applies (Deliver c) s = delivers s c
+applies (Acknowledge c) s = None
+applies (Join c) s = None
+applies (Read c) s = None
+applies ReadServer s = None
+
+-- the last operation of a log
+abbrev pub last_of : List Entry → Option (Operation ℕ)
+last_of log = option_map (λ (h : Entry). plain_operation h.op) (slice_get log (length log - 1))
+
+-- ---- the line of one instruction
+
+abbrev pub edit_of : Instr → Option (Operation ℕ)
+edit_of (Edit c op) = Some op
+edit_of (Take c) = None
+edit_of (Deliver c) = None
+edit_of (Acknowledge c) = None
+edit_of (Join c) = None
+edit_of (Read c) = None
+edit_of ReadServer = None
+
+-- which instruction it is
+abbrev pub named : ℕ → Instr → Line
+named at i = record (bare at) { word = Some (word_of i); client = client_of i; edit = edit_of i }
+
+-- and where the client is then
+abbrev pub with_client : Client → Line → Line
+with_client y line =
+    record line { revision = Some y.revision; state = Some (phase_name y.phase); outstanding = outstanding_of y.phase; buffer = buffer_of y.phase }
+
+-- and where the one that moved is then, in the state t; reads move nobody
+abbrev pub placed : Instr → State → Line → Line
+placed (Edit c op) t line = with_client (client_in t c) line
+placed (Take c) t line = record line { revision = Some (length t.log) }
+placed (Deliver c) t line = with_client (client_in t c) line
+placed (Acknowledge c) t line = with_client (client_in t c) line
+placed (Join c) t line = with_client (client_in t c) line
+placed (Read c) t line = line
+placed ReadServer t line = line
+
+-- the operation that an instruction appended to the log
+abbrev pub appended_by : Instr → State → Option (Operation ℕ)
+appended_by (Edit c op) t = None
+appended_by (Take c) t = last_of t.log
+appended_by (Deliver c) t = None
+appended_by (Acknowledge c) t = None
+appended_by (Join c) t = None
+appended_by (Read c) t = None
+appended_by ReadServer t = None
+
+-- the message on the link to the server of the client that an instruction names
+abbrev pub message_in : State → Option ℕ → Option Message
+message_in t None = None
+message_in t (Some c) = option_map plain_message (client_in t c).message
+
+-- the document of the one that moved or was read
+abbrev pub document_in : State → Instr → List ℕ
+document_in t (Edit c op) = chars_of (client_in t c).list
+document_in t (Take c) = chars_of t.server
+document_in t (Deliver c) = chars_of (client_in t c).list
+document_in t (Acknowledge c) = chars_of (client_in t c).list
+document_in t (Join c) = chars_of (client_in t c).list
+document_in t (Read c) = chars_of (client_in t c).list
+document_in t ReadServer = chars_of t.server
+
+-- a read and a join have a document always
+abbrev pub has_document : Instr → Bool
+has_document (Edit c op) = false
+has_document (Take c) = false
+has_document (Deliver c) = false
+has_document (Acknowledge c) = false
+has_document (Join c) = true
+has_document (Read c) = true
+has_document ReadServer = true
+
+-- the document that a line has
+abbrev pub document_after : Bool → Instr → State → Option (List ℕ)
+document_after documents i t = if has_document i || documents then Some (document_in t i) else None
+
+-- the line of an instruction that leads to the state t, `at` being the place after it: it has sent a message or not, and applied an operation
+abbrev pub line_after : Bool → ℕ → Instr → Bool → Option (Operation ℕ) → State → Line
+line_after documents at i sent applied t =
+    record (placed i t (named at i)) {
+      sent = if sent then message_in t (client_of i) else None;
+      applied = applied;
+      appended = appended_by i t;
+      document = document_after documents i t;
+    }
+
+-- the line of an instruction that leads from the state s to the state t
+abbrev pub step_line : Bool → ℕ → Instr → State → State → Line
+step_line documents at i s t = line_after documents at i (sends i s) (applies i s) t
+
+-- ---- the other lines
+
+abbrev pub opening_line : Program → Line
+opening_line s = record (bare 0) { clients = Some s.clients; present = Some s.present; start = Some s.start }
+
+-- the line of an instruction that is refused, `at` being the place where the run stands
+abbrev pub stop_line : ℕ → Instr → Refusal → Line
+stop_line at i refusal = record (named at i) { stopped = Some refusal }
+
+abbrev pub end_line : ℕ → Bool → Line
+end_line at quiet = record (bare at) { quiet = Some quiet }
+
+-- ---- whether all is quiet, as a test
+
+abbrev pub is_end : List Entry → Bool
+is_end [] = true
+is_end (h ∷ log) = false
+
+abbrev pub is_client_quiet : List Entry → Client → Bool
+is_client_quiet log x =
+    if is_joined x.phase then is_synchronized x.phase && (is_none x.message && is_end (drop x.revision log)) else true
+
+abbrev pub are_quiet : List Entry → List Client → Bool
+are_quiet log [] = true
+are_quiet log (x ∷ clients) = is_client_quiet log x && are_quiet log clients
+
+abbrev pub is_quiet : State → Bool
+is_quiet s = are_quiet s.log s.clients
+
+-- ---- all lines
+
+-- the lines of the instructions up to the first refusal, from the state s on, which stands at a place
+abbrev pub lines_from : Bool → ℕ → State → List Instr → List Line
+lines_from documents at s [] = []
+lines_from documents at s (i ∷ is) =
+    elim (step s i) [
+      | Performed t shown ↦ step_line documents (suc at) i s t ∷ lines_from documents (suc at) t is
+      | Refused r ↦ []
+      | NoRow ↦ []
+    ]
+
+-- the opening, and the lines of the first p instructions
+abbrev pub first_lines : Bool → Program → ℕ → List Line
+first_lines documents s p = opening_line s ∷ lines_from documents 0 (opening_of s) (take p s.instrs)
+
+-- the line of the instruction at which a run stopped, if it did
+abbrev pub stop_at : ℕ → Refusal → Option Instr → List Line
+stop_at place refusal None = []
+stop_at place refusal (Some i) = stop_line place i refusal ∷ []
+
+abbrev pub stop_lines : Program → Option (ℕ × Refusal) → List Line
+stop_lines s None = []
+stop_lines s (Some stop) = stop_at stop.0 stop.1 (slice_get s.instrs stop.0)
+
+-- the stop and the end of a run that ends in this state
+abbrev pub last_lines : Program → State → Option (ℕ × Refusal) → List Line
+last_lines s state stopped = stop_lines s stopped ++ end_line (reached s stopped) (is_quiet state) ∷ []
+
+-- all lines of a run that ends in this state
+abbrev pub run_lines : Bool → Program → State → Option (ℕ × Refusal) → List Line
+run_lines documents s state stopped = first_lines documents s (reached s stopped) ++ last_lines s state stopped

@@ -1,0 +1,2 @@
+pub mod Concluded
+pub mod Threaded

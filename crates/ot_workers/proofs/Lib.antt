@@ -1,0 +1,4 @@
+mod Round
+mod Heard
+mod Counted
+pub mod Fresh

@@ -1,0 +1,5 @@
+pub mod Faults
+pub mod Choosing
+pub mod Playing
+pub mod Sharing
+pub mod Turns

@@ -1,0 +1,28 @@
+//! What a worker holds between its two times under the lock.
+
+ghost use Rattle.ot_board.specs.Lents.{session_of};
+ghost use Rattle.ot_workers.specs.Choosing.{IsHad};
+ghost use Rattle.ot_workers.specs.Playing.{MayPlay};
+
+use crate::choosing::Way;
+use crate::playing::Task;
+use ot_board::Lent;
+use ot_typing::Typing;
+
+/// A session, and what is to be done with it off the lock.
+pub(crate) struct Held<'a> {
+    pub(crate) lent: Lent,
+    pub(crate) task: Task<'a>,
+    ghost playable: { MayPlay (session_of lent) task },
+}
+
+/// A session that was parked is read, and in any other the client's next action is typed.
+pub(crate) fn in_hand<'a>(lent: Lent, way: Way, action: Option<&'a Typing>) -> Held<'a>
+    requires { IsHad way (session_of lent) }
+{
+    let task = match way {
+        Way::PickUp => Task::Read,
+        Way::Lend | Way::Join => Task::Enter(action),
+    };
+    Held { lent, task }
+}

@@ -1,0 +1,39 @@
+//! Workers under one lock.
+//!
+//! Workers are threads that take turns with the clients of one board, as users type. What a turn does under the lock is short: the server
+//! takes what is under way, a client is chosen and lent (or picked up), and later its session is settled (or parked). What it does off the
+//! lock, the session's steps with their transforms, runs beside the other workers' turns.
+//!
+//! ```text
+//!   under the lock        off the lock                          under the lock
+//!   stopped? take, ..     deliver, acknowledge, .. edit         settle, or park (each fourth turn)
+//!   choose, join, lend    or read, where it was picked up       wake all
+//! ```
+//!
+//! Whatever the threads do, the board keeps that its machine is the run of its record, and `ot_board::audit` says whether the workers'
+//! receipts are that record. What is proved of the workers' own steps stands on `play`: it makes exactly the steps of a turn, or with a fault
+//! the first ones of them (`turn_steps` and `IsCutShort` in `specs/Playing.antt`). Which client a turn takes is `choice` in
+//! `specs/Choosing.antt`, and what a board and its users' actions have to be is `MayShare` in `specs/Sharing.antt`. Only `work` and
+//! `run_workers` may wait; nothing is promised of the order in which threads run, or that they get on.
+//!
+//! Begin with `work` in `working.rt`, which is a turn after a turn, and then read `play` in `playing.rt`.
+#![tactic(auto)]
+
+mod choosing;
+mod fault;
+mod gate;
+mod held;
+mod playing;
+mod session_calls;
+mod shared;
+mod sharing;
+mod turns;
+mod working;
+
+pub use choosing::{Seat, Way, choose};
+pub use fault::WorkFault;
+pub use gate::{Gate, OpenGate};
+pub use playing::{Task, play};
+pub use shared::Shared;
+pub use sharing::{ACTION_LIMIT, can_share};
+pub use working::{WorkerEnd, run_workers, work};

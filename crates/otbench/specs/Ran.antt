@@ -1,0 +1,25 @@
+-- What `run` writes and answers.
+use Rattle.std.specs.Prelude.{◌⊎◌, ℕ, List, Option, Some, None}
+use Rattle.ot_isa.specs.Program.{Program}
+use Rattle.ot_model.specs.declared.shown.Refusal.{Refusal}
+use Rattle.ot_machine.specs.declared.outcome.Run.{Run}
+use Rattle.ot_machine.specs.Ended.{IsRun}
+use Rattle.ot_report.specs.Printed.{IsReport}
+use Rattle.outcomes.specs.Outcomes.{Streams, Gives, WantsMemory}
+
+-- 0 where all instructions were performed, 1 where one was not
+abbrev pub stop_status : Option (ℕ × Refusal) → ℕ
+stop_status None = 0
+stop_status (Some stop) = 1
+
+-- the run of the schedule, as it is printed
+pub record Reports (schedule : Program) (status : ℕ) (streams : Streams) : Type 0 where
+  pub run : Run
+  pub is_run : IsRun schedule run
+  pub text : List ℕ
+  pub is_report : IsReport run text
+  pub gives : Gives (stop_status run.stopped) text status streams
+
+-- a run, or want of memory for it
+abbrev pub MayReport : Program → ℕ → Streams → Type 0
+MayReport schedule status streams = Reports schedule status streams ⊎ WantsMemory status streams

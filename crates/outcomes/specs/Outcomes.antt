@@ -1,0 +1,53 @@
+-- What is left on the output and on the faults, with the status.
+use Rattle.std.specs.Prelude.{◌≡◌, ◌⊎◌, ℕ, List, [], ◌∷◌, ◌++◌, Option, codes}
+use Rattle.std.specs.Io.KnownBytes.{Appends, Keeps}
+use Rattle.streams.specs.Streams.{WritesPart}
+use Rattle.streams.specs.declared.InputFault.{InputFault}
+use Rattle.streams.specs.declared.InputFault.TheVariants.{Read, Memory}
+
+-- the streams before and after: what was on the output and on the faults, and what is there now
+pub record Streams : Type 0 where
+  pub output : Option (List ℕ)
+  pub output' : Option (List ℕ)
+  pub faults : Option (List ℕ)
+  pub faults' : Option (List ℕ)
+
+-- the lines of faults that no place of the input has
+abbrev pub memory_fault : List ℕ
+memory_fault = codes "otbench: Memory" ++ 10 ∷ []
+
+abbrev pub read_fault : List ℕ
+read_fault = codes "otbench: ReadFault" ++ 10 ∷ []
+
+-- the line of an input that was not read whole
+abbrev pub input_fault : InputFault → List ℕ
+input_fault Read = read_fault
+input_fault Memory = memory_fault
+
+-- the line, or for want of memory the line that says so, or what of it could be written
+abbrev pub Complains : List ℕ → Option (List ℕ) → Option (List ℕ) → Type 0
+Complains line old new = WritesPart old new line ⊎ WritesPart old new memory_fault
+
+-- status 1, nothing on the output, and the line on the faults
+abbrev pub Refuses : List ℕ → ℕ → Streams → Type 0
+Refuses line status streams = (status ≡ 1) × Keeps streams.output streams.output' × Complains line streams.faults streams.faults'
+
+-- status 1, nothing on the output, and on the faults that memory was wanting
+abbrev pub WantsMemory : ℕ → Streams → Type 0
+WantsMemory status streams = (status ≡ 1) × Keeps streams.output streams.output' × WritesPart streams.faults streams.faults' memory_fault
+
+-- status 1, nothing on the output, and on the faults why the input was not read whole: a read failed, the input is too long, or memory was wanting
+abbrev pub GivesUp : ℕ → Streams → Type 0
+GivesUp status streams = (fault : InputFault) × (status ≡ 1) × Keeps streams.output streams.output' × WritesPart streams.faults streams.faults' (input_fault fault)
+
+-- the whole text and its status; or, where writing failed, a first part of it and status 1
+abbrev pub Puts : ℕ → List ℕ → ℕ → Option (List ℕ) → Option (List ℕ) → Type 0
+Puts right text status old new = ((status ≡ right) × Appends old new text) ⊎ ((status ≡ 1) × WritesPart old new text)
+
+-- the output with its status, as far as writing went, and nothing on the faults
+abbrev pub Gives : ℕ → List ℕ → ℕ → Streams → Type 0
+Gives right text status streams = Puts right text status streams.output streams.output' × Keeps streams.faults streams.faults'
+
+-- status 1, a first part of the output, and on the faults that memory was wanting: where the output is written piece by piece
+abbrev pub StopsShort : List ℕ → ℕ → Streams → Type 0
+StopsShort text status streams = (status ≡ 1) × WritesPart streams.output streams.output' text × WritesPart streams.faults streams.faults' memory_fault

@@ -1,0 +1,53 @@
+//! What a subcommand leaves: on the output, on the faults, and its status.
+//!
+//! ```text
+//!    the whole output, no fault    Gives right text    its own status; 1 where writing failed, with a first part of the text
+//!    a refused input               Refuses line        1, nothing on the output, the fault's line
+//!    want of memory                WantsMemory         1, nothing on the output, `otbench: Memory`
+//!    want of memory on the way     StopsShort text     1, a first part of the output, `otbench: Memory`
+//!    an input that was not read    GivesUp             1, nothing on the output, `otbench: ReadFault`, or the line above
+//! ```
+//!
+//! A line on the faults is written as far as that can be done, so there a first part of it may stand.
+//! The definitions stand in `specs/Outcomes.antt`; a subcommand's contract puts together what they say.
+#![tactic(auto)]
+
+ghost use Rattle.streams.specs.Streams.{WritesPart};
+ghost use Rattle.outcomes.specs.Outcomes.{Puts, input_fault, memory_fault};
+
+use std::io::Write;
+use streams::{InputFault, put};
+
+/// Writes the whole output and answers its status; 1 where writing failed.
+pub fn give<O: Write>(text: &[u8], right: u8, output: &mut O) -> u8
+    ensures { Puts right text.now result (O.contents output.old) (O.contents output.new) }
+{
+    match put(output, text) {
+        Ok(()) => right,
+        Err(_) => 1,
+    }
+}
+
+/// Writes a line on the faults, as far as that can be done.
+pub fn complain<F: Write>(faults: &mut F, line: &str)
+    ensures { WritesPart (F.contents faults.old) (F.contents faults.new) line.now }
+{
+    let _ = put(faults, line.as_bytes());
+}
+
+/// Writes that memory was wanting.
+pub fn complain_of_memory<F: Write>(faults: &mut F)
+    ensures { WritesPart (F.contents faults.old) (F.contents faults.new) memory_fault }
+{
+    complain(faults, "otbench: Memory\n");
+}
+
+/// Writes why an input was not read whole.
+pub fn complain_of_input<F: Write>(fault: InputFault, faults: &mut F)
+    ensures { WritesPart (F.contents faults.old) (F.contents faults.new) (input_fault fault) }
+{
+    match fault {
+        InputFault::Read => complain(faults, "otbench: ReadFault\n"),
+        InputFault::Memory => complain_of_memory(faults),
+    }
+}

@@ -1,0 +1,96 @@
+/* The driver prints what `otbench steps` prints, and each of the five faults shows where it should. */
+"use strict";
+const assert = require("node:assert/strict");
+const { spawnSync } = require("node:child_process");
+const fs = require("node:fs");
+const path = require("node:path");
+const { test } = require("node:test");
+const { bugs } = require("./bugs.js");
+const { drive, loadPort } = require("./driver.js");
+const { units } = require("./units.js");
+
+const example = (name) => fs.readFileSync(path.join(__dirname, `../${name}.ots`), "utf8");
+const values = (lines) => lines.map((line) => JSON.parse(line));
+
+test("the lines of a session", () => {
+  const lines = values(drive(example("weak-order"), loadPort()));
+  assert.deepEqual(lines[0], { at: 0, clients: 2, present: 2, start: "x" });
+  const first = { revision: 0, state: "awaiting-confirm", outstanding: [1, "z"], buffer: null, document: "xz" };
+  assert.deepEqual(lines[1], { at: 1, do: "edit", client: 0, edit: [1, "z"], ...first, sent: { revision: 0, operation: [1, "z"] } });
+  assert.deepEqual(lines[6], { at: 6, do: "take", client: 0, revision: 2, appended: [2, "z"], document: "cxz" });
+  const seventh = { revision: 1, state: "awaiting-with-buffer", outstanding: [2, "z"], buffer: ["a", 1, -1, 1], document: "acz" };
+  assert.deepEqual(lines[7], { at: 7, do: "deliver", client: 0, ...seventh, applied: [1, "c", 1] });
+  assert.deepEqual(lines.slice(16), [{ at: 16, do: "read-server", document: "acz" }, { at: 16, end: "quiet" }]);
+});
+
+test("a late joiner, and documents where they are asked for", () => {
+  const lines = values(drive(example("late-join"), loadPort(), { short: true }));
+  assert.deepEqual(lines[0], { at: 0, clients: 2, present: 1, start: "x" });
+  const joined = { revision: 1, state: "synchronized", outstanding: null, buffer: null, document: "xa" };
+  assert.deepEqual(lines[3], { at: 3, do: "join", client: 1, ...joined });
+  assert.ok(lines.every((line) => line.document === undefined || line.do === "join"));
+});
+
+test("lengths count scalars, and texts come out as they went in", () => {
+  const lines = values(drive(example("one-client"), loadPort()));
+  assert.deepEqual([lines[0].start, lines[1].edit, lines[1].document], ["𝒳y", [1, "é", 1], "𝒳éy"]);
+  const { inward, outward } = units();
+  assert.equal(inward("a😀b😀𝒳").length, 5);
+  assert.equal(outward(inward("a😀b😀𝒳")), "a😀b😀𝒳");
+});
+
+test("a port with scalars of its own is handed the texts as they are", () => {
+  const seen = [];
+  const port = loadPort();
+  const { fromJSON } = port.TextOperation;
+  port.TextOperation.fromJSON = (operation) => fromJSON(seen.push(operation) && operation);
+  drive('clients 1\nedit 0 ["😀"]\n', port, { scalars: true });
+  assert.deepEqual(seen, [["😀"]]);
+});
+
+test("where an instruction cannot be performed the port's own words are printed", () => {
+  const rows = [
+    ["clients 2\ntake 0\n", "no message under way"],
+    ["clients 2\ndeliver 0\n", "no message under way"],
+    ['clients 2\nedit 0 ["a"]\ntake 0\ndeliver 0\n', "another message is at the head"],
+    ["clients 2\npresent 1\nread 1\n", "has not joined"],
+    ["clients 2\njoin 0\n", "has joined already"],
+    ["clients 1\nedit 0 [1]\n", "The operation's base length must be equal to the string's length."],
+  ];
+  for (const [schedule, stopped] of rows) {
+    const lines = values(drive(schedule, loadPort()));
+    assert.equal(lines.at(-2).stopped, stopped);
+    assert.equal(lines.at(-2).at, lines.at(-1).at);
+  }
+});
+
+/* Place, and what the port printed there. */
+const SHOWN = {
+  tie: [7, { buffer: [1, "a", -1, 1] }],
+  "old-revision": [8, { sent: { revision: 1, operation: ["a", 1, -1, 1] } }],
+  "buffer-kept": [7, { buffer: ["a", -1, 1] }],
+  "whole-log": [9, { at: 8, stopped: "Both operations have to have the same base length" }],
+  order: [3, { buffer: [-1, "a", 1] }],
+};
+
+test("each fault shows at its place, and not before", () => {
+  const ours = drive(example("weak-order"), loadPort());
+  assert.deepEqual(Object.keys(SHOWN), Object.keys(bugs));
+  for (const [name, [place, shown]] of Object.entries(SHOWN)) {
+    const port = loadPort();
+    bugs[name](port);
+    const lines = drive(example("weak-order"), port);
+    assert.deepEqual(lines.slice(0, place), ours.slice(0, place), name);
+    const found = JSON.parse(lines[place]);
+    for (const key of Object.keys(shown)) assert.deepEqual(found[key], shown[key], `${name}: ${key}`);
+  }
+});
+
+test("the command line", () => {
+  const options = { input: example("weak-order"), encoding: "utf8" };
+  const call = (...words) => spawnSync("node", [path.join(__dirname, "driver.js"), ...words], options);
+  assert.equal(call("--short").stdout, drive(example("weak-order"), loadPort(), { short: true }).join("\n") + "\n");
+  const refused = call("--bug", "none");
+  assert.equal(refused.stderr, "driver: no such bug; there are tie, old-revision, buffer-kept, whole-log, order\n");
+  assert.equal(refused.status, 1);
+});

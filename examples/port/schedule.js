@@ -1,0 +1,32 @@
+/* Reads the text of a schedule that otbench accepts. */
+"use strict";
+
+/*
+ * { clients, present, start, instructions }, an instruction being { word, client, edit }. Every text in it goes through
+ * `inward` (units.js). Lines from "%%" on are not the schedule's.
+ */
+function readSchedule(text, inward) {
+  const schedule = { clients: 0, present: null, start: "", instructions: [] };
+  for (const raw of text.split("\n")) {
+    const line = raw.replace(/\r$/, "").replace(/^[ \t]+|[ \t]+$/g, "");
+    if (line === "%%") break;
+    if (line !== "" && line[0] !== ";") readLine(schedule, line, inward);
+  }
+  if (schedule.present === null) schedule.present = schedule.clients;
+  return schedule;
+}
+
+function readLine(schedule, line, inward) {
+  const [, word, rest] = /^(\S+)[ \t]*([^]*)$/.exec(line);
+  if (word === "clients") schedule.clients = Number(rest);
+  else if (word === "present") schedule.present = Number(rest);
+  else if (word === "start") schedule.start = inward(JSON.parse(rest));
+  else if (word === "read-server") schedule.instructions.push({ word });
+  else if (word === "edit") {
+    const [, client, operation] = /^(\d+)[ \t]+([^]*)$/.exec(rest);
+    const edit = JSON.parse(operation).map((x) => (typeof x === "string" ? inward(x) : x));
+    schedule.instructions.push({ word, client: Number(client), edit });
+  } else schedule.instructions.push({ word, client: Number(rest) });
+}
+
+module.exports = { readSchedule };

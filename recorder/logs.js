@@ -1,0 +1,82 @@
+/* Reads the recorder's lines, and sorts them into the logs of the participants. */
+"use strict";
+
+/* An event as faults name it. */
+const nameOf = (event) => `${event.who}, event ${event.n}`;
+
+const isOperation = (value) => Array.isArray(value) && value.every((x) => typeof x === "string" || Number.isInteger(x));
+
+/* What an event has to hold, by its word. */
+const HOLDS = {
+  open: () => true,
+  edit: (event) => isOperation(event.edit),
+  deliver: (event) => isOperation(event.operation),
+  ack: () => true,
+  take: ({ given, appended, stopped }) =>
+    given && Number.isInteger(given.revision) && isOperation(given.operation) && (stopped !== undefined || isOperation(appended)),
+};
+
+function holds(event) {
+  const after = event.stopped !== undefined || (Number.isInteger(event.revision) && typeof event.document === "string");
+  return after && Object.hasOwn(HOLDS, event.do) && HOLDS[event.do](event);
+}
+
+/* The events in a file's text. */
+function readEvents(text, file) {
+  const events = [];
+  text.split("\n").forEach((line, i) => {
+    if (line.trim() === "") return;
+    const here = `${file}, line ${i + 1}`;
+    let event;
+    try {
+      event = JSON.parse(line);
+    } catch {
+      throw new Error(`${here} is no JSON: is the log cut?`);
+    }
+    if (!event || typeof event.who !== "string" || !Number.isInteger(event.n)) throw new Error(`${here} is no event`);
+    if (!holds(event)) throw new Error(`${nameOf(event)} lacks what a "${event.do}" should hold`);
+    events.push(event);
+  });
+  return events;
+}
+
+/* One participant's events, in order and with no hole. */
+function checkLog(who, log) {
+  log.sort((a, b) => a.n - b.n);
+  log.forEach((event, n) => {
+    if (event.n < n) throw new Error(`${nameOf(event)} is there twice: have two participants one name?`);
+    if (event.n > n) throw new Error(`the log of ${who} has no event ${n}`);
+    if ((event.do === "open") !== (n === 0)) throw new Error(`${nameOf(event)}: a log has one opening, at its beginning`);
+    if (n > 0 && (event.do === "take") !== (log[0].role === "server"))
+      throw new Error(`${nameOf(event)}: ${event.do} is no event of a ${log[0].role}`);
+  });
+}
+
+/*
+ * { server, clients }: the server's log, and the clients' in the order in which they joined. The clients whose revision at
+ * the opening is the server's are there from the beginning.
+ */
+function readLogs(events) {
+  const logs = new Map();
+  for (const event of events) {
+    if (!logs.has(event.who)) logs.set(event.who, []);
+    logs.get(event.who).push(event);
+  }
+  logs.forEach((log, who) => checkLog(who, log));
+  const all = [...logs.values()];
+  const servers = all.filter((log) => log[0].role === "server");
+  if (servers.length === 0) throw new Error("no log is a server's");
+  if (servers.length > 1) throw new Error(`${servers.map((log) => nameOf(log[0])).join(" and ")}: one session has one server`);
+  const [server] = servers;
+  const clients = all.filter((log) => log[0].role !== "server").sort((a, b) => a[0].revision - b[0].revision);
+  for (const [opening] of clients) checkOpening(opening, server[0]);
+  return { server, clients };
+}
+
+function checkOpening(opening, server) {
+  if (opening.revision < server.revision)
+    throw new Error(`${nameOf(opening)} is at revision ${opening.revision}, before the server's log begins (${server.revision})`);
+  if (opening.outstanding) throw new Error(`${nameOf(opening)}: an operation is outstanding already`);
+}
+
+module.exports = { nameOf, readEvents, readLogs };

@@ -1,0 +1,253 @@
+/* The merge: one schedule of the participants' logs, and what cannot be merged is named. */
+"use strict";
+const assert = require("node:assert/strict");
+const { spawnSync } = require("node:child_process");
+const fs = require("node:fs");
+const os = require("node:os");
+const path = require("node:path");
+const { test } = require("node:test");
+const { bugs } = require("../../examples/port/bugs.js");
+const { drive, loadPort } = require("../../examples/port/driver.js");
+const { readEvents } = require("../logs.js");
+const { merge } = require("../merge.js");
+const { isWellFormed, toScalars } = require("../scalars.js");
+const { LiveSession, chance, liveSession } = require("./live_session.js");
+
+const mergeText = (text) => merge(readEvents(text, "log"));
+const eventsOf = (log) => readEvents(log, "log");
+
+/* The first value that a participant logged and that ot.js has not, where the merged schedule is performed; null without. */
+function firstDifference({ schedule, lines }) {
+  const ours = drive(schedule.join("\n"), loadPort()).map((line) => JSON.parse(line));
+  for (const [i, text] of lines.entries()) {
+    const line = JSON.parse(text);
+    const due = ours[i];
+    const differs = (key) => JSON.stringify(line[key]) !== JSON.stringify(due[key] ?? null);
+    const key = (line.stopped === undefined) !== (due.stopped === undefined) ? "stopped" : Object.keys(line).find(differs);
+    if (key) return `${line.do} ${key}`;
+  }
+  return null;
+}
+
+/* The documents to which a schedule leads, by the names in its comments. */
+function documentsAtEnd(schedule) {
+  const names = schedule.filter((line) => line[0] === ";").map((line) => JSON.parse(line.slice(line.indexOf('"'))));
+  const reads = [...names.map((_, client) => `read ${client}`), "read-server"];
+  const lines = drive([...schedule, ...reads].join("\n"), loadPort()).slice(-reads.length - 1, -1);
+  return Object.fromEntries(lines.map((line, i) => [names[i] || "server", JSON.parse(line).document]));
+}
+
+const KINDS = { plain: {}, alone: { clients: 1 }, many: { clients: 8, late: 3 }, late: { late: 2 }, wrapped: { wrapped: true }, middle: { middle: true }, cut: { cut: true } };
+
+for (const [name, kind] of Object.entries(KINDS))
+  test(`seeded live sessions, ${name}: the schedule gives each participant the states that it had`, () => {
+    for (let seed = 1; seed <= 6; seed++) {
+      const { log, documents } = liveSession({ ...kind, seed });
+      const merged = mergeText(log);
+      assert.deepEqual([merged.fault, merged.notes, firstDifference(merged)], [null, [], null], `seed ${seed}`);
+      assert.deepEqual(documentsAtEnd(merged.schedule), documents, `seed ${seed}`);
+    }
+  });
+
+test("any order of the participants will do", () => {
+  for (let seed = 1; seed <= 6; seed++) {
+    const { log } = liveSession({ seed, clients: 5, late: 2 });
+    const random = chance(seed + 100);
+    const events = eventsOf(log).map((event) => ({ ...event, time: random(1e6) }));
+    const merged = merge(events);
+    assert.notDeepEqual(merged.schedule, mergeText(log).schedule);
+    assert.deepEqual([merged.fault, firstDifference(merged)], [null, null]);
+  }
+});
+
+test("a session of two, as a schedule", () => {
+  const log = [
+    { who: "server", n: 0, time: 1, do: "open", role: "server", revision: 4, document: "a😀" },
+    { who: "server", n: 1, time: 5, do: "take", given: { revision: 4, operation: [3, "b"] }, revision: 5, appended: [3, "b"], document: "a😀b" },
+    { who: "ann", n: 0, time: 2, do: "open", role: "client", revision: 4, state: "synchronized", document: "a😀" },
+    { who: "ann", n: 1, time: 9, do: "edit", edit: [3, "b"], revision: 4, state: "awaiting-confirm", outstanding: [3, "b"], buffer: null, sent: { revision: 4, operation: [3, "b"] }, document: "a😀b" },
+    { who: "ann", n: 2, time: 3, do: "ack", revision: 5, state: "synchronized", outstanding: null, buffer: null, document: "a😀b" },
+    { who: "ben", n: 0, time: 7, do: "open", role: "client", revision: 5, state: "synchronized", document: "a😀b" },
+    { who: "ben", n: 1, time: 8, do: "edit", edit: [1, -2, 1], revision: 5, state: "awaiting-confirm", outstanding: [1, -2, 1], buffer: null, sent: { revision: 5, operation: [1, -2, 1] }, document: "ab" },
+  ];
+  const { schedule, lines, notes, fault } = merge(log);
+  assert.deepEqual(schedule, ['; client 0 is "ann"', '; client 1 is "ben"', "clients 2", "present 1", 'start "a😀"', 'edit 0 [2,"b"]', "take 0", "join 1", "ack 0", "edit 1 [1,-1,1]"]);
+  assert.deepEqual([notes, fault], [[], null]);
+  const told = lines.map((line) => JSON.parse(line));
+  assert.deepEqual(told[0], { at: 0, clients: 2, present: 1, start: "a😀" });
+  assert.deepEqual(told[2], { at: 2, do: "take", client: 0, revision: 1, appended: [2, "b"], document: "a😀b" });
+  assert.deepEqual(told[3], { at: 3, do: "join", client: 1, revision: 1, state: "synchronized", document: "a😀b" });
+  const state = { revision: 1, state: "awaiting-confirm", outstanding: [1, -1, 1], buffer: null, sent: { revision: 1, operation: [1, -1, 1] } };
+  assert.deepEqual(told[5], { at: 5, do: "edit", client: 1, edit: [1, -1, 1], ...state, document: "ab" });
+});
+
+/* Where each fault shows first: at whose value of which instruction. */
+const SHOWS = {
+  tie: /^(edit|deliver|take) (outstanding|buffer|applied|appended)$/,
+  "old-revision": /^ack sent$/,
+  "buffer-kept": /^deliver buffer$/,
+  "whole-log": /^take (stopped|appended)$/,
+  order: /^(edit|deliver) (outstanding|buffer)$/,
+};
+
+test("the five faults of ports show in what the participants logged", () => {
+  for (const [name, plant] of Object.entries(bugs)) {
+    const found = [];
+    for (let seed = 1; seed <= 8; seed++) found.push(firstDifference(mergeText(liveSession({ seed, plant }).log)));
+    const shown = found.filter((difference) => difference !== null);
+    assert.ok(shown.length >= (name === "order" ? 1 : 4), `${name} in ${shown.length} of 8`);
+    for (const difference of shown) assert.match(difference, SHOWS[name], name);
+  }
+});
+
+test("UTF-16 units as scalars", () => {
+  assert.deepEqual(toScalars([1, -2, "😀", 1], "a😀b"), [1, -1, "😀", 1]);
+  const rows = [
+    [[2, -2], "cuts the surrogate pair at unit 1 in two"],
+    [[1, -1, 2], "cuts the surrogate pair at unit 1 in two"],
+    [[4, "\ud83d"], "inserts half of a surrogate pair"],
+    [[3], "has base length 3 over a document of 4 units"],
+  ];
+  for (const [operation, message] of rows) assert.throws(() => toScalars(operation, "a😀b"), { message });
+  assert.deepEqual(["", "a😀", "\ud83d", "\ude00", "\ude00\ud83d", "😀\ude00"].map(isWellFormed), [true, true, false, false, false, false]);
+});
+
+test("an edit that cuts a surrogate pair in two is named, and the schedule ends before it", () => {
+  const session = new LiveSession({ seed: 1, clients: 2 });
+  session.run();
+  const before = mergeText(session.lines.join("\n"));
+  const [seat] = session.clients;
+  const place = [...seat.document].length ? seat.document.search(/[\ud800-\udbff]/) + 1 : 0;
+  assert.ok(place > 0);
+  const { TextOperation } = session.port;
+  session.apply(seat, new TextOperation().retain(place).insert("\ude01").delete(1).retain(seat.document.length - place - 1));
+  const number = JSON.parse(session.lines.at(-1)).n;
+  const after = mergeText(session.lines.join("\n"));
+  assert.deepEqual(after.schedule, before.schedule);
+  assert.match(after.fault, new RegExp(`^client a, event ${number}: edit \\[.*\\] cuts the surrogate pair at unit ${place - 1} in two; a schedule cannot say that, and ends before it$`));
+});
+
+/* A session's events, changed; what the merge answers or throws. */
+function mergeChanged(change, options) {
+  const events = eventsOf(liveSession({ seed: 4, clients: 2, edits: 12, ...options }).log);
+  try {
+    return merge(change(events) || events).fault;
+  } catch (fault) {
+    return fault.message;
+  }
+}
+const find = (events, who, n) => events.find((event) => event.who === who && event.n === n);
+const without = (who, n) => (events) => events.filter((event) => event.who !== who || event.n !== n);
+
+test("a log that is cut or mixed up is named", () => {
+  const rows = [
+    [without("client a", 3), "the log of client a has no event 3"],
+    [without("server", 0), "the log of server has no event 0"],
+    [(events) => events.filter((event) => event.who !== "server"), "no log is a server's"],
+    [(events) => [...events, { ...find(events, "server", 0), who: "other" }], "server, event 0 and other, event 0: one session has one server"],
+    [(events) => [...events, find(events, "client a", 2)], "client a, event 2 is there twice: have two participants one name?"],
+    [(events) => void (find(events, "client a", 0).revision = -1), "client a, event 0 is at revision -1, before the server's log begins (0)"],
+    [(events) => void (find(events, "client a", 0).outstanding = [3]), "client a, event 0: an operation is outstanding already"],
+    [(events) => void (find(events, "client b", 0).revision = 99), /client b, event 0: joins at revision 99, which the server did not reach/],
+    [(events) => void Object.assign(find(events, "server", 2), { do: "edit", edit: [] }), "server, event 2: edit is no event of a server"],
+  ];
+  for (const [change, message] of rows) {
+    const answer = mergeChanged(change);
+    if (message instanceof RegExp) assert.match(answer, message);
+    else assert.equal(answer, message);
+  }
+});
+
+test("a server's log that ends too early is named at the first event that waits", () => {
+  const events = eventsOf(liveSession({ seed: 4, clients: 2, edits: 12 }).log);
+  const last = Math.max(...events.filter((event) => event.who === "server").map((event) => event.n));
+  const { fault } = merge(events.filter((event) => event.who !== "server" || event.n < last));
+  const waiting = new RegExp(`client [ab], event \\d+: (deliver|ack) of operation ${last - 1}, which the server did not take`, "g");
+  assert.equal(fault.match(waiting).length, 2, fault);
+});
+
+test("a message from elsewhere is named", () => {
+  const foreign = (events) => void (find(events, "server", 1).given.operation = [4, "?"]);
+  assert.match(mergeChanged(foreign), /^server, event 1: take of \[4,"\?"\] at revision 0; client [ab], event \d+ acknowledges it, and had sent \[.*\] at revision 0$/);
+  const unknown = (events) => [...events.filter((event) => event.do !== "ack" && event.n < 2 && event.do !== "edit"), find(events, "server", 1)].filter((event, i, all) => all.indexOf(event) === i);
+  assert.match(mergeChanged(unknown), /^server, event 1: take of \[.*\] at revision 0, which no client sent$/);
+  const changed = (events) => void (events.find((event) => event.do === "deliver").operation = [1]);
+  assert.match(mergeChanged(changed), /^client [ab], event \d+: deliver of \[1\], and the server's operation \d+ is \[.*\]$/);
+});
+
+test("two acknowledgements of one operation are named", () => {
+  const both = (events) => {
+    const deliver = events.find((event) => event.do === "deliver");
+    deliver.do = "ack";
+  };
+  assert.match(mergeChanged(both), /^client [ab], event \d+ and client [ab], event \d+: both take operation \d+ as an acknowledgement$/);
+});
+
+/* The server takes "a" from ann or ben; each of them has just opened. */
+const message = { revision: 0, operation: ["a"] };
+const opening = { time: 0, n: 0, do: "open", revision: 0, document: "" };
+const take = { who: "server", n: 1, time: 2, do: "take", given: message, revision: 1, appended: ["a"], document: "a" };
+const waits = { revision: 0, state: "awaiting-confirm", outstanding: ["a"], buffer: null, document: "a" };
+const edit = { n: 1, time: 1, do: "edit", edit: ["a"], ...waits, sent: message };
+const openings = [
+  { who: "server", ...opening, role: "server" },
+  { who: "ann", ...opening, role: "client" },
+  { who: "ben", ...opening, role: "client" },
+];
+
+test("whose message was taken is noted where the logs do not say it", () => {
+  const { schedule, notes, fault } = merge([...openings, take, { who: "ann", ...edit }, { who: "ben", ...edit }]);
+  assert.deepEqual(schedule.slice(3), ['edit 0 ["a"]', 'edit 1 ["a"]', "take 0"]);
+  assert.deepEqual(notes, ['server, event 1: ann and ben both sent ["a"] at revision 0; taken as ann\'s']);
+  assert.equal(fault, null);
+});
+
+test("who is handed an operation did not make it", () => {
+  const delivered = { who: "ann", n: 2, time: 3, do: "deliver", operation: ["a"], ...waits, revision: 1, outstanding: ["a", 1], applied: [1, "a"], document: "aa" };
+  const { schedule, notes } = merge([...openings, take, { who: "ann", ...edit }, { who: "ben", ...edit }, delivered]);
+  assert.deepEqual(schedule.slice(3), ['edit 0 ["a"]', 'edit 1 ["a"]', "take 1", "deliver 0"]);
+  assert.deepEqual(notes, []);
+});
+
+test("who throws at an acknowledgement did not make the operation", () => {
+  const thrown = { who: "ann", n: 1, time: 9, do: "ack", stopped: "Error: There is no pending operation." };
+  const acknowledged = { who: "ben", n: 2, time: 3, do: "ack", revision: 1, state: "synchronized", outstanding: null, buffer: null, document: "a" };
+  const { schedule, fault } = merge([...openings, take, { who: "ben", ...edit }, acknowledged, thrown]);
+  assert.deepEqual(schedule.slice(3), ['edit 1 ["a"]', "take 1", "ack 1", "ack 0"]);
+  assert.equal(fault, "ann, event 1: ack stopped: Error: There is no pending operation.");
+});
+
+test("what a method threw ends the schedule, and is named", () => {
+  const { log } = liveSession({ seed: 1, plant: bugs["whole-log"] });
+  const { fault, lines } = mergeText(log);
+  assert.match(fault, /^server, event \d+: take stopped: Error: Both operations have to have the same base length$/);
+  assert.match(lines.at(-1), /^{"at":\d+,"do":"take","client":\d,"stopped":"Error: Both operations/);
+});
+
+test("lines that are no events are named", () => {
+  const rows = [
+    ["{", "log, line 1 is no JSON: is the log cut?"],
+    ["\n[]", "log, line 2 is no event"],
+    ['{"who":"ann","n":3,"do":"edit","revision":0,"document":""}', 'ann, event 3 lacks what a "edit" should hold'],
+    ['{"who":"ann","n":3,"do":"ack","revision":0}', 'ann, event 3 lacks what a "ack" should hold'],
+    ['{"who":"s","n":3,"do":"take","revision":0,"document":"","given":{"revision":0,"operation":[1]}}', 's, event 3 lacks what a "take" should hold'],
+    ['{"who":"ann","n":3,"do":"toString","revision":0,"document":""}', 'ann, event 3 lacks what a "toString" should hold'],
+  ];
+  for (const [text, message] of rows) assert.throws(() => readEvents(text, "log"), { message });
+});
+
+test("the command line", () => {
+  const folder = fs.mkdtempSync(path.join(os.tmpdir(), "otbench-merge-"));
+  const file = path.join(folder, "session.log");
+  const { log } = liveSession({ seed: 1, cut: true });
+  fs.writeFileSync(file, log);
+  const call = (...words) => spawnSync("node", [path.join(__dirname, "../merge.js"), ...words], { encoding: "utf8" });
+  const { schedule, lines } = mergeText(log);
+  assert.equal(call(file).stdout, [...schedule, "%%", ...lines].join("\n") + "\n");
+  assert.equal(call("--schedule", file).stdout, schedule.join("\n") + "\n");
+  assert.deepEqual([call(file).status, call(file).stderr], [0, ""]);
+  fs.writeFileSync(file, log.split("\n").slice(1).join("\n"));
+  assert.deepEqual([call(file).status, call(file).stdout], [1, ""]);
+  assert.match(call(file).stderr, /^merge: the log of .* has no event 0\n$/);
+  fs.rmSync(folder, { recursive: true });
+});

@@ -1,0 +1,132 @@
+/* Chromium, headless, over its debugging protocol, without packages: node --experimental-websocket. */
+"use strict";
+const { spawn } = require("node:child_process");
+const fs = require("node:fs");
+const os = require("node:os");
+const path = require("node:path");
+
+const wait = (milliseconds) => new Promise((done) => setTimeout(done, milliseconds));
+
+const KEY_CODES = {
+  Tab: 9,
+  Enter: 13,
+  PageUp: 33,
+  PageDown: 34,
+  End: 35,
+  Home: 36,
+  ArrowLeft: 37,
+  ArrowUp: 38,
+  ArrowRight: 39,
+  ArrowDown: 40,
+};
+
+/* The socket of the browser's one page. */
+async function connect(folder) {
+  const file = path.join(folder, "DevToolsActivePort");
+  for (let turn = 0; !fs.existsSync(file) || !fs.readFileSync(file, "utf8").includes("\n"); turn++) {
+    if (turn > 600) throw new Error("chromium did not start");
+    await wait(50);
+  }
+  const [port] = fs.readFileSync(file, "utf8").split("\n");
+  const targets = await (await fetch(`http://127.0.0.1:${port}/json/list`)).json();
+  const socket = new WebSocket(targets.find((target) => target.type === "page").webSocketDebuggerUrl);
+  await new Promise((done) => socket.addEventListener("open", done));
+  return socket;
+}
+
+class Page {
+  constructor(child, folder, socket) {
+    Object.assign(this, { child, folder, socket, calls: new Map(), exceptions: [], loaded: null });
+    socket.addEventListener("message", ({ data }) => this.#receive(JSON.parse(data)));
+  }
+
+  #receive({ id, result, error, method, params }) {
+    if (id) {
+      const { done, failed } = this.calls.get(id);
+      this.calls.delete(id);
+      if (error) failed(new Error(error.message));
+      else done(result);
+    } else if (method === "Page.loadEventFired" && this.loaded) this.loaded();
+    else if (method === "Runtime.exceptionThrown") {
+      const { exception, text } = params.exceptionDetails;
+      this.exceptions.push(exception ? exception.description : text);
+    }
+  }
+
+  send(method, params = {}) {
+    const id = this.calls.size + 1 + Math.floor(Math.random() * 1e9);
+    this.socket.send(JSON.stringify({ id, method, params }));
+    return new Promise((done, failed) => this.calls.set(id, { done, failed }));
+  }
+
+  /* Opens a page anew, and waits until it has drawn. */
+  async goto(url) {
+    for (const next of ["about:blank", url]) {
+      const loaded = new Promise((done) => (this.loaded = done));
+      await this.send("Page.navigate", { url: next });
+      await loaded;
+    }
+    await this.drawn();
+  }
+
+  /* The value of an expression in the page. */
+  async run(expression) {
+    const { result, exceptionDetails } = await this.send("Runtime.evaluate", { expression, awaitPromise: true, returnByValue: true });
+    if (exceptionDetails) throw new Error(exceptionDetails.exception ? exceptionDetails.exception.description : exceptionDetails.text);
+    return result.value;
+  }
+
+  /* Presses a key; the page has drawn when this is done. */
+  async key(name) {
+    const text = name.length === 1 ? name : undefined;
+    const press = { key: name, code: name, windowsVirtualKeyCode: KEY_CODES[name] || name.toUpperCase().charCodeAt(0) };
+    await this.send("Input.dispatchKeyEvent", { type: text ? "keyDown" : "rawKeyDown", ...press, text });
+    await this.send("Input.dispatchKeyEvent", { type: "keyUp", ...press });
+    await this.drawn();
+  }
+
+  async type(text) {
+    await this.send("Input.insertText", { text });
+  }
+
+  async click(x, y) {
+    for (const type of ["mousePressed", "mouseReleased"])
+      await this.send("Input.dispatchMouseEvent", { type, x, y, button: "left", clickCount: 1 });
+    await this.drawn();
+  }
+
+  drawn() {
+    return this.run("new Promise((done) => requestAnimationFrame(() => requestAnimationFrame(() => done(1))))");
+  }
+
+  async size(width, height) {
+    await this.send("Emulation.setDeviceMetricsOverride", { width, height, deviceScaleFactor: 1, mobile: false });
+  }
+
+  async screenshot(file) {
+    const { data } = await this.send("Page.captureScreenshot", { format: "png" });
+    fs.writeFileSync(file, Buffer.from(data, "base64"));
+  }
+
+  async close() {
+    const gone = new Promise((done) => this.child.once("exit", done));
+    await this.send("Browser.close");
+    await gone;
+    fs.rmSync(this.folder, { recursive: true, force: true, maxRetries: 30, retryDelay: 100 });
+  }
+}
+
+async function openChromium({ width = 1440, height = 900 } = {}) {
+  const folder = fs.mkdtempSync(path.join(os.tmpdir(), "otbench-chromium-"));
+  const words = ["--headless", "--no-sandbox", "--disable-gpu", "--hide-scrollbars", "--force-color-profile=srgb"];
+  words.push("--allow-file-access-from-files", "--remote-debugging-port=0", `--user-data-dir=${folder}`, "about:blank");
+  const child = spawn("chromium", words, { stdio: "ignore" });
+  child.on("error", (fault) => console.error(`chromium: ${fault.message}`));
+  const page = new Page(child, folder, await connect(folder));
+  await page.send("Page.enable");
+  await page.send("Runtime.enable");
+  await page.size(width, height);
+  return page;
+}
+
+module.exports = { openChromium, wait };

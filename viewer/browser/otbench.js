@@ -1,0 +1,28 @@
+/* The program, for tests in the browser: OTBENCH, else the wrapper of the repository. */
+"use strict";
+const { spawnSync } = require("node:child_process");
+const fs = require("node:fs");
+const os = require("node:os");
+const path = require("node:path");
+
+const program = process.env.OTBENCH || path.join(__dirname, "../../otbench");
+
+/* What the program prints for words and an input; where it cannot be run or prints a fault, that is thrown. */
+function otbench(words, input) {
+  const { stdout, stderr, error } = spawnSync(program, words, { input, encoding: "utf8", maxBuffer: 1 << 30 });
+  if (error) throw error;
+  if (stderr) throw new Error(stderr);
+  return stdout;
+}
+
+const folder = fs.mkdtempSync(path.join(os.tmpdir(), "otbench-pages-"));
+process.on("exit", () => fs.rmSync(folder, { recursive: true, force: true }));
+
+/* The address of a page with a session in it. */
+function pageOf(name, input) {
+  const file = path.join(folder, `${name}.html`);
+  fs.writeFileSync(file, otbench(["view"], input));
+  return `file://${file}`;
+}
+
+module.exports = { otbench, pageOf };

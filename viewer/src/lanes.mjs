@@ -1,0 +1,54 @@
+// The lanes: their heads, and their lines, which say a client's state: thin, thick or double.
+
+import { lastUpTo } from "./document.mjs";
+import { SERVER } from "./fold.mjs";
+import { HEAD_HEIGHT, svgText } from "./layout.mjs";
+import { colourOf } from "./theme.mjs";
+import { nameOfMember } from "./words.mjs";
+
+export function headMarkup(session, layout, followed) {
+  const isWide = layout.laneWidth >= 60;
+  return [SERVER, ...session.members.keys()].map((who) => {
+    const x = layout.x(who);
+    const name = isWide ? nameOfMember(who) : who === SERVER ? "S" : String(who);
+    const fill = followed === who ? "var(--pick)" : "transparent";
+    const size = `width="${layout.laneWidth - 2}" height="${HEAD_HEIGHT - 5}"`;
+    const box = `<rect x="${x - layout.laneWidth / 2 + 1}" y="2" ${size} rx="5" fill="${fill}"/>`;
+    const colour = who === SERVER ? "var(--ink)" : colourOf(who);
+    const look = `text-anchor="middle" font-size="${isWide ? 12 : 10}" font-weight="700" fill="${colour}"`;
+    return `<g class="lane" data-who="${who}">${box}${svgText(x, 19, name, look)}</g>`;
+  }).join("");
+}
+
+export const headTexts = (layout) =>
+  `<rect width="${layout.textWidth - 14}" height="${HEAD_HEIGHT}" fill="var(--background)"/>` +
+  svgText(44, 19, "at", 'text-anchor="end" font-size="11" fill="var(--dim)"') +
+  svgText(56, 19, layout.textWidth < 200 ? "instruction" : "instruction, operation", 'font-size="11" fill="var(--dim)"');
+
+const STROKES = {
+  synchronized: [{ dx: 0, width: 1.2, opacity: 0.6 }],
+  "awaiting-confirm": [{ dx: 0, width: 4, opacity: 0.55 }],
+  "awaiting-with-buffer": [{ dx: -2.6, width: 2.6, opacity: 0.75 }, { dx: 2.6, width: 2.6, opacity: 0.75 }],
+  "not-joined": [],
+};
+
+/* The lines of all lanes between the rows from and to. */
+export function lanesMarkup(session, layout, { from, to }) {
+  const { x, y, rowHeight } = layout;
+  const foot = y(session.length) + rowHeight / 2;
+  const out = [];
+  const line = (px, above, below, look) => {
+    const top = Math.max(above, (from - 2) * rowHeight);
+    const bottom = Math.min(below, (to + 3) * rowHeight);
+    if (top < bottom) out.push(`<path d="M${px} ${top}V${bottom}" ${look}/>`);
+  };
+  line(x(SERVER), y(0), foot, 'stroke="var(--ink)" stroke-width="2.5"');
+  for (const { number, states, statePlaces } of session.members) {
+    for (let i = lastUpTo(statePlaces, from - 2); i < states.length && states[i].at <= to + 2; i++) {
+      const below = i + 1 < states.length ? y(states[i + 1].at) : foot;
+      for (const { dx, width, opacity } of STROKES[states[i].state])
+        line(x(number) + dx, y(states[i].at), below, `stroke="${colourOf(number)}" stroke-width="${width}" opacity="${opacity}"`);
+    }
+  }
+  return out.join("");
+}

@@ -1,0 +1,41 @@
+// What a session knows of one place.
+
+import { lastUpTo } from "./document.mjs";
+import { SERVER } from "./fold.mjs";
+
+export const stateAt = (session, client, place) => {
+  const { states, statePlaces } = session.members[client];
+  return states[lastUpTo(statePlaces, place)];
+};
+
+export const versionsOf = (session, who) => (who === SERVER ? session.server : session.members[who].versions);
+
+export const documentAt = (session, who, place) => versionsOf(session, who).at(place);
+
+/* How many operations the server has appended. */
+export const logLengthAt = (session, place) => lastUpTo(session.logPlaces, place);
+
+/* The message on a client's link to the server, or null. */
+export function upAt(session, client, place) {
+  const { sent } = session.members[client];
+  return sent.find((m) => m.sent <= place && (m.got === null || m.got > place)) || null;
+}
+
+/* The entries of the log that are on the link to a client, as { from, to }; its own ones are acknowledgements. */
+export function downAt(session, client, place) {
+  const { state, revision } = stateAt(session, client, place);
+  const to = logLengthAt(session, place);
+  return state === "not-joined" ? { from: to, to } : { from: revision, to };
+}
+
+/* "quiet", or the first thing that is under way. A client whose message is under way to the server awaits a confirmation. */
+export function quietAt(session, place) {
+  for (let client = 0; client < session.clients; client++) {
+    const { state } = stateAt(session, client, place);
+    if (state === "not-joined") continue;
+    if (state !== "synchronized") return `not quiet: client ${client} is ${state}`;
+    const { from, to } = downAt(session, client, place);
+    if (from < to) return `not quiet: ${to - from} message${to - from > 1 ? "s are" : " is"} under way to client ${client}`;
+  }
+  return "quiet";
+}

@@ -1,0 +1,85 @@
+// What a port printed, beside the lines of `steps`: its lines are read in order, as `otbench conform` reads them.
+
+import { lastUpTo, textOf } from "./document.mjs";
+import { SERVER } from "./fold.mjs";
+import { documentAt, logLengthAt, stateAt } from "./places.mjs";
+
+const KEYS = ["at", "do", "client", "edit", "revision", "state", "outstanding", "buffer", "sent", "applied", "appended", "document"];
+
+const isOpening = (line) => line.at === 0 && !("do" in line) && !("stopped" in line) && !("end" in line);
+
+/* A line as an object; what is no object of JSON is kept as { text }. */
+function readLine(text) {
+  try {
+    const line = JSON.parse(text);
+    if (line && typeof line === "object" && Number.isInteger(line.at)) return line;
+  } catch {
+    // a stack trace, for instance: it stands for the instruction at which it was printed
+  }
+  return { text };
+}
+
+/* The values that ot.js has at a place, by the keys of `steps`. */
+function valuesAt(session, place) {
+  const { line, moved } = session.steps[place];
+  const document = textOf(documentAt(session, moved, place));
+  if (moved === SERVER) return { ...line, revision: logLengthAt(session, place), document };
+  const { revision, state, outstanding, buffer } = stateAt(session, moved, place);
+  const applied = line.do === "edit" ? line.edit : line.applied;
+  return { ...line, applied, revision, state, outstanding, buffer, document };
+}
+
+/* Values are equal as JSON values; null says that there is none. A message's parts are compared where they are printed. */
+function sameValue(found, ours) {
+  if (found === null || ours === null || ours === undefined) return found === null && (ours === null || ours === undefined);
+  if (typeof found !== "object" || typeof ours !== "object") return found === ours;
+  if (Array.isArray(found)) return JSON.stringify(found) === JSON.stringify(ours);
+  return ["revision", "operation"].every((key) => found[key] === undefined || sameValue(found[key], ours[key]));
+}
+
+const inWords = (value) => (value === null || value === undefined ? "none" : JSON.stringify(value));
+
+export class Port {
+  constructor(session, texts, answer) {
+    this.session = session;
+    const lines = texts.map(readLine);
+    this.lines = lines.length && isOpening(lines[0]) ? lines : [null, ...lines];
+    this.memo = new Map();
+    this.moves = new Map([SERVER, ...session.members.keys()].map((who) => [who, [0]]));
+    session.steps.forEach((step, place) => step && this.lines[place] && this.moves.get(step.moved).push(place));
+    this.answer = answer;
+    this.first = this.#first();
+  }
+
+  /* The place that conform names, else the first one with a difference that is seen here; null where there is none. */
+  #first() {
+    const named = /^differs at (\d+):/.exec(this.answer[0] || "");
+    if (named) return Number(named[1]);
+    if (this.answer.length) return null;
+    for (let place = 1; place <= this.session.length; place++) if (this.differencesAt(place).length) return place;
+    return null;
+  }
+
+  /* Where the port's line at a place differs: [{ key, found, ours }], the values as texts. */
+  differencesAt(place) {
+    if (!this.memo.has(place)) this.memo.set(place, this.#compare(place));
+    return this.memo.get(place);
+  }
+
+  #compare(place) {
+    const line = this.lines[place];
+    if (place === 0 || place > this.session.length) return [];
+    if (!line || line.end !== undefined) return place === this.lines.length ? [{ key: "line", found: "nothing", ours: "a line" }] : [];
+    if (line.text !== undefined) return [{ key: "line", found: inWords(line.text), ours: "a line of JSON" }];
+    if (line.stopped !== undefined) return [{ key: "stopped", found: inWords(line.stopped), ours: "performed" }];
+    const ours = valuesAt(this.session, place);
+    const differs = (key) => line[key] !== undefined && !sameValue(line[key], ours[key]);
+    return KEYS.filter(differs).map((key) => ({ key, found: inWords(line[key]), ours: inWords(ours[key]) }));
+  }
+
+  /* What the port printed last of a participant that is not what ot.js has. */
+  differencesOf(who, place) {
+    const places = this.moves.get(who);
+    return this.differencesAt(places[lastUpTo(places, place)]);
+  }
+}

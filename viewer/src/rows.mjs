@@ -1,0 +1,75 @@
+// The rows: each instruction's mark on its participant's lane, and its text.
+
+import { SERVER } from "./fold.mjs";
+import { svgText } from "./layout.mjs";
+import { colourOf } from "./theme.mjs";
+import { brief, escapeMarkup, instructionOf, operationText } from "./words.mjs";
+
+/* The mark of an instruction at a point; k is the client's colour, m that of the operation's maker. */
+const MARKS = {
+  edit: (x, y, k) => `<circle cx="${x}" cy="${y}" r="6" fill="${k}"/>`,
+  take: (x, y, k) => `<rect x="${x - 6}" y="${y - 6}" width="12" height="12" rx="1.5" fill="${k}"/>`,
+  deliver: (x, y, k, m) => `<circle cx="${x}" cy="${y}" r="5.5" fill="var(--background)" stroke="${m}" stroke-width="2.6"/>`,
+  ack: (x, y, k) => `<path d="M${x} ${y - 7}l7 7l-7 7l-7 -7z" fill="var(--background)" stroke="${k}" stroke-width="2.2"/>`,
+  join: (x, y, k) =>
+    `<circle cx="${x}" cy="${y}" r="7" fill="var(--background)" stroke="${k}" stroke-width="2.2"/>` +
+    `<path d="M${x - 4} ${y}h8M${x} ${y - 4}v8" stroke="${k}" stroke-width="2"/>`,
+  read: (x, y, k) =>
+    `<path d="M${x - 7} ${y}q7 -8 14 0q-7 8 -14 0z" fill="var(--background)" stroke="${k}" stroke-width="1.6"/>` +
+    `<circle cx="${x}" cy="${y}" r="2.4" fill="${k}"/>`,
+};
+MARKS["read-server"] = MARKS.read;
+
+/* The legend shows the same marks. */
+export const markOf = (word, x, y, colour) => MARKS[word](x, y, colour, colour);
+
+const makerOf = ({ line, received }) => (line.do === "deliver" ? received.maker : line.client);
+
+function stepMark({ line, moved, received }, layout, place) {
+  const [x, y] = [layout.x(moved), layout.y(place)];
+  const colour = line.client === undefined ? "var(--ink)" : colourOf(line.client);
+  const mark = MARKS[line.do](x, y, colour, colourOf(makerOf({ line, received })));
+  if (line.do !== "join") return mark;
+  return `<path d="M${layout.x(SERVER)} ${y}H${x}" stroke="${colour}" stroke-width="1.5" stroke-dasharray="2 4"/>${mark}`;
+}
+
+function stepText(step, y, strong) {
+  const { line } = step;
+  const operation = line.edit || line.applied || line.appended;
+  const colour = line.client === undefined ? "var(--ink)" : colourOf(line.client);
+  const head = svgText(56, y, escapeMarkup(instructionOf(line)), `font-size="12" fill="${colour}"${strong}`);
+  let rest = "";
+  if (operation) rest = operationText(operation, 20);
+  else if (/^read/.test(line.do)) rest = brief(JSON.stringify(line.document), 20);
+  else if (line.do === "ack" && line.sent) rest = `sends ${operationText(line.sent.operation, 14)}`;
+  const fill = operation ? colourOf(makerOf(step)) : "var(--dim)";
+  return head + (rest && svgText(144, y, escapeMarkup(rest), `font-size="12" fill="${fill}"${strong}`));
+}
+
+/* The rows behind the last place: a refused instruction, and the end. */
+function closingRow(session, layout, row) {
+  const y = layout.y(row);
+  const isStop = session.stop && row === session.length + 1;
+  const colour = isStop ? "var(--bad)" : session.end === "quiet" ? "var(--good)" : "var(--dim)";
+  const words = isStop ? `${instructionOf(session.stop)} refused: ${session.stop.stopped}` : session.end;
+  const text = svgText(56, y + 4, escapeMarkup(words), `font-size="12" font-weight="700" fill="${colour}"`);
+  if (!isStop) return { text, mark: "" };
+  const x = layout.x(session.stop.client === undefined || session.stop.do === "take" ? SERVER : session.stop.client);
+  return { text, mark: `<path d="M${x - 6} ${y - 6}l12 12m0 -12l-12 12" stroke="${colour}" stroke-width="3"/>` };
+}
+
+/* { marks, texts } of a row. */
+export function rowMarkup(session, layout, row, { place, port }) {
+  if (row > session.length) {
+    const { mark, text } = closingRow(session, layout, row);
+    return { marks: mark, texts: text };
+  }
+  const y = layout.y(row) + 4;
+  const strong = row === place ? ' font-weight="700"' : "";
+  const number = svgText(44, y, row, `text-anchor="end" font-size="11" fill="var(--faint)"${strong}`);
+  if (row === 0) return { marks: "", texts: number + svgText(56, y, "opening", `font-size="12" fill="var(--dim)"${strong}`) };
+  const differs = port && (row === port.first || port.differencesAt(row).length > 0);
+  const cross = differs ? svgText(4, y, "≠", 'font-size="14" font-weight="700" fill="var(--bad)"') : "";
+  const step = session.steps[row];
+  return { marks: stepMark(step, layout, row), texts: cross + number + stepText(step, y, strong) };
+}

@@ -1,0 +1,110 @@
+// What the page shows, as markup: words, cards and the diagram.
+
+import assert from "node:assert/strict";
+import fs from "node:fs";
+import { test } from "node:test";
+import { bugs } from "../../examples/port/bugs.js";
+import { cardMarkup } from "../src/cards.mjs";
+import { picture } from "../src/diagram.mjs";
+import { SERVER, fold } from "../src/fold.mjs";
+import { rowCount } from "../src/layout.mjs";
+import { Port } from "../src/port.mjs";
+import { operationText, sentence } from "../src/words.mjs";
+import { example, linesOf, portLinesOf, seededSchedule } from "./sessions.mjs";
+
+const ENTITIES = { "&lt;": "<", "&gt;": ">", "&quot;": '"', "&amp;": "&" };
+const wordsOf = (markup) => markup.replace(/<[^>]*>/g, "").replace(/&\w+;/g, (entity) => ENTITIES[entity]);
+const weakOrder = () => fold(linesOf(example("weak-order")));
+
+test("each instruction in words", () => {
+  const session = weakOrder();
+  const rows = [
+    [0, 'the opening: 2 of 2 clients joined, every document is "x".'],
+    [1, 'edit 0: the user of client 0 edits [1,"z"]; it is sent at revision 0.'],
+    [2, 'edit 0: the user of client 0 edits [1,"a",1]; it becomes the buffer.'],
+    [3, 'edit 0: the user of client 0 edits [-1,2]; it is composed into the buffer ["a",-1,1].'],
+    [5, 'take 1: the server takes ["c",1] of revision 0, and appends ["c",1] as log entry 0.'],
+    [6, 'take 0: the server takes [1,"z"] of revision 0, transforms it over 1 concurrent operation, and appends [2,"z"] as log entry 1.'],
+    [7, 'deliver 0: client 0 takes log entry 0 of client 1, ["c",1]; transformed against the outstanding operation and the buffer, it applies [1,"c",1].'],
+    [8, 'ack 0: the outstanding operation of client 0 is confirmed; its buffer ["a",1,-1,1] is sent at revision 2.'],
+    [13, "ack 0: the outstanding operation of client 0 is confirmed; it is synchronized."],
+    [16, 'read-server: shows "acz".'],
+  ];
+  for (const [place, words] of rows) assert.equal(wordsOf(sentence(session, place)), words);
+  const joined = fold(linesOf(example("late-join")));
+  assert.equal(wordsOf(sentence(joined, 3)), "join 1: client 1 joins with the server’s document and revision 1.");
+});
+
+test("an operation in few characters", () => {
+  assert.equal(operationText([1, "abc", -1], 20), '[1,"abc",-1]');
+  assert.equal(operationText([1, "abcdefghijklmnopqrst", -1], 20), '[1,"abcde…",-1]');
+  assert.equal([...operationText([1000, "abcdefgh", -1000, "abcdefgh"], 12)].length, 12);
+});
+
+test("a card shows the document, who inserted what, the state and the links", () => {
+  const card = cardMarkup(weakOrder(), 0, { place: 7, picked: null, port: null });
+  assert.match(card, /^<section class="card moved"/);
+  assert.match(card, /title="client 0"[^>]*>a<.*class="inserted" title="client 1, inserted here"[^>]*>c<.*title="client 0"[^>]*>z</);
+  assert.match(wordsOf(card), /client 0 awaiting-with-buffer rev 1 ≠ server/);
+  assert.match(wordsOf(card), /outstanding\[2,"z"\]buffer\["a",1,-1,1\]from serverack$/);
+  assert.match(wordsOf(card), /"a" by client 0; "c" inserted here, by client 1; "z" by client 0/);
+  const deletes = cardMarkup(weakOrder(), 0, { place: 3, picked: null, port: null });
+  assert.match(deletes, /class="deleted" title="the start, deleted here"[^>]*>x</);
+  assert.match(wordsOf(deletes), /to server\[1,"z"\] at revision 0/);
+});
+
+test("a card shows what the port printed where that differs", () => {
+  const session = weakOrder();
+  const port = new Port(session, portLinesOf(example("weak-order"), bugs.tie), []);
+  assert.match(wordsOf(cardMarkup(session, 0, { place: 7, picked: null, port })), /port: buffer\[1,"a",-1,1\] ot.js: \["a",1,-1,1\]/);
+  assert.doesNotMatch(cardMarkup(session, SERVER, { place: 7, picked: null, port }), /port:/);
+});
+
+test("texts are shown as texts", () => {
+  const session = fold(linesOf('clients 1\nstart "<b>&\\""\nedit 0 [5,"</script>"]\n'));
+  const shown = sentence(session, 1) + cardMarkup(session, 0, { place: 1, picked: null, port: null });
+  assert.doesNotMatch(shown, /<b>&|<\/script>/);
+  assert.match(wordsOf(shown), /<b>&"/);
+});
+
+test("a long document is shown around its change", () => {
+  const session = fold(linesOf(`clients 1\nstart "${"a".repeat(2000)}"\nedit 0 [1000,"b",1000]\n`));
+  const card = cardMarkup(session, 0, { place: 1, picked: null, port: null });
+  assert.match(card, /… 700 characters …<\/span>.*class="inserted"[^>]*>b<.*… 701 characters …/);
+});
+
+test("the diagram has a mark for each instruction and an arrow for each message", () => {
+  const session = weakOrder();
+  const drawn = picture(session, { from: 0, to: rowCount(session) - 1, place: 7, followed: null, port: null }, "light");
+  const count = (pattern) => drawn.match(pattern).length;
+  assert.equal(count(/ r="6" /g), 4, "edits");
+  assert.equal(count(/width="12" height="12"/g), 3, "takes");
+  assert.equal(count(/ r="5.5" /g), 3, "deliveries");
+  assert.equal(count(/l7 7l-7 7l-7 -7z/g), 3, "acknowledgements");
+  assert.equal(count(/<g opacity=/g), 3 + 6, "messages to the server and from it");
+  assert.equal(count(/stroke-dasharray="5 4"/g), 3, "acknowledgements on their way");
+  assert.doesNotMatch(drawn, /var\(|undefined|NaN/);
+});
+
+test("a message that is never received is drawn", () => {
+  const session = fold(linesOf('clients 2\nedit 0 ["a"]\nedit 1 ["b"]\ntake 0\n'));
+  const drawn = picture(session, { from: 0, to: rowCount(session) - 1, place: 3, followed: null, port: null }, "light");
+  assert.equal(drawn.match(/r="3.5"/g).length, 3, "one to the server, two from it");
+});
+
+test("every place of a session can be drawn", () => {
+  const session = fold(linesOf(seededSchedule({ seed: 7, clients: 10, late: 2, edits: 60, cut: true })));
+  for (const followed of [null, SERVER, 1])
+    for (let place = 0; place <= session.length; place++) {
+      const view = { from: Math.max(0, place - 5), to: Math.min(rowCount(session) - 1, place + 5), place, followed, port: null };
+      assert.doesNotMatch(picture(session, view, "dark"), /var\(|undefined|NaN/);
+      for (const who of [SERVER, ...session.members.keys()])
+        assert.doesNotMatch(cardMarkup(session, who, { place, picked: null, port: null }), /undefined|NaN/);
+    }
+});
+
+test("docs/session.svg is the picture of examples/weak-order.ots", () => {
+  const session = weakOrder();
+  const view = { from: 0, to: rowCount(session) - 1, place: 7, followed: null, port: null };
+  assert.equal(fs.readFileSync(new URL("../../docs/session.svg", import.meta.url), "utf8"), picture(session, view, "light"));
+});

@@ -1,0 +1,21 @@
+// viewer.html is one file, made of the parts.
+
+import assert from "node:assert/strict";
+import fs from "node:fs";
+import { test } from "node:test";
+import viewer from "../build.js";
+
+const page = fs.readFileSync(new URL("../viewer.html", import.meta.url), "utf8");
+
+test("viewer.html is what build.js makes", () => {
+  assert.equal(page, viewer.page());
+});
+
+test("the page asks for nothing else", () => {
+  assert.doesNotMatch(page, /^(import|export) |<link|<script[^>]* src|@import|fetch\(|XMLHttpRequest/m);
+  assert.deepEqual(page.match(/https?:[^"`]*/g), ["http" + "://www.w3.org/2000/svg"]);
+});
+
+test("each element that the script names is there", () => {
+  for (const [, id] of page.matchAll(/element\("([a-z-]+)"\)/g)) assert.ok(page.includes(` id="${id}"`), id);
+});

@@ -1,0 +1,76 @@
+// A port's lines beside those of `steps`.
+
+import assert from "node:assert/strict";
+import { test } from "node:test";
+import { bugs } from "../../examples/port/bugs.js";
+import { SERVER, fold } from "../src/fold.mjs";
+import { splitInput, unescapeLine } from "../src/input.mjs";
+import { Port } from "../src/port.mjs";
+import { example, linesOf, portLinesOf } from "./sessions.mjs";
+
+const session = fold(linesOf(example("weak-order")));
+const beside = (lines, answer = []) => new Port(session, lines, answer);
+const ofBug = (name) => portLinesOf(example("weak-order"), bugs[name]);
+
+test("a port that is ot.js differs nowhere", () => {
+  const lines = portLinesOf(example("weak-order"));
+  assert.equal(beside(lines).first, null);
+  assert.equal(beside(lines.slice(1, -1)).first, null, "without opening and end");
+});
+
+test("the first difference, and what differs there", () => {
+  const port = beside(ofBug("tie"));
+  assert.equal(port.first, 7);
+  assert.deepEqual(port.differencesAt(7), [
+    { key: "buffer", found: '[1,"a",-1,1]', ours: '["a",1,-1,1]' },
+    { key: "applied", found: '["c",2]', ours: '[1,"c",1]' },
+    { key: "document", found: '"caz"', ours: '"acz"' },
+  ]);
+  assert.deepEqual(port.differencesAt(6), []);
+});
+
+test("what a client's port printed last stays beside it", () => {
+  const port = beside(ofBug("tie"));
+  assert.deepEqual(port.differencesOf(0, 12), [
+    { key: "outstanding", found: '[1,"a",-1,1]', ours: '["a",1,-1,1]' },
+    { key: "sent", found: '{"revision":2,"operation":[1,"a",-1,1]}', ours: '{"revision":2,"operation":["a",1,-1,1]}' },
+    { key: "document", found: '"caz"', ours: '"acz"' },
+  ]);
+  assert.deepEqual(port.differencesOf(SERVER, 8), []);
+  assert.deepEqual(port.differencesOf(1, 0), []);
+});
+
+test("keys that are not printed are not compared, and null says that there is none", () => {
+  assert.equal(beside(['{"at":1,"document":"xz"}', '{"at":2,"buffer":[1,"a",1]}']).first, 3);
+  assert.deepEqual(beside(['{"at":1,"buffer":null,"document":"xz"}', '{"at":2,"buffer":null}']).differencesAt(2), [
+    { key: "buffer", found: "none", ours: '[1,"a",1]' },
+  ]);
+});
+
+test("a port that stops, dies or ends", () => {
+  const lines = linesOf(example("weak-order"));
+  const rows = [
+    [["{}"], { key: "line", found: '"{}"', ours: "a line of JSON" }],
+    [["TypeError: x is undefined"], { key: "line", found: '"TypeError: x is undefined"', ours: "a line of JSON" }],
+    [['{"at":4,"stopped":"no more"}'], { key: "stopped", found: '"no more"', ours: "performed" }],
+    [[], { key: "line", found: "nothing", ours: "a line" }],
+  ];
+  for (const [tail, difference] of rows) {
+    const port = beside([...lines.slice(0, 5), ...tail]);
+    assert.equal(port.first, 5);
+    assert.deepEqual(port.differencesAt(5), [difference]);
+    assert.deepEqual(port.differencesAt(6), tail.length ? [{ key: "line", found: "nothing", ours: "a line" }] : []);
+  }
+});
+
+test("what conform answered decides", () => {
+  assert.equal(beside(ofBug("tie"), ["differs at 9: take 0: appended", "found [1]"]).first, 9);
+  assert.equal(beside(ofBug("tie"), ["conforms"]).first, null);
+});
+
+test("the parts of an input", () => {
+  assert.deepEqual(splitInput("a\r\n\n b \n"), { steps: ["a", "b"], port: null, answer: [] });
+  assert.deepEqual(splitInput("a\n%%\nb\n"), { steps: ["a"], port: ["b"], answer: [] });
+  assert.deepEqual(splitInput("a\n %%\t\nb\n%%\nc\nd"), { steps: ["a"], port: ["b"], answer: ["c", "d"] });
+  assert.equal(unescapeLine(String.raw`found "\u003cb>\\u003c\n"`), String.raw`found "<b>\\u003c\n"`);
+});

@@ -1,0 +1,96 @@
+// `otbench view`, and the wrapper through a link and from another folder. In the place of the program stands a script.
+
+import assert from "node:assert/strict";
+import { execFileSync, spawnSync } from "node:child_process";
+import fs from "node:fs";
+import os from "node:os";
+import path from "node:path";
+import { after, test } from "node:test";
+import { fileURLToPath } from "node:url";
+import { fold } from "../src/fold.mjs";
+import { splitInput } from "../src/input.mjs";
+import { example, linesOf } from "./sessions.mjs";
+
+const top = fileURLToPath(new URL("../..", import.meta.url));
+const folder = fs.mkdtempSync(path.join(os.tmpdir(), "otbench view "));
+after(() => fs.rmSync(folder, { recursive: true }));
+
+/* Answers `steps` by the driver of examples/port, `conform` with two lines, and anything else with its words and input. */
+const PROGRAM = `#!/usr/bin/env node
+import("${new URL("sessions.mjs", import.meta.url)}").then(({ linesOf }) => {
+  const [word, ...more] = process.argv.slice(2);
+  const input = require("node:fs").readFileSync(0, "utf8");
+  const isSchedule = /^(;.*\\n)*clients/.test(input) && !input.includes("%%");
+  process.exitCode = word === "conform" || (word === "steps" && !isSchedule) ? 1 : 0;
+  if (word === "conform") console.log('differs at 7: deliver 0: client 0 buffer\\nfound "<b>"');
+  else if (word !== "steps") process.stdout.write([word, ...more].join(" ") + "\\n" + input);
+  else if (isSchedule) console.log(linesOf(input).join("\\n"));
+  else console.error("otbench: line 1: NoClients");
+});
+`;
+
+/* A repository with a program that is younger than its sources, and a link to its wrapper from elsewhere. */
+function repository() {
+  const tree = path.join(folder, "tree");
+  const out = path.join(tree, "crates/otbench/out");
+  fs.mkdirSync(out, { recursive: true });
+  fs.writeFileSync(path.join(tree, "crates.txt"), "");
+  fs.copyFileSync(path.join(top, "otbench"), path.join(tree, "otbench"));
+  fs.symlinkSync(path.join(top, "viewer"), path.join(tree, "viewer"));
+  const youngest = new Date(Date.now() + 5000);
+  fs.writeFileSync(path.join(out, "otbench"), PROGRAM, { mode: 0o755 });
+  fs.utimesSync(path.join(out, "otbench"), youngest, youngest);
+  fs.symlinkSync(path.join(tree, "otbench"), path.join(folder, "link"));
+  return path.join(folder, "link");
+}
+
+const link = repository();
+const call = (words, input) => spawnSync(link, words, { input, cwd: os.tmpdir(), encoding: "utf8" });
+
+/* The lines in a page. */
+function linesIn(page) {
+  const [, lines] = /<script type="application\/jsonl" id="lines">\n([^]*?)<\/script>\n<\/body>\n<\/html>\n$/.exec(page);
+  return splitInput(lines);
+}
+
+test("the wrapper hands words and streams on, through a link and from another folder", () => {
+  assert.deepEqual(call(["run", "--image"], "input").stdout, "run --image\ninput");
+});
+
+test("a page with a session in it", () => {
+  const { stdout, status } = call(["view"], example("weak-order"));
+  assert.equal(status, 0);
+  assert.deepEqual(linesIn(stdout), { steps: linesOf(example("weak-order")), port: null, answer: [] });
+});
+
+test("no text breaks out of its place", () => {
+  const { stdout } = call(["view"], 'clients 1\nstart "</script><!--<script>"\n');
+  const { steps } = linesIn(stdout);
+  assert.equal(stdout.match(/<\/script>/g).length, 2);
+  assert.equal(fold(steps).start, "</script><!--<script>");
+});
+
+test("a port's lines and what conform answers stand behind", () => {
+  const { stdout, status } = call(["view"], `${example("weak-order")} %% \r\n{"at":1}\ntrace <anonymous>`);
+  assert.equal(status, 0);
+  const { steps, port, answer } = linesIn(stdout);
+  assert.equal(steps.length, 18);
+  assert.deepEqual(port, ['{"at":1}', "trace \\u003canonymous>"]);
+  assert.deepEqual(answer, ["differs at 7: deliver 0: client 0 buffer", 'found "\\u003cb>"']);
+});
+
+test("a schedule that is refused gives its fault and no page", () => {
+  const { stdout, stderr, status } = call(["view"], "take 0\n");
+  assert.deepEqual([stdout, stderr, status], ["", "otbench: line 1: NoClients\n", 1]);
+});
+
+test("the page of a session is the page and nothing else", () => {
+  const plain = fs.readFileSync(path.join(top, "viewer/viewer.html"), "utf8");
+  const { stdout } = call(["view"], example("late-join"));
+  const lines = linesOf(example("late-join")).map((line) => `${line.replaceAll("<", "\\u003c")}\n`).join("");
+  assert.equal(stdout.replace(lines, ""), plain);
+});
+
+test("the shell finds no fault in the scripts", () => {
+  for (const script of ["otbench", "viewer/view"]) execFileSync("sh", ["-n", path.join(top, script)]);
+});
