@@ -3,7 +3,8 @@
 
     python3 bench/check_names.py
 
-What stands between backquotes in a document and ends as a file does must be the end of some file's path. Of all other words
+What stands between backquotes in a document and ends as a file does must be the end of some file's path, and so must a file of
+definitions or proofs that is named without backquotes, as proofs/NAME.antt. Of all other words
 between backquotes in the documents on proofs and definitions, each must stand in a source of the repository.
 The last line says how many were looked up and how many were not found; the status is 1 where one was not.
 """
@@ -14,6 +15,7 @@ import sys
 TOP = pathlib.Path(__file__).resolve().parent.parent
 NAMED = ["README.md", "docs/PROOFS.md", "docs/DEFINITIONS.md", "docs/DECISIONS.md"]
 FILE = re.compile(r"^[\w./-]+\.(?:antt|rt|py|js|c|h|ots|json|img|txt|md|html|edit|svg)$")
+BARE = re.compile(r"(?<![\w/`.])(?:proofs|specs)/\w+\.antt")
 WORD = re.compile(r"[A-Za-z_][A-Za-z0-9_'-]*")
 # What documents cite of other projects and of the toolchain.
 ELSEWHERE = {"byteorder", "rattle-kit-13b", "logic", "dac8208d650f15bf", "crates", "CRATE-NAME", "my-driver"}
@@ -42,7 +44,7 @@ def main():
     looked = missing = 0
     for path in (it for it in files if it.suffix == ".md"):
         for number, line in enumerate((TOP / path).read_text(encoding="utf-8").split("\n"), 1):
-            for cited in re.findall(r"`([^`]+)`", line):
+            for cited in re.findall(r"`([^`]+)`", line) + BARE.findall(line):
                 if FILE.match(cited):
                     unknown = [] if cited.removeprefix("./") in ends | WRITTEN or PLACE.search(cited) else [cited]
                 elif str(path) in NAMED and "*" not in cited and ".." not in cited:

@@ -15,7 +15,10 @@ static int refuses(void)
     }
     if (++made != wanted)
         return 0;
-    return write(9, "!", 1) == 1;
+    if (write(9, "!", 1) != 1)
+        return 0;
+    errno = ENOMEM;
+    return 1;
 }
 
 void *malloc(size_t size)

@@ -15,6 +15,9 @@ PROGRAM = f"{ROOT}/crates/otbench/out/otbench"
 
 COMMANDS = b"%%\nwatch doc 0\nbreak 4\nrun\nrun\nback 2\nshow\nstep 100\nback 100\nwhere\n"
 
+# One worker, so that each run makes the same growths; client 1 joins, and a session is parked.
+LATE = b'{"clients":2,"workers":1,"present":1,"typing":[[{"at":0,"insert":"a"}],[{"at":0,"insert":"b"},{"at":1,"delete":1}]]}'
+
 
 def cases():
     def text(name):
@@ -30,14 +33,16 @@ def cases():
     yield ["check"], text("weak-order.ots")
     yield ["debug"], text("two-clients.ots") + COMMANDS
     yield ["debug"], text("late-join.ots") + COMMANDS
+    yield ["threads"], text("two-typists.json")
+    yield ["threads"], LATE
 
 
-def answer(words, given, shim, at):
+def answer(command, given, shim, at):
     told, tell = os.pipe()
     if tell != 9:
         os.dup2(tell, 9)
         os.close(tell)
-    ran = subprocess.run([PROGRAM, *words], input=given, capture_output=True, pass_fds=(9,),
+    ran = subprocess.run(command, input=given, capture_output=True, pass_fds=(9,),
                          env={"LD_PRELOAD": shim, "FAIL_AT": str(at)})
     os.close(9)
     refused = os.read(told, 1) == b"!"
@@ -58,29 +63,36 @@ def wants_memory(words, whole, got):
     return bool(found) and whole[1].startswith(out[:found.start()])
 
 
-def main():
+def each_growth(command, given, shim):
+    """What the command answers with all memory, and then with each of its growths refused in turn."""
+    at, refused = 0, True
+    while refused:
+        refused, got = answer(command, given, shim, at)
+        if refused or at == 0:
+            yield got
+        refused, at = refused or at == 0, at + 1
+
+
+def program(shim):
     bad = 0
+    for words, given in cases():
+        growths = each_growth([PROGRAM, *words], given, shim)
+        whole, at, same = next(growths), 0, 0
+        for at, got in enumerate(growths, 1):
+            same += got == whole
+            if got != whole and not wants_memory(words, whole, got):
+                bad += 1
+                print(f"{' '.join(words)}: growth {at} refused: {got}")
+                break
+        print(f"{' '.join(words)}: {at} growths refused in turn: {at - same} answered Memory, {same} as with all memory")
+    return bad
+
+
+def main():
     with tempfile.TemporaryDirectory() as room:
         shim = f"{room}/failing_memory.so"
         subprocess.run(["gcc", "-O2", "-shared", "-fPIC", "-o", shim, f"{ROOT}/bench/failing_memory.c", "-ldl"], check=True)
-        for words, given in cases():
-            _, whole = answer(words, given, shim, 0)
-            at, wanting, same = 1, 0, 0
-            while True:
-                refused, got = answer(words, given, shim, at)
-                if not refused:
-                    break
-                if wants_memory(words, whole, got):
-                    wanting += 1
-                elif got == whole:
-                    same += 1
-                else:
-                    bad += 1
-                    print(f"{' '.join(words)}: growth {at} refused: {got}")
-                    break
-                at += 1
-            print(f"{' '.join(words)}: {at - 1} growths refused in turn: {wanting} answered Memory, {same} as with all memory")
-    return 1 if bad else 0
+        return 1 if program(shim) else 0
 
 
 if __name__ == "__main__":

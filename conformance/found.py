@@ -80,7 +80,7 @@ def arguments():
 
 def main():
     words = arguments()
-    sessions = [[generated(seed, number, words.clients, words.instructions) for number in range(words.sessions)]
+    sessions = [[generated(seed * words.sessions + number, words.clients, words.instructions) for number in range(words.sessions)]
                 for seed in range(1, words.seeds + 1)]
     print(f"""# How soon each fault is found at random
 

@@ -83,14 +83,10 @@ class Simulator:
         if self.outstanding[client] is not None:
             self.message[client] = (self.revision[client], self.outstanding[client])
 
-    def untaken(self):
-        """How many operations of clients the server has still to take."""
-        return sum(message is not None for message in self.message) + sum(buffer is not None for buffer in self.buffer)
-
-    def left(self):
-        """How many instructions it takes from here until all is quiet."""
-        under_way = sum(len(self.log) - revision for revision, is_here in zip(self.revision, self.joined) if is_here)
-        return self.untaken() * (1 + sum(self.joined)) + under_way
+    def is_quiet(self):
+        """Whether nothing is under way, and no client waits."""
+        received = all(revision == len(self.log) for revision, is_here in zip(self.revision, self.joined) if is_here)
+        return received and self.message == self.outstanding == self.buffer == [None] * len(self.joined)
 
 
 def fitted(edit, length):

@@ -10,7 +10,7 @@ from generate import generated
 @unittest.skipUnless(shutil.which("node"), "no node is there")
 class Found(unittest.TestCase):
     def test_five_faults_of_ports(self):
-        sessions = [generated("a test", number, 4, 60) for number in range(200)]
+        sessions = [generated(seed, 4, 60) for seed in range(200)]
         with Differences() as differences:
             for fault in fault_names()[:5]:
                 count, schedule = find(differences, fault, sessions)

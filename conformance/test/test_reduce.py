@@ -25,27 +25,27 @@ class Repairing(unittest.TestCase):
 
 class Reducing(unittest.TestCase):
     def test_candidates_are_smaller_and_none_comes_twice(self):
-        schedule = generated("1", 0, 3, 30)
+        schedule = generated(1, 3, 30)
         candidates = list(smaller(schedule))
         self.assertTrue(all(size(it) < size(schedule) for it in candidates))
         self.assertEqual(len(candidates), len(set(candidates)))
         self.assertTrue(all(repaired(it) == it for it in candidates))
 
     def test_to_what_is_needed(self):
-        sessions = [generated("1", number, 3, 60) for number in range(20)]
         rows = [
-            (lambda it: has(it, "take", 0), "clients 1\nedit 0 []\ntake 0\n"),
-            (lambda it: has(it, "deliver", 1), "clients 2\nedit 0 []\ntake 0\ndeliver 1\n"),
-            (lambda it: has(it, "join", 2), "clients 3\npresent 2\njoin 2\n"),
-            (lambda it: it.clients == 3, "clients 3\n"),
-            (lambda it: len(it.start) > 1, 'clients 1\nstart "aa"\n'),
-            (lambda it: any("x" in str(part) for edit in it.instructions for part in edit.edit), 'clients 1\nedit 0 ["x"]\n'),
+            (3, lambda it: has(it, "take", 0), "clients 1\nedit 0 []\ntake 0\n"),
+            (2, lambda it: has(it, "deliver", 1), "clients 2\nedit 0 []\ntake 0\ndeliver 1\n"),
+            (3, lambda it: has(it, "join", 2), "clients 3\npresent 2\njoin 2\n"),
+            (3, lambda it: it.clients == 3, "clients 3\n"),
+            (3, lambda it: len(it.start) > 1, 'clients 1\nstart "aa"\n'),
+            (3, lambda it: any("x" in str(part) for edit in it.instructions for part in edit.edit), 'clients 1\nedit 0 ["x"]\n'),
         ]
-        for shows, smallest in rows:
+        for clients, shows, smallest in rows:
+            sessions = (generated(seed, clients, 60) for seed in range(20))
             self.assertEqual(reduced(next(filter(shows, sessions)), showing(shows)).text(), smallest)
 
     def test_what_stands_behind_the_difference_is_left_out(self):
-        session = generated("1", 0, 3, 40)
+        session = generated(1, 3, 40)
         asked = []
 
         def first_shown(schedules):
@@ -56,7 +56,7 @@ class Reducing(unittest.TestCase):
         self.assertEqual(reduced(session, first_shown).instructions, session.instructions[:5])
 
     def test_a_session_that_shows_nothing_stays(self):
-        session = generated("1", 0, 3, 40)
+        session = generated(1, 3, 40)
         self.assertEqual(reduced(session, lambda schedules: None), session)
 
 

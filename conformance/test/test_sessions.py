@@ -1,5 +1,4 @@
 """Schedules, and the sessions made at random."""
-import subprocess
 import unittest
 
 from paths import KIT
@@ -48,27 +47,25 @@ class AtRandom(unittest.TestCase):
 
     def test_sessions_are_performed_whole_and_end_quiet(self):
         for clients, instructions in ((1, 30), (2, 40), (4, 60), (9, 200)):
-            for number in range(20):
-                schedule = generated("a seed", number, clients, instructions)
+            for seed in range(20):
+                schedule = generated(seed, clients, instructions)
                 simulator = self.perform(schedule)
-                self.assertEqual(simulator.left(), 0)
-                self.assertLessEqual(len(schedule.instructions), instructions)
-                self.assertEqual(schedule.instructions[-1].word, "read-server")
+                self.assertTrue(simulator.is_quiet())
+                reads = [Instruction("read", client) for client, is_here in enumerate(simulator.joined) if is_here] + [Instruction("read-server")]
+                self.assertEqual(list(schedule.instructions[instructions:]), reads)
 
     def test_open_sessions_have_their_length(self):
-        for number in range(20):
-            schedule = generated("a seed", number, 3, 50, is_open=True)
+        for seed in range(20):
+            schedule = generated(seed, 3, 50, is_open=True)
             self.perform(schedule)
             self.assertEqual(len(schedule.instructions), 50)
 
-    def test_the_text_follows_from_the_words(self):
-        words = ["python3", KIT / "generate.py", "--seed", "7", "--number", "5", "--clients", "2", "--instructions", "20"]
-        printed = subprocess.run(words, capture_output=True, check=True).stdout.decode()
-        self.assertEqual(printed, generated("7", 5, 2, 20).text())
-        self.assertNotEqual(printed, generated("7", 6, 2, 20).text())
+    def test_the_session_follows_from_the_seed(self):
+        self.assertEqual(generated(5, 2, 20), generated(5, 2, 20))
+        self.assertNotEqual(generated(5, 2, 20), generated(6, 2, 20))
 
     def test_what_breaks_ports_is_there(self):
-        sessions = [generated("1", number, 4, 60) for number in range(40)]
+        sessions = [generated(seed, 4, 60) for seed in range(40)]
         edits = [instruction.edit for session in sessions for instruction in session.instructions if instruction.word == "edit"]
         self.assertTrue(any(session.present < session.clients for session in sessions))
         self.assertTrue(any(not session.start for session in sessions))

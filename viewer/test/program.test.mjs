@@ -54,7 +54,7 @@ test("the lines of steps are those of the driver", skipWithout("steps"), () => {
   }
 });
 
-test("ot.js and recorded sessions of it conform", skipWithout("conform"), () => {
+test("ot.js and recorded sessions of it conform", process.env.OTBENCH ? skipWithout("conform") : { skip: "asked for by OTBENCH, the program" }, () => {
   for (const schedule of schedules())
     assert.match(call("conform", `${schedule}\n%%\n${portLinesOf(schedule).join("\n")}\n`), /^conforms\n/);
   for (const kind of [{ clients: 5, late: 2 }, { wrapped: true }, { middle: true }, { cut: true }]) {
@@ -72,7 +72,7 @@ const ANSWERS = {
   order: ["differs at 3: edit 0: client 0 buffer", 'found [-1,"a",1]', 'ot.js ["a",-1,1]'],
 };
 
-test("what conform says of each of the five faults", skipWithout("conform"), () => {
+test("what conform says of each of the five faults", process.env.OTBENCH ? skipWithout("conform") : { skip: "asked for by OTBENCH, the program" }, () => {
   for (const [name, answer] of Object.entries(ANSWERS)) {
     const lines = portLinesOf(example("weak-order"), bugs[name]);
     const said = call("conform", `${example("weak-order")}%%\n${lines.join("\n")}\n`);

@@ -25,24 +25,16 @@
 //! that is inserted: nothing is paid for each character that is kept or deleted.
 //!
 //! Contracts: `specs/Compose.antt` has `compose`, `specs/Merge.antt` has `merge`, `first_after` and `second_after`, and
-//! `specs/Laws.antt` the laws, each of which is the contract of a function in `laws`. `specs/Cursor.antt` serves the
+//! `specs/Laws.antt` the laws, each of which is the contract of a function in [`laws`]. `specs/Cursor.antt` serves the
 //! loops alone. To read: `composition::compose`, then `transformation::transform`, then `laws`.
 #![tactic(auto)]
 
 mod composition;
 mod cursor;
-mod laws;
+pub mod laws;
 mod one_sided;
 mod transformation;
 
 pub use composition::compose;
-pub use laws::{
-    apply_keeps_order, compose_applies, compose_associates, compose_fits, compose_keeps_news,
-    invert_fits, invert_gives_back, transform_converges, transform_fits, transform_is_merge,
-    transform_keeps_deletions, transform_keeps_news, transform_keeps_sides, transform_meets,
-};
 pub use one_sided::transform_first;
 pub use transformation::transform;
-
-#[cfg(test)]
-mod tests;

@@ -35,6 +35,7 @@ pub fn finished(body: Option<Body>, line: u64) -> Result<Schedule, AsmFault>
     match body {
         Some(body) => {
             let schedule = body.finish();
+            // For the proof: what every schedule keeps.
             let _clients = schedule.clients();
             Ok(schedule)
         }

@@ -49,6 +49,7 @@ fn assemble_part<R: Read>(
     ensures memory { IfErr result (λ f. f.kind ≡ Kind.Memory → IfSome (before ahead.old (R.remaining reader.old)) (λ text. WantsMemoryIn (lines_before marked (lines_of text)) f.line) ⊎ StopsIn (before ahead.old (R.remaining reader.old)) (before ahead.new (R.remaining reader.new)) f.line) }
     ensures stop { IfErr result (λ f. f.kind ≡ Kind.ReadFault → StopsIn (before ahead.old (R.remaining reader.old)) (R.remaining reader.new) f.line) }
 {
+    // For the proof: what every reader keeps.
     let _most = ahead.may_take();
     let mut piece = Vec::new(alloc);
     let mut body: Option<Body> = None;
@@ -99,6 +100,7 @@ pub fn assemble_from<R: Read>(alloc: Global, reader: &mut R) -> Result<Schedule,
     let mut ahead = ReadAhead::new();
     match assemble_part(alloc, &mut ahead, reader, false) {
         Ok((schedule, _)) => {
+            // For the proof: what every schedule keeps.
             let _clients = schedule.clients();
             Ok(schedule)
         }

@@ -14,19 +14,18 @@ use Rattle.ot_model.specs.declared.shown.Shown.{Shown}
 use Rattle.ot_model.specs.Operation.{Operation, apply, inserted}
 use Rattle.ot_model.proofs.States.{length-news-tag_items}
 use Rattle.std.proofs.lemmas.Bool.Decides.{nat_tests}
-use Rattle.ot_model.specs.Table.{Client, Phase, Entry, Head, Ack, Op, Message, acknowledged, head_for, is_joined, NotJoined, Synchronized, AwaitingConfirm, AwaitingWithBuffer, carried, delivered, phase_delivered, edited, phase_edited, message_edited, tag_operation}
+use Rattle.ot_model.specs.Table.{Client, Phase, Entry, Head, Ack, Op, Message, acknowledged, head_for, is_joined, NotJoined, Synchronized, AwaitingConfirm, AwaitingWithBuffer, phase_in, carried, delivered, phase_delivered, edited, phase_edited, message_edited, tag_operation}
 use Rattle.ot_model.specs.Laws.{IsDeliverable, MayDeliver}
 use Rattle.ot_model.specs.Sound.{IsInstr, AreInstrs, IsPhaseSound, IsSynchronizedSound, IsSoundFrom, NoneBy, apply_entries}
 use Rattle.ot_model.specs.Part.{Part, PartPerformed, part_row, part_acknowledge, part_deliver, part_edit, part_with, part_read, with_part}
 use Rattle.ot_model.specs.Session.{Session, IsAllowed, installed, or_else}
 use Rattle.ot_model.proofs.Fitting.{deliverable}
-use Rattle.ot_model.proofs.Laws.{laws}
+use Rattle.ot_model.proofs.Algebra.{laws}
 use Rattle.ot_model.proofs.Sessions.{present_sound, goes_on, part_unsent}
 use Rattle.std.proofs.lemmas.Option.{slice_get_within}
 use Rattle.ot_machine.specs.declared.part.Part.{Part as ProgramPart}
 use Rattle.ot_machine.specs.declared.part.Message.{Message as ProgramMessage}
 use Rattle.ot_machine.specs.Parts.{part_in, head_in}
-use Rattle.ot_machine.specs.Seats.{phase_in}
 use Rattle.ot_board.specs.Sessions.{session_in, IsNextHead, IsNext, MayEdit, shown_by, client_in}
 use Rattle.ot_board.proofs.Heads.{own}
 

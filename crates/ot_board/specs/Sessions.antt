@@ -10,14 +10,13 @@ use Rattle.ot_model.specs.declared.shown.Reader.TheVariants as reader
 use Rattle.ot_model.specs.Operation.{Operation, IsOperation, inserted}
 use Rattle.std.specs.Option.{option_map}
 use Rattle.ot_client.specs.Client.{message_of}
-use Rattle.ot_model.specs.Table.{Client, Head}
+use Rattle.ot_model.specs.Table.{Client, Head, phase_in}
 use Rattle.ot_model.specs.Part as model
 use Rattle.ot_model.specs.Part.{PartOutcome, PartPerformed, PartRefused, PartNoRow, part_row}
 use Rattle.ot_model.specs.Session.{Session}
 use Rattle.ot_machine.specs.declared.part.Part.{Part}
 use Rattle.ot_machine.specs.declared.part.Message.{Message}
 use Rattle.ot_machine.specs.Parts.{part_in, head_in}
-use Rattle.ot_machine.specs.Seats.{phase_in}
 use Rattle.ot_board.specs.declared.refusal.SessionRefusal.{SessionRefusal}
 use Rattle.ot_board.specs.declared.refusal.SessionRefusal.TheVariants.{BadBase, ClientFull, SessionFull, LinkEmpty, WrongHead, Memory}
 

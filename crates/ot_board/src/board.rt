@@ -407,6 +407,7 @@ fn copy_out(alloc: Global, machine: &Machine, client: u16) -> Result<Lent, Alloc
     requires { ClientHas machine.now client (λ x. is_joined x.phase) true }
     ensures { IfOk result (λ lent. IsBegun machine.now client (session_of lent)) }
 {
+    // For the proof: what every machine keeps.
     let _sound = machine.clients();
     let steps = Vec::with_capacity(alloc, STEP_LIMIT)?;
     let start = machine.part(client)?;

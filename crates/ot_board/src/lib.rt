@@ -13,7 +13,7 @@
 //! - The type of [`Board`] keeps that its machine is the table's run of the recorded instructions from the opening, and that the record has
 //!   room for 64 steps of each client that is out (`IsBoard` of specs/Boards.antt). So what a lock round it guards can always be replayed.
 //! - `take` and `join` record one instruction at once, `take` also of a client that is out. `lend` and `park` and `pick_up` record none.
-//!   `settle` appends a session's steps as they are: by `ot_model::session_block` and `session_waits` the table performs them one
+//!   `settle` appends a session's steps as they are: by `ot_model::laws::session_block` and `session_waits` the table performs them one
 //!   after the other at that moment, whatever came since the client was lent.
 //! - A [`Session`] has its client's state as a type, one of the three of `ot_client`; a call consumes it and gives the session in the next
 //!   state, or hands it back with the refusal. Its type keeps that it is allowed (`IsAllowed` of `ot_model`'s specs/Session.antt): a start that

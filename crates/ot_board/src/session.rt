@@ -5,10 +5,9 @@ ghost use Rattle.ot_model.specs.Session.{IsAllowed, IsSoundPart, or_else};
 ghost use Rattle.ot_machine.specs.Parts.{part_in};
 ghost use Rattle.std.specs.Prelude.{[], vec_capacity};
 ghost use Rattle.ot_model.specs.Table as table;
-ghost use Rattle.ot_model.specs.Table.{Ack, Op, carried, message_edited, phase_delivered, phase_edited, tag_operation};
+ghost use Rattle.ot_model.specs.Table.{Ack, Op, carried, message_edited, phase_delivered, phase_edited, phase_in, tag_operation};
 ghost use Rattle.ot_client.specs.Client.{message_of};
 ghost use Rattle.std.specs.Option.{option_map};
-ghost use Rattle.ot_machine.specs.Seats.{phase_in};
 ghost use Rattle.ot_board.specs.Sessions.{IsEditRefusal, IsNext, IsNextHead, IsStepRefusal, MayEdit, begun, present_part, shown_by};
 
 use crate::refusal::SessionRefusal;

@@ -13,7 +13,7 @@ use Rattle.ot_model.specs.declared.shown.Shown.{Shown}
 use Rattle.ot_model.specs.Table.{Phase, NotJoined, Synchronized, AwaitingConfirm, AwaitingWithBuffer, Client, absent, State, Outcome, Performed, Refused, NoRow, step, with_client, edited, acknowledged, with_row, tag_operation}
 use Rattle.ot_model.specs.Sound.{IsSound, IsInstr, IsOutcomeSound}
 use Rattle.ot_model.specs.Events.{in_buffer}
-use Rattle.ot_model.proofs.Laws.{laws}
+use Rattle.ot_model.proofs.Algebra.{laws}
 use Rattle.ot_model.proofs.Steps.{step_sound}
 use Rattle.ot_model.proofs.Outcomes.{by_edit, by_take, by_deliver, by_acknowledge, by_join, by_read, by_read_server}
 use Rattle.ot_machine.specs.Readers.{ClientHas}

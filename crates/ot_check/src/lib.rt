@@ -34,8 +34,6 @@ mod ledger;
 mod outcome;
 mod settling;
 mod stop;
-#[cfg(test)]
-mod tests;
 mod tracing;
 
 pub use comparing::differs;

@@ -10,7 +10,7 @@ use thiserror::Error;
 #[derive(Clone, Copy, Debug, PartialEq, Eq, Error)]
 pub enum TraceStop {
     /// The trace has more than 4,000 events, or more than 4,000,000 entries in their lists.
-    #[error("more than 4,000 events or 4,000,000 list entries")]
+    #[error("there are more than 4,000 events, or more than 4,000,000 entries in their lists")]
     TraceFull,
     /// No memory was found.
     #[error("no memory")]

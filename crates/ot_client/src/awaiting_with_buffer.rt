@@ -115,6 +115,7 @@ impl<T: Element> AwaitingWithBuffer<T> {
         ensures back { IfErr result (λ back. back ≡ (self, op)) }
     {
         let alloc = self.buffer.allocator();
+        // For the proof: what every operation keeps.
         let _operation = self.outstanding.base_len();
         let _operation = op.base_len();
         let Ok((outstanding, passed)) = transform(alloc, &self.outstanding, &op) else {

@@ -33,6 +33,3 @@ pub use awaiting_with_buffer::AwaitingWithBuffer;
 pub use client::Client;
 pub use sent::Sent;
 pub use synchronized::Synchronized;
-
-#[cfg(test)]
-mod tests;

@@ -18,8 +18,6 @@
 mod commands;
 mod replies;
 mod talking;
-#[cfg(test)]
-mod tests;
 mod turns;
 
 pub use commands::read_command;

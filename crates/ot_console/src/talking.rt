@@ -60,6 +60,7 @@ pub fn talk<R: Read, W: Write>(
     ensures err { IfErr result (λ stop. TalksPart stop earlier debugger.old debugger.new (before ahead.old (R.remaining reader.old)) (before ahead.new (R.remaining reader.new)) (W.contents writer.old) (W.contents writer.new)) }
     ensures read_fault { IfErr result (λ stop. IsReadFault stop → ahead.new.held ≡ []) }
 {
+    // For the proof: what every reader keeps.
     let _most = ahead.may_take();
     let mut line = Vec::new(alloc);
     let mut taken = 0u64;

@@ -3,3 +3,5 @@ pub mod Places
 pub mod WatchedSteps
 pub mod Stopping
 pub mod Once
+pub mod Deciding
+pub mod Ever

@@ -30,8 +30,6 @@ pub mod laws;
 mod moving;
 mod settings;
 mod stepping;
-#[cfg(test)]
-mod tests;
 mod watching;
 
 pub use command::{Command, Reply, Watched, Why};

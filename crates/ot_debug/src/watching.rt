@@ -23,6 +23,7 @@ fn see(machine: &Machine, watch: Watched) -> Result<Seen, AllocError>
     requires { IsOfClients (length machine.now.clients) watch }
     ensures { IfOk result (λ seen. seen ≡ sight machine.now watch) }
 {
+    // For the proof: what every machine keeps.
     let _clients = machine.clients();
     match watch {
         Watched::Doc(client) => Ok(Seen::List(machine.document(client as u16).copy()?)),
@@ -36,6 +37,7 @@ fn is_other(machine: &Machine, watch: Watched, seen: &Seen) -> bool
     requires { IsOfClients (length machine.now.clients) watch }
     ensures { MatchBool result (seen.now ≢ sight machine.now watch) (seen.now ≡ sight machine.now watch) }
 {
+    // For the proof: what every machine keeps.
     let _clients = machine.clients();
     match (watch, seen) {
         (Watched::Doc(client), Seen::List(list)) => !machine.document(client as u16).equals(list),

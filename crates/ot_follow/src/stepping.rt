@@ -35,7 +35,7 @@ fn is_edit(
     requires { length ≤ 1000000 }
     ensures { IfOk result (λ b. IsTrue b ↔ (op.now ≡ edit_of (action_view action.now) length)) }
 {
-    // These two say that the operation is within the limits, so that one past them is another.
+    // For the proof: what every operation keeps, so that one past the limits is another.
     let _base = op.base_len();
     let _target = op.target_len();
     match action.edit(alloc, length) {

@@ -150,6 +150,7 @@ fn loaded(alloc: Global, bytes: &[u8]) -> Result<Schedule, ImageFault>
 {
     match schedule_of(alloc, bytes) {
         Ok(schedule) => {
+            // For the proof: what every schedule keeps.
             let _clients = schedule.clients();
             Ok(schedule)
         }

@@ -36,6 +36,7 @@ impl Instr {
     {
         match self {
             Instr::Edit(client, op) => {
+                // For the proof: what every operation keeps.
                 let _base = op.base_len();
                 let _target = op.target_len();
                 Some(*client)

@@ -37,8 +37,6 @@ mod refusal;
 mod scalars;
 mod schedule;
 mod tagging;
-#[cfg(test)]
-mod tests;
 
 pub use builder::{Builder, INSTR_LIMIT, START_LIMIT};
 pub use elements::{Tag, Tagged};

@@ -29,7 +29,7 @@ impl From<AllocError> for OpeningFault {
 /// Why an instruction is not added, in the order of checking.
 #[derive(Clone, Copy, Debug, PartialEq, Eq, Error)]
 pub enum PushFault {
-    #[error("no such client")]
+    #[error("no client has the number")]
     BadClient,
     #[error("a schedule has at most 100,000 instructions")]
     TooMany,

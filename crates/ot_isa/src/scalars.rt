@@ -17,6 +17,7 @@ pub fn are_scalars(text: &[char])
 {
     for ch in text {
         let ch = *ch;
+        // For the proof: a character is a Unicode scalar.
         let _code = ch as u32;
     }
 }

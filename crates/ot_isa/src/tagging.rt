@@ -73,6 +73,7 @@ pub fn tagged(
     requires { first + length (news op.now.image) ≤ 15000 }
     ensures { IfOk result (λ t. t ≡ tagged_operation op.now origin first) }
 {
+    // For the proof: what every operation keeps.
     let _base = op.base_len();
     let _target = op.target_len();
     tagged_components(alloc, op.components(), origin, first)

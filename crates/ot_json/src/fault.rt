@@ -9,13 +9,13 @@ use thiserror::Error;
 #[derive(Clone, Copy, Debug, PartialEq, Eq, Error)]
 pub enum OpFault {
     /// The text is no JSON.
-    #[error("not JSON")]
+    #[error("the text is no JSON")]
     NotJson,
     /// The JSON value is no array.
-    #[error("not an array")]
+    #[error("the JSON value is no array")]
     NotArray,
     /// The component with this index, from 0, is no string and no integer but 0 within 64 bits.
-    #[error("component {0} is none")]
+    #[error("item {0} of the array is no component")]
     BadComponent(usize),
     /// With a component the base length or the target length passes 1,000,000 scalars.
     #[error("a length would pass 1,000,000")]

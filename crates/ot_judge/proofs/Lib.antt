@@ -1,10 +1,14 @@
 pub mod Views
+pub mod Counts
+pub mod Newly
+pub mod Exactly
 pub mod TagLemmas
 pub mod Known
 pub mod Rising
 pub mod Faults
 pub mod Whole
 pub mod Filtered
+pub mod Climbing
 pub mod Repeated
 pub mod Making
 pub mod Spelled

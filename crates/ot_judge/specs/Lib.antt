@@ -1,5 +1,6 @@
 pub mod Views
 pub mod Numbers
+pub mod Turns
 pub mod Contents
 pub mod Places
 pub mod Ranks

@@ -27,7 +27,7 @@ fn knows(events: &[Event], numbers: &[usize], e: usize, d: usize) -> bool
 
 // Adds tags to a set.
 #[tactic(auto, using(crate::proofs::TagLemmas::tag_steps))]
-fn add_all(set: &mut HashSet<Tag>, tags: &[Tag]) -> Result<(), AllocError>
+pub fn add_all(set: &mut HashSet<Tag>, tags: &[Tag]) -> Result<(), AllocError>
     ensures { OnOk result ((q : Tag) → set_contains same_tag set.new q ≡ (set_contains same_tag set.old q || contains tags.now q)) }
 {
     for a in tags {

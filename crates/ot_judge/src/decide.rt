@@ -1,14 +1,16 @@
 //! The judge of traces.
 
-ghost use Rattle.std.specs.Prelude.{◌≡◌, ◌<◌, ◌≤◌, ◌↔◌, ℕ, IfOk, List, length, All, map, Some, None, MatchOption};
+ghost use Rattle.std.specs.Prelude.{◌≡◌, ◌<◌, ◌≤◌, ◌↔◌, ℕ, IfOk, List, length, All, map, Some, None, MatchOption, slice_index_or, true, false};
 ghost use Rattle.ot_judge.specs.Views.{trace_view, views};
 ghost use Rattle.ot_judge.specs.Numbers.{IsNumbered};
 ghost use Rattle.ot_model.specs.WeakList.{EventHolds, WeakListProperty, lists};
+ghost use Rattle.ot_judge.specs.Turns.{HoldBefore, HoldsAfter};
 ghost use Rattle.ot_judge.specs.Verdict.{IsFault, IsVerdict};
 
+use crate::confirm::confirmed;
 use crate::contents::{first_doubled, first_misplaced, first_outside, required};
-use crate::graph::make_ranks;
-use crate::ranks::find_reversal_by_rank;
+use crate::graph::make_order;
+use crate::ranks::find_in_order;
 use crate::trace::{Event, Trace};
 use crate::verdict::Verdict;
 use crate::visibility::{numbers_of, sees_rightly};
@@ -48,6 +50,28 @@ fn fault_of(
     Ok(None)
 }
 
+// The fault of one event, if it has one, sought only where the event is not confirmed.
+fn fault_at(
+    alloc: Global,
+    start: &[Tag],
+    events: &[Event],
+    numbers: &[usize],
+    marks: &[bool],
+    e: usize,
+) -> Result<Option<Verdict>, AllocError>
+    requires numbered { IsNumbered (views events.now) numbers.now }
+    requires within { e < length events.now }
+    requires long { length marks.now ≡ length events.now }
+    requires marks { (k : ℕ) → slice_index_or marks.now k false ≡ true → HoldsAfter start.now (views events.now) k }
+    ensures { IfOk result (λ r. HoldBefore start.now (views events.now) e → MatchOption r (EventHolds start.now (views events.now) e) (λ v. IsFault start.now (views events.now) e v)) }
+{
+    if marks[e] {
+        return Ok(None);
+    }
+    let found = fault_of(alloc, start, events, numbers, e)?;
+    Ok(found)
+}
+
 // A copy of each event's list.
 fn lists_of(alloc: Global, events: &[Event]) -> Result<Vec<Vec<Tag>>, AllocError>
     ensures { IfOk result (λ v. map (λ w. w.items) v.items ≡ lists (views events.now)) }
@@ -62,6 +86,10 @@ fn lists_of(alloc: Global, events: &[Event]) -> Result<Vec<Vec<Tag>>, AllocError
 
 /// The verdict of a trace: `Holds` exactly where it has the weak list property, else the first fault of the least event
 /// that has one, else two elements in both orders. Answers an error only for want of memory.
+///
+/// Its time is linear in the list entries; and for each replica in the start, the insertions and the deletions; and in the
+/// events times the square of the replicas. Where elements lie on cycles of the order there is more, for each list along
+/// which the places that were tried for them do not rise: the entries of all lists that lie on cycles.
 pub fn judge(alloc: Global, trace: &Trace) -> Result<Verdict, AllocError>
     ensures verdict { IfOk result (λ v. IsVerdict trace.now v) }
     ensures property { IfOk result (λ v. (v ≡ Verdict.Holds) ↔ WeakListProperty trace.now) }
@@ -69,15 +97,23 @@ pub fn judge(alloc: Global, trace: &Trace) -> Result<Verdict, AllocError>
     let start = trace.start.as_slice();
     let events = trace.events.as_slice();
     let numbers = numbers_of(alloc, events)?;
+    let marks = confirmed(alloc, trace.replicas, start, events, numbers.as_slice())?;
     for e in 0..events.len() {
-        if let Some(v) = fault_of(alloc, start, events, numbers.as_slice(), e)? {
+        if let Some(v) = fault_at(
+            alloc,
+            start,
+            events,
+            numbers.as_slice(),
+            marks.as_slice(),
+            e,
+        )? {
             return Ok(v);
         }
     }
     let all = lists_of(alloc, events)?;
     let lists = all.as_slice();
-    let ranks = make_ranks(alloc, lists)?;
-    match find_reversal_by_rank(alloc, &ranks, lists)? {
+    let order = make_order(alloc, lists)?;
+    match find_in_order(alloc, &order, lists)? {
         Some(r) => Ok(Verdict::Reversed(r.earlier, r.later, r.a, r.b)),
         None => Ok(Verdict::Holds),
     }

@@ -11,13 +11,13 @@ use thiserror::Error;
 #[derive(Clone, Copy, Debug, PartialEq, Eq, Error)]
 pub enum TraceFault {
     /// The text is no JSON.
-    #[error("not JSON")]
+    #[error("the text is no JSON")]
     NotJson,
     /// A key is missing, a value is of another kind or out of range, or an event does not fit.
-    #[error("not of a trace's shape")]
+    #[error("the JSON value has not the shape of a trace")]
     BadShape,
     /// There are more than 4,000 events, or more than 4,000,000 entries in their lists.
-    #[error("more than 4,000 events or 4,000,000 list entries")]
+    #[error("there are more than 4,000 events, or more than 4,000,000 entries in their lists")]
     TraceFull,
     /// The start and the insertions name this tag twice.
     #[error("a tag is inserted twice")]

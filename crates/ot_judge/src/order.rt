@@ -1,9 +1,10 @@
 //! Two elements in one order in one list and in the other order in another.
 
-ghost use Rattle.std.specs.Prelude.{◌≡◌, ◌<◌, ◌≤◌, ℕ, IfOk, List, length, map, All, MatchOption};
+ghost use Rattle.std.specs.Prelude.{◌≡◌, ◌≢◌, ◌<◌, ◌≤◌, ℕ, IfOk, IsTrue, List, length, map, All, MatchOption};
 ghost use Rattle.ot_model.specs.WeakList.{IsBefore, IsReversed, nth};
 ghost use Rattle.ot_model.specs.TraceLaws.{AgreeInOrder};
 ghost use Rattle.ot_judge.specs.Places.{IsDistinct, IsIndex};
+ghost use Rattle.ot_judge.specs.Ranks.{Climbs, IsCleared, rank_of};
 ghost use Rattle.ot_isa.specs.declared.elements.Tag.{Tag};
 
 use ot_isa::Tag;
@@ -49,7 +50,28 @@ fn first_fall(xs: &[Tag], places: &HashMap<Tag, usize>, ys: &[Tag]) -> Option<(T
     None
 }
 
-// The first later list in which two elements stand in another order than in the one at `d`.
+// The reversal of two elements that stand in this order in the list at `d` and in the other at `e`.
+fn ordered(d: usize, e: usize, a: Tag, b: Tag) -> Reversal
+    ensures lower { d < e → result ≡ record { earlier = d; later = e; a = a; b = b } }
+    ensures upper { e < d → result ≡ record { earlier = e; later = d; a = b; b = a } }
+{
+    if d < e {
+        return Reversal {
+            earlier: d,
+            later: e,
+            a,
+            b,
+        };
+    }
+    Reversal {
+        earlier: e,
+        later: d,
+        a: b,
+        b: a,
+    }
+}
+
+// The first other list in which two elements stand in another order than in the one at `d`.
 fn first_against(
     alloc: Global,
     lists: &[Vec<Tag>],
@@ -57,30 +79,83 @@ fn first_against(
 ) -> Result<Option<Reversal>, AllocError>
     requires within { d < length lists.now }
     requires distinct { All (λ v. IsDistinct v.items) lists.now }
-    ensures { IfOk result (λ r. MatchOption r ((e : ℕ) → d < e → e < length lists.now → AgreeInOrder (nth (map (λ v. v.items) lists.now) d) (nth (map (λ v. v.items) lists.now) e)) (λ r. IsReversed (map (λ v. v.items) lists.now) r.earlier r.later r.a r.b)) }
+    ensures { IfOk result (λ r. MatchOption r ((e : ℕ) → e < length lists.now → e ≢ d → AgreeInOrder (nth (map (λ v. v.items) lists.now) d) (nth (map (λ v. v.items) lists.now) e)) (λ r. IsReversed (map (λ v. v.items) lists.now) r.earlier r.later r.a r.b)) }
 {
     let xs = lists[d].as_slice();
     let places = places_of(alloc, xs)?;
-    for e in d + 1..lists.len() {
-        if let Some((a, b)) = first_fall(xs, &places, lists[e].as_slice()) {
-            return Ok(Some(Reversal {
-                earlier: d,
-                later: e,
-                a,
-                b,
-            }));
+    for e in 0..lists.len() {
+        if e != d {
+            if let Some(pair) = first_fall(xs, &places, lists[e].as_slice()) {
+                return Ok(Some(ordered(d, e, pair.0, pair.1)));
+            }
         }
     }
     Ok(None)
 }
 
-/// A reversed pair of the lists, if there is one.
-pub fn find_reversal(alloc: Global, lists: &[Vec<Tag>]) -> Result<Option<Reversal>, AllocError>
+/// The place of an element, or 0 where it has none.
+pub fn place_in(places: &HashMap<Tag, usize>, a: Tag) -> usize
+    ensures { result ≡ rank_of places.now a }
+{
+    places.get(&a).copied().unwrap_or(0)
+}
+
+// Whether the elements of a list have places that rise along it.
+fn climbs(places: &HashMap<Tag, usize>, xs: &[Tag]) -> bool
+    ensures { IsTrue result → Climbs places.now xs.now }
+{
+    let mut last = 0;
+    for i in 0..xs.len() {
+        let place = place_in(places, xs[i]);
+        if place <= last {
+            return false;
+        }
+        last = place;
+    }
+    true
+}
+
+// The same of each of the lists.
+pub fn all_climb(places: &HashMap<Tag, usize>, lists: &[Vec<Tag>]) -> bool
+    ensures { IsTrue result → (d e : ℕ) (a b : Tag) → ¬ IsReversed (map (λ v. v.items) lists.now) d e a b }
+{
+    for v in lists {
+        if !climbs(places, v.as_slice()) {
+            return false;
+        }
+    }
+    true
+}
+
+// Two elements that the list at `d` and another have in two orders, sought where the places do not rise along the first.
+fn against(
+    alloc: Global,
+    places: &HashMap<Tag, usize>,
+    lists: &[Vec<Tag>],
+    d: usize,
+) -> Result<Option<Reversal>, AllocError>
+    requires within { d < length lists.now }
+    requires distinct { All (λ v. IsDistinct v.items) lists.now }
+    ensures { IfOk result (λ r. MatchOption r (IsCleared places.now (map (λ v. v.items) lists.now) d) (λ r. IsReversed (map (λ v. v.items) lists.now) r.earlier r.later r.a r.b)) }
+{
+    if climbs(places, lists[d].as_slice()) {
+        return Ok(None);
+    }
+    let found = first_against(alloc, lists, d)?;
+    Ok(found)
+}
+
+/// A reversed pair of the lists, if there is one. Lists along which these places rise are not compared with one another.
+pub fn find_reversal(
+    alloc: Global,
+    places: &HashMap<Tag, usize>,
+    lists: &[Vec<Tag>],
+) -> Result<Option<Reversal>, AllocError>
     requires { All (λ v. IsDistinct v.items) lists.now }
     ensures { IfOk result (λ r. MatchOption r ((d e : ℕ) (a b : Tag) → ¬ IsReversed (map (λ v. v.items) lists.now) d e a b) (λ r. IsReversed (map (λ v. v.items) lists.now) r.earlier r.later r.a r.b)) }
 {
     for d in 0..lists.len() {
-        if let Some(found) = first_against(alloc, lists, d)? {
+        if let Some(found) = against(alloc, places, lists, d)? {
             return Ok(Some(found));
         }
     }

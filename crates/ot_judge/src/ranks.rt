@@ -8,17 +8,11 @@ ghost use Rattle.ot_judge.specs.Places.{IsDistinct};
 ghost use Rattle.ot_judge.specs.Ranks.{IsAccounted, NeverFalls, is_crowded, rank_of};
 ghost use Rattle.ot_isa.specs.declared.elements.Tag.{Tag};
 
-use crate::order::{Reversal, find_reversal};
+use crate::graph::Order;
+use crate::order::{Reversal, all_climb, find_reversal, place_in};
 use ot_isa::Tag;
 use std::alloc::{AllocError, Global};
 use std::collections::{HashMap, HashSet};
-
-// The rank of an element.
-fn rank_of(ranks: &HashMap<Tag, usize>, a: Tag) -> usize
-    ensures { result ≡ rank_of ranks.now a }
-{
-    ranks.get(&a).copied().unwrap_or(0)
-}
 
 // Whether the ranks never fall along a list.
 fn never_falls(ranks: &HashMap<Tag, usize>, xs: &[Tag]) -> bool
@@ -26,7 +20,7 @@ fn never_falls(ranks: &HashMap<Tag, usize>, xs: &[Tag]) -> bool
 {
     let mut highest = 0;
     for i in 0..xs.len() {
-        let rank = rank_of(ranks, xs[i]);
+        let rank = place_in(ranks, xs[i]);
         if rank < highest {
             return false;
         }
@@ -58,33 +52,18 @@ fn crowded_part(
 {
     let mut kept = Vec::new(alloc);
     for a in xs {
-        if crowded.contains(&rank_of(ranks, *a)) {
+        if crowded.contains(&place_in(ranks, *a)) {
             kept.push(*a)?;
         }
     }
     Ok(kept)
 }
 
-// Some element of each rank.
-fn owners_of(
-    alloc: Global,
-    ranks: &HashMap<Tag, usize>,
-    lists: &[Vec<Tag>],
-) -> Result<HashMap<usize, Tag>, AllocError> {
-    let mut owners = HashMap::new(alloc);
-    for v in lists {
-        for a in v.as_slice() {
-            owners.insert(rank_of(ranks, *a), *a)?;
-        }
-    }
-    Ok(owners)
-}
-
 // Whether an element is the one that its rank belongs to.
 fn is_owner(ranks: &HashMap<Tag, usize>, owners: &HashMap<usize, Tag>, a: Tag) -> bool
     ensures { IsTrue result → get nat_eq owners.now (rank_of ranks.now a) ≡ Some a }
 {
-    match owners.get(&rank_of(ranks, a)) {
+    match owners.get(&place_in(ranks, a)) {
         Some(b) => *b == a,
         None => false,
     }
@@ -102,7 +81,7 @@ fn add_crowded(
 {
     for a in xs {
         if !is_owner(ranks, owners, *a) {
-            crowded.insert(rank_of(ranks, *a))?;
+            crowded.insert(place_in(ranks, *a))?;
         }
     }
     Ok(())
@@ -141,21 +120,39 @@ fn crowded_parts(
     Ok(parts)
 }
 
-/// A reversed pair of the lists, if there is one, sought among elements of equal rank where the ranks never fall.
-pub fn find_reversal_by_rank(
+// A reversed pair of the lists, if there is one, sought among elements of equal rank where the ranks never fall.
+fn find_reversal_by_rank(
     alloc: Global,
     ranks: &HashMap<Tag, usize>,
+    owners: &HashMap<usize, Tag>,
+    places: &HashMap<Tag, usize>,
     lists: &[Vec<Tag>],
 ) -> Result<Option<Reversal>, AllocError>
     requires { All (λ v. IsDistinct v.items) lists.now }
     ensures { IfOk result (λ r. MatchOption r ((d e : ℕ) (a b : Tag) → ¬ IsReversed (map (λ v. v.items) lists.now) d e a b) (λ r. IsReversed (map (λ v. v.items) lists.now) r.earlier r.later r.a r.b)) }
 {
     if !never_fall(ranks, lists) {
-        return find_reversal(alloc, lists);
+        return find_reversal(alloc, places, lists);
     }
-    let owners = owners_of(alloc, ranks, lists)?;
-    let crowded = crowded_ranks(alloc, ranks, &owners, lists)?;
+    let crowded = crowded_ranks(alloc, ranks, owners, lists)?;
     let parts = crowded_parts(alloc, ranks, &crowded, lists)?;
-    let found = find_reversal(alloc, parts.as_slice())?;
+    let found = find_reversal(alloc, places, parts.as_slice())?;
+    Ok(found)
+}
+
+/// A reversed pair of the lists, if there is one; there is none where the order's places rise along each list.
+pub fn find_in_order(
+    alloc: Global,
+    order: &Order,
+    lists: &[Vec<Tag>],
+) -> Result<Option<Reversal>, AllocError>
+    requires { All (λ v. IsDistinct v.items) lists.now }
+    ensures { IfOk result (λ r. MatchOption r ((d e : ℕ) (a b : Tag) → ¬ IsReversed (map (λ v. v.items) lists.now) d e a b) (λ r. IsReversed (map (λ v. v.items) lists.now) r.earlier r.later r.a r.b)) }
+{
+    let places = &order.places;
+    if all_climb(places, lists) {
+        return Ok(None);
+    }
+    let found = find_reversal_by_rank(alloc, &order.ranks, &order.owners, places, lists)?;
     Ok(found)
 }

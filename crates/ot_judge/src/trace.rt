@@ -90,7 +90,7 @@ fn entries(events: &[Event]) -> usize
 }
 
 // Appends the tags of inserted elements.
-fn push_tags(tags: &mut Vec<Tag>, inserted: &[Placed]) -> Result<(), AllocError>
+pub(crate) fn push_tags(tags: &mut Vec<Tag>, inserted: &[Placed]) -> Result<(), AllocError>
     ensures { OnOk result (tags.new.items ≡ tags.old.items ++ map (λ (p : Placed). p.tag) inserted.now) }
 {
     for p in inserted {

@@ -24,6 +24,3 @@ mod uplink;
 
 pub use downlink::Downlink;
 pub use uplink::Uplink;
-
-#[cfg(test)]
-mod tests;

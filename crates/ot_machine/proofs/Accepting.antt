@@ -15,7 +15,7 @@ use Rattle.ot_model.specs.Sound.{Fits, IsUnderway, IsPhaseSound, apply_entries, 
 use Rattle.ot_model.proofs.Clients.{taken_is}
 use Rattle.ot_model.proofs.States.{FitAll_drop, transform_over_news}
 use Rattle.ot_model.proofs.Lengths.{FitAll_take, room_ahead}
-use Rattle.ot_model.proofs.Laws.{laws}
+use Rattle.ot_model.proofs.Algebra.{laws}
 use Rattle.ot_machine.specs.declared.seat.Seat.{Seat}
 use Rattle.ot_machine.specs.Seats.{view_of, client_of, phase_of, revision_of, state_from, outstanding_of, outstanding_at, received_from, IsReceivable, IsKept}
 use Rattle.ot_machine.proofs.RowLaws.{not_full, same, within, client_at, joined_of}

@@ -10,7 +10,7 @@ use Rattle.ot_model.specs.declared.shown.Refusal.TheVariants.{LinkEmpty, WrongHe
 use Rattle.ot_model.specs.Operation.{Operation}
 use Rattle.ot_model.specs.Table.{Client, Entry, Message, Phase, NotJoined, Synchronized, AwaitingConfirm, AwaitingWithBuffer, State, is_joined, step, Performed, Refused, with_client, acknowledged}
 use Rattle.ot_model.specs.Sound.{IsPhaseSound, IsSent}
-use Rattle.ot_model.proofs.Laws.{laws}
+use Rattle.ot_model.proofs.Algebra.{laws}
 use Rattle.ot_model.proofs.States.{drop_entry, acknowledged_kept}
 use Rattle.ot_machine.specs.declared.seat.Seat.{Seat}
 use Rattle.ot_machine.specs.Seats.{phase_of, revision_of, client_of, state_from, incoming, numbers, IsAwaiting, MaySeatAcknowledge}

@@ -15,8 +15,8 @@ use Rattle.ot_model.specs.declared.shown.Refusal.TheVariants.{LinkEmpty, WrongHe
 use Rattle.ot_model.specs.Table.{Client, Entry, Message, State, is_joined, step, Performed, Refused, with_client, delivered}
 use Rattle.ot_model.specs.Sound.{IsPhaseSound, FitAll, apply_entries, inserted_in, pending, news_sent, news_kept}
 use Rattle.ot_model.proofs.Lengths.{deliver_room, FitAll_take, room_ahead}
-use Rattle.ot_model.proofs.Laws.{laws}
-use Rattle.ot_machine.specs.Seats.{phase_of, revision_of, client_of, state_from, incoming, IsKept, numbers, MayDeliverPhase, MayDeliverTo, MaySeatDeliver}
+use Rattle.ot_model.proofs.Algebra.{laws}
+use Rattle.ot_machine.specs.Seats.{phase_of, revision_of, client_of, state_from, incoming, IsKept, numbers, MayDeliverTo, MaySeatDeliver}
 use Rattle.std.specs.Option.{is_some}
 use Rattle.std.proofs.lemmas.Option.{slice_get_within}
 use Rattle.ot_machine.specs.Answers.{IsPerformed}
@@ -70,7 +70,7 @@ pub may :
     (c : ℕ) (here : program.Client Tagged) (start : List Tagged) (seen ahead : List Entry) (list : List Tagged) (message : Option Message) (h : Entry)
     → FitAll start seen → FitAll (apply_entries start seen) (h ∷ ahead) → h.maker ≢ c → IsPhaseSound c (phase_of (Some here)) start seen (h ∷ ahead) list message
     → length (apply_entries start seen) + (inserted_in (h ∷ ahead) + length (news_sent message ++ news_kept (phase_of (Some here)))) ≤ 1000000
-    → MayDeliverPhase (state_of here).phase h.op × ((state.carried (state_of here).phase h.op).base ≡ length list)
+    → state.MayDeliver (state_of here).phase h.op × ((state.carried (state_of here).phase h.op).base ≡ length list)
 may c (client.Synchronized here) start seen ahead list message h before all other now room = (tt, all.0.base ∙ ap length (sym now.list_is))
 may c (client.AwaitingConfirm here) start seen ahead list message h before all other now room =
     let o = here.outstanding in

@@ -14,6 +14,7 @@ pub mod Undoing
 pub mod Reverting
 pub mod Keeping
 pub mod Retaking
+pub mod Determined
 pub mod Parting
 pub mod Installing
 pub mod Orders

@@ -26,7 +26,7 @@ use Rattle.ot_model.specs.declared.shown.Shown.{Shown}
 use Rattle.ot_model.specs.Table.{Client, Phase, State, is_joined, Outcome, Entry, Message, NotJoined, Synchronized, AwaitingConfirm, AwaitingWithBuffer, phase_edited, step, Performed, with_client, edited, tag_operation}
 use Rattle.ot_model.specs.Sound.{IsPhaseSound, apply_entries, IsInstr, IsOutcomeSound}
 use Rattle.ot_model.proofs.Steps.{step_sound}
-use Rattle.ot_model.proofs.Laws.{laws}
+use Rattle.ot_model.proofs.Algebra.{laws}
 use Rattle.ot_model.proofs.States.{length-news-tag_items}
 use Rattle.ot_machine.specs.declared.seat.Seat.{Seat}
 use Rattle.ot_machine.specs.Seats.{View, view_of, phase_of, client_of, incoming, AreQueues, state_from, IsKept, Follows, MaySend}

@@ -8,7 +8,7 @@ use Rattle.ot_isa.specs.declared.instruction.Instr.{Instr}
 use Rattle.ot_isa.specs.declared.instruction.Instr.TheVariants.{Edit, Take, Deliver, Acknowledge, Join, Read, ReadServer}
 use Rattle.ot_model.specs.Table.{begin}
 use Rattle.ot_model.specs.Sound.{IsInstr, AreInstrs}
-use Rattle.ot_model.proofs.Laws.{laws}
+use Rattle.ot_model.proofs.Algebra.{laws}
 use Rattle.ot_model.proofs.Steps.{opening_sound, run_sound, quiet_same}
 use Rattle.ot_machine.specs.Laws.{RunsSound, RunsConverge}
 

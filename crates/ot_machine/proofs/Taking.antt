@@ -9,7 +9,7 @@ use Rattle.ot_server.specs.History.{History, transform_over, received}
 use Rattle.ot_model.specs.Table.{Client, Message, State, is_joined, step, Performed, taken}
 use Rattle.ot_model.specs.Sound.{IsOutcomeSound, IsSound}
 use Rattle.ot_model.proofs.Steps.{step_sound}
-use Rattle.ot_model.proofs.Laws.{laws}
+use Rattle.ot_model.proofs.Algebra.{laws}
 use Rattle.ot_machine.specs.declared.seat.Seat.{Seat}
 use Rattle.ot_machine.specs.Seats.{View, view_of, client_of, phase_of, numbers, incoming, sent, emptied, without_message, outstanding_at, received_from, AreQueues, state_from, IsKept}
 use Rattle.ot_client.specs.declared.sent.Sent.{Sent}

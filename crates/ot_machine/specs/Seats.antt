@@ -4,7 +4,7 @@ use Rattle.ot_server.specs.declared.fault.ServerFault.{ServerFault}
 use Rattle.ot_server.specs.declared.fault.ServerFault.TheVariants as fault
 use Rattle.ot_server.specs.History.{History, fault_of, received}
 use Rattle.ot_model.specs.Sound.{IsSound}
-use Rattle.ot_model.specs.Operation.{Operation, inserted}
+use Rattle.ot_model.specs.Operation.{Operation}
 use Rattle.std.specs.Option.{option_map}
 use Rattle.ot_isa.specs.declared.elements.Tagged.{Tagged}
 use Rattle.ot_client.specs.State as state
@@ -12,13 +12,7 @@ use Rattle.ot_client.specs.declared.client.Client as program
 use Rattle.ot_client.specs.declared.sent.Sent.{Sent}
 use Rattle.ot_client.specs.Client.{state_of, message_of}
 use Rattle.ot_machine.specs.declared.seat.Seat.{Seat}
-use Rattle.ot_model.specs.Table.{Phase, NotJoined, Synchronized, AwaitingConfirm, AwaitingWithBuffer, is_joined, Client, State, Message}
-
--- the three phases of a client of the program, as the table's
-abbrev pub phase_in : state.Phase Tagged → Phase
-phase_in state.Synchronized = Synchronized
-phase_in (state.AwaitingConfirm o) = AwaitingConfirm o
-phase_in (state.AwaitingWithBuffer o b) = AwaitingWithBuffer o b
+use Rattle.ot_model.specs.Table.{Phase, NotJoined, Synchronized, AwaitingConfirm, AwaitingWithBuffer, phase_in, is_joined, Client, State, Message}
 
 -- a seat without a client is one that has not joined
 abbrev pub phase_of : Option (program.Client Tagged) → Phase
@@ -119,20 +113,14 @@ HasRoom seat = 0 < seat.down.room
 abbrev pub HaveRoomFrom : ℕ → List Seat → Type 0
 HaveRoomFrom i seats = (c : ℕ) (seat : Seat) → i ≤ c → slice_get seats c ≡ Some seat → HasRoom seat
 
--- what a delivery needs of the client's operations
-abbrev pub MayDeliverPhase : state.Phase Tagged → Operation Tagged → Type 0
-MayDeliverPhase state.Synchronized op = Unit {0}
-MayDeliverPhase (state.AwaitingConfirm o) op = (op.base ≡ o.base) × (op.base + inserted o + inserted op ≤ 1000000)
-MayDeliverPhase (state.AwaitingWithBuffer o b) op = (op.base ≡ o.base) × (op.base + inserted o + inserted b + inserted op ≤ 1000000)
-
--- and of its revision
-abbrev pub MayDeliver : state.State Tagged → Operation Tagged → Type 0
-MayDeliver client op = (client.revision < 1000000) × MayDeliverPhase client.phase op
+-- what a delivery needs of the client's state: of its revision, and what ot.js' client asks of the operations
+abbrev pub MayDeliverState : state.State Tagged → Operation Tagged → Type 0
+MayDeliverState client op = (client.revision < 1000000) × state.MayDeliver client.phase op
 
 -- and of its list
 abbrev pub MayDeliverTo : Option (program.Client Tagged) → Operation Tagged → List Tagged → Type 0
 MayDeliverTo None op list = ⊥
-MayDeliverTo (Some client) op list = MayDeliver (state_of client) op × ((state.carried (state_of client).phase op).base ≡ length list)
+MayDeliverTo (Some client) op list = MayDeliverState (state_of client) op × ((state.carried (state_of client).phase op).base ≡ length list)
 
 -- what a delivery needs of the seat
 abbrev pub MaySeatDeliver : Seat → Operation Tagged → Type 0

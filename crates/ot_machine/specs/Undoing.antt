@@ -105,3 +105,7 @@ IsUndoable s undo = (earlier : State) × Undoes earlier s undo
 
 abbrev pub IsUndoableRecord : State → Record → Type 0
 IsUndoableRecord s kept = (earlier : State) × IsRecord earlier s kept
+
+-- a record and the state after its step leave one state before it
+abbrev pub RecordsDetermine : Type 0
+RecordsDetermine = (s earlier other : State) (undo : Undo) → Undoes earlier s undo → Undoes other s undo → earlier ≡ other

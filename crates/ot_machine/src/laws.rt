@@ -3,6 +3,7 @@
 ghost use Rattle.ot_algebra.specs.Laws.{ApplyKeepsOrder, TransformKeepsSides};
 ghost use Rattle.ot_isa.specs.declared.elements.Tagged.{Tagged};
 ghost use Rattle.ot_machine.specs.Laws.{RunsConverge, RunsSound};
+ghost use Rattle.ot_machine.specs.Undoing.{RecordsDetermine};
 ghost use Rattle.ot_model.specs.TraceLaws.{ListsAgree, OneHasBoth, WeakList};
 
 pub use crate::order_laws::{any_order, runs_beside};
@@ -20,14 +21,20 @@ pub fn runs_converge()
     ensures { RunsConverge }
 {}
 
+/// What a step keeps so that it can be taken back and the state after the step leave one state before it: no list is kept, and nothing
+/// of the state before is lost.
+pub fn records_determine()
+    ensures { RecordsDetermine }
+{}
+
 /// Where an operation keeps an element and what it becomes after another keeps it too, that element stands on the same side of each
 /// of the operation's new elements; and applying an operation keeps the order of what stays.
 pub fn operations_keep_order()
     ensures sides { TransformKeepsSides Tagged }
     ensures order { ApplyKeepsOrder Tagged }
 {
-    ot_algebra::transform_keeps_sides::<Tagged>();
-    ot_algebra::apply_keeps_order::<Tagged>();
+    ot_algebra::laws::transform_keeps_sides::<Tagged>();
+    ot_algebra::laws::apply_keeps_order::<Tagged>();
 }
 
 /// Two elements of a client's list that also both stand in the server's list after some number of log entries, of that moment or of
@@ -35,7 +42,7 @@ pub fn operations_keep_order()
 pub fn lists_agree()
     ensures { ListsAgree }
 {
-    ot_model::lists_agree();
+    ot_model::laws::lists_agree();
 }
 
 /// Of two different readers' lists that share two elements, at any two moments of a run, one has both already in the server's list
@@ -43,7 +50,7 @@ pub fn lists_agree()
 pub fn one_has_both()
     ensures { OneHasBoth }
 {
-    ot_model::one_has_both();
+    ot_model::laws::one_has_both();
 }
 
 /// The trace of every schedule, late joiners included, has the weak list property of Attiya et al. (PODC 2016); the three laws before
@@ -51,5 +58,5 @@ pub fn one_has_both()
 pub fn runs_have_weak_lists()
     ensures { WeakList }
 {
-    ot_model::weak_list();
+    ot_model::laws::weak_list();
 }

@@ -47,11 +47,7 @@ mod rows_kept;
 mod running;
 mod seat;
 mod state;
-#[cfg(test)]
-mod tests;
 mod undo;
-#[cfg(test)]
-mod undo_tests;
 
 pub use machine::{INSERTED_LIMIT, Machine, STEP_LIMIT};
 pub use ot_model::{Reader, Refusal, Shown};

@@ -15,6 +15,7 @@ pub fn any_order(first: &Schedule, second: &Schedule)
     ensures ends { AreReordered first.now second.now → IsWhole first.now → EndAlike first.now second.now ⊎ StopsEarly second.now }
     ensures not_both { EndAlike first.now second.now → StopsEarly second.now → ⊥ }
 {
+    // For the proof: what every schedule keeps.
     let _ = first.clients();
 }
 
@@ -24,5 +25,6 @@ pub fn any_order(first: &Schedule, second: &Schedule)
 pub fn runs_beside(first: &Schedule, second: &Schedule, one: &Run, other: &Run)
     ensures { AreReordered first.now second.now → IsRun first.now one.now → IsRun second.now other.now → one.now.stopped ≡ None → IsBeside one.now other.now other.now.stopped }
 {
+    // For the proof: what every schedule keeps.
     let _ = first.clients();
 }

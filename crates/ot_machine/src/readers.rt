@@ -2,10 +2,10 @@
 ghost use Rattle.std.specs.Prelude.{◌≡◌, ◌<◌, ◌↔◌, length, map, slice_get, IfOk, IsTrue, None, Some, true};
 ghost use Rattle.std.specs.Option.{option_copied, option_map};
 ghost use Rattle.ot_client.specs.Client.{message_of, state_of};
-ghost use Rattle.ot_model.specs.Table.{downlink, is_joined, IsQuiet};
+ghost use Rattle.ot_model.specs.Table.{downlink, is_joined, phase_in, IsQuiet};
 ghost use Rattle.ot_model.specs.Sound.{IsSound};
 ghost use Rattle.ot_machine.specs.Readers.{client_view, head_at, meant, phase_name, AreOne, ClientHas, IsShownState};
-ghost use Rattle.ot_machine.specs.Seats.{client_of, incoming, phase_in};
+ghost use Rattle.ot_machine.specs.Seats.{client_of, incoming};
 
 use crate::machine::Machine;
 use crate::seat::{self, Seat};

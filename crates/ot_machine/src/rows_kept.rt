@@ -130,6 +130,7 @@ impl Machine {
         ensures unchanged { OnErr result (self.new ≡ self.old) }
         ensures record_is { IfOk result (λ kept. IsRecord self.old self.new kept) }
     {
+        // For the proof: what every machine keeps.
         let _ = &self.server;
         self.join(client)?;
         Ok(Record::Joined(client))
@@ -141,6 +142,7 @@ impl Machine {
         ensures unchanged { OnErr result (self.new ≡ self.old) }
         ensures record_is { IfOk result (λ given. IsRecord self.old self.new given.1) }
     {
+        // For the proof: what every machine keeps.
         let _ = &self.server;
         let shown = self.read(client)?;
         Ok((Some(shown), Record::Read))
@@ -152,6 +154,7 @@ impl Machine {
         ensures unchanged { OnErr result (self.new ≡ self.old) }
         ensures record_is { IfOk result (λ given. IsRecord self.old self.new given.1) }
     {
+        // For the proof: what every machine keeps.
         let _ = &self.server;
         let shown = self.read_server()?;
         Ok((Some(shown), Record::Read))

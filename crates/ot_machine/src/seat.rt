@@ -6,7 +6,7 @@ ghost use Rattle.ot_client.specs.State as state;
 ghost use Rattle.ot_client.specs.Client.{message_of, state_of};
 ghost use Rattle.ot_server.specs.History.{fault_of, received};
 ghost use Rattle.ot_model.specs.Table.{absent, acknowledged, delivered, edited, present_with};
-ghost use Rattle.ot_machine.specs.Seats.{client_of, phase_of, revision_of, view_of, AreSettled, idle, sent, joined_at, under_way, Follows, MayPush, MaySend, HasRoom, HaveRoomFrom, MayDeliver, MaySeatAcknowledge, MaySeatDeliver, IsMemory, IsReceivable, IsSettled, IsWaiting, emptied, outstanding_at, outstanding_of, received_from};
+ghost use Rattle.ot_machine.specs.Seats.{client_of, phase_of, revision_of, view_of, AreSettled, idle, sent, joined_at, under_way, Follows, MayPush, MaySend, HasRoom, HaveRoomFrom, MayDeliverState, MaySeatAcknowledge, MaySeatDeliver, IsMemory, IsReceivable, IsSettled, IsWaiting, emptied, outstanding_at, outstanding_of, received_from};
 
 use ot_client::{Client, Sent, Synchronized};
 use ot_isa::Tagged;
@@ -215,7 +215,7 @@ pub(crate) fn after(
     client: Client<Tagged>,
     op: TextOp<Tagged>,
 ) -> Result<(Client<Tagged>, TextOp<Tagged>), AllocError>
-    requires { MayDeliver (state_of client) op }
+    requires { MayDeliverState (state_of client) op }
     ensures state { IfOk result (λ given. state_of given.0 ≡ state.delivered (state_of client) op) }
     ensures applied { IfOk result (λ given. given.1 ≡ state.carried (state_of client).phase op) }
 {

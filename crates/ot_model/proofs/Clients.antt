@@ -5,7 +5,8 @@ use Rattle.ot_model.specs.Operation.{Operation, apply, news, first_after, second
 use Rattle.ot_model.specs.Table.{Phase, NotJoined, Synchronized, AwaitingConfirm, AwaitingWithBuffer, is_joined, Client, Entry, Message, phase_edited, message_edited, phase_delivered, carried, acknowledged}
 use Rattle.ot_isa.specs.declared.elements.Tagged.{Tagged}
 use Rattle.ot_server.specs.History.{transform_over}
-use Rattle.ot_model.specs.Sound.{Fits, apply_entries, FitAll, NoneBy, Lands, IsUnderway, IsSent, IsPhaseSound, IsClientSound, AlgebraLaws, news_sent, news_kept, news_pending}
+use Rattle.ot_model.specs.Sound.{Fits, apply_entries, FitAll, NoneBy, Lands, IsUnderway, IsSent, IsPhaseSound, IsClientSound, news_sent, news_kept, news_pending}
+use Rattle.ot_model.proofs.Algebra.{AlgebraLaws}
 
 -- the entries one by one
 pub apply_entries_push : (d : List Tagged) (log : List Entry) (h : Entry) → apply_entries d (log ++ h ∷ []) ≡ apply h.op (apply_entries d log)

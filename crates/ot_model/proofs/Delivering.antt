@@ -8,7 +8,8 @@ use Rattle.ot_model.specs.Operation.{Operation, apply, news, first_after, second
 use Rattle.ot_isa.specs.declared.elements.Tag.{Tag}
 use Rattle.ot_isa.specs.declared.elements.Tagged.{Tagged}
 use Rattle.ot_model.specs.Table.{Phase, NotJoined, Synchronized, AwaitingConfirm, AwaitingWithBuffer, is_joined, Client, State, Entry, phase_delivered, carried, delivered, with_client}
-use Rattle.ot_model.specs.Sound.{Fits, apply_entries, FitAll, IsSent, IsPhaseSound, AlgebraLaws, times, news_sent, news_kept, IsSoundFrom}
+use Rattle.ot_model.specs.Sound.{Fits, apply_entries, FitAll, IsSent, IsPhaseSound, times, news_sent, news_kept, IsSoundFrom}
+use Rattle.ot_model.proofs.Algebra.{AlgebraLaws}
 use Rattle.ot_model.proofs.Vertices.{operations, past_outstanding, IsOwnTag}
 use Rattle.ot_model.specs.Trace.{EventView}
 use Rattle.ot_model.specs.Events.{Ledger, tags}

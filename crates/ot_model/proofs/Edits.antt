@@ -7,7 +7,8 @@ use Rattle.ot_model.specs.Operation.{Operation, apply, news, compose}
 use Rattle.ot_isa.specs.declared.elements.Tag.{Tag}
 use Rattle.ot_isa.specs.declared.elements.Tagged.{Tagged}
 use Rattle.ot_model.specs.Table.{Phase, NotJoined, Synchronized, AwaitingConfirm, AwaitingWithBuffer, is_joined, Client, State, Entry, phase_edited, with_client, edited}
-use Rattle.ot_model.specs.Sound.{Fits, apply_entries, IsPhaseSound, AlgebraLaws, news_sent, news_kept, IsSoundFrom}
+use Rattle.ot_model.specs.Sound.{Fits, apply_entries, IsPhaseSound, news_sent, news_kept, IsSoundFrom}
+use Rattle.ot_model.proofs.Algebra.{AlgebraLaws}
 use Rattle.ot_model.proofs.Vertices.{Has, HasNew, PathFits, InPath, Apart, ApartNew, IsConsistent, lifted, operations, past_outstanding, InFirst, InSecond, InLast, IsVertex, Seen, In, IsMember, IsOrdered, OrderLaws}
 use Rattle.ot_model.proofs.States.{times-append, slice_get-set_same, slice_get-set_other}
 use Rattle.ot_model.proofs.Paths.{past_none, past_fits, operations_fit}

@@ -17,7 +17,7 @@ use Rattle.ot_model.specs.Limits.{IsShort, IsPhaseShort, IsWithinLimits}
 use Rattle.ot_model.specs.Laws.{history_of, MayDeliver, IsDeliverable}
 use Rattle.ot_model.proofs.States.{drop_entry, FitAll_drop, message_fits, sent_joined}
 use Rattle.ot_model.proofs.Lengths.{total, apply-le, apply_entries-le, FitAll_take, room_ahead, server_accepts, outstanding-le, deliver_room}
-use Rattle.ot_model.proofs.Laws.{laws}
+use Rattle.ot_model.proofs.Algebra.{laws}
 
 -- an operation over a document of this length is short, where the document and what it inserts are
 short_from : (o : Operation Tagged) (d : List Tagged) → Fits o d → length d + inserted o ≤ 1000000 → IsShort o

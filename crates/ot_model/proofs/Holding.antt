@@ -8,7 +8,8 @@ use Rattle.ot_isa.specs.declared.elements.Tag.{Tag}
 use Rattle.ot_isa.specs.declared.elements.Tagged.{Tagged}
 use Rattle.ot_model.specs.Table.{Client, State, Entry}
 use Rattle.ot_server.specs.History.{transform_over}
-use Rattle.ot_model.specs.Sound.{Fits, apply_entries, FitAll, NoneBy, AlgebraLaws, times}
+use Rattle.ot_model.specs.Sound.{Fits, apply_entries, FitAll, NoneBy, times}
+use Rattle.ot_model.proofs.Algebra.{AlgebraLaws}
 use Rattle.ot_model.proofs.Vertices.{operations}
 use Rattle.ot_model.specs.Trace.{EventView}
 use Rattle.ot_model.specs.Events.{Count, Ledger, tags}

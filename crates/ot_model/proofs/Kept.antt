@@ -10,7 +10,8 @@ use Rattle.ot_text.specs.Operation.{value_in}
 use Rattle.ot_text.specs.Operation as text
 use Rattle.ot_isa.specs.declared.elements.Tag.{Tag}
 use Rattle.ot_isa.specs.declared.elements.Tagged.{Tagged}
-use Rattle.ot_model.specs.Sound.{AlgebraLaws, times, has_tag}
+use Rattle.ot_model.specs.Sound.{times, has_tag}
+use Rattle.ot_model.proofs.Algebra.{AlgebraLaws}
 use Rattle.ot_model.proofs.Vertices.{Has}
 use Rattle.ot_model.proofs.Knowledge.{KeepsBoth}
 use Rattle.ot_model.proofs.Tags.{Has_times}

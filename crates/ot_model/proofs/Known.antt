@@ -6,7 +6,8 @@ use Rattle.ot_model.specs.Operation.{Operation, apply, news, first_after}
 use Rattle.ot_isa.specs.declared.elements.Tag.{Tag}
 use Rattle.ot_isa.specs.declared.elements.Tagged.{Tagged}
 use Rattle.ot_model.specs.Table.{Phase, NotJoined, Synchronized, AwaitingConfirm, AwaitingWithBuffer, Client, State, Entry, Message}
-use Rattle.ot_model.specs.Sound.{Fits, apply_entries, FitAll, NoneBy, Lands, IsSent, IsPhaseSound, AlgebraLaws, news_pending, news_sent, news_kept, IsSoundFrom}
+use Rattle.ot_model.specs.Sound.{Fits, apply_entries, FitAll, NoneBy, Lands, IsSent, IsPhaseSound, news_pending, news_sent, news_kept, IsSoundFrom}
+use Rattle.ot_model.proofs.Algebra.{AlgebraLaws}
 use Rattle.ot_model.proofs.Vertices.{Has, HasNew, lifted, operations, past_outstanding, InFirst, InSecond, IsVertex, Seen, In, IsMember, IsKnown, IsSeenSound, OrderLaws}
 use Rattle.ot_model.proofs.States.{transform_over_news, FitAll_drop}
 use Rattle.ot_model.proofs.Lengths.{FitAll_take}

@@ -7,7 +7,8 @@ use Rattle.std.specs.Prelude.{slice_get, sum_by}
 use Rattle.ot_model.specs.Operation.{Operation, apply, inserted, news, first_after}
 use Rattle.ot_model.specs.Table.{Client, State, Entry, Message}
 use Rattle.ot_isa.specs.declared.elements.Tagged.{Tagged}
-use Rattle.ot_model.specs.Sound.{Fits, apply_entries, FitAll, Lands, IsSent, IsPhaseSound, AlgebraLaws, pending, news_sent, news_kept, inserted_in, IsSoundFrom}
+use Rattle.ot_model.specs.Sound.{Fits, apply_entries, FitAll, Lands, IsSent, IsPhaseSound, pending, news_sent, news_kept, inserted_in, IsSoundFrom}
+use Rattle.ot_model.proofs.Algebra.{AlgebraLaws}
 use Rattle.ot_model.proofs.States.{message_fits, sent_joined, transform_over_news, FitAll_drop}
 
 -- all that is inserted, in the log and pending, with the start

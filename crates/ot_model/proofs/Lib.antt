@@ -1,10 +1,9 @@
+pub mod Algebra
 pub mod Clients
 pub mod States
 pub mod Steps
 pub mod Lengths
-pub mod Accepted
 pub mod Downlinks
-pub mod Laws
 pub mod Runs
 pub mod Locality
 pub mod Sessions

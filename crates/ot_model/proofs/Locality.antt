@@ -15,7 +15,7 @@ use Rattle.ot_model.specs.Table.{Phase, NotJoined, Synchronized, AwaitingConfirm
 use Rattle.ot_model.specs.Sound.{IsSoundFrom, IsInstr, AreInstrs, IsPhaseSound, IsSent}
 use Rattle.ot_model.specs.Part.{Part, PartOutcome, PartPerformed, PartRefused, PartNoRow, with_part, part_edit, part_deliver, part_with, part_acknowledge, part_row, PartPlace, run_part}
 use Rattle.ot_model.specs.Session.{or_else, installed, BeginsOver, install}
-use Rattle.ot_model.proofs.Laws.{laws}
+use Rattle.ot_model.proofs.Algebra.{laws}
 use Rattle.ot_model.proofs.States.{IsKept, drop_entry, slice_get-set_same, joined_edited, joined_delivered, edited_kept, delivered_kept, acknowledged_kept, client_changed_sound}
 
 same_Performed : (p q : Part) (a b : Option Shown) → PartPerformed p a ≡ PartPerformed q b → (p ≡ q) × (a ≡ b)

@@ -8,7 +8,8 @@ use Rattle.ot_text.specs.Operation.{value_in}
 use Rattle.ot_text.specs.Operation as text
 use Rattle.ot_isa.specs.declared.elements.Tag.{Tag}
 use Rattle.ot_isa.specs.declared.elements.Tagged.{Tagged}
-use Rattle.ot_model.specs.Sound.{Fits, AlgebraLaws, times}
+use Rattle.ot_model.specs.Sound.{Fits, times}
+use Rattle.ot_model.proofs.Algebra.{AlgebraLaws}
 use Rattle.ot_model.proofs.Vertices.{Has}
 use Rattle.ot_model.specs.Trace.{EventView}
 use Rattle.ot_model.proofs.Traces.{Inserts}

@@ -10,7 +10,8 @@ use Rattle.ot_isa.specs.declared.elements.Tag.{Tag}
 use Rattle.ot_isa.specs.declared.elements.Tagged.{Tagged}
 use Rattle.ot_model.specs.Table.{Phase, NotJoined, Synchronized, AwaitingConfirm, AwaitingWithBuffer, Client, State, Entry, Message}
 use Rattle.ot_isa.specs.Tagging.{tagged_chars, tagged_char}
-use Rattle.ot_model.specs.Sound.{Fits, apply_entries, FitAll, NoneBy, Lands, IsSent, IsPhaseSound, AlgebraLaws, times, has_tag, allowance, news_by, news_pending, news_sent, news_kept, IsSoundFrom}
+use Rattle.ot_model.specs.Sound.{Fits, apply_entries, FitAll, NoneBy, Lands, IsSent, IsPhaseSound, times, has_tag, allowance, news_by, news_pending, news_sent, news_kept, IsSoundFrom}
+use Rattle.ot_model.proofs.Algebra.{AlgebraLaws}
 use Rattle.ot_model.proofs.Vertices.{Has, HasNew, PathFits, InPath, IsConsistent, lifted, operations, past_outstanding, InLast, OrderLaws}
 use Rattle.ot_model.proofs.States.{allowance_more, times-append, transform_over_news, FitAll_drop}
 use Rattle.ot_model.proofs.Order.{Before_has, along, IsConsistent_sym, lifted_fits}

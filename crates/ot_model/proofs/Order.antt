@@ -4,7 +4,8 @@ use Rattle.std.specs.Prelude.{◌⊎◌}
 use Rattle.ot_model.specs.Operation.{Operation, apply, news, first_after}
 use Rattle.ot_isa.specs.declared.elements.Tag.{Tag}
 use Rattle.ot_isa.specs.declared.elements.Tagged.{Tagged}
-use Rattle.ot_model.specs.Sound.{Fits, AlgebraLaws}
+use Rattle.ot_model.specs.Sound.{Fits}
+use Rattle.ot_model.proofs.Algebra.{AlgebraLaws}
 use Rattle.ot_model.proofs.Vertices.{Has, Before, IsConsistent, PathFits, InPath, HasNew, Apart, ApartNew, lifted, OrderLaws}
 
 pub Before_has : (a b : Tag) (xs : List Tagged) → Before a b xs → Has a xs × Has b xs

@@ -10,7 +10,8 @@ use Rattle.ot_isa.specs.declared.elements.Tag.{Tag}
 use Rattle.ot_isa.specs.declared.elements.Tagged.{Tagged}
 use Rattle.ot_model.specs.Table.{Phase, NotJoined, Synchronized, AwaitingConfirm, AwaitingWithBuffer, is_joined, Client, State, Entry, Message, with_client, delivered, acknowledged, joined, edited, tag_operation}
 use Rattle.ot_isa.specs.Tagging.{tagged_items}
-use Rattle.ot_model.specs.Sound.{Fits, apply_entries, FitAll, Lands, IsSent, IsPhaseSound, IsClientSound, AlgebraLaws, news_pending, news_sent, news_kept, IsSoundFrom}
+use Rattle.ot_model.specs.Sound.{Fits, apply_entries, FitAll, Lands, IsSent, IsPhaseSound, IsClientSound, news_pending, news_sent, news_kept, IsSoundFrom}
+use Rattle.ot_model.proofs.Algebra.{AlgebraLaws}
 use Rattle.ot_model.proofs.Vertices.{Has, InPath, lifted, operations, past_outstanding, InFirst, InSecond, IsVertex, Seen, In, IsMember, IsOwnTag, IsKnown, IsSeenSound, IsOrdered, OrderLaws}
 use Rattle.ot_model.proofs.States.{slice_get-set_same, slice_get-set_other, drop_entry, take_entry, transform_over_news, FitAll_drop}
 use Rattle.ot_model.proofs.Paths.{InFirst_delivered, InSecond_delivered, InFirst_acknowledged, PhaseFits}

@@ -6,7 +6,8 @@ use Rattle.ot_model.specs.Operation.{Operation, apply, first_after, second_after
 use Rattle.ot_isa.specs.declared.elements.Tagged.{Tagged}
 use Rattle.ot_model.specs.Table.{Phase, NotJoined, Synchronized, AwaitingConfirm, AwaitingWithBuffer, Entry, phase_delivered}
 use Rattle.ot_server.specs.History.{transform_over}
-use Rattle.ot_model.specs.Sound.{Fits, apply_entries, FitAll, NoneBy, Lands, AlgebraLaws}
+use Rattle.ot_model.specs.Sound.{Fits, apply_entries, FitAll, NoneBy, Lands}
+use Rattle.ot_model.proofs.Algebra.{AlgebraLaws}
 use Rattle.ot_model.proofs.Vertices.{PathFits, InPath, lifted, operations, past_outstanding, InFirst, InSecond}
 
 -- past an entry of the client's own, and past another's

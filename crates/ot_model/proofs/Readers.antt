@@ -22,7 +22,7 @@ use Rattle.ot_model.specs.TraceLaws.{server_after, AgreeInOrder, HasList, HoldsB
 use Rattle.ot_model.proofs.Vertices.{Has, Before, HasNew, InPath, operations, Seen, In, IsOrdered}
 use Rattle.ot_model.proofs.States.{FitAll_drop, transform_over_news}
 use Rattle.ot_model.proofs.Lengths.{FitAll_take}
-use Rattle.ot_model.proofs.Laws.{laws}
+use Rattle.ot_model.proofs.Algebra.{laws}
 use Rattle.ot_model.proofs.Keeping.{from, order_laws}
 use Rattle.ot_model.proofs.Merging.{has_or}
 use Rattle.ot_model.proofs.Known.{HasNew_take, Has_left, Has_right, document_has, NewBy_HasNew}

@@ -6,7 +6,8 @@ use Rattle.std.specs.Prelude.{◌⊎◌, slice_get}
 use Rattle.ot_isa.specs.declared.elements.Tag.{Tag}
 use Rattle.ot_isa.specs.declared.elements.Tagged.{Tagged}
 use Rattle.ot_model.specs.Table.{is_joined, Client, State, start_list, opening}
-use Rattle.ot_model.specs.Sound.{apply_entries, AlgebraLaws, times, IsSoundFrom}
+use Rattle.ot_model.specs.Sound.{apply_entries, times, IsSoundFrom}
+use Rattle.ot_model.proofs.Algebra.{AlgebraLaws}
 use Rattle.ot_model.proofs.Vertices.{InPath, operations, InFirst, InSecond, IsVertex, Seen, IsMember, IsSeenSound, IsOrdered, OrderLaws}
 use Rattle.ot_model.proofs.Tags.{allowance-le}
 use Rattle.ot_model.proofs.Paths.{InPath_reached, reached-operations}

@@ -17,7 +17,7 @@ use Rattle.ot_model.specs.declared.shown.Reader.TheVariants as reader
 use Rattle.ot_model.specs.Sound.{IsSound, IsInstr, AreInstrs, IsOutcomeSound}
 use Rattle.ot_model.specs.OrderLaws.{AnyOrder, AnyOrderRuns, IsTooEarly, SameInstructions, TooEarlyStops}
 use Rattle.ot_model.specs.Orders.{Machine, ClientMachine, ServerMachine, is_at, is_take, is_of, IsIndependent, AreSameOrders, AreSameShown, awaits}
-use Rattle.ot_model.proofs.Laws.{laws}
+use Rattle.ot_model.proofs.Algebra.{laws}
 use Rattle.ot_model.proofs.Steps.{step_sound, opening_sound}
 use Rattle.ot_model.proofs.Exchanging.{kind, commute, steps_of}
 use Rattle.ot_model.proofs.Earlier.{Grew, grew_nothing, grew_on, grew_step, earlier}

@@ -6,7 +6,8 @@ use Rattle.ot_isa.specs.declared.elements.Tagged.{Tagged}
 use Rattle.ot_model.specs.Table.{Phase, NotJoined, Synchronized, AwaitingConfirm, AwaitingWithBuffer, Client, State, Outcome, Performed, Refused, NoRow, start_list, opening, step, edited, delivered, acknowledged, joined, tag_operation}
 use Rattle.ot_isa.specs.declared.instruction.Instr.{Instr}
 use Rattle.ot_isa.specs.declared.instruction.Instr.TheVariants.{Edit, Take, Deliver, Acknowledge, Join, Read, ReadServer}
-use Rattle.ot_model.specs.Sound.{AlgebraLaws, IsSoundFrom, IsInstr, AreInstrs}
+use Rattle.ot_model.specs.Sound.{IsSoundFrom, IsInstr, AreInstrs}
+use Rattle.ot_model.proofs.Algebra.{AlgebraLaws}
 use Rattle.ot_model.proofs.Vertices.{IsConsistent, Seen, In, IsOrdered, OrderLaws, list_at, list_of, lists_from, AmongLists}
 use Rattle.ot_model.proofs.States.{with_client_sound, joined_kept, acknowledged_kept, delivered_kept, taken_sound, edited_kept, slice_get-set_same, RisesFrom-tag_items}
 use Rattle.ot_model.proofs.Outcomes.{by_edit, by_take, by_deliver, by_acknowledge, by_join, by_read, by_read_server}

@@ -14,7 +14,7 @@ use Rattle.ot_model.specs.Table.{taken, is_joined, Client, State, Place, Entry, 
 use Rattle.ot_model.specs.Sound.{IsSound, AreInstrs}
 use Rattle.ot_model.specs.Part.{Part, PartOutcome, PartPerformed, PartRefused, PartNoRow, PartPlace, part_row, run_part, unsent, Leads, LeadsShowing}
 use Rattle.ot_model.specs.Session.{IsPartIn, Session, IsAllowed, Begins, BeginsOver, or_else, installed, install, IsOthers, IsWaiting, RunsShowing, RunsTo}
-use Rattle.ot_model.proofs.Laws.{laws}
+use Rattle.ot_model.proofs.Algebra.{laws}
 use Rattle.ot_model.proofs.States.{slice_get-set_same, slice_get-set_other}
 use Rattle.ot_model.proofs.Outcomes.{by_edit, by_take, by_deliver, by_acknowledge, by_join, by_read, by_read_server}
 use Rattle.ot_model.proofs.Runs.{run-append}

@@ -15,7 +15,8 @@ use Rattle.ot_isa.specs.declared.elements.Tagged.{Tagged}
 use Rattle.ot_server.specs.History.{transform_over}
 use Rattle.ot_isa.specs.Tagging.{tagged_items}
 use Rattle.ot_isa.specs.Tagging.{tagged_char}
-use Rattle.ot_model.specs.Sound.{Fits, apply_entries, FitAll, IsBufferSound, IsPhaseSound, IsClientSound, AlgebraLaws, news_sent, news_kept, news_pending, IsAbsentSound, IsOwn, allowance, has_tag, times, news_by, pending, inserted_in, IsSoundFrom}
+use Rattle.ot_model.specs.Sound.{Fits, apply_entries, FitAll, IsBufferSound, IsPhaseSound, IsClientSound, news_sent, news_kept, news_pending, IsAbsentSound, IsOwn, allowance, has_tag, times, news_by, pending, inserted_in, IsSoundFrom}
+use Rattle.ot_model.proofs.Algebra.{AlgebraLaws}
 use Rattle.ot_model.proofs.Clients.{apply_entries_push, FitAll_push, FitAll_at, NoneBy_push, IsClientSound_acknowledged, IsPhaseSound_delivered, IsPhaseSound_edited, IsPhaseSound_taken, IsPhaseSound_push, transform_over_fits}
 
 -- the element at a place after a write

@@ -11,7 +11,8 @@ use Rattle.ot_isa.specs.declared.instruction.Instr.TheVariants.{Edit, Take, Deli
 use Rattle.ot_model.specs.declared.shown.Reader.{Reader}
 use Rattle.ot_model.specs.declared.shown.Reader.TheVariants as reader
 use Rattle.ot_isa.specs.Tagging.{tagged_chars}
-use Rattle.ot_model.specs.Sound.{apply_entries, IsPhaseSound, IsClientSound, AlgebraLaws, IsAbsentSound, IsOwn, pending, IsSoundFrom, IsSound, IsInstr, AreInstrs, IsOutcomeSound}
+use Rattle.ot_model.specs.Sound.{apply_entries, IsPhaseSound, IsClientSound, IsAbsentSound, IsOwn, pending, IsSoundFrom, IsSound, IsInstr, AreInstrs, IsOutcomeSound}
+use Rattle.ot_model.proofs.Algebra.{AlgebraLaws}
 use Rattle.ot_model.proofs.Outcomes.{by_edit, by_take, by_deliver, by_acknowledge, by_join, by_read, by_read_server}
 use Rattle.ot_model.proofs.States.{with_client_sound, joined_kept, acknowledged_kept, delivered_kept, taken_sound, edited_kept}
 

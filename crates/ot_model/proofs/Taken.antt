@@ -9,7 +9,8 @@ use Rattle.ot_isa.specs.declared.elements.Tag.{Tag}
 use Rattle.ot_isa.specs.declared.elements.Tagged.{Tagged}
 use Rattle.ot_model.specs.Table.{Phase, NotJoined, Synchronized, AwaitingConfirm, AwaitingWithBuffer, is_joined, Client, State, Entry, Message, taken}
 use Rattle.ot_server.specs.History.{transform_over}
-use Rattle.ot_model.specs.Sound.{Fits, apply_entries, NoneBy, IsPhaseSound, AlgebraLaws, news_pending, news_sent, news_kept, IsSoundFrom}
+use Rattle.ot_model.specs.Sound.{Fits, apply_entries, NoneBy, IsPhaseSound, news_pending, news_sent, news_kept, IsSoundFrom}
+use Rattle.ot_model.proofs.Algebra.{AlgebraLaws}
 use Rattle.ot_model.proofs.Vertices.{Has, InPath, Apart, IsConsistent, operations, past_outstanding, InFirst, InSecond, IsClientVertex, IsVertex, Seen, IsMember, IsOrdered, OrderLaws}
 use Rattle.ot_model.proofs.States.{slice_get-set_same, slice_get-set_other, message_fits, sent_joined, transform_over_news, FitAll_drop, times-append, apply_entries-append}
 use Rattle.ot_model.proofs.Clients.{taken_is, FitAll_at}

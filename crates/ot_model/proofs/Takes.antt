@@ -8,7 +8,8 @@ use Rattle.ot_isa.specs.declared.elements.Tag.{Tag}
 use Rattle.ot_isa.specs.declared.elements.Tagged.{Tagged}
 use Rattle.ot_model.specs.Table.{Phase, NotJoined, Synchronized, AwaitingConfirm, AwaitingWithBuffer, Client, State, Entry, Message}
 use Rattle.ot_server.specs.History.{transform_over}
-use Rattle.ot_model.specs.Sound.{Fits, apply_entries, FitAll, IsSent, IsPhaseSound, AlgebraLaws, news_pending, news_sent, news_kept, IsSoundFrom}
+use Rattle.ot_model.specs.Sound.{Fits, apply_entries, FitAll, IsSent, IsPhaseSound, news_pending, news_sent, news_kept, IsSoundFrom}
+use Rattle.ot_model.proofs.Algebra.{AlgebraLaws}
 use Rattle.ot_model.proofs.Vertices.{Has, PathFits, Apart, IsConsistent, lifted, past_outstanding, InFirst, InSecond, IsVertex, Seen, IsMember, IsOrdered, OrderLaws}
 use Rattle.ot_model.proofs.Paths.{past_fits, reached, InPath_push, InPath_reached, past_taken_other, past_taken_landed, taken_reached, landed_reached}
 use Rattle.ot_model.proofs.Order.{step_consistent}

@@ -8,7 +8,8 @@ use Rattle.ot_model.specs.Operation.{Operation, apply}
 use Rattle.ot_isa.specs.declared.elements.Tagged.{Tagged}
 use Rattle.ot_model.specs.Table.{Phase, NotJoined, Synchronized, AwaitingConfirm, AwaitingWithBuffer, is_joined, Client, State, Entry, Message, acknowledged, joined, with_client, taken}
 use Rattle.ot_server.specs.History.{transform_over}
-use Rattle.ot_model.specs.Sound.{Fits, apply_entries, IsSent, IsUnderway, IsPhaseSound, AlgebraLaws, IsSoundFrom}
+use Rattle.ot_model.specs.Sound.{Fits, apply_entries, IsSent, IsUnderway, IsPhaseSound, IsSoundFrom}
+use Rattle.ot_model.proofs.Algebra.{AlgebraLaws}
 use Rattle.ot_model.proofs.Vertices.{operations}
 use Rattle.ot_model.specs.Trace.{EventView}
 use Rattle.ot_model.specs.Events.{Count, Ledger, tags}

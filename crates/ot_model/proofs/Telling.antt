@@ -13,7 +13,8 @@ use Rattle.ot_isa.specs.declared.instruction.Instr.{Instr}
 use Rattle.ot_isa.specs.declared.instruction.Instr.TheVariants.{Edit, Take, Deliver, Acknowledge, Join, Read, ReadServer}
 use Rattle.ot_model.specs.declared.shown.Reader.TheVariants as reader
 use Rattle.ot_server.specs.History.{transform_over}
-use Rattle.ot_model.specs.Sound.{Fits, apply_entries, AlgebraLaws, IsSoundFrom, IsInstr, AreInstrs}
+use Rattle.ot_model.specs.Sound.{Fits, apply_entries, IsSoundFrom, IsInstr, AreInstrs}
+use Rattle.ot_model.proofs.Algebra.{AlgebraLaws}
 use Rattle.ot_model.proofs.Vertices.{Has, list_at, list_of, lists_from, AmongLists}
 use Rattle.ot_model.specs.Trace.{EventView, contains}
 use Rattle.ot_model.specs.declared.trace.Placed.{Placed}

@@ -13,7 +13,7 @@ use Rattle.ot_model.specs.Trace.{IsTrace}
 use Rattle.ot_model.specs.WeakList.{WeakListProperty}
 use Rattle.ot_model.specs.Events.{tags, events, trace_of}
 use Rattle.ot_model.proofs.Traces.{IsShapedTrace}
-use Rattle.ot_model.proofs.Laws.{laws}
+use Rattle.ot_model.proofs.Algebra.{laws}
 use Rattle.ot_model.proofs.Kept.{keeps_both}
 use Rattle.ot_model.proofs.Telling.{weak_list, is_trace}
 use Rattle.ot_model.proofs.Distinct.{inserted_once}

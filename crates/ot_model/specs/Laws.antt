@@ -3,9 +3,10 @@ use Rattle.std.specs.Prelude.{◌≡◌, ℕ, ◌+◌, ◌<◌, ◌≤◌, ◌�
 use Rattle.ot_isa.specs.Program.{Program, IsProgram}
 use Rattle.ot_isa.specs.declared.elements.Tagged.{Tagged}
 use Rattle.ot_isa.specs.declared.instruction.Instr.{Instr}
+use Rattle.ot_client.specs.State as client
 use Rattle.ot_server.specs.History.{History, fault_of}
-use Rattle.ot_model.specs.Operation.{Operation, inserted}
-use Rattle.ot_model.specs.Table.{Phase, NotJoined, Synchronized, AwaitingConfirm, AwaitingWithBuffer, is_joined, Client, State, Place, Entry, Message, opening, begin, run, step, carried, IsQuiet}
+use Rattle.ot_model.specs.Operation.{Operation}
+use Rattle.ot_model.specs.Table.{Phase, by_rule, is_joined, Client, State, Place, Entry, Message, opening, begin, run, step, carried, IsQuiet}
 use Rattle.ot_model.specs.Sound.{IsSound, IsInstr, AreInstrs, IsOutcomeSound}
 use Rattle.ot_model.specs.Limits.{IsWithinLimits}
 use Rattle.ot_model.specs.Runs.{IsRunnable, done, place_at}
@@ -54,12 +55,9 @@ ServerAccepts =
 abbrev pub LengthsFit : Type 0
 LengthsFit = (s : State) → IsSound s → IsWithinLimits s
 
--- what a delivery of h asks of the client's operations: one base, and room for all that is inserted
+-- what a delivery of h asks of the client's operations
 abbrev pub MayDeliver : Phase → Operation Tagged → Type 0
-MayDeliver NotJoined h = Unit {0}
-MayDeliver Synchronized h = Unit {0}
-MayDeliver (AwaitingConfirm o) h = (h.base ≡ o.base) × (h.base + inserted o + inserted h ≤ 1000000)
-MayDeliver (AwaitingWithBuffer o b) h = (h.base ≡ o.base) × (h.base + inserted o + inserted b + inserted h ≤ 1000000)
+MayDeliver phase h = by_rule (Unit {0}) (λ p. client.MayDeliver p h) phase
 
 -- what an entry of another asks of the client that it is delivered to
 pub record IsDeliverable (x : Client) (h : Operation Tagged) : Type 0 where

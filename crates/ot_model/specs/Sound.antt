@@ -1,6 +1,6 @@
 -- What holds of every state of every run, said of the state alone, without its history.
 use Rattle.std.specs.Prelude.{◌≡◌, ℕ, ◌+◌, ◌<◌, ◌≤◌, ◌≢◌, ◌⊎◌, List, [], ◌∷◌, ◌++◌, length, take, drop, slice_get, sum_by, All, Option, Some, None, Bool, ◌==◌, ◌&&◌, count_by, if◌then◌else◌, nat_lt}
-use Rattle.ot_model.specs.Operation.{Operation, IsOperation, apply, compose, inserted, news, first_after, second_after}
+use Rattle.ot_model.specs.Operation.{Operation, IsOperation, apply, inserted, news, first_after}
 use Rattle.ot_model.specs.Table.{Phase, NotJoined, Synchronized, AwaitingConfirm, AwaitingWithBuffer, Client, absent, State, Entry, Message, Outcome, Performed, Refused, NoRow, start_list}
 use Rattle.ot_isa.specs.declared.elements.Tag.{Tag}
 use Rattle.ot_isa.specs.declared.elements.Tagged.{Tagged}
@@ -144,20 +144,6 @@ pub record IsSoundFrom (start : List Tagged) (text : List ℕ) (s : State) : Typ
 -- the state is sound, from some start
 abbrev pub IsSound : State → Type 0
 IsSound s = (start : List Tagged) × (text : List ℕ) × IsSoundFrom start text s
-
--- what the algebra promises, at the tagged elements
-pub record AlgebraLaws : Type 0 where
-  pub apply-length : (a : Operation Tagged) (d : List Tagged) → Fits a d → length (apply a d) ≡ length a.image
-  pub first_fits : (a b : Operation Tagged) (d : List Tagged) → Fits a d → Fits b d → Fits (first_after a b) (apply b d)
-  pub second_fits : (a b : Operation Tagged) (d : List Tagged) → Fits a d → Fits b d → Fits (second_after a b) (apply a d)
-  pub same : (a b : Operation Tagged) (d : List Tagged) → Fits a d → Fits b d → apply (second_after a b) (apply a d) ≡ apply (first_after a b) (apply b d)
-  pub first_news : (a b : Operation Tagged) → IsOperation a → IsOperation b → a.base ≡ b.base → news (first_after a b) ≡ news a
-  pub second_news : (a b : Operation Tagged) → IsOperation a → IsOperation b → a.base ≡ b.base → news (second_after a b) ≡ news b
-  pub compose_fits : (a b : Operation Tagged) (d : List Tagged) → Fits a d → Fits b (apply a d) → Fits (compose a b) d
-  pub apply-compose : (a b : Operation Tagged) (d : List Tagged) → Fits a d → Fits b (apply a d) → apply (compose a b) d ≡ apply b (apply a d)
-  pub compose_times : (a b : Operation Tagged) (t : Tag) → IsOperation a → IsOperation b → times t (news (compose a b)) ≤ times t (news a) + times t (news b)
-  pub compose_inserted : (a b : Operation Tagged) → IsOperation a → IsOperation b → inserted (compose a b) ≤ inserted a + inserted b
-  pub image_length : (a : Operation Tagged) → IsOperation a → length a.image ≤ a.base + inserted a
 
 -- an instruction that a schedule can have: its operation is one
 abbrev pub IsInstr : Instr → Type 0

@@ -14,7 +14,7 @@ use Rattle.ot_model.specs.declared.shown.Refusal.TheVariants.{NoSuchClient, Step
 use Rattle.ot_model.specs.declared.shown.Reader.{Reader}
 use Rattle.ot_model.specs.declared.shown.Reader.TheVariants as reader
 use Rattle.ot_model.specs.declared.shown.Shown.{Shown}
-use Rattle.ot_model.specs.Operation.{Operation, apply, compose, inserted, first_after, second_after}
+use Rattle.ot_model.specs.Operation.{Operation, apply, inserted}
 
 -- the start text, with the origin of no client
 abbrev pub start_list : List ℕ → List Tagged
@@ -38,6 +38,19 @@ pub data Phase : Type 0 where
   Synchronized : Phase
   AwaitingConfirm : Operation Tagged → Phase
   AwaitingWithBuffer : Operation Tagged → Operation Tagged → Phase
+
+-- the phase of a client that has joined, which is in one of ot.js' three states
+abbrev pub phase_in : client.Phase Tagged → Phase
+phase_in client.Synchronized = Synchronized
+phase_in (client.AwaitingConfirm o) = AwaitingConfirm o
+phase_in (client.AwaitingWithBuffer o b) = AwaitingWithBuffer o b
+
+-- what a rule says of the three states, and what else of a client that has not joined
+abbrev pub by_rule {ℓ} : {X : Type ℓ} → X → (client.Phase Tagged → X) → Phase → X
+by_rule other rule NotJoined = other
+by_rule other rule Synchronized = rule client.Synchronized
+by_rule other rule (AwaitingConfirm o) = rule (client.AwaitingConfirm o)
+by_rule other rule (AwaitingWithBuffer o b) = rule (client.AwaitingWithBuffer o b)
 
 abbrev pub is_joined : Phase → Bool
 is_joined NotJoined = false
@@ -102,10 +115,7 @@ with_client s c x = record { log = s.log; server = s.server; clients = set s.cli
 
 -- Edit (ot.js: `applyClient`): op is tagged and applied to the client's list; it is sent, or waits
 abbrev pub phase_edited : Phase → Operation Tagged → Phase
-phase_edited NotJoined op = NotJoined
-phase_edited Synchronized op = AwaitingConfirm op
-phase_edited (AwaitingConfirm o) op = AwaitingWithBuffer o op
-phase_edited (AwaitingWithBuffer o b) op = AwaitingWithBuffer o (compose b op)
+phase_edited phase op = by_rule NotJoined (λ p. phase_in (client.phase_edited p op)) phase
 
 -- an edit is sent at once where nothing is under way
 abbrev pub message_edited : Phase → Client → Operation Tagged → Option Message
@@ -147,18 +157,11 @@ take_row s c x (Some m) = Performed (taken s c x (transform_over m.op (drop m.re
 
 -- Deliver (ot.js: `applyServer`): h goes through outstanding and buffer into the list
 abbrev pub phase_delivered : Phase → Operation Tagged → Phase
-phase_delivered NotJoined h = NotJoined
-phase_delivered Synchronized h = Synchronized
-phase_delivered (AwaitingConfirm o) h = AwaitingConfirm (first_after o h)
-phase_delivered (AwaitingWithBuffer o b) h =
-    AwaitingWithBuffer (first_after o h) (first_after b (second_after o h))
+phase_delivered phase h = by_rule NotJoined (λ p. phase_in (client.phase_delivered p h)) phase
 
 -- what the client applies
 abbrev pub carried : Phase → Operation Tagged → Operation Tagged
-carried NotJoined h = h
-carried Synchronized h = h
-carried (AwaitingConfirm o) h = second_after o h
-carried (AwaitingWithBuffer o b) h = second_after b (second_after o h)
+carried phase h = by_rule h (λ p. client.carried p h) phase
 
 abbrev pub delivered : Client → Operation Tagged → Client
 delivered x h =

@@ -38,13 +38,14 @@
 //! - *The weak list property* (`specs/Visibility.antt`, `specs/WeakList.antt`) of Attiya et al., PODC
 //!   2016: the definition that a judge of traces decides, and that every run has (`weak_list`).
 //!
-//! The laws are public functions with empty bodies: their contracts, spelled out in `specs/Laws.antt`,
+//! The laws are the functions of [`laws`], which have empty bodies: their contracts, spelled out in `specs/Laws.antt`,
 //! `specs/SessionLaws.antt`, `specs/OrderLaws.antt` and `specs/TraceLaws.antt`, are the theorems, and nothing is assumed in
 //! them. Begin with `specs/Table.antt`; `proofs/Examples.antt` has worked runs that the checker computes,
 //! `proofs/OrderExamples.antt` has one in two orders, `proofs/TraceExamples.antt` has the runs' traces, and
 //! `proofs/PartExamples.antt` has worked steps of parts.
 #![tactic(auto)]
 
+pub mod laws;
 mod list_laws;
 mod order_laws;
 mod part_laws;
@@ -52,17 +53,5 @@ mod session_laws;
 mod shown;
 mod trace;
 
-pub use list_laws::{lists_agree, not_one_order, one_has_both, trace_shape, weak_list};
-pub use order_laws::{
-    any_order, any_order_runs, commute, exchange, same_instructions, same_multiset, too_early_stops,
-};
-pub use part_laws::{
-    part_begins, present_sound, runs_go_on, sends_once, session_block, session_sound,
-    session_waits, sessions_go_on,
-};
-pub use session_laws::{
-    convergence, lengths_fit, may_deliver, opening_sound, quiet_same, run_sound, runs_reach,
-    schedules_run, server_accepts, step_sound,
-};
 pub use shown::{Reader, Refusal, Shown};
 pub use trace::Placed;

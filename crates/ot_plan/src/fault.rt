@@ -10,11 +10,11 @@ use thiserror::Error;
 #[derive(Clone, Copy, Debug, PartialEq, Eq, Error)]
 pub enum PlanFault {
     /// The text is no JSON.
-    #[error("not JSON")]
+    #[error("the text is no JSON")]
     NotJson,
     /// A key is missing, a value is of another kind, a number is none of 0 to 2^64 - 1, or there is not one list of actions for
     /// each client.
-    #[error("not of a plan's shape")]
+    #[error("the JSON value has not the shape of a plan")]
     BadShape,
     /// A number is out of range.
     #[error("a number is out of range")]

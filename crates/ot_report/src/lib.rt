@@ -14,8 +14,6 @@ mod ending;
 mod findings;
 mod lines;
 mod running;
-#[cfg(test)]
-mod tests;
 mod verdicts;
 
 pub use ending::print_end;

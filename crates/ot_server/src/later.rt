@@ -54,10 +54,12 @@ pub fn transform_after<T: Element>(
     let alloc = op.allocator();
     let mut carried = op.copy()?;
     for entry in entries {
+        // For the proof: what every operation keeps.
         let _operation = carried.base_len();
         let _operation = entry.operation().base_len();
         carried = transform_first(alloc, &carried, entry.operation())?;
     }
+    // For the proof: what every operation keeps.
     let _operation = carried.base_len();
     Ok(carried)
 }

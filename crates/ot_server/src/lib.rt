@@ -180,6 +180,3 @@ impl<T: Element> Server<T> {
         Ok(())
     }
 }
-
-#[cfg(test)]
-mod tests;

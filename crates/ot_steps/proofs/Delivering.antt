@@ -10,11 +10,11 @@ use Rattle.ot_model.specs.Operation.{Operation}
 use Rattle.ot_model.specs.Laws.{IsDeliverable}
 use Rattle.ot_model.specs.Laws as laws
 use Rattle.ot_model.specs.Sound.{IsSound}
-use Rattle.ot_model.specs.Table.{Phase, Client, State, Entry, absent, carried, downlink, is_joined}
+use Rattle.ot_model.specs.Table.{Phase, Client, State, Entry, absent, phase_in, carried, downlink, is_joined}
 use Rattle.ot_model.specs.Table as table
 use Rattle.ot_model.proofs.Fitting.{deliverable}
 use Rattle.ot_machine.specs.Readers.{ClientHas, head_at, head_of, meant}
-use Rattle.ot_machine.specs.Seats.{phase_in, MayDeliver, MayDeliverPhase}
+use Rattle.ot_machine.specs.Seats.{MayDeliverState}
 use Rattle.ot_machine.specs.declared.state.Head.{Head}
 use Rattle.ot_machine.specs.declared.state.Head.TheVariants.{Ack, Op}
 use Rattle.ot_steps.specs.Lines.{plain_operation}
@@ -63,13 +63,13 @@ ahead s c number x is = by_joined (is_joined x.phase) refl is
         }
 
 -- the table's condition is the program's
-may_phase : (phase : state.Phase Tagged) (op : Operation Tagged) → laws.MayDeliver (phase_in phase) op → MayDeliverPhase phase op
+may_phase : (phase : state.Phase Tagged) (op : Operation Tagged) → laws.MayDeliver (phase_in phase) op → state.MayDeliver phase op
 may_phase state.Synchronized op may = tt
 may_phase (state.AwaitingConfirm o) op may = may
 may_phase (state.AwaitingWithBuffer o b) op may = may
 
 pub may_deliver : (s : State) (c number : ℕ) (h : Entry) (client : state.State Tagged) → IsSound s → ClientHas s c (head_at s c 0) (Some (Op number)) → slice_get s.log number ≡ Some h
-    → ClientHas s c (λ x. x.revision) client.revision → ClientHas s c (λ x. x.phase) (phase_in client.phase) → MayDeliver client h.op
+    → ClientHas s c (λ x. x.revision) client.revision → ClientHas s c (λ x. x.phase) (phase_in client.phase) → MayDeliverState client h.op
 may_deliver s c number h client sound head entry revision phase =
     let found = client_of s c (head_at s c 0) (Some (Op number)) head in
     let x = found.0 in

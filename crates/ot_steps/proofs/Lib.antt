@@ -1,8 +1,8 @@
 mod Examples
 mod Folding
-mod Running
+pub mod Running
 mod Untagging
-mod Delivering
+pub mod Delivering
 mod Texts
-mod Progress
-mod Quiet
+pub mod Progress
+pub mod Quiet

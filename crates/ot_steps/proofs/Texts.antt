@@ -14,9 +14,8 @@ use Rattle.ot_client.specs.declared.client.Client as program
 use Rattle.ot_client.specs.declared.client.Client.TheVariants.{AwaitingConfirm, AwaitingWithBuffer}
 use Rattle.ot_model.specs.declared.shown.Refusal.{Refusal}
 use Rattle.ot_model.specs.Operation.{Operation}
-use Rattle.ot_model.specs.Table.{Client, Message, Phase, State, absent}
+use Rattle.ot_model.specs.Table.{Client, Message, Phase, State, absent, phase_in}
 use Rattle.ot_machine.specs.Readers.{phase_name, ClientHas}
-use Rattle.ot_machine.specs.Seats.{phase_in}
 use Rattle.ot_machine.specs.declared.state.Phase as shown
 use Rattle.ot_report.specs.Printed.{phase_word, refusal_text}
 use Rattle.ot_steps.specs.Lines as lines

@@ -4,7 +4,7 @@ ghost use Rattle.std.specs.Prelude.{◌≡◌, ◌<◌, length, IfOk, Some, true
 ghost use Rattle.std.specs.Option.{option_map};
 ghost use Rattle.ot_client.specs.Client.{state_of};
 ghost use Rattle.ot_client.specs.State as state;
-ghost use Rattle.ot_machine.specs.Seats.{MayDeliver};
+ghost use Rattle.ot_machine.specs.Seats.{MayDeliverState};
 ghost use Rattle.ot_steps.specs.Lines.{plain_operation};
 ghost use Rattle.ot_steps.specs.Steps as steps;
 
@@ -32,7 +32,7 @@ pub fn sends(machine: &Machine, instr: &Instr) -> bool
 
 // What the client makes of another's operation: a copy of the client takes it.
 fn carried(client: &Client<Tagged>, op: &TextOp<Tagged>) -> Result<TextOp<Tagged>, AllocError>
-    requires { MayDeliver (state_of client.now) op.now }
+    requires { MayDeliverState (state_of client.now) op.now }
     ensures { IfOk result (λ applied. applied ≡ state.carried (state_of client.now).phase op.now) }
 {
     let op = op.copy()?;
@@ -54,6 +54,7 @@ fn delivery(machine: &Machine, client: u16) -> Result<Option<TextOp<Tagged>>, Al
     requires { client < length machine.now.clients }
     ensures { IfOk result (λ applied. option_map plain_operation applied ≡ steps.delivers machine.now client) }
 {
+    // For the proof: what every machine keeps.
     let _sound = machine.clients();
     let Some(head) = machine.down(client, 0) else {
         return Ok(None);

@@ -42,6 +42,7 @@ fn plain_components(
 pub fn plain_operation(alloc: Global, op: &TextOp<Tagged>) -> Result<TextOp<char>, AllocError>
     ensures { IfOk result (λ plain. plain ≡ plain_operation op.now) }
 {
+    // For the proof: what every operation keeps.
     let _base = op.base_len();
     let _target = op.target_len();
     plain_components(alloc, op.components())

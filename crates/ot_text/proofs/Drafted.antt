@@ -45,7 +45,7 @@ contents_later {T} cs k d from end (Moved j ∷ ps) h o =
     rw (here, contents_later cs k d (j + 1) end ps (omega arith) o.2) refl
 contents_later cs k d from end (Made m ∷ ps) h o = rw (contents_later cs k d from end ps h o) refl
 
-lists_set : {T : Type 0} (vs : List (Vec T Global)) (k : ℕ) (v : Vec T Global) → lists (set vs k v) ≡ set (lists vs) k v.items
+pub lists_set : {T : Type 0} (vs : List (Vec T Global)) (k : ℕ) (v : Vec T Global) → lists (set vs k v) ≡ set (lists vs) k v.items
 lists_set [] zero v = refl
 lists_set [] (suc k) v = refl
 lists_set (w ∷ vs) zero v = refl

@@ -13,3 +13,8 @@ pub mod Chunked
 pub mod Drafted
 pub mod Drafting
 pub mod Inverting
+pub mod Spotted
+pub mod Placed
+pub mod Surveyed
+pub mod Surveying
+pub mod Touched

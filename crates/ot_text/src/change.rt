@@ -4,12 +4,25 @@ ghost use Rattle.ot_text.specs.Operation.{apply, invert};
 ghost use Rattle.ot_text.specs.Run.{base_of, image_from, operation_of};
 ghost use Rattle.ot_text.specs.Components.{runs};
 ghost use Rattle.ot_text.specs.Chunks.{lists, joined, IsChunked};
+ghost use Rattle.ot_text.specs.Spots.{Spot, chunks_of, edited};
 ghost use Rattle.ot_text.specs.Draft.{IsInOrder, IsDraft, written};
 
 use crate::cursor::Cursor;
 use crate::draft::Draft;
 use crate::{Component, Element, TextOp, only_memory};
 use std::alloc::{AllocError, Global};
+
+// The components up to the last one that changes something.
+pub fn without_last_retain<T>(components: &[Component<T>]) -> &[Component<T>]
+    ensures base { base_of (runs result.now) ≤ base_of (runs components.now) }
+    ensures same { (s : Spot T) → chunks_of (edited (runs result.now) s) ≡ chunks_of (edited (runs components.now) s) }
+{
+    let length = components.len();
+    if length > 0 && matches!(&components[length - 1], Component::Retain(_)) {
+        return &components[..length - 1];
+    }
+    components
+}
 
 // The draft of the document that the components make of the chunks.
 pub fn draft_components<T: Copy>(

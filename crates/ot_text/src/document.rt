@@ -3,10 +3,12 @@ ghost use Rattle.std.specs.Prelude.{◌≡◌, ◌+◌, ◌*◌, ◌/◌, ◌≤
 ghost use Rattle.ot_text.specs.Operation.{apply};
 ghost use Rattle.ot_text.specs.Chunks.{lists, joined, IsChunked};
 
-use crate::change::{apply_components, draft_components};
+use crate::change::{apply_components, draft_components, without_last_retain};
 use crate::compare::same_items;
 use crate::cursor::Cursor;
-use crate::draft::{CHUNK, Draft, assemble, copy_pieces};
+use crate::draft::{CHUNK, Draft, FILL, assemble, copy_pieces};
+use crate::edit::edit_components;
+use crate::survey::survey_components;
 use crate::{Element, TextOp};
 use std::alloc::{AllocError, Global};
 use std::marker::Model;
@@ -49,7 +51,7 @@ impl<T: Element> Doc<T> {
         ensures { IfOk result (λ d. d ≡ items.now) }
     {
         let none = Vec::new(alloc);
-        let mut draft = Draft::new(alloc, items.len() / CHUNK + 1)?;
+        let mut draft = Draft::new(alloc, items.len() / FILL + 1)?;
         draft.append(none.as_slice(), items)?;
         draft.flush(none.as_slice())?;
         let pieces = draft.pieces;
@@ -128,14 +130,18 @@ impl<T: Element> Doc<T> {
 
     /// Makes this document what the operation makes of it, which has to fit.
     ///
-    /// The chunks that the operation touches are copied, and a chunk beside them where it would be too short; the others
-    /// move. A document that becomes one chunk is written anew. `AllocError` where a growth was refused: every growth
-    /// comes first, so the document is then as it was.
+    /// Chunks are edited where they lie, where each still has 1 to 512 elements then, and more than 512 with its neighbour: what is
+    /// copied is the text that comes and what stands behind it in its chunk, and chunks that are not touched are counted alone.
+    /// Else the touched chunks are copied, and a chunk beside them where it would be too short; the others move. `AllocError` where
+    /// a growth was refused: every growth comes first, so the document is then as it was.
     pub fn change(&mut self, op: &TextOp<T>) -> Result<(), AllocError>
         requires { op.now.base ≡ length self.old }
         ensures ok { OnOk result (self.new ≡ apply op.now self.old) }
         ensures err { OnErr result (self.new ≡ self.old) }
     {
+        if self.change_in_place(op)? {
+            return Ok(());
+        }
         if op.target_len() <= CHUNK {
             return self.rebuild(op);
         }
@@ -147,6 +153,23 @@ impl<T: Element> Doc<T> {
         self.chunks = assemble(alloc, chunks, pieces, room);
         self.count = op.target_len();
         Ok(())
+    }
+
+    // A change in the chunks where they lie, where they then are chunks as they have to be. Says whether it was made; else the
+    // document is as it was.
+    fn change_in_place(&mut self, op: &TextOp<T>) -> Result<bool, AllocError>
+        requires { op.now.base ≡ length self.old }
+        ensures made { IfOk result (λ made. IsTrue made → self.new ≡ apply op.now self.old) }
+        ensures not { IfOk result (λ made. (IsTrue made → ⊥) → self.new ≡ self.old) }
+        ensures err { OnErr result (self.new ≡ self.old) }
+    {
+        let touched = without_last_retain(op.components());
+        if self.chunks.is_empty() || !survey_components(touched, &mut self.chunks)? {
+            return Ok(false);
+        }
+        edit_components(touched, &mut self.chunks);
+        self.count = op.target_len();
+        Ok(true)
     }
 
     // A change to a document of one chunk or none, which is written anew.

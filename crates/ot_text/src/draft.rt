@@ -9,6 +9,9 @@ use std::alloc::{AllocError, Global};
 /// The greatest length of a chunk.
 pub const CHUNK: usize = 512;
 
+/// How far a chunk is filled when it is written anew: what comes later then finds room.
+pub const FILL: usize = 384;
+
 // A chunk to be: an old one by its place, or a new one.
 #[derive(Drop)]
 pub enum Piece<T> {
@@ -89,9 +92,9 @@ impl<T: Copy> Draft<T> {
         requires draft { IsDraft (lists chunks.now) self.old }
         requires small { count ≤ 512 }
         ensures ok { OnOk result (Continues (lists chunks.now) self.old self.new []) }
-        ensures room { OnOk result (length self.new.pending.items + count ≤ 512) }
+        ensures room { count ≤ 384 → OnOk result (length self.new.pending.items + count ≤ 384) }
     {
-        if self.pending.len() + count > CHUNK {
+        if self.pending.len() + count > FILL {
             return self.flush(chunks);
         }
         Ok(())
@@ -105,7 +108,7 @@ impl<T: Copy> Draft<T> {
         let mut at = 0;
         while at < text.len() {
             self.make_room(chunks, 1)?;
-            let step = (text.len() - at).min(CHUNK - self.pending.len());
+            let step = (text.len() - at).min(FILL - self.pending.len());
             self.pending.reserve(CHUNK - self.pending.len())?;
             self.pending.extend_from_slice(&text[at..at + step])?;
             at += step;

@@ -19,19 +19,23 @@
 //! ```text
 //!     chunks  [ 512 elements ] [ 512 ] [ 130 ] [ 400 ] ..      1 to 512 elements each; two neighbours have more than 512
 //!
-//!     change  [ moved        ] [ new ] [ new ] [ moved ] ..    only chunks that the operation touches are written anew,
-//!                                                              and those that would be too short beside them
+//!     change  [ as it is     ] [ 430 -> 431 ] [ as it is ] ..   edited where it lies, where the rule on chunks still holds then
+//!
+//!     else    [ moved        ] [ 384 ] [ 129 ] [ moved ] ..    a draft: chunks that the operation touches are written anew, to
+//!                                                              three quarters, and those that would be too short beside them
 //! ```
 //!
-//! A change makes every growth first (a draft, over the old chunks as they are) and then moves the old chunks into their
-//! new places, which takes no memory: so a change that finds no memory leaves the document as it was.
+//! A change makes every growth first, so that one which finds no memory leaves the document as it was. Where the touched chunks can
+//! be edited as they lie, a survey counts what they will have and makes room in them, and the edit takes no memory. Else a draft is
+//! made over the old chunks as they are, and then the old chunks move into their new places, which takes no memory either.
 //!
 //! - `specs/Operation.antt`: base and image, the builder's three calls, `apply`, `invert`.
 //! - `specs/Run.antt`, `specs/Components.antt`: the components as runs, their normal form, what they spell.
-//! - `specs/Chunks.antt`, `specs/Draft.antt`: the rule on chunks, a place in them, the draft of a change.
+//! - `specs/Chunks.antt`, `specs/Draft.antt`, `specs/Spots.antt`: the rule on chunks, a place in them, the draft of a change, the change
+//!   where they lie.
 //!
-//! Begin with `TextOp` below, then `build.rt` (normal form), `document.rt` (`Doc`), `cursor.rt` and `draft.rt` (chunks), and
-//! `change.rt` (what components make of chunks).
+//! Begin with `TextOp` below, then `build.rt` (normal form), `document.rt` (`Doc`), `survey.rt` and `edit.rt` (the change
+//! where chunks lie), `cursor.rt` and `draft.rt` (the draft), and `change.rt` (what components make of chunks).
 #![tactic(auto)]
 
 ghost use Rattle.std.specs.Prelude.{◌≡◌, ◌+◌, ◌<◌, ◌≤◌, ◌↔◌, List, length, max, OnOk, OnErr, IfOk, IsErrOf, IsTrue};
@@ -46,10 +50,10 @@ mod copy;
 mod cursor;
 mod document;
 mod draft;
+mod edit;
 mod element;
 mod refusal;
-#[cfg(test)]
-mod tests;
+mod survey;
 
 use build::{add_delete, add_insert, add_retain};
 use change::invert_components;

@@ -52,9 +52,11 @@ pub fn carry_out<R: Threads + Wait + Sync>(
     ensures { IfOk result (λ left. AreLeft plan.now.workers left.0 left.1.items) }
 {
     let shared = shared_of(alloc, plan)?;
+    // For the proof: what every plan keeps.
     let _limits = plan.clients();
     let ends = run_workers(rt, alloc, &shared, plan.workers(), &OpenGate)?;
     let board = shared.into_board();
+    // For the proof: what every board keeps.
     let _kept = board.steps();
     Ok((board, ends))
 }

@@ -15,13 +15,13 @@ pub enum WorkFault {
     #[error("the record is full")]
     RecordFull,
     /// Another worker has ended with a fault.
-    #[error("stopped")]
+    #[error("another worker has ended with a fault")]
     Stopped,
     /// A growth was refused.
     #[error("no memory")]
     Memory,
     /// Any other refusal, or the end of the last turn.
-    #[error("refused")]
+    #[error("a call was refused, or the last turn has ended")]
     Refused,
 }
 

@@ -71,6 +71,7 @@ fn enter(alloc: Global, lent: Lent, action: &Typing) -> Result<Lent, (WorkFault,
     ensures back { IfErr result (λ back. back.1 ≡ lent) }
     ensures fault { IfErr result (λ back. IsEnterFault (session_of lent) (action_view action.now) back.0) }
 {
+    // For the proof: what every session keeps.
     let _allowed = lent.steps();
     let length = lent.document().len();
     match action.edit(alloc, length) {

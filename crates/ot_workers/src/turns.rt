@@ -59,6 +59,7 @@ fn next_action<'a>(
 // What is seen of a client.
 fn seat_of(inside: &Inside, typing: &[Vec<Typing>], client: u16) -> Seat {
     let board = &inside.board;
+    // For the proof: what every board keeps.
     let _kept = board.steps();
     let machine = board.machine();
     if client >= machine.clients() {

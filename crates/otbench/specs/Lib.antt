@@ -1,6 +1,7 @@
 pub mod Requests
 pub mod Ran
 pub mod Converted
+pub mod Generated
 pub mod Judged
 pub mod Checked
 pub mod Debugged

@@ -8,16 +8,23 @@ use Rattle.outcomes.specs.Outcomes.{Streams, WantsMemory}
 use Rattle.otbench.specs.Requests.{otbench_app, request_of}
 use Rattle.otbench.specs.Ran.{MayReport}
 use Rattle.otbench.specs.Converted.{MayGiveImage, MayGiveText}
+use Rattle.otbench.specs.Generated.{Generates}
 use Rattle.otbench.specs.Judged.{Judges}
 use Rattle.otbench.specs.Checked.{MayFind}
 use Rattle.otbench.specs.Debugged.{Debugs}
 use Rattle.ot_steps_command.specs.Stepped.{Steps as DoesSteps}
+use Rattle.ot_explain_command.specs.Explains.{Explains}
+use Rattle.ot_conform_command.specs.Conformed.{Compares}
 use Rattle.ot_threads.specs.Threaded.{Threads as DoesThreads}
 use Rattle.otbench.specs.declared.words.Form.TheVariants as form
 use Rattle.otbench.specs.declared.words.Request.{Request}
-use Rattle.otbench.specs.declared.words.Request.TheVariants.{Run, Check, Debug, Assemble, Disassemble, Judge, Steps}
+use Rattle.otbench.specs.declared.words.Request.TheVariants.{Run, Check, Debug, Assemble, Disassemble, Judge, Steps, Explain, Conform, Generate}
 use Rattle.otbench.specs.declared.words.Asked.{Asked}
 use Rattle.otbench.specs.declared.words.Asked.TheVariants.{Plainly, Threads}
+
+-- a subcommand that reads nothing
+abbrev pub WithoutInput : (ℕ → Streams → Type 0) → List ℕ → ℕ → Streams → Type 0
+WithoutInput does text = does
 
 -- what a subcommand that needs no handle does with its input
 abbrev pub Serves : Request → List ℕ → ℕ → Streams → Type 0
@@ -29,6 +36,9 @@ Serves Assemble = OfText MayGiveImage
 Serves Disassemble = OfImage MayGiveText
 Serves Judge = Judges
 Serves (Steps documents) = DoesSteps documents
+Serves Explain = Explains
+Serves Conform = Compares
+Serves (Generate seed shape) = WithoutInput (Generates shape)
 
 -- what a subcommand does with its input
 abbrev pub ServesAsked : Asked → List ℕ → ℕ → Streams → Type 0

@@ -29,8 +29,8 @@ fn give_image<O: Write, F: Write>(
     give(image.as_slice(), 0, output)
 }
 
-// Writes the canonical text of a schedule.
-fn give_text<O: Write, F: Write>(
+/// Writes the canonical text of a schedule.
+pub fn give_text<O: Write, F: Write>(
     alloc: Global,
     schedule: &Schedule,
     output: &mut O,

@@ -68,6 +68,23 @@ Example:  printf 'clients 1\\nedit 0 [\"a\"]\\ntake 0\\nack 0\\n' | otbench step
 Status 0: all instructions were performed. 1: one was refused, or the input was, or a fault of reading, writing or memory.
 The lines: docs/FORMATS.md, 'Steps'.";
 
+/// Of `explain`.
+pub const EXPLAIN: &str = "\
+Reads a schedule's text on standard input. Tells its run in words: what each instruction did, with its line of the text and its
+number, why one is refused and what would repair it. Of a text that is no schedule: the column and the cause of its fault.
+Example:  printf 'clients 1\\nedit 0 [\"a\"]\\ntake 0\\nack 0\\n' | otbench explain
+Status 0: all instructions were performed. 1: one was refused, or the input was, or a fault of reading, writing or memory.
+The paragraphs: docs/FORMATS.md, 'Explain'.";
+
+/// Of `conform`.
+pub const CONFORM: &str = "\
+Reads a schedule's text, a line '%%', and the lines that a port of ot.js printed while it performed the schedule, in the form of
+'otbench steps'. Says that the port conforms and how much was compared, or the first difference: where, whose, which value, what
+was found and what ot.js has. A key that the port does not print is not compared.
+Example:  (cat s.ots; echo %%; my-port < s.ots) | otbench conform
+Status 0: conforms. 1: differs, or nothing can be compared for a limit of otbench, or the schedule was refused, or a fault of
+reading, writing or memory. The lines and the answer: docs/FORMATS.md, 'Conform'.";
+
 /// Of `threads`.
 pub const THREADS: &str = "\
 Reads a plan, a JSON object that says what each client types, on standard input. Has it typed by workers on threads, and
@@ -75,3 +92,16 @@ prints the schedule that they recorded, with its end as comments, once it is fou
 Example:  printf '{\"clients\":2,\"workers\":2,\"typing\":[[{\"at\":0,\"insert\":\"a\"}],[]]}' | otbench threads
 Status 0: it was printed. 1: the plan is refused or could not be carried out, or a fault of reading, writing or memory.
 The form: docs/FORMATS.md, 'Plans'.";
+
+/// Of `generate`.
+pub const GENERATE: &str = "\
+Reads nothing. Prints the canonical text of a session made at random: M instructions, each performed, and unless --open reads
+of everybody behind them, where all is quiet. The same words give the same text, on every machine.
+Example:  otbench generate --seed 7 --clients 3 --instructions 40 | otbench check
+Status 0: it was printed. 1: a fault of writing or memory. 2: words that are not understood, or a number out of its range.
+What sessions have: docs/FORMATS.md, 'Generated sessions'.";
+
+/// Which numbers `generate` takes.
+pub const GENERATE_RANGES: &str = "\
+a number is none, or out of its range: --seed has 1 to 9 digits, --clients is 1 to 64, --present at most that,
+--instructions at most 100000, and --start has at most 40000 characters";

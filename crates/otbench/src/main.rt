@@ -7,6 +7,7 @@
 //!                                    ├──▶ converting   asm, dis: between a schedule's text and its image
 //!                                    ├──▶ judging      judge: whether a recorded trace has the weak list property
 //!                                    ├──▶ ot_steps_command  steps: a run as lines of JSON
+//!                                    ├──▶ generating   generate: a session made at random
 //!                                    └──▶ ot_threads   threads: a plan that workers on threads type, as the schedule that they record
 //! ```
 //!
@@ -17,6 +18,7 @@
 mod checking;
 mod converting;
 mod debugging;
+mod generating;
 mod help;
 mod judging;
 mod running;

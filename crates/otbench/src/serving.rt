@@ -10,11 +10,14 @@ ghost use Rattle.otbench.specs.Served.{Serves, ServesAsked, ServesWords};
 use crate::checking::check_text;
 use crate::converting::{assemble, disassemble_image};
 use crate::debugging::debug_text;
+use crate::generating::generate_session;
 use crate::judging::judge_input;
 use crate::running::{run_image, run_text};
 use crate::words::{Asked, Form, Request, read_request};
 use clap::Error;
 use clap::error::ErrorKind;
+use ot_conform_command::run_conform;
+use ot_explain_command::run_explain;
 use ot_steps_command::run_steps;
 use ot_threads::run_threads;
 use outcomes::{complain, complain_of_memory};
@@ -65,6 +68,9 @@ fn carry_out<I: Read, O: Write, F: Write>(
         Request::Disassemble => disassemble_image(alloc, input, output, faults),
         Request::Judge => judge_input(alloc, input, output, faults),
         Request::Steps(documents) => run_steps(alloc, documents, input, output, faults),
+        Request::Explain => run_explain(alloc, input, output, faults),
+        Request::Conform => run_conform(alloc, input, output, faults),
+        Request::Generate(seed, shape) => generate_session(alloc, seed, &shape, output, faults),
     }
 }
 

@@ -1,12 +1,15 @@
 //! What the program's words ask for.
 
-ghost use Rattle.std.specs.Prelude.{◌≡◌, Some, IfOk, IfErr, IsSome, map, true, option_and_then};
+ghost use Rattle.std.specs.Prelude.{◌≡◌, Some, IfOk, IfErr, IsSome, map, true, option_and_then, option_map, vec_items};
+ghost use Rattle.std.specs.Str.{chars};
 ghost use Rattle.clap.specs.Words.{app_of, found_of, kind_of, rows_of, subcommand_rows_of, takes, with_rule};
-ghost use Rattle.otbench.specs.Requests.{◌+>◌, IsPlain, flag_among, flag_rule, form_among, otbench_app, plain_app, request_in_rows, request_of, top_app};
+ghost use Rattle.otbench.specs.Requests.{◌+>◌, IsPlain, chars_among, flag_among, flag_rule, form_among, generate_among, generate_app, number_among, number_if_among, option_rule, otbench_app, plain_app, request_in_rows, request_of, session_among, top_app};
 
 use crate::help;
 use clap::error::ErrorKind;
 use clap::{Arg, ArgAction, ArgMatches, Command, Error};
+use ot_asm::read_number;
+use ot_generate::Shape;
 use std::alloc::{AllocError, Global};
 use std::convert::AsStr;
 
@@ -18,7 +21,7 @@ pub enum Form {
 }
 
 /// A subcommand.
-#[derive(Clone, Copy, Debug, PartialEq, Eq)]
+#[derive(Drop)]
 pub enum Request {
     /// Runs a schedule and prints what it shows and where it ends.
     Run(Form),
@@ -34,10 +37,16 @@ pub enum Request {
     Judge,
     /// Runs a schedule and prints what each instruction changes, as lines of JSON; whether the documents too.
     Steps(bool),
+    /// Runs a schedule and tells in words what each instruction did.
+    Explain,
+    /// Compares the lines that a port printed with the run of its schedule.
+    Conform,
+    /// Prints a session made at random: its seed, and what is asked of it.
+    Generate(u32, Shape),
 }
 
 /// What the words ask for: a subcommand that needs no handle, or the one that starts threads.
-#[derive(Clone, Copy, Debug, PartialEq, Eq)]
+#[derive(Drop)]
 pub enum Asked {
     Plainly(Request),
     /// Has workers on threads type a plan, and prints the schedule that they record.
@@ -76,6 +85,77 @@ fn flagged<'a>(
         .action(ArgAction::SetTrue)
         .help(about);
     command.arg(arg)
+}
+
+// The subcommand with an option and what help calls its value.
+fn valued<'a>(
+    alloc: Global,
+    command: Command<'a>,
+    option: &'a str,
+    value: &'a str,
+    about: &'a str,
+) -> Result<Command<'a>, AllocError>
+    ensures { IfOk result (λ c. app_of c ≡ with_rule (app_of command.entry) (option_rule option.entry.now)) }
+{
+    let arg = Arg::new(alloc, option)
+        .long(option)
+        .value_name(value)
+        .action(ArgAction::Set)
+        .help(about);
+    command.arg(arg)
+}
+
+// The subcommand `generate`.
+fn generate_command<'a>(alloc: Global) -> Result<Command<'a>, AllocError>
+    ensures { IfOk result (λ c. app_of c ≡ generate_app) }
+{
+    let command = plain(
+        alloc,
+        "generate",
+        "Print a session made at random, of which no instruction is refused",
+        help::GENERATE,
+    );
+    let command = valued(
+        alloc,
+        command,
+        "seed",
+        "N",
+        "What the session follows from [1]",
+    )?;
+    let command = valued(
+        alloc,
+        command,
+        "clients",
+        "C",
+        "How many clients, 1 to 64 [4]",
+    )?;
+    let command = valued(
+        alloc,
+        command,
+        "present",
+        "P",
+        "How many of them are there from the start [by the seed]",
+    )?;
+    let command = valued(
+        alloc,
+        command,
+        "instructions",
+        "M",
+        "How many instructions before the reads at the end, 0 to 100000 [60]",
+    )?;
+    let command = valued(
+        alloc,
+        command,
+        "start",
+        "TEXT",
+        "The start text [by the seed]",
+    )?;
+    flagged(
+        alloc,
+        command,
+        "open",
+        "Stop after M instructions, whatever is under way",
+    )
 }
 
 // The program with one subcommand more.
@@ -141,6 +221,18 @@ fn command<'a>(alloc: Global) -> Result<Command<'a>, AllocError>
         "documents",
         "Print with each instruction the document of the one that moved",
     )?;
+    let explain = plain(
+        alloc,
+        "explain",
+        "Run a schedule and tell in words what each instruction did, and why one is refused",
+        help::EXPLAIN,
+    );
+    let conform = plain(
+        alloc,
+        "conform",
+        "Compare a port's own run with ot.js: a schedule's text, a line '%%', then the port's lines",
+        help::CONFORM,
+    );
     let threads = plain(
         alloc,
         "threads",
@@ -154,7 +246,11 @@ fn command<'a>(alloc: Global) -> Result<Command<'a>, AllocError>
     let program = joined(program, dis)?;
     let program = joined(program, judge)?;
     let program = joined(program, steps)?;
-    joined(program, threads)
+    let program = joined(program, explain)?;
+    let program = joined(program, conform)?;
+    let program = joined(program, threads)?;
+    let generate = generate_command(alloc)?;
+    joined(program, generate)
 }
 
 // Whether a flag was given.
@@ -178,25 +274,104 @@ fn form_in(matches: &ArgMatches<'_>) -> Form
     }
 }
 
-// The request that the matches say.
-fn request_in(matches: &ArgMatches<'_>) -> Option<Asked>
-    ensures { result ≡ option_and_then request_in_rows (subcommand_rows_of matches.now) }
+// The number that an option gives, or else this one; none where what it gives is no number.
+fn number_in(matches: &ArgMatches<'_>, id: &str, otherwise: u32) -> Option<u32>
+    ensures { result ≡ number_among id.now otherwise (rows_of (found_of matches.now)) }
 {
-    let (name, found) = matches.subcommand()?;
-    match name {
-        "run" => Some(Asked::Plainly(Request::Run(form_in(found)))),
-        "check" => Some(Asked::Plainly(Request::Check)),
-        "debug" => Some(Asked::Plainly(Request::Debug)),
-        "asm" => Some(Asked::Plainly(Request::Assemble)),
-        "dis" => Some(Asked::Plainly(Request::Disassemble)),
-        "judge" => Some(Asked::Plainly(Request::Judge)),
-        "steps" => Some(Asked::Plainly(Request::Steps(is_set(found, "documents")))),
-        "threads" => Some(Asked::Threads),
-        _ => None,
+    match matches.get_str(id) {
+        Some(text) => read_number(text.as_bytes()),
+        None => Some(otherwise),
     }
 }
 
-/// What the words ask for, the program's name being the first of them. Where they ask for nothing that the program does, or for help, the
+// The number that an option gives, if it is there; none where what it gives is no number.
+fn number_if(matches: &ArgMatches<'_>, id: &str) -> Option<Option<u32>>
+    ensures { result ≡ number_if_among id.now (rows_of (found_of matches.now)) }
+{
+    match matches.get_str(id) {
+        Some(text) => match read_number(text.as_bytes()) {
+            Some(number) => Some(Some(number)),
+            None => None,
+        },
+        None => Some(None),
+    }
+}
+
+// The characters of a text.
+fn chars_of(alloc: Global, text: &str) -> Result<Vec<char>, AllocError>
+    ensures { IfOk result (λ v. v.items ≡ chars text.now) }
+{
+    text.chars().collect(alloc)
+}
+
+// The characters that an option gives, if it is there.
+fn chars_in(
+    alloc: Global,
+    matches: &ArgMatches<'_>,
+    id: &str,
+) -> Result<Option<Vec<char>>, AllocError>
+    ensures { IfOk result (λ text. option_map vec_items text ≡ chars_among id.now (rows_of (found_of matches.now))) }
+{
+    match matches.get_str(id) {
+        Some(text) => {
+            let text = chars_of(alloc, text)?;
+            Ok(Some(text))
+        }
+        None => Ok(None),
+    }
+}
+
+#[tactic(auto, unfolding(crate::specs::Requests::session_among))]
+// The session that the matches of `generate` ask for, with this start text; none where a number is none, or out of its range.
+fn session_in(matches: &ArgMatches<'_>, start: Option<Vec<char>>) -> Option<Request>
+    ensures { result ≡ session_among (option_map vec_items start) (rows_of (found_of matches.now)) }
+{
+    let seed = number_in(matches, "seed", 1)?;
+    let clients = number_in(matches, "clients", 4)?;
+    let present = number_if(matches, "present")?;
+    let instructions = number_in(matches, "instructions", 60)?;
+    let is_open = is_set(matches, "open");
+    let shape = Shape::new(clients, present, instructions, start, is_open)?;
+    Some(Request::Generate(seed, shape))
+}
+
+#[tactic(auto, unfolding(crate::specs::Requests::generate_among))]
+// The request that the matches of `generate` say, if they say one.
+fn generate_in(alloc: Global, matches: &ArgMatches<'_>) -> Result<Option<Asked>, AllocError>
+    ensures { IfOk result (λ r. r ≡ generate_among (rows_of (found_of matches.now))) }
+{
+    let start = chars_in(alloc, matches, "start")?;
+    match session_in(matches, start) {
+        Some(request) => Ok(Some(Asked::Plainly(request))),
+        None => Ok(None),
+    }
+}
+
+// The request that the matches say, if they say one.
+fn request_in(alloc: Global, matches: &ArgMatches<'_>) -> Result<Option<Asked>, AllocError>
+    ensures { IfOk result (λ r. r ≡ option_and_then request_in_rows (subcommand_rows_of matches.now)) }
+{
+    let Some((name, found)) = matches.subcommand() else {
+        return Ok(None);
+    };
+    match name {
+        "run" => Ok(Some(Asked::Plainly(Request::Run(form_in(found))))),
+        "check" => Ok(Some(Asked::Plainly(Request::Check))),
+        "debug" => Ok(Some(Asked::Plainly(Request::Debug))),
+        "asm" => Ok(Some(Asked::Plainly(Request::Assemble))),
+        "dis" => Ok(Some(Asked::Plainly(Request::Disassemble))),
+        "judge" => Ok(Some(Asked::Plainly(Request::Judge))),
+        "steps" => Ok(Some(Asked::Plainly(Request::Steps(is_set(found, "documents"))))),
+        "explain" => Ok(Some(Asked::Plainly(Request::Explain))),
+        "conform" => Ok(Some(Asked::Plainly(Request::Conform))),
+        "threads" => Ok(Some(Asked::Threads)),
+        "generate" => generate_in(alloc, found),
+        _ => Ok(None),
+    }
+}
+
+/// What the words ask for, the program's name being the first of them. Where they ask for nothing that the program does, for a session with
+/// a number out of its range, or for help, the
 /// answer is `clap`'s error with its text; `ErrorKind::OutOfMemory` stands for want of memory.
 pub fn read_request<'a, S: AsStr>(alloc: Global, words: &'a [S]) -> Result<Asked, Error>
     ensures ok { IfOk result (λ r. request_of (map S.text words.entry.now) ≡ Some r) }
@@ -204,11 +379,8 @@ pub fn read_request<'a, S: AsStr>(alloc: Global, words: &'a [S]) -> Result<Asked
         → IsSome (request_of (map S.text words.entry.now)) → kind_of e ≡ ErrorKind.OutOfMemory) }
 {
     let matches = command(alloc)?.try_get_matches_from(words)?;
-    match request_in(&matches) {
+    match request_in(alloc, &matches)? {
         Some(request) => Ok(request),
-        None => Err(command(alloc)?.error(
-            ErrorKind::MissingSubcommand,
-            "a subcommand is missing",
-        )?),
+        None => Err(command(alloc)?.error(ErrorKind::ValueValidation, help::GENERATE_RANGES)?),
     }
 }

@@ -11,7 +11,7 @@ use Rattle.ot_judge.proofs.decide.judge.Goals as goal
 pub returns-in-Some-clause-verdict : goal.returns-in-Some-clause-verdict
 returns-in-Some-clause-verdict c =
     let is = trace-is c.trace.inside.replicas _ _ _ _ _ c.as_slice-start.ensures.value c.as_slice-events.ensures.value c.trace.view_is in
-    let found = c.in_ok-v.ensures in
+    let found = c.in_ok-v.ensures c.loop-e.invariant in
     let within : c.loop-e.e < length (views c.as_slice-events.result.now) = omega (arith, length-views c.as_slice-events.result.now) in
     subst (λ (t : TraceView). IsVerdict t c.in-Some.v) is (verdict-fault (trace_view c.trace.inside.replicas c.as_slice-start.result.now c.as_slice-events.result.now) c.loop-e.e c.in-Some.v within c.loop-e.invariant (rw c.in-Some.is at found))
 
@@ -20,11 +20,11 @@ returns-in-Some-clause-property c = verdict-both c.args.trace.now c.in-Some.v (r
 
 pub loop-e-preserved : goal.loop-e-preserved
 loop-e-preserved c =
-    let none = c.in_ok-v.ensures in
+    let none = c.in_ok-v.ensures c.loop-e.invariant in
     below_more _ _ c.loop-e.invariant (rw c.in_default.is at none)
 
-pub find_reversal_by_rank-requires : goal.find_reversal_by_rank-requires
-find_reversal_by_rank-requires c =
+pub find_in_order-requires : goal.find_in_order-requires
+find_in_order-requires c =
     let same = ap (map (λ w. w.items)) c.as_slice-lists.ensures.value ∙ c.in_ok-all.ensures in
     distinct-lists c.as_slice-lists.result.now c.as_slice-start.result.now (views c.as_slice-events.result.now) same
     (λ e lt. c.loop-e.invariant e (omega (arith, lt, length-views c.as_slice-events.result.now)))

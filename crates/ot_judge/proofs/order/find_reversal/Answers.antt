@@ -1,6 +1,6 @@
 use Rattle.std.proofs.Common.{arith, below_more, map}
 use Rattle.std.proofs.lemmas.List.{length-map}
-use Rattle.ot_judge.proofs.Rising.{agree-none}
+use Rattle.ot_judge.proofs.Climbing.{cleared-none}
 use Rattle.ot_judge.proofs.order.find_reversal.Goals as goal
 
 pub loop-d-preserved : goal.loop-d-preserved
@@ -11,4 +11,4 @@ loop-d-preserved c =
 pub returns : goal.returns
 returns c =
     let all = length-map c.args.lists.now (λ v. v.items) in
-    agree-none (map (λ v. v.items) c.args.lists.now) (λ d lt e later within. c.loop-d.invariant d (omega (arith, all)) e later (omega (arith, all)))
+    cleared-none c.args.places.now (map (λ v. v.items) c.args.lists.now) (λ d lt. c.loop-d.invariant d (omega (arith, all)))

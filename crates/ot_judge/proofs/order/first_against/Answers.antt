@@ -1,12 +1,37 @@
-use Rattle.std.proofs.Common.{arith, sym, ◌∙◌, below_more}
-use Rattle.ot_judge.proofs.Rising.{nth-items, agree-along}
+use Rattle.std.proofs.Common.{◌<◌, ◌∙◌, arith, sym, subst, inl, inr, map, ℕ, Vec, Global}
+use Rattle.std.proofs.lemmas.Bool.{cases_order}
+use Rattle.ot_isa.specs.declared.elements.Tag.{Tag}
+use Rattle.ot_judge.specs.declared.order.Reversal.{Reversal}
+use Rattle.ot_model.specs.TraceLaws.{AgreeInOrder}
+use Rattle.ot_model.specs.WeakList.{IsReversed, nth}
+use Rattle.ot_judge.proofs.Climbing.{others-more, reversed-either}
+use Rattle.ot_judge.proofs.Rising.{agree-along, nth-items}
+use Rattle.ot_judge.proofs.order.first_against.Goals.{then-e-d+in_default, else-e-d}
 use Rattle.ot_judge.proofs.order.first_against.Goals as goal
 
 pub loop-e-preserved : goal.loop-e-preserved
 loop-e-preserved c =
+    let lists = map (λ (v : Vec Tag Global). v.items) c.args.lists.now in
+    let at_d = nth-items c.args.lists.now c.args.d c.index-lists-d.result c.requires.within c.index-lists-d.is ∙ sym c.as_slice-xs.ensures.value in
+    elim c.if-e-d.branch [
+      | then-e-d+in_default w ↦
+          let at_e = nth-items c.args.lists.now c.loop-e.e w.index-lists-e.result c.loop-e-test.true w.index-lists-e.is ∙ sym w.as_slice.ensures.value in
+          others-more c.args.d c.loop-e.e (λ (e : ℕ). AgreeInOrder (nth lists c.args.d) (nth lists e)) c.loop-e.invariant (λ apart. agree-along _ _ _ _ at_d at_e w.in_default.ensures)
+      | else-e-d w ↦ others-more c.args.d c.loop-e.e (λ (e : ℕ). AgreeInOrder (nth lists c.args.d) (nth lists e)) c.loop-e.invariant (λ apart. absurd (apart w.if-e-d.false))
+    ]
+
+pub returns-in-Some : goal.returns-in-Some
+returns-in-Some c =
+    let lists = map (λ (v : Vec Tag Global). v.items) c.args.lists.now in
     let at_d = nth-items c.args.lists.now c.args.d c.index-lists-d.result c.requires.within c.index-lists-d.is ∙ sym c.as_slice-xs.ensures.value in
     let at_e = nth-items c.args.lists.now c.loop-e.e c.index-lists-e.result c.loop-e-test.true c.index-lists-e.is ∙ sym c.as_slice.ensures.value in
-    below_more _ _ c.loop-e.invariant (λ later. agree-along _ _ _ _ at_d at_e c.in_default.ensures)
+    let pair = c.in-Some.pair in
+    let falls = c.in-Some.ensures in
+    elim (cases_order c.args.d c.loop-e.e) [
+      | inl same ↦ absurd (c.if-e-d.true (sym same))
+      | inr (inl less) ↦ subst (λ (r : Reversal). IsReversed lists r.earlier r.later r.a r.b) (sym (c.ordered.ensures.lower less)) (reversed-either lists c.args.d c.loop-e.e _ _ pair.0 pair.1 less at_d at_e falls.0 falls.1)
+      | inr (inr more) ↦ subst (λ (r : Reversal). IsReversed lists r.earlier r.later r.a r.b) (sym (c.ordered.ensures.upper more)) (reversed-either lists c.loop-e.e c.args.d _ _ pair.1 pair.0 more at_e at_d falls.1 falls.0)
+    ]
 
 pub returns : goal.returns
-returns c = λ e later within. c.loop-e.invariant e (omega arith) later
+returns c = λ e lt apart. c.loop-e.invariant e (omega arith) apart

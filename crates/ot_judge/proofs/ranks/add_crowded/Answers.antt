@@ -13,10 +13,10 @@ pub loop-a-preserved : goal.loop-a-preserved
 loop-a-preserved c =
     elim c.if-not-is_owner.branch [
       | then-not-is_owner+in_ok-insert w ↦
-          let grows = set-grows c.loop-a.crowded w.insert.new.self w.rank_of.result w.in_ok-insert.ensures.updates.0 in
+          let grows = set-grows c.loop-a.crowded w.insert.new.self w.place_in.result w.in_ok-insert.ensures.updates.0 in
           rw w.crowded-is (record {
             grown = λ n h. grows n (c.loop-a.invariant.grown n h);
-            accounted = accounted-more c.args.ranks.now c.args.owners.now c.loop-a.crowded w.insert.new.self c.args.xs.now c.loop-a.a-index no_tag c.loop-a-test.true grows (inr (ap (λ (n : ℕ). set_contains nat_eq w.insert.new.self n) (sym w.rank_of.ensures) ∙ w.in_ok-insert.ensures.updates.1)) c.loop-a.invariant.accounted;
+            accounted = accounted-more c.args.ranks.now c.args.owners.now c.loop-a.crowded w.insert.new.self c.args.xs.now c.loop-a.a-index no_tag c.loop-a-test.true grows (inr (ap (λ (n : ℕ). set_contains nat_eq w.insert.new.self n) (sym w.place_in.ensures) ∙ w.in_ok-insert.ensures.updates.1)) c.loop-a.invariant.accounted;
           })
       | else-not-is_owner w ↦ rw w.crowded-is (record {
         grown = c.loop-a.invariant.grown;

@@ -9,5 +9,5 @@ find_reversal-requires-2 c =
 
 pub returns : goal.returns
 returns c =
-    search-by-rank c.args.ranks.now c.in_ok-owners.owners c.in_ok-crowded.crowded c.args.lists.now c.as_slice.result.now c.in_ok-found.found
+    search-by-rank c.args.ranks.now c.args.owners.now c.in_ok-crowded.crowded c.args.lists.now c.as_slice.result.now c.in_ok-found.found
     (c.if-not-never_fall.ensures refl) c.in_ok-crowded.ensures c.requires (ap items_of c.as_slice.ensures.value ∙ c.in_ok-parts.ensures) c.in_ok-found.ensures

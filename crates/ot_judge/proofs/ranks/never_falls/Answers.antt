@@ -7,7 +7,7 @@ pub loop-i-init : goal.loop-i-init
 loop-i-init c = rises-to-none c.args.ranks.now c.args.xs.now
 
 pub loop-i-preserved : goal.loop-i-preserved
-loop-i-preserved c = rises-to-more c.args.ranks.now c.args.xs.now c.loop-i.i c.loop-i.highest c.rank_of-rank.result no_tag c.loop-i-test.true c.rank_of-rank.ensures c.if-rank-highest.false c.loop-i.invariant
+loop-i-preserved c = rises-to-more c.args.ranks.now c.args.xs.now c.loop-i.i c.loop-i.highest c.place_in-rank.result no_tag c.loop-i-test.true c.place_in-rank.ensures c.if-rank-highest.false c.loop-i.invariant
 
 pub returns : goal.returns
 returns c = λ h.

@@ -18,7 +18,11 @@ returns c =
     let steps : app_of c.in_ok-steps.steps ≡ flagged_app (codes "steps") (codes "documents") =
     c.in_ok-steps.ensures ∙ ap (λ (a : App). with_rule a (flag_rule (codes "documents"))) c.plain-2.ensures in
     let seven = c.in_ok-program-7.ensures (ap plain_of steps) ∙ ap₂ (◌+>◌) six steps in
-    IfOk-weaker c.joined-8.result _ _ (λ r h. h (ap plain_of c.plain-threads.ensures) ∙ ap₂ (◌+>◌) seven c.plain-threads.ensures) c.joined-8.ensures
+    let eight = c.in_ok-program-8.ensures (ap plain_of c.plain-explain.ensures) ∙ ap₂ (◌+>◌) seven c.plain-explain.ensures in
+    let nine = c.in_ok-program-9.ensures (ap plain_of c.plain-conform.ensures) ∙ ap₂ (◌+>◌) eight c.plain-conform.ensures in
+    let ten = c.in_ok-program-10.ensures (ap plain_of c.plain-threads.ensures) ∙ ap₂ (◌+>◌) nine c.plain-threads.ensures in
+    let generate = c.in_ok-generate.ensures in
+    IfOk-weaker c.joined-11.result _ _ (λ r h. h (ap plain_of generate) ∙ ap₂ (◌+>◌) ten generate) c.joined-11.ensures
 
 pub returns-in_err-program : goal.returns-in_err-program
 returns-in_err-program c = let r = c.from_residual-in_err-program.ensures in search rules
@@ -28,3 +32,6 @@ returns-in_err-program-2 c = let r = c.from_residual-in_err-program-2.ensures in
 
 pub returns-in_err-program-3 : goal.returns-in_err-program-3
 returns-in_err-program-3 c = let r = c.from_residual-in_err-program-3.ensures in search rules
+
+pub returns-in_err-steps : goal.returns-in_err-steps
+returns-in_err-steps c = let r = c.from_residual-in_err-steps.ensures in search rules

@@ -1,0 +1,169 @@
+"""Writes traces within the limits that are hard to judge, and times `otbench judge` on each.
+
+Each has the weak list property. Beside it stands the same trace with one event more in front, which sees an edit that never was: it is read as a whole and judged at once, so that its
+time is the time of reading. `python3 bench/hostile.py [--program PATH] [SHAPE..]` times all shapes or those that are named, `--write FOLDER` writes them there.
+"""
+import json
+import os
+import subprocess
+import sys
+import tempfile
+
+ROOT = os.path.dirname(os.path.dirname(os.path.abspath(__file__)))
+PROGRAM = f"{ROOT}/crates/otbench/out/otbench"
+START = 65535
+
+
+class Trace:
+    """Events appended one after another; what each replica has done is counted."""
+
+    def __init__(self, replicas, start):
+        self.replicas, self.start, self.events, self.counts = replicas, start, [], [0] * replicas
+
+    def add(self, replica, kind, seen, shown, insert=(), delete=()):
+        event = {"replica": replica, "kind": kind, "seen": list(seen), "list": list(shown)}
+        if insert:
+            event["insert"] = [[*tag, shown.index(tag)] for tag in insert]
+        if delete:
+            event["delete"] = list(delete)
+        self.counts[replica] += kind == "edit"
+        self.events.append(event)
+
+    def whole(self):
+        return {"replicas": self.replicas, "start": self.start, "events": self.events}
+
+
+def text_of(length):
+    return [[START, i] for i in range(length)]
+
+
+def entries(length=1000):
+    """As many list entries as there may be: reads of one text."""
+    made = Trace(1, text_of(length))
+    for _ in range(4000):
+        made.add(0, "read", [0], made.start)
+    return made.whole()
+
+
+def replicas():
+    """65 replicas that edit in turn and see all, with empty lists."""
+    made = Trace(65, [])
+    for e in range(4000):
+        made.add(e % 65, "edit", made.counts, [])
+    return made.whole()
+
+
+def deletions(count, readers=1):
+    """One edit that deletes a long start, and reads that know it, at so many replicas."""
+    made = Trace(1 + readers, text_of(count))
+    made.add(0, "edit", [0] * (1 + readers), [], delete=made.start)
+    for e in range(3999):
+        made.add(1 + e % readers, "read", [1] + [0] * readers, [])
+    return made.whole()
+
+
+def ring(made, text, front, seen):
+    """Three elements at one end of a text, each before the next one around, no two lists with one pair in both orders; then deleted."""
+    at = {r: [r, made.counts[r]] for r in (0, 1, 2)}
+    shown = (lambda xs: [*xs, *text]) if front else (lambda xs: [*text, *xs])
+    for r in at:
+        made.add(r, "edit", seen, shown([at[r]]), insert=[at[r]])
+    for r, (a, b) in {3: (0, 1), 4: (1, 2), 5: (2, 0)}.items():
+        sees = list(seen)
+        sees[a] += 1
+        sees[b] += 1
+        made.add(r, "read", sees, shown([at[a], at[b]]))
+    for r in at:
+        sees = list(seen)
+        sees[r] += 1
+        made.add(r, "edit", sees, text, delete=[at[r]])
+
+
+def cycles(reads=3970):
+    """Rings at both ends of a text of 990, and reads of the text: it lies between two cycles and is on none."""
+    text = text_of(990)
+    made = Trace(65, text)
+    ring(made, text, True, [0] * 65)
+    ring(made, text, False, list(made.counts))
+    for e in range(reads):
+        made.add(6 + e % 59, "read", made.counts, text)
+    return made.whole()
+
+
+def long_cycle(edits=3970, width=990):
+    """A cycle through a whole text, and edits that each change it: nearly all lists differ, and all elements are on one cycle."""
+    made = Trace(8, [])
+    none = [0] * 8
+    text = [[0, 1000000 + i] for i in range(width)]
+    made.add(0, "edit", none, text, insert=text)
+    made.add(1, "edit", none, [[1, 0]], insert=[[1, 0]])
+    for r, kept in ((2, text[-1]), (3, text[0])):
+        made.add(r, "edit", [1] + [0] * 7, [kept], delete=[a for a in text if a != kept])
+    made.add(4, "read", [1, 1, 1, 0, 0, 0, 0, 0], [text[-1], [1, 0]])
+    made.add(5, "read", [1, 1, 0, 1, 0, 0, 0, 0], [[1, 0], text[0]])
+    shown = list(text)
+    for e in range(edits):
+        r, other = (0, 6)[e % 2], (0, 6)[(e + 1) % 2]
+        seen = [made.counts[0], 0, 0, 0, 0, 0, made.counts[6], 0]
+        tag, place = [r, 2000000 + e], 1 + (e * 7919) % (len(shown) - 2)
+        gone = [] if len(shown) < width + 10 else [shown.pop(1 + (e * 104729) % (len(shown) - 2))]
+        place = min(place, len(shown) - 1)
+        shown.insert(place, tag)
+        made.add(r, "edit", seen, shown, insert=[tag], delete=gone)
+    return made.whole()
+
+
+SHAPES = {
+    "entries": entries,
+    "replicas": replicas,
+    "deletions": lambda: deletions(100_000),
+    "more-deletions": lambda: deletions(500_000),
+    "known-deletions": lambda: deletions(500_000, 64),
+    "cycles": cycles,
+    "long-cycle": long_cycle,
+}
+
+
+def unseen(whole):
+    """The same trace, whose first event sees an edit that never was."""
+    first = {"replica": 0, "kind": "read", "seen": [4000] * whole["replicas"], "list": []}
+    return {**whole, "events": [first, *whole["events"]][:4000]}
+
+
+def judged(program, path):
+    """Processor time in seconds, peak memory in MB, and what was printed."""
+    with open(path, "rb") as given:
+        child = subprocess.Popen([program, "judge"], stdin=given, stdout=subprocess.PIPE)
+        out = child.stdout.read()
+        _, _, used = os.wait4(child.pid, 0)
+    return used.ru_utime + used.ru_stime, used.ru_maxrss / 1024, out.decode().strip()
+
+
+def write(whole, path):
+    with open(path, "w") as it:
+        json.dump(whole, it, separators=(",", ":"))
+
+
+def main():
+    words = sys.argv[1:]
+    if words[:1] == ["--write"]:
+        for name, shape in SHAPES.items():
+            write(shape(), f"{words[1]}/{name}.json")
+        return 0
+    program = PROGRAM
+    if words[:1] == ["--program"]:
+        program, words = words[1], words[2:]
+    for name in words or SHAPES:
+        with tempfile.TemporaryDirectory() as room:
+            whole = SHAPES[name]()
+            paths = [f"{room}/whole.json", f"{room}/read.json"]
+            write(whole, paths[0])
+            write(unseen(whole), paths[1])
+            (all_of, memory, said), (reading, _, _) = (judged(program, path) for path in paths)
+            size = os.path.getsize(paths[0]) / 1e6
+            print(f"{name}: {size:.1f} MB, reading {reading:.2f} s, judging {all_of - reading:.2f} s ({said}), {memory:.0f} MB", flush=True)
+    return 0
+
+
+if __name__ == "__main__":
+    sys.exit(main())

@@ -1,0 +1,251 @@
+-- Lines that agree, one after the other.
+use Rattle.std.proofs.Common.{◌≡◌, ℕ, zero, suc, ◌+◌, ◌==◌, List, [], ◌∷◌, ◌++◌, length, length-append, Bool, true, false, Option, Some, None, refl, sym, ap, ◌∙◌, subst, append_assoc, append-nil, inl, inr, arith}
+use Rattle.std.proofs.lemmas.Bool.{eqb-true}
+use Rattle.std.specs.Prelude.{◌⊎◌, ◌-◌, ◌^◌, min, IfSome, ⊤, if◌then◌else◌}
+use Rattle.std.specs.Str.{is_utf8}
+use Rattle.serde_json.specs.Data.{Data}
+use Rattle.serde_json.specs.Read.{read}
+use Rattle.json_fields.specs.Fields.{number_at}
+use Rattle.std.specs.Prelude.{codes, is_some}
+use Rattle.line_reader.specs.Lines.{lines_of}
+use Rattle.line_reader.specs.Taken.{TakesLine}
+use Rattle.ot_asm.specs.Words.{trimmed}
+use Rattle.ot_isa.specs.Program.{Program}
+use Rattle.ot_conform.specs.Compared.{IsNumber, IsVerdictOf, Leads, StopsBehind, WantsMemory}
+use Rattle.ot_conform.specs.Counted.{counted, with_port_line}
+use Rattle.ot_conform.specs.Answers.{IsDifferenceOf}
+use Rattle.ot_conform.specs.Differences.{Outcome, outcome}
+use Rattle.ot_conform.specs.Differences as differences
+use Rattle.ot_conform.specs.Ports.{PortLine, Told, OtherForm, NoText, Nothing, counted_lines, front, is_empty, port_line, told_or_other}
+use Rattle.ot_conform.specs.Standing.{Goes, IsStanding, IsVerdict, begun, rest}
+use Rattle.ot_conform.proofs.Going.{front_there}
+use Rattle.ot_conform.proofs.Outcomes.{IsThere}
+use Rattle.ot_conform.specs.declared.comparison.Comparison.{Comparison}
+use Rattle.ot_conform.specs.declared.comparison.Verdict.{Verdict}
+use Rattle.ot_conform.specs.declared.comparison.Verdict.TheVariants.{Conforms, Differs, Stopped}
+use Rattle.ot_conform.specs.declared.reading.CompareStop.{CompareStop}
+use Rattle.ot_conform.specs.declared.reading.CompareStop.TheVariants.{Memory}
+
+-- ---- bytes as counted lines
+
+told_there : (bytes : List ℕ) (o : Option Data) → IsThere (told_or_other bytes o)
+told_there bytes None = tt
+told_there bytes (Some d) = go (is_some (number_at (codes "at") d)) refl
+  where
+    go : (b : Bool) → is_some (number_at (codes "at") d) ≡ b → IsThere (told_or_other bytes (Some d))
+    go true e = rw e tt
+    go false e = rw e tt
+
+-- a line of bytes is there
+pub line_there : (bytes : List ℕ) → IsThere (port_line bytes)
+line_there bytes = go (is_utf8 bytes) refl
+  where
+    go : (b : Bool) → is_utf8 bytes ≡ b → IsThere (port_line bytes)
+    go true e = rw e (told_there bytes (read bytes))
+    go false e = rw e tt
+
+pub empty_is : (bytes : List ℕ) (b : Bool) → (length bytes == 0) ≡ b → is_empty bytes ≡ b
+empty_is [] b e = e
+empty_is (x ∷ bytes) true e = absurd (omega (arith, eqb-true (suc (length bytes)) 0 e))
+empty_is (x ∷ bytes) false e = refl
+
+pub passed_over : (line : List ℕ) (lines : List (List ℕ)) → is_empty (trimmed line) ≡ true → counted_lines (line ∷ lines) ≡ counted_lines lines
+passed_over line lines e = rw (counted_lines, e) refl
+
+pub counted_first : (line : List ℕ) (lines : List (List ℕ)) → is_empty (trimmed line) ≡ false → counted_lines (line ∷ lines) ≡ port_line (trimmed line) ∷ counted_lines lines
+counted_first line lines e = rw (counted_lines, e) refl
+
+cons_append : (line : List ℕ) (xs ys : List (List ℕ)) → counted_lines (xs ++ ys) ≡ counted_lines xs ++ counted_lines ys → counted_lines (line ∷ (xs ++ ys)) ≡ counted_lines (line ∷ xs) ++ counted_lines ys
+cons_append line xs ys e = go (is_empty (trimmed line)) refl
+  where
+    go : (b : Bool) → is_empty (trimmed line) ≡ b → counted_lines (line ∷ (xs ++ ys)) ≡ counted_lines (line ∷ xs) ++ counted_lines ys
+    go true is = passed_over line (xs ++ ys) is ∙ e ∙ ap (λ (ls : List PortLine). ls ++ counted_lines ys) (sym (passed_over line xs is))
+    go false is =
+        counted_first line (xs ++ ys) is ∙ ap (λ (ls : List PortLine). port_line (trimmed line) ∷ ls) e
+        ∙ ap (λ (ls : List PortLine). ls ++ counted_lines ys) (sym (counted_first line xs is))
+
+pub counted-append : (xs ys : List (List ℕ)) → counted_lines (xs ++ ys) ≡ counted_lines xs ++ counted_lines ys
+counted-append [] ys = refl
+counted-append (line ∷ xs) ys = cons_append line xs ys (counted-append xs ys)
+
+-- ---- lines that lead on
+
+pub stays : (s : Program) (c : Comparison) → IsStanding s c → Leads s c [] c
+stays s c standing = record { standing = standing; rest_is = λ more. refl; counts_are = λ more. refl }
+
+pub one_leads : (s : Program) (c c' : Comparison) (line : PortLine) → Goes s c line c' → Leads s c (line ∷ []) c'
+one_leads s c c' line goes =
+    record {
+      standing = goes.standing;
+      rest_is = goes.rest_is;
+      counts_are = λ (more : List PortLine). ap (λ counts. counted counts more) (sym goes.counts_are);
+    }
+
+pub leads_on : (s : Program) (a b c : Comparison) (xs ys : List PortLine) → Leads s a xs b → Leads s b ys c → Leads s a (xs ++ ys) c
+leads_on s a b c xs ys first second =
+    record {
+      standing = second.standing;
+      rest_is = λ (more : List PortLine). ap (rest s a) (append_assoc xs ys more) ∙ first.rest_is (ys ++ more) ∙ second.rest_is more;
+      counts_are = λ (more : List PortLine). ap (counted a.counts) (append_assoc xs ys more) ∙ first.counts_are (ys ++ more) ∙ second.counts_are more;
+    }
+
+-- ---- one line of bytes
+
+pub bytes_lead : (s : Program) (c c' : Comparison) (line text : List ℕ) (read : PortLine) → text ≡ trimmed line → (length text == 0) ≡ false → read ≡ port_line text → Goes s c read c' → Leads s c (counted_lines (line ∷ [])) c'
+bytes_lead s c c' line text read is some was goes =
+    let none : is_empty (trimmed line) ≡ false = subst (λ (t : List ℕ). is_empty t ≡ false) is (empty_is text false some) in
+    let same : read ≡ port_line (trimmed line) = was ∙ ap port_line is in
+    subst (λ (ls : List PortLine). Leads s c ls c') (ap (λ (l : PortLine). l ∷ []) same ∙ sym (counted_first line [] none)) (one_leads s c c' read goes)
+
+pub blank_leads : (s : Program) (c : Comparison) (line text : List ℕ) → text ≡ trimmed line → (length text == 0) ≡ true → IsStanding s c → Leads s c (counted_lines (line ∷ [])) c
+blank_leads s c line text is none standing =
+    let empty : is_empty (trimmed line) ≡ true = subst (λ (t : List ℕ). is_empty t ≡ true) is (empty_is text true none) in
+    subst (λ (ls : List PortLine). Leads s c ls c) (sym (passed_over line [] empty)) (stays s c standing)
+
+pub bytes_decide : (s : Program) (c : Comparison) (line text : List ℕ) (read : PortLine) (v : Verdict) → text ≡ trimmed line → (length text == 0) ≡ false → read ≡ port_line text
+    → ((lines : List PortLine) → IsVerdict c read (rest s c (front read lines)) v)
+    → (lines : List (List ℕ)) → IsVerdict c (port_line (trimmed line)) (rest s c (counted_lines (line ∷ lines))) v
+bytes_decide s c line text read v is some was given lines =
+    let none : is_empty (trimmed line) ≡ false = subst (λ (t : List ℕ). is_empty t ≡ false) is (empty_is text false some) in
+    let same : read ≡ port_line (trimmed line) = was ∙ ap port_line is in
+    let more : List PortLine = counted_lines lines in
+    let at : IsVerdict c (port_line (trimmed line)) (rest s c (front (port_line (trimmed line)) more)) v =
+    subst (λ (l : PortLine). IsVerdict c l (rest s c (front l more)) v) same (given more) in
+    let all : front (port_line (trimmed line)) more ≡ counted_lines (line ∷ lines) = front_there (port_line (trimmed line)) more (line_there (trimmed line)) ∙ sym (counted_first line lines none) in
+    subst (λ (ls : List PortLine). IsVerdict c (port_line (trimmed line)) (rest s c ls) v) all at
+
+-- ---- the lines of a reader
+
+-- lines were taken from the front of known bytes
+abbrev pub TakesLines : Option (List ℕ) → Option (List ℕ) → List (List ℕ) → Type 0
+TakesLines None new lines = ⊤
+TakesLines (Some text) None lines = ⊥
+TakesLines (Some text) (Some rest) lines = lines_of text ≡ lines ++ lines_of rest
+
+-- so many lines of the input were taken, and they agree
+pub record IsUnderWay (s : Program) (c : Comparison) (count : ℕ) (input left : Option (List ℕ)) : Type 0 where
+  pub lines : List (List ℕ)
+  pub taken : TakesLines input left lines
+  pub count_is : length lines ≡ count
+  pub leads : Leads s (begun s) (counted_lines lines) c
+
+nothing_taken : (input : Option (List ℕ)) → TakesLines input input []
+nothing_taken None = tt
+nothing_taken (Some text) = refl
+
+pub is_begun : (s : Program) (c : Comparison) (input : Option (List ℕ)) → c ≡ begun s → IsUnderWay s c 0 input input
+is_begun s c input is =
+    subst (λ (x : Comparison). IsUnderWay s x 0 input input) (sym is)
+    (record {
+      lines = [];
+      taken = nothing_taken input;
+      count_is = refl;
+      leads = stays s (begun s) (record { shown = []; at = refl; opening = refl });
+    })
+
+takes_more : (input left next : Option (List ℕ)) (lines : List (List ℕ)) (line : List ℕ) → TakesLines input left lines → TakesLine left next true line → TakesLines input next (lines ++ line ∷ [])
+takes_more None left next lines line taken more = tt
+takes_more (Some text) None next lines line taken more = absurd taken
+takes_more (Some text) (Some rest) None lines line taken more = absurd more
+takes_more (Some text) (Some rest) (Some behind) lines line taken more =
+    taken ∙ ap (λ ls. lines ++ ls) more ∙ sym (append_assoc lines (line ∷ []) (lines_of behind))
+
+pub goes_further : (s : Program) (c c' : Comparison) (count : ℕ) (input left next : Option (List ℕ)) (line : List ℕ) → IsUnderWay s c count input left → TakesLine left next true line → Leads s c (counted_lines (line ∷ [])) c'
+    → IsUnderWay s c' (count + 1) input next
+goes_further s c c' count input left next line way more leads =
+    record {
+      lines = way.lines ++ line ∷ [];
+      taken = takes_more input left next way.lines line way.taken more;
+      count_is = length-append way.lines (line ∷ []) ∙ ap (λ n. n + 1) way.count_is;
+      leads = subst (λ (ls : List PortLine). Leads s (begun s) ls c') (sym (counted-append way.lines (line ∷ []))) (leads_on s (begun s) c c' (counted_lines way.lines) (counted_lines (line ∷ [])) way.leads leads);
+    }
+
+-- ---- verdicts
+
+-- where the lines before agree, the verdict on the rest is that on all
+pub verdict_on_all : (s : Program) (c : Comparison) (first more : List PortLine) (line : PortLine) (v : Verdict) → Leads s (begun s) first c → (line ≡ Nothing → more ≡ []) → IsVerdict c line (rest s c more) v → IsVerdictOf s (first ++ more) v
+verdict_on_all s c first more line (Conforms counts) leads last is = (
+  leads.rest_is more ∙ is.0,
+  is.1 ∙ ap (counted c.counts) (sym (last is.2)) ∙ sym (leads.counts_are more),
+)
+verdict_on_all s c first more line (Differs d) leads last is = subst (λ (o : Outcome). IsDifferenceOf o d) (sym (leads.rest_is more)) is
+verdict_on_all s c first more line (Stopped place refusal) leads last (inl e) = inl (leads.rest_is more ∙ e)
+verdict_on_all s c first more line (Stopped place refusal) leads last (inr e) =
+    inr (record { front = first; left = more; are = refl; here = c; leads = leads; place_is = e.0; memory = e.1 })
+
+no_lines : (bytes : List ℕ) → bytes ≡ [] → lines_of bytes ≡ []
+unfolding lines_of
+no_lines bytes e = ap lines_of e
+
+-- no line is left
+all_taken : (text rest : List ℕ) (lines : List (List ℕ)) → lines_of text ≡ lines ++ lines_of rest → rest ≡ [] → lines_of text ≡ lines
+all_taken text rest lines taken none = taken ∙ ap (λ ls. lines ++ ls) (no_lines rest none) ∙ append-nil lines
+
+pub finished : (s : Program) (c : Comparison) (count : ℕ) (input left next : Option (List ℕ)) (line : List ℕ) (v : Verdict) → IsUnderWay s c count input left → TakesLine left next false line → IsVerdict c Nothing (rest s c []) v
+    → IfSome input (λ text. IsVerdictOf s (counted_lines (lines_of text)) v)
+finished s c count None left next line v way none is = tt
+finished s c count (Some text) left next line v way none is = go left way.taken none
+  where
+    all : IsVerdictOf s (counted_lines way.lines) v
+    all = subst (λ (ls : List PortLine). IsVerdictOf s ls v) (append-nil (counted_lines way.lines)) (verdict_on_all s c (counted_lines way.lines) [] Nothing v way.leads (λ e. refl) is)
+
+    go : (left : Option (List ℕ)) → TakesLines (Some text) left way.lines → TakesLine left next false line → IsVerdictOf s (counted_lines (lines_of text)) v
+    go None taken none = absurd taken
+    go (Some rest) taken none = at next none
+      where
+        at : (next : Option (List ℕ)) → TakesLine (Some rest) next false line → IsVerdictOf s (counted_lines (lines_of text)) v
+        at None none = absurd none
+        at (Some behind) none = subst (λ (ls : List (List ℕ)). IsVerdictOf s (counted_lines ls) v) (sym (all_taken text rest way.lines taken none.0)) all
+
+pub decided : (s : Program) (c : Comparison) (count : ℕ) (input left next : Option (List ℕ)) (line : List ℕ) (v : Verdict) → IsUnderWay s c count input left → TakesLine left next true line
+    → ((lines : List (List ℕ)) → IsVerdict c (port_line (trimmed line)) (rest s c (counted_lines (line ∷ lines))) v)
+    → IfSome input (λ text. IsVerdictOf s (counted_lines (lines_of text)) v)
+decided s c count None left next line v way more given = tt
+decided s c count (Some text) left next line v way more given = go left way.taken more
+  where
+    there : (l : PortLine) → IsThere l → (more : List PortLine) → l ≡ Nothing → more ≡ []
+    there l is more none = absurd (subst IsThere none is)
+
+    on_all : (behind : List (List ℕ)) → IsVerdictOf s (counted_lines (way.lines ++ line ∷ behind)) v
+    on_all behind =
+        subst (λ (ls : List PortLine). IsVerdictOf s ls v) (sym (counted-append way.lines (line ∷ behind)))
+        (verdict_on_all s c (counted_lines way.lines) (counted_lines (line ∷ behind)) (port_line (trimmed line)) v way.leads
+        (there (port_line (trimmed line)) (line_there (trimmed line)) (counted_lines (line ∷ behind))) (given behind))
+
+    go : (left : Option (List ℕ)) → TakesLines (Some text) left way.lines → TakesLine left next true line → IsVerdictOf s (counted_lines (lines_of text)) v
+    go None taken more = absurd taken
+    go (Some rest) taken more = at next more
+      where
+        at : (next : Option (List ℕ)) → TakesLine (Some rest) next true line → IsVerdictOf s (counted_lines (lines_of text)) v
+        at None more = absurd more
+        at (Some behind) more =
+            subst (λ (ls : List (List ℕ)). IsVerdictOf s (counted_lines ls) v) (sym (taken ∙ ap (λ ls. way.lines ++ ls) more)) (on_all (lines_of behind))
+
+-- ---- stops
+
+pub stops_behind : (s : Program) (c : Comparison) (count earlier : ℕ) (input left : Option (List ℕ)) (stop : CompareStop) → IsUnderWay s c count input left → IsNumber stop (earlier + count)
+    → IfSome input (λ text. StopsBehind s stop earlier (lines_of text))
+stops_behind s c count earlier None left stop way number = tt
+stops_behind s c count earlier (Some text) left stop way number = go left way.taken
+  where
+    go : (left : Option (List ℕ)) → TakesLines (Some text) left way.lines → StopsBehind s stop earlier (lines_of text)
+    go None taken = absurd taken
+    go (Some rest) taken =
+        record {
+          lines = way.lines;
+          behind = lines_of rest;
+          are = taken;
+          here = c;
+          leads = way.leads;
+          number = subst (λ (n : ℕ). IsNumber stop (earlier + n)) (sym way.count_is) number;
+        }
+
+-- nothing was compared
+pub none_compared : (s : Program) (earlier : ℕ) (input : Option (List ℕ)) (stop : CompareStop) → IsNumber stop (earlier + 0) → IfSome input (λ text. StopsBehind s stop earlier (lines_of text))
+none_compared s earlier input stop number = stops_behind s (begun s) 0 earlier input input stop (is_begun s (begun s) input refl) number
+
+-- for want of memory
+pub memory_at_first : (s : Program) (earlier number : ℕ) (input : Option (List ℕ)) → number ≡ min (earlier + 1) (2 ^ 64 - 1) → IfSome input (λ text. StopsBehind s (Memory number) earlier (lines_of text))
+memory_at_first s earlier number input is =
+    let same : earlier ≡ earlier + 0 = omega arith in
+    none_compared s earlier input (Memory number) (is ∙ ap (λ (n : ℕ). min (n + 1) (2 ^ 64 - 1)) same)

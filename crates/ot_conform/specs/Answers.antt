@@ -1,0 +1,253 @@
+-- What is answered.
+use Rattle.std.specs.Prelude.{◌≡◌, ℕ, suc, zero, ◌==◌, List, [], ◌∷◌, ◌++◌, Bool, true, false, MatchBool, Option, Some, None, codes, decimal, string_bytes, ◌||◌, unwrap_or, option_map, option_and_then, if◌then◌else◌}
+use Rattle.std.specs.Str.{chars}
+use Rattle.json.specs.Print.{quoted}
+use Rattle.serde_json.specs.Data.{Data}
+use Rattle.serde_json.specs.Find.{as_str, get}
+use Rattle.serde_json.specs.Written.{compact_text, has_float, IsInOrder}
+use Rattle.ot_isa.specs.Program.{client_of}
+use Rattle.ot_isa.specs.declared.instruction.Instr.{Instr}
+use Rattle.ot_model.specs.declared.shown.Refusal.{Refusal}
+use Rattle.ot_report.specs.Printed.{line, refusal_text, stop_line}
+use Rattle.ot_steps.specs.Lines.{Line, word_of}
+use Rattle.ot_steps.specs.Text.{line_text, word_text}
+use Rattle.ot_conform.specs.Due.{DueLine, What, Opening, Instruction, End, placed_client}
+use Rattle.ot_conform.specs.Differences.{Outcome, Conforms, Differs, LeftOver, Stopped, field_of}
+use Rattle.ot_conform.specs.Keys.{found_at, is_null, is_part, key_text}
+use Rattle.ot_conform.specs.Ports.{PortLine, Told, OtherForm, NoText, Nothing}
+use Rattle.ot_conform.specs.Counted.{tells}
+use Rattle.ot_conform.specs.Values.{text_at}
+use Rattle.ot_conform.specs.declared.answers.Difference.{Difference}
+use Rattle.ot_conform.specs.declared.counts.Counts.{Counts}
+use Rattle.ot_conform.specs.declared.keys.Key.{Key}
+use Rattle.ot_conform.specs.declared.keys.Key.TheVariants as key
+use Rattle.ot_conform.specs.declared.meeting.Field.{Field}
+use Rattle.ot_conform.specs.declared.meeting.Field.TheVariants as field
+
+-- ---- the first line of a difference
+
+abbrev pub with_client : Option ℕ → List ℕ → List ℕ
+with_client None word = word
+with_client (Some c) word = word ++ 32 ∷ decimal c
+
+abbrev pub instr_text : Instr → List ℕ
+instr_text i = with_client (client_of i) (word_text (word_of i))
+
+abbrev pub what_text : What → List ℕ
+what_text Opening = codes "opening"
+what_text (Instruction i) = instr_text i
+what_text End = codes "end"
+
+-- whether it is a value of the one that moved or was read
+abbrev pub is_theirs : Key → Bool
+is_theirs key.At = false
+is_theirs key.Clients = false
+is_theirs key.Present = false
+is_theirs key.Start = false
+is_theirs key.Do = false
+is_theirs key.Client = false
+is_theirs key.Edit = false
+is_theirs key.Revision = true
+is_theirs key.State = true
+is_theirs key.Outstanding = true
+is_theirs key.Buffer = true
+is_theirs key.Sent = true
+is_theirs key.SentRevision = true
+is_theirs key.SentOperation = true
+is_theirs key.Applied = false
+is_theirs key.Appended = false
+is_theirs key.Document = true
+is_theirs key.End = false
+
+abbrev pub with_owner : Option ℕ → List ℕ → List ℕ
+with_owner None name = codes "server " ++ name
+with_owner (Some c) name = codes "client " ++ (decimal c ++ 32 ∷ name)
+
+-- a message's part has two words
+abbrev pub key_name : Key → List ℕ
+key_name k = if is_part k then codes "sent " ++ key_text k else key_text k
+
+abbrev pub owned : What → Key → List ℕ
+owned Opening k = key_name k
+owned (Instruction i) k = if is_theirs k then with_owner (placed_client i) (key_name k) else key_name k
+owned End k = key_name k
+
+abbrev pub field_text : What → Field → List ℕ
+field_text what field.Line = codes "line"
+field_text what field.Stopped = codes "stopped"
+field_text what (field.Key k) = owned what k
+
+-- differs at P: WHAT: FIELD
+abbrev pub head_row : ℕ → List ℕ → List ℕ → List ℕ
+head_row at what name = codes "differs at " ++ (decimal at ++ (codes ": " ++ (what ++ (codes ": " ++ line name))))
+
+-- ---- what was found, and what the run has
+
+-- compact JSON; which digits a float has is not said
+abbrev pub IsJson : Data → List ℕ → Type 0
+IsJson d text = IsInOrder text d × (has_float d ≡ false → text ≡ compact_text d)
+
+abbrev pub IsValueText : List ℕ → Option Data → List ℕ → Type 0
+IsValueText none None text = text ≡ none
+IsValueText none (Some d) text = MatchBool (is_null d) (text ≡ none) (IsJson d text)
+
+abbrev pub IsLineText : PortLine → List ℕ → Type 0
+IsLineText (Told d) text = IsJson d text
+IsLineText (OtherForm bytes) text = text ≡ quoted bytes
+IsLineText NoText text = text ≡ codes "no UTF-8"
+IsLineText Nothing text = text ≡ codes "nothing"
+
+abbrev pub IsToldText : Field → Data → List ℕ → Type 0
+IsToldText field.Line d text = IsJson d text
+IsToldText field.Stopped d text = IsValueText (codes "performed") (get (codes "stopped") d) text
+IsToldText (field.Key k) d text = IsValueText (codes "none") (found_at k d) text
+
+abbrev pub IsFoundText : Field → PortLine → List ℕ → Type 0
+IsFoundText f (Told d) text = IsToldText f d text
+IsFoundText f (OtherForm bytes) text = text ≡ quoted bytes
+IsFoundText f NoText text = text ≡ codes "no UTF-8"
+IsFoundText f Nothing text = text ≡ codes "nothing"
+
+abbrev pub stopped_text : Option Refusal → List ℕ
+stopped_text None = codes "performed"
+stopped_text (Some refusal) = refusal_text refusal
+
+-- of a line with its LF
+abbrev pub wanted_text : Field → DueLine → List ℕ
+wanted_text field.Line due = line_text due.shown
+wanted_text field.Stopped due = stopped_text due.line.stopped
+wanted_text (field.Key k) due = unwrap_or (text_at k due.line) (codes "none")
+
+-- ---- for two texts, how many scalars at the front are equal
+
+abbrev pub same_front : List ℕ → List ℕ → ℕ
+same_front [] ys = 0
+same_front (x ∷ xs) [] = 0
+same_front (x ∷ xs) (y ∷ ys) = if x == y then suc (same_front xs ys) else 0
+
+-- the opening's text, and documents
+abbrev pub letters_at : Key → Line → Option (List ℕ)
+letters_at key.At line = None
+letters_at key.Clients line = None
+letters_at key.Present line = None
+letters_at key.Start line = line.start
+letters_at key.Do line = None
+letters_at key.Client line = None
+letters_at key.Edit line = None
+letters_at key.Revision line = None
+letters_at key.State line = None
+letters_at key.Outstanding line = None
+letters_at key.Buffer line = None
+letters_at key.Sent line = None
+letters_at key.SentRevision line = None
+letters_at key.SentOperation line = None
+letters_at key.Applied line = None
+letters_at key.Appended line = None
+letters_at key.Document line = line.document
+letters_at key.End line = None
+
+abbrev pub front_of : Option (List ℕ) → Option (List ℕ) → Option ℕ
+front_of None wanted = None
+front_of (Some found) None = None
+front_of (Some found) (Some wanted) = Some (same_front found wanted)
+
+abbrev pub told_front : Field → Line → Data → Option ℕ
+told_front field.Line line d = None
+told_front field.Stopped line d = None
+told_front (field.Key k) line d = front_of (option_map chars (option_and_then as_str (found_at k d))) (letters_at k line)
+
+abbrev pub front_at : Field → Line → PortLine → Option ℕ
+front_at f line (Told d) = told_front f line d
+front_at f line (OtherForm bytes) = None
+front_at f line NoText = None
+front_at f line Nothing = None
+
+-- whether a line tells the operation that an instruction applied
+abbrev pub tells_operation : PortLine → Bool
+tells_operation (Told d) = tells key.Edit d || (tells key.Applied d || tells key.Appended d)
+tells_operation (OtherForm bytes) = false
+tells_operation NoText = false
+tells_operation Nothing = false
+
+-- ---- a difference
+
+-- a line that differs at a field
+pub record IsDifference (due : DueLine) (f : Field) (line : PortLine) (d : Difference) : Type 0 where
+  pub place : d.place ≡ due.line.at
+  pub what : string_bytes d.what ≡ what_text due.what
+  pub name : string_bytes d.name ≡ field_text due.what f
+  pub field : d.field ≡ f
+  pub found : IsFoundText f line (string_bytes d.found)
+  pub wanted : string_bytes d.wanted ≡ wanted_text f due
+  pub front : d.front ≡ front_at f due.line line
+  pub operation : d.tells_operation ≡ tells_operation line
+
+-- a line agrees with the one that is due, or this is the difference
+abbrev pub IsCompared : DueLine → PortLine → Option Difference → Type 0
+IsCompared due line None = field_of due.line line ≡ None
+IsCompared due line (Some d) = (f : Field) × (field_of due.line line ≡ Some f) × IsDifference due f line d
+
+-- a line behind the end
+pub record IsLeftOver (last : ℕ) (left : PortLine) (d : Difference) : Type 0 where
+  pub place : d.place ≡ last
+  pub what : string_bytes d.what ≡ codes "after the end"
+  pub name : string_bytes d.name ≡ codes "line"
+  pub field : d.field ≡ field.Line
+  pub found : IsLineText left (string_bytes d.found)
+  pub wanted : string_bytes d.wanted ≡ line (codes "nothing")
+  pub front : d.front ≡ None
+  pub operation : d.tells_operation ≡ false
+
+abbrev pub IsDifferenceOf : Outcome → Difference → Type 0
+IsDifferenceOf Conforms d = ⊥
+IsDifferenceOf (Differs due f line) d = IsDifference due f line d
+IsDifferenceOf (LeftOver last left) d = IsLeftOver last left d
+IsDifferenceOf (Stopped at refusal) d = ⊥
+
+abbrev pub wanted_row : Field → List ℕ → List ℕ
+wanted_row field.Line text = codes "ot.js " ++ text
+wanted_row field.Stopped text = codes "ot.js " ++ line text
+wanted_row (field.Key k) text = codes "ot.js " ++ line text
+
+abbrev pub front_rows : Option ℕ → List ℕ
+front_rows None = []
+front_rows (Some n) = codes "place " ++ line (decimal n)
+
+abbrev pub found_row : List ℕ → List ℕ
+found_row found = codes "found " ++ line found
+
+abbrev pub difference_text : Difference → List ℕ
+difference_text d =
+    head_row d.place (string_bytes d.what) (string_bytes d.name) ++ found_row (string_bytes d.found) ++ wanted_row d.field (string_bytes d.wanted) ++ front_rows d.front
+
+-- ---- no difference
+
+abbrev pub count_text : List ℕ → ℕ → List ℕ
+count_text name n = 32 ∷ (name ++ 32 ∷ decimal n)
+
+-- behind a text, in two halves
+abbrev pub first_counts : List ℕ → Counts → List ℕ
+first_counts text c =
+    text
+    ++ count_text (codes "clients") c.clients
+    ++ count_text (codes "present") c.present
+    ++ count_text (codes "start") c.start
+    ++ count_text (codes "do") c.word
+    ++ count_text (codes "client") c.client
+    ++ count_text (codes "edit") c.edit
+    ++ count_text (codes "revision") c.revision
+    ++ count_text (codes "state") c.state
+
+abbrev pub other_counts : List ℕ → Counts → List ℕ
+other_counts text c =
+    text
+    ++ count_text (codes "outstanding") c.outstanding
+    ++ count_text (codes "buffer") c.buffer
+    ++ count_text (codes "sent") c.sent
+    ++ count_text (codes "applied") c.applied
+    ++ count_text (codes "appended") c.appended
+    ++ count_text (codes "document") c.document
+    ++ count_text (codes "end") c.end
+
+abbrev pub conforms_text : Counts → List ℕ
+conforms_text c = other_counts (first_counts (codes "conforms\ncompared") c) c ++ codes "\n"

@@ -1,0 +1,65 @@
+-- What comes of comparing the lines of an input.
+use Rattle.std.specs.Prelude.{◌≡◌, ◌⊎◌, ◌+◌, ◌-◌, ◌^◌, min, ℕ, List, ◌++◌, length}
+use Rattle.ot_report.specs.Printed.{stop_line}
+use Rattle.ot_isa.specs.Program.{Program}
+use Rattle.ot_model.specs.declared.shown.Refusal.{Refusal}
+use Rattle.ot_model.specs.declared.shown.Refusal.TheVariants.{Memory}
+use Rattle.ot_conform.specs.Answers.{IsDifferenceOf, conforms_text, difference_text}
+use Rattle.ot_conform.specs.Counted.{counted, no_counts}
+use Rattle.ot_conform.specs.Differences as differences
+use Rattle.ot_conform.specs.Differences.{outcome}
+use Rattle.ot_conform.specs.Ports.{PortLine, counted_lines}
+use Rattle.ot_conform.specs.Standing.{IsStanding, begun, rest}
+use Rattle.ot_conform.specs.declared.comparison.Comparison.{Comparison}
+use Rattle.ot_conform.specs.declared.comparison.Verdict.{Verdict}
+use Rattle.ot_conform.specs.declared.comparison.Verdict.TheVariants.{Conforms, Differs, Stopped}
+use Rattle.ot_conform.specs.declared.reading.CompareStop.{CompareStop}
+use Rattle.ot_conform.specs.declared.reading.CompareStop.TheVariants as stop
+
+-- these lines agree with those that are due, and lead from one comparison to another
+pub record Leads (s : Program) (c : Comparison) (lines : List PortLine) (c' : Comparison) : Type 0 where
+  pub standing : IsStanding s c'
+  pub rest_is : (more : List PortLine) → rest s c (lines ++ more) ≡ rest s c' more
+  pub counts_are : (more : List PortLine) → counted c.counts (lines ++ more) ≡ counted c'.counts more
+
+-- the first lines agree, and at the place where they lead memory was wanting for the instruction
+pub record WantsMemory (s : Program) (lines : List PortLine) (place : ℕ) (refusal : Refusal) : Type 0 where
+  pub front : List PortLine
+  pub left : List PortLine
+  pub are : lines ≡ front ++ left
+  pub here : Comparison
+  pub leads : Leads s (begun s) front here
+  pub place_is : place ≡ here.place
+  pub memory : refusal ≡ Memory
+
+-- the verdict on these lines
+abbrev pub IsVerdictOf : Program → List PortLine → Verdict → Type 0
+IsVerdictOf s lines (Conforms counts) = (outcome s lines ≡ differences.Conforms) × (counts ≡ counted no_counts lines)
+IsVerdictOf s lines (Differs difference) = IsDifferenceOf (outcome s lines) difference
+IsVerdictOf s lines (Stopped place refusal) = (outcome s lines ≡ differences.Stopped place refusal) ⊎ WantsMemory s lines place refusal
+
+-- the number of the line behind those that were compared, at most the greatest u64
+abbrev pub IsNumber : CompareStop → ℕ → Type 0
+IsNumber (stop.ReadFault number) compared = number ≡ min (compared + 1) (2 ^ 64 - 1)
+IsNumber (stop.Memory number) compared = number ≡ min (compared + 1) (2 ^ 64 - 1)
+
+-- the first of these lines agree with those that are due, and behind them the comparison stopped. Its number counts these lines and those
+-- before the comparison
+pub record StopsBehind (s : Program) (stop : CompareStop) (earlier : ℕ) (all : List (List ℕ)) : Type 0 where
+  pub lines : List (List ℕ)
+  pub behind : List (List ℕ)
+  pub are : all ≡ lines ++ behind
+  pub here : Comparison
+  pub leads : Leads s (begun s) (counted_lines lines) here
+  pub number : IsNumber stop (earlier + length lines)
+
+-- the verdict's lines, and its status
+abbrev pub verdict_text : Verdict → List ℕ
+verdict_text (Conforms counts) = conforms_text counts
+verdict_text (Differs difference) = difference_text difference
+verdict_text (Stopped place refusal) = stop_line place refusal
+
+abbrev pub verdict_status : Verdict → ℕ
+verdict_status (Conforms counts) = 0
+verdict_status (Differs difference) = 1
+verdict_status (Stopped place refusal) = 1

@@ -1,0 +1,116 @@
+-- The first difference between the lines of a port and those that are due.
+use Rattle.std.specs.Prelude.{ℕ, suc, List, [], ◌∷◌, Bool, true, false, not, Option, Some, None, codes, is_some, if◌then◌else◌}
+use Rattle.serde_json.specs.Data.{Data}
+use Rattle.serde_json.specs.Find.{get}
+use Rattle.ot_isa.specs.Program.{Program}
+use Rattle.ot_isa.specs.declared.instruction.Instr.{Instr}
+use Rattle.ot_model.specs.declared.shown.Refusal.{Refusal}
+use Rattle.ot_model.specs.declared.shown.Refusal.TheVariants.{NoSuchClient, StepsFull, NotJoined, AlreadyJoined, BadBase, ClientFull, LinkEmpty, WrongHead, Memory}
+use Rattle.ot_model.specs.Table.{State, Performed, Refused, NoRow, step}
+use Rattle.ot_model.specs.Runs.{opening_of}
+use Rattle.ot_steps.specs.Lines.{Line}
+use Rattle.ot_steps.specs.Steps.{applies, is_quiet, sends}
+use Rattle.ot_conform.specs.Due.{DueLine, What, Opening, Instruction, End, end_due, opening_due, step_due, stop_due}
+use Rattle.ot_conform.specs.Keys.{agrees_at, all_keys, found_at, is_told}
+use Rattle.ot_conform.specs.Ports.{PortLine, Told, OtherForm, NoText, Nothing, is_opening_line}
+use Rattle.ot_conform.specs.Values.{text_at}
+use Rattle.ot_conform.specs.declared.keys.Key.{Key}
+use Rattle.ot_conform.specs.declared.meeting.Field.{Field}
+use Rattle.ot_conform.specs.declared.meeting.Field.TheVariants as field
+
+-- ---- one line
+
+-- of these keys the first whose printed value does not agree
+unfoldable pub first_key : List Key → Line → Data → Option Key
+first_key [] line d = None
+first_key (k ∷ ks) line d = if agrees_at k (text_at k line) (found_at k d) then first_key ks line d else Some k
+
+abbrev pub field_of_key : Option Key → Option Field
+field_of_key None = None
+field_of_key (Some k) = Some (field.Key k)
+
+abbrev pub is_same : Bool → Bool → Bool
+is_same true b = b
+is_same false b = not b
+
+-- whether both stop or none does, and then the keys in their order
+abbrev pub told_field : Line → Data → Option Field
+told_field line d =
+    if is_same (is_some line.stopped) (is_told (get (codes "stopped") d)) then field_of_key (first_key all_keys line d) else Some field.Stopped
+
+-- where a port's line differs from the one that is due, if it does
+abbrev pub field_of : Line → PortLine → Option Field
+field_of line (Told d) = told_field line d
+field_of line (OtherForm bytes) = Some field.Line
+field_of line NoText = Some field.Line
+field_of line Nothing = Some field.Line
+
+-- ---- all lines
+
+-- a line that is due; or a place from which on nothing is compared, since the bench alone has the limit
+pub data Ahead : Type 0 where
+  Wanted : DueLine → Ahead
+  Limit : ℕ → Refusal → Ahead
+
+pub data Outcome : Type 0 where
+  Conforms : Outcome
+  Differs : DueLine → Field → PortLine → Outcome
+  LeftOver : ℕ → PortLine → Outcome
+  Stopped : ℕ → Refusal → Outcome
+
+-- the end may be missing
+abbrev pub missing : What → DueLine → Outcome
+missing Opening due = Differs due field.Line Nothing
+missing (Instruction i) due = Differs due field.Line Nothing
+missing End due = Conforms
+
+abbrev pub unless_differs : DueLine → PortLine → Option Field → Outcome → Outcome
+unless_differs due line None rest = rest
+unless_differs due line (Some f) rest = Differs due f line
+
+-- the lines against what is ahead, line by line; the last line that was due has the place `last`
+abbrev pub over : ℕ → List Ahead → List PortLine → Outcome
+over last [] [] = Conforms
+over last [] (line ∷ lines) = LeftOver last line
+over last (Wanted due ∷ ahead) [] = missing due.what due
+over last (Wanted due ∷ ahead) (line ∷ lines) = unless_differs due line (field_of due.line line) (over due.line.at ahead lines)
+over last (Limit at refusal ∷ ahead) lines = Stopped at refusal
+
+-- the opening's line may be missing
+abbrev pub from_opening : DueLine → List Ahead → List PortLine → Outcome
+from_opening opening ahead [] = over 0 ahead []
+from_opening opening ahead (line ∷ lines) = if is_opening_line line then over 0 (Wanted opening ∷ ahead) (line ∷ lines) else over 0 ahead (line ∷ lines)
+
+-- ---- what a run has ahead
+
+-- a refusal that ot.js does not know
+abbrev pub is_limit : Refusal → Bool
+is_limit NoSuchClient = false
+is_limit StepsFull = true
+is_limit NotJoined = false
+is_limit AlreadyJoined = false
+is_limit BadBase = false
+is_limit ClientFull = true
+is_limit LinkEmpty = false
+is_limit WrongHead = false
+is_limit Memory = true
+
+abbrev pub ending : ℕ → State → List Ahead
+ending at s = Wanted (end_due at (is_quiet s)) ∷ []
+
+abbrev pub stopping : ℕ → State → Instr → Refusal → List Ahead
+stopping at s i refusal = if is_limit refusal then Limit at refusal ∷ [] else Wanted (stop_due at i refusal) ∷ ending at s
+
+-- from the state s on, which stands at a place
+abbrev pub ahead_from : ℕ → State → List Instr → List Ahead
+ahead_from at s [] = ending at s
+ahead_from at s (i ∷ is) =
+    elim (step s i) [
+      | Performed t shown ↦ Wanted (step_due (suc at) i (sends i s) (applies i s) t) ∷ ahead_from (suc at) t is
+      | Refused r ↦ stopping at s i r
+      | NoRow ↦ []
+    ]
+
+-- what comes of comparing a port's lines with the run of a schedule
+abbrev pub outcome : Program → List PortLine → Outcome
+outcome s lines = from_opening (opening_due s) (ahead_from 0 (opening_of s) s.instrs) lines

@@ -1,0 +1,141 @@
+-- What a port's line says under a key, and when that agrees with a text.
+use Rattle.std.specs.Prelude.{ℕ, List, [], ◌∷◌, Bool, true, false, not, ◌&&◌, Option, Some, None, codes, is_some, unwrap_or, option_map, option_and_then, if◌then◌else◌}
+use Rattle.std.specs.Str.{bytes_eq}
+use Rattle.serde_json.specs.Data.{Num, Data, null, boolean, number, string, array, object, Items, no_items, item}
+use Rattle.serde_json.specs.Find.{as_null, as_object, get, is_float}
+use Rattle.serde_json.specs.Written.{compact_text}
+use Rattle.ot_conform.specs.declared.keys.Key.{Key}
+use Rattle.ot_conform.specs.declared.keys.Key.TheVariants as key
+
+-- the keys in the order in which they are compared
+abbrev pub all_keys : List Key
+all_keys =
+    key.At
+    ∷ key.Clients
+    ∷ key.Present
+    ∷ key.Start
+    ∷ key.Do
+    ∷ key.Client
+    ∷ key.Edit
+    ∷ key.Revision
+    ∷ key.State
+    ∷ key.Outstanding
+    ∷ key.Buffer
+    ∷ key.Sent
+    ∷ key.SentRevision
+    ∷ key.SentOperation
+    ∷ key.Applied
+    ∷ key.Appended
+    ∷ key.Document
+    ∷ key.End
+    ∷ []
+
+-- how a key is spelled; a message's parts stand in the object under `sent`
+abbrev pub key_text : Key → List ℕ
+key_text key.At = codes "at"
+key_text key.Clients = codes "clients"
+key_text key.Present = codes "present"
+key_text key.Start = codes "start"
+key_text key.Do = codes "do"
+key_text key.Client = codes "client"
+key_text key.Edit = codes "edit"
+key_text key.Revision = codes "revision"
+key_text key.State = codes "state"
+key_text key.Outstanding = codes "outstanding"
+key_text key.Buffer = codes "buffer"
+key_text key.Sent = codes "sent"
+key_text key.SentRevision = codes "revision"
+key_text key.SentOperation = codes "operation"
+key_text key.Applied = codes "applied"
+key_text key.Appended = codes "appended"
+key_text key.Document = codes "document"
+key_text key.End = codes "end"
+
+-- whether it is a part of the message under `sent`
+abbrev pub is_part : Key → Bool
+is_part key.At = false
+is_part key.Clients = false
+is_part key.Present = false
+is_part key.Start = false
+is_part key.Do = false
+is_part key.Client = false
+is_part key.Edit = false
+is_part key.Revision = false
+is_part key.State = false
+is_part key.Outstanding = false
+is_part key.Buffer = false
+is_part key.Sent = false
+is_part key.SentRevision = true
+is_part key.SentOperation = true
+is_part key.Applied = false
+is_part key.Appended = false
+is_part key.Document = false
+is_part key.End = false
+
+-- what a line says under a key, where it is printed
+abbrev pub found_at : Key → Data → Option Data
+found_at k d = if is_part k then option_and_then (get (key_text k)) (get (codes "sent") d) else get (key_text k) d
+
+abbrev pub is_null : Data → Bool
+is_null d = is_some (as_null d)
+
+-- a value that is printed; `null` says that there is none
+abbrev pub is_told : Option Data → Bool
+is_told None = false
+is_told (Some d) = not (is_null d)
+
+-- a text, or a number without point and exponent; and an array of such
+abbrev pub is_plain_item : Data → Bool
+is_plain_item null = false
+is_plain_item (boolean b) = false
+is_plain_item (number n) = not (is_float n)
+is_plain_item (string s) = true
+is_plain_item (array ds) = false
+is_plain_item (object ms) = false
+
+abbrev pub are_plain : Items → Bool
+are_plain no_items = true
+are_plain (item d ds) = is_plain_item d && are_plain ds
+
+abbrev pub is_plain : Data → Bool
+is_plain null = false
+is_plain (boolean b) = false
+is_plain (number n) = not (is_float n)
+is_plain (string s) = true
+is_plain (array ds) = are_plain ds
+is_plain (object ms) = false
+
+-- it is written so, without blanks: `1.0` and `1e0` are no `1`
+abbrev pub is_written : List ℕ → Data → Bool
+is_written text d = is_plain d && bytes_eq (compact_text d) text
+
+-- a message is compared by its parts
+abbrev pub is_message : Key → Bool
+is_message key.At = false
+is_message key.Clients = false
+is_message key.Present = false
+is_message key.Start = false
+is_message key.Do = false
+is_message key.Client = false
+is_message key.Edit = false
+is_message key.Revision = false
+is_message key.State = false
+is_message key.Outstanding = false
+is_message key.Buffer = false
+is_message key.Sent = true
+is_message key.SentRevision = false
+is_message key.SentOperation = false
+is_message key.Applied = false
+is_message key.Appended = false
+is_message key.Document = false
+is_message key.End = false
+
+-- a printed value against the text of what the run has there, if it has something
+abbrev pub agrees : Key → Option (List ℕ) → Data → Bool
+agrees k None d = is_null d
+agrees k (Some text) d = if is_message k then is_some (as_object d) else is_written text d
+
+-- what is not printed is not compared
+abbrev pub agrees_at : Key → Option (List ℕ) → Option Data → Bool
+agrees_at k wanted None = true
+agrees_at k wanted (Some d) = agrees k wanted d

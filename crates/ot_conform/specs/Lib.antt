@@ -1,0 +1,10 @@
+pub mod Keys
+pub mod Ports
+pub mod Read
+pub mod Counted
+pub mod Due
+pub mod Values
+pub mod Differences
+pub mod Answers
+pub mod Standing
+pub mod Compared

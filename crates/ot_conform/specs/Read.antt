@@ -1,0 +1,11 @@
+-- A port's line as it was read.
+use Rattle.serde_json.specs.View.{view}
+use Rattle.ot_conform.specs.Ports as ports
+use Rattle.ot_conform.specs.declared.lines.PortLine.{PortLine}
+use Rattle.ot_conform.specs.declared.lines.PortLine.TheVariants.{Told, OtherForm, NoText, Nothing}
+
+abbrev pub read_as : PortLine → ports.PortLine
+read_as (Told value) = ports.Told (view value)
+read_as (OtherForm text) = ports.OtherForm text.now
+read_as NoText = ports.NoText
+read_as Nothing = ports.Nothing

@@ -1,0 +1,319 @@
+//! The first difference, in words.
+
+ghost use Rattle.std.specs.Prelude.{◌≡◌, IfOk, option_and_then, option_map, string_bytes};
+ghost use Rattle.std.specs.Str.{chars};
+ghost use Rattle.serde_json.specs.Find.{as_str};
+ghost use Rattle.serde_json.specs.View.{view};
+ghost use Rattle.ot_conform.specs.Answers.{IsDifference, IsFoundText, IsJson, IsLeftOver, IsLineText, IsToldText, IsValueText, field_text, front_at, instr_text, is_theirs, key_name, owned, same_front, tells_operation, told_front, wanted_text, what_text};
+ghost use Rattle.json.specs.Print.{quoted};
+ghost use Rattle.ot_conform.specs.Due.{Instruction, IsOfMachine, due_of};
+ghost use Rattle.ot_conform.specs.Keys.{found_at};
+ghost use Rattle.ot_conform.specs.Read.{read_as};
+
+use crate::due::{Due, placed_client};
+use crate::keys::{Key, found, is_part, key_text, tells};
+use crate::lines::PortLine;
+use crate::meeting::Field;
+use ot_isa::Instr;
+use ot_report::refusal_name;
+use ot_steps::word;
+use serde_json::Value;
+use std::alloc::{AllocError, Global};
+
+/// The first difference between a port's lines and those that are due.
+#[derive(Drop)]
+pub struct Difference {
+    /// The place of the line that was due; where none was due, of the last one.
+    pub place: usize,
+    /// `opening`, the instruction, `end` or `after the end`.
+    pub what: String,
+    /// The field's name, with whose value it is.
+    pub name: String,
+    pub field: Field,
+    /// What the port has there, as compact JSON, or in words.
+    pub found: String,
+    /// What ot.js has there; a line has its LF.
+    pub wanted: String,
+    /// For two texts, how many scalars at the front are equal.
+    pub front: Option<usize>,
+    /// Whether the port's line tells the operation that the instruction applied.
+    pub tells_operation: bool,
+}
+
+// The instruction's word, and its client.
+fn instr_text(alloc: Global, instr: &Instr) -> Result<String, AllocError>
+    ensures { IfOk result (λ s. string_bytes s ≡ instr_text instr.now) }
+{
+    let word = word(instr);
+    match instr.client() {
+        Some(client) => format!(in alloc; "{word} {client}"),
+        None => String::from_str(alloc, word),
+    }
+}
+
+// Whose line was due.
+fn what_text(alloc: Global, due: &Due<'_>) -> Result<String, AllocError>
+    ensures { IfOk result (λ s. string_bytes s ≡ what_text (due_of due.now).what) }
+{
+    match due {
+        Due::Opening(_) => String::from_str(alloc, "opening"),
+        Due::Step(step) => instr_text(alloc, step.instr),
+        Due::Stop(stop) => instr_text(alloc, stop.instr),
+        Due::End { .. } => String::from_str(alloc, "end"),
+    }
+}
+
+// Whether it is a value of the one that moved or was read.
+fn is_theirs(key: Key) -> bool
+    ensures { result ≡ is_theirs key }
+{
+    match key {
+        Key::Revision | Key::State | Key::Outstanding | Key::Buffer | Key::Document => true,
+        Key::Sent | Key::SentRevision | Key::SentOperation => true,
+        _ => false,
+    }
+}
+
+// A key by its name; a message's part has two words.
+fn key_name(alloc: Global, key: Key) -> Result<String, AllocError>
+    ensures { IfOk result (λ s. string_bytes s ≡ key_name key) }
+{
+    let name = key_text(key);
+    if is_part(key) {
+        return format!(in alloc; "sent {name}");
+    }
+    String::from_str(alloc, name)
+}
+
+// A key of an instruction's line, with whose value it is.
+fn owned(alloc: Global, instr: &Instr, key: Key) -> Result<String, AllocError>
+    ensures { IfOk result (λ s. string_bytes s ≡ owned (Instruction instr.now) key) }
+{
+    let name = key_name(alloc, key)?;
+    if !is_theirs(key) {
+        return Ok(name);
+    }
+    match placed_client(instr) {
+        Some(client) => format!(in alloc; "client {client} {name}"),
+        None => format!(in alloc; "server {name}"),
+    }
+}
+
+// The field's name.
+fn field_text(alloc: Global, due: &Due<'_>, field: Field) -> Result<String, AllocError>
+    ensures { IfOk result (λ s. string_bytes s ≡ field_text (due_of due.now).what field) }
+{
+    let key = match field {
+        Field::Line => return String::from_str(alloc, "line"),
+        Field::Stopped => return String::from_str(alloc, "stopped"),
+        Field::Key(key) => key,
+    };
+    match due {
+        Due::Opening(_) => key_name(alloc, key),
+        Due::Step(step) => owned(alloc, step.instr, key),
+        Due::Stop(stop) => owned(alloc, stop.instr, key),
+        Due::End { .. } => key_name(alloc, key),
+    }
+}
+
+// A value as compact JSON.
+fn json_text(alloc: Global, value: &Value) -> Result<String, AllocError>
+    ensures { IfOk result (λ s. IsJson (view value.now) (string_bytes s)) }
+{
+    value.to_string(alloc)
+}
+
+// A value, or the word for none.
+fn value_text(alloc: Global, none: &str, value: Option<&Value>) -> Result<String, AllocError>
+    ensures { IfOk result (λ s. IsValueText none.now (option_map (λ v. view v.now) value.entry) (string_bytes s)) }
+{
+    match value {
+        Some(value) if !value.is_null() => json_text(alloc, value),
+        _ => String::from_str(alloc, none),
+    }
+}
+
+// What a line of the right form has.
+fn told_text(alloc: Global, line: &Value, field: Field) -> Result<String, AllocError>
+    ensures { IfOk result (λ s. IsToldText field (view line.now) (string_bytes s)) }
+{
+    match field {
+        Field::Line => json_text(alloc, line),
+        Field::Stopped => value_text(alloc, "performed", line.get("stopped")),
+        Field::Key(key) => value_text(alloc, "none", found(line, key)),
+    }
+}
+
+// A text as a JSON string.
+fn quoted(alloc: Global, text: &str) -> Result<String, AllocError>
+    ensures { IfOk result (λ s. string_bytes s ≡ quoted text.now) }
+{
+    let text = String::from_str(alloc, text)?;
+    Value::String(text).to_string(alloc)
+}
+
+// What a port's line has.
+fn found_text(alloc: Global, line: &PortLine<'_>, field: Field) -> Result<String, AllocError>
+    ensures { IfOk result (λ s. IsFoundText field (read_as line.now) (string_bytes s)) }
+{
+    match line {
+        PortLine::Told(value) => told_text(alloc, value, field),
+        PortLine::OtherForm(text) => quoted(alloc, text),
+        PortLine::NoText => String::from_str(alloc, "no UTF-8"),
+        PortLine::Nothing => String::from_str(alloc, "nothing"),
+    }
+}
+
+// A port's line as a whole.
+fn line_text(alloc: Global, line: &PortLine<'_>) -> Result<String, AllocError>
+    ensures { IfOk result (λ s. IsLineText (read_as line.now) (string_bytes s)) }
+{
+    match line {
+        PortLine::Told(value) => json_text(alloc, value),
+        PortLine::OtherForm(text) => quoted(alloc, text),
+        PortLine::NoText => String::from_str(alloc, "no UTF-8"),
+        PortLine::Nothing => String::from_str(alloc, "nothing"),
+    }
+}
+
+// What the run has.
+fn wanted_text(alloc: Global, due: &Due<'_>, field: Field) -> Result<String, AllocError>
+    requires { IsOfMachine due.now }
+    ensures { IfOk result (λ s. string_bytes s ≡ wanted_text field (due_of due.now)) }
+{
+    match field {
+        Field::Line => due.line(alloc),
+        Field::Stopped => match due.refusal() {
+            Some(refusal) => String::from_str(alloc, refusal_name(refusal)),
+            None => String::from_str(alloc, "performed"),
+        },
+        Field::Key(key) => match due.text(alloc, key)? {
+            Some(text) => Ok(text),
+            None => String::from_str(alloc, "none"),
+        },
+    }
+}
+
+// How many characters at the front are equal.
+fn same_front(found: &[char], wanted: &[char]) -> usize
+    ensures { result ≡ same_front found.now wanted.now }
+{
+    for (same, letter) in found.iter().enumerate() {
+        if same >= wanted.len() {
+            return same;
+        }
+        if *letter != wanted[same] {
+            return same;
+        }
+    }
+    found.len()
+}
+
+// The text under a key, where it is one.
+fn text_at(line: &Value, key: Key) -> Option<&str>
+    ensures { option_map (λ t. t.now) result ≡ option_and_then as_str (found_at key (view line.now)) }
+{
+    found(line, key)?.as_str()
+}
+
+// Its characters.
+fn letters(alloc: Global, text: &str) -> Result<Vec<char>, AllocError>
+    ensures { IfOk result (λ v. v.items ≡ chars text.now) }
+{
+    let letters: Vec<char> = text.chars().collect(alloc)?;
+    Ok(letters)
+}
+
+// For two texts under a key, how many characters at the front are equal.
+fn told_front(
+    alloc: Global,
+    line: &Value,
+    due: &Due<'_>,
+    key: Key,
+) -> Result<Option<usize>, AllocError>
+    requires { IsOfMachine due.now }
+    ensures { IfOk result (λ n. n ≡ told_front (Field.Key key) (due_of due.now).line (view line.now)) }
+{
+    let Some(text) = text_at(line, key) else {
+        return Ok(None);
+    };
+    let Some(wanted) = due.letters(alloc, key)? else {
+        return Ok(None);
+    };
+    let found = letters(alloc, text)?;
+    Ok(Some(same_front(found.as_slice(), wanted.as_slice())))
+}
+
+fn front(
+    alloc: Global,
+    line: &PortLine<'_>,
+    due: &Due<'_>,
+    field: Field,
+) -> Result<Option<usize>, AllocError>
+    requires { IsOfMachine due.now }
+    ensures { IfOk result (λ n. n ≡ front_at field (due_of due.now).line (read_as line.now)) }
+{
+    match (line, field) {
+        (PortLine::Told(value), Field::Key(key)) => told_front(alloc, value, due, key),
+        _ => Ok(None),
+    }
+}
+
+// Whether the line tells the operation that an instruction applied.
+fn tells_operation(line: &PortLine<'_>) -> bool
+    ensures { result ≡ tells_operation (read_as line.now) }
+{
+    match line {
+        PortLine::Told(value) => {
+            tells(value, Key::Edit) || tells(value, Key::Applied) || tells(value, Key::Appended)
+        }
+        _ => false,
+    }
+}
+
+/// The difference of a port's line from the one that is due, at a field.
+pub fn differs(
+    alloc: Global,
+    line: &PortLine<'_>,
+    due: &Due<'_>,
+    field: Field,
+) -> Result<Difference, AllocError>
+    requires { IsOfMachine due.now }
+    ensures { IfOk result (λ d. IsDifference (due_of due.now) field (read_as line.now) d) }
+{
+    let what = what_text(alloc, due)?;
+    let name = field_text(alloc, due, field)?;
+    let found = found_text(alloc, line, field)?;
+    let wanted = wanted_text(alloc, due, field)?;
+    let front = front(alloc, line, due, field)?;
+    Ok(Difference {
+        place: due.place(),
+        what,
+        name,
+        field,
+        found,
+        wanted,
+        front,
+        tells_operation: tells_operation(line),
+    })
+}
+
+/// The difference of a line that the port has behind the end, which stands at a place.
+pub fn left_over(alloc: Global, place: usize, line: &PortLine<'_>) -> Result<Difference, AllocError>
+    ensures { IfOk result (λ d. IsLeftOver place (read_as line.now) d) }
+{
+    let what = String::from_str(alloc, "after the end")?;
+    let name = String::from_str(alloc, "line")?;
+    let found = line_text(alloc, line)?;
+    let wanted = String::from_str(alloc, "nothing\n")?;
+    Ok(Difference {
+        place,
+        what,
+        name,
+        field: Field::Line,
+        found,
+        wanted,
+        front: None,
+        tells_operation: false,
+    })
+}

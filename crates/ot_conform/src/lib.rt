@@ -1,0 +1,41 @@
+//! What a port printed against the run of its schedule, up to the first difference.
+//!
+//! ```text
+//!    a port's line ── read_line ──▶ PortLine ─┐
+//!                                             ├── meet ──▶ it agrees, or the Field where it differs ──▶ Difference
+//!    Machine::step ───────────────▶ Due ──────┘
+//! ```
+//!
+//! - *The port's lines* (`specs/Ports.antt`): an object with a place, a text of another form, bytes that are no text, or none. What is not
+//!   printed is not compared, and `null` says that there is none (`specs/Keys.antt`).
+//! - *What is due* (`specs/Due.antt`, `specs/Values.antt`): all values that the run has for a line, from the written table's states before and
+//!   after the instruction (`ot_model`'s specs/Table.antt), in the form of `ot_steps`.
+//! - *The first difference* (`specs/Differences.antt`): `field_of` of one line, `outcome` of all.
+//! - *The answer* (`specs/Answers.antt`, `specs/Counted.antt`): every byte of it, but the digits of a port's floats.
+//! - *A comparison under way* (`specs/Standing.antt`, `specs/Compared.antt`): [`Comparison`] is a machine that goes along; no run is kept
+//!   whole, so memory is bounded by a line. [`compare_lines`] compares the lines of a reader as they come.
+//!
+//! Begin reading at `over` and `outcome` in specs/Differences.antt, then at [`Comparison`].
+#![tactic(auto)]
+
+mod agreement;
+mod answers;
+mod comparison;
+mod counts;
+mod due;
+mod keys;
+mod lines;
+mod meeting;
+mod printing;
+mod reading;
+mod texts;
+
+pub use answers::{Difference, differs, left_over};
+pub use comparison::{Comparison, Stage, Verdict};
+pub use counts::Counts;
+pub use due::{Due, Step, Stop};
+pub use keys::{KEYS, Key, found, key_text};
+pub use lines::{PortLine, is_opening_line, read_line};
+pub use meeting::{Field, meet};
+pub use printing::print_verdict;
+pub use reading::{CompareStop, compare_lines};

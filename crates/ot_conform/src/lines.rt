@@ -1,0 +1,63 @@
+//! The lines that a port prints.
+
+ghost use Rattle.std.specs.Prelude.{◌≡◌, IfOk};
+ghost use Rattle.serde_json.specs.View.{view};
+ghost use Rattle.ot_conform.specs.Ports.{is_opening, is_opening_line, port_line};
+ghost use Rattle.ot_conform.specs.Read.{read_as};
+
+use crate::keys::says;
+use json_fields::number_at;
+use ot_asm::read_text;
+use serde_json::Value;
+use std::alloc::{AllocError, Global};
+
+/// A line that a port printed.
+#[derive(Drop)]
+pub enum PortLine<'a> {
+    /// A JSON object with a place under `at`.
+    Told(Value),
+    /// A text of another form.
+    OtherForm(&'a str),
+    /// Bytes that are no UTF-8.
+    NoText,
+    /// The port has no line.
+    Nothing,
+}
+
+/// The line that the bytes of a counted line are; want of memory only for its JSON value.
+pub fn read_line<'a>(alloc: Global, bytes: &'a [u8]) -> Result<PortLine<'a>, AllocError>
+    ensures { IfOk result (λ line. read_as line ≡ port_line bytes.now) }
+{
+    let Some(text) = read_text(bytes) else {
+        return Ok(PortLine::NoText);
+    };
+    let value = match Value::from_str(alloc, text) {
+        Ok(value) => value,
+        Err(error) if error.is_memory() => return Err(AllocError),
+        Err(_) => return Ok(PortLine::OtherForm(text)),
+    };
+    if number_at(&value, "at").is_none() {
+        return Ok(PortLine::OtherForm(text));
+    }
+    Ok(PortLine::Told(value))
+}
+
+// Whether it is the opening's line.
+fn is_opening(line: &Value) -> bool
+    ensures { result ≡ is_opening (view line.now) }
+{
+    number_at(line, "at") == Some(0)
+        && !says(line, "do")
+        && !says(line, "stopped")
+        && !says(line, "end")
+}
+
+/// Whether a port's line is the opening's: its place is 0, and it has none of `do`, `stopped` and `end`.
+pub fn is_opening_line(line: &PortLine<'_>) -> bool
+    ensures { result ≡ is_opening_line (read_as line.now) }
+{
+    match line {
+        PortLine::Told(value) => is_opening(value),
+        _ => false,
+    }
+}

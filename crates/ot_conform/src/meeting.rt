@@ -1,0 +1,87 @@
+//! A port's line against the one that is due.
+
+ghost use Rattle.std.specs.Prelude.{◌≡◌, IfOk};
+ghost use Rattle.serde_json.specs.View.{view};
+ghost use Rattle.ot_conform.specs.Due.{IsOfMachine, due_of};
+ghost use Rattle.ot_conform.specs.Differences.{field_of, first_key, told_field};
+ghost use Rattle.ot_conform.specs.Keys.{agrees_at, found_at};
+ghost use Rattle.ot_conform.specs.Read.{read_as};
+ghost use Rattle.ot_conform.specs.Values.{text_at};
+
+use crate::agreement::agrees;
+use crate::due::Due;
+use crate::keys::{KEYS, Key, found, says};
+use crate::lines::PortLine;
+use serde_json::Value;
+use std::alloc::{AllocError, Global};
+
+/// Where a line differs from the one that is due.
+#[derive(Clone, Copy, Debug, PartialEq, Eq)]
+pub enum Field {
+    /// It has not the form of a line, or one of the two is missing.
+    Line,
+    /// One of the two stops, and the other does not.
+    Stopped,
+    /// The value under a key.
+    Key(Key),
+}
+
+// Whether what is printed under a key, if it is, agrees with what the run has there.
+fn agrees_at(alloc: Global, line: &Value, due: &Due<'_>, key: Key) -> Result<bool, AllocError>
+    requires { IsOfMachine due.now }
+    ensures { IfOk result (λ does. does ≡ agrees_at key (text_at key (due_of due.now).line) (found_at key (view line.now))) }
+{
+    let Some(value) = found(line, key) else {
+        return Ok(true);
+    };
+    match due.text(alloc, key)? {
+        Some(text) => agrees(alloc, value, key, Some(text.as_str())),
+        None => agrees(alloc, value, key, None),
+    }
+}
+
+// Of these keys the first whose printed value does not agree.
+fn first_key(
+    alloc: Global,
+    keys: &[Key],
+    line: &Value,
+    due: &Due<'_>,
+) -> Result<Option<Key>, AllocError>
+    requires { IsOfMachine due.now }
+    ensures { IfOk result (λ k. k ≡ first_key keys.now (due_of due.now).line (view line.now)) }
+{
+    for key in keys {
+        if !agrees_at(alloc, line, due, *key)? {
+            return Ok(Some(*key));
+        }
+    }
+    Ok(None)
+}
+
+// Where a line of the right form differs.
+fn told_field(alloc: Global, line: &Value, due: &Due<'_>) -> Result<Option<Field>, AllocError>
+    requires { IsOfMachine due.now }
+    ensures { IfOk result (λ f. f ≡ told_field (due_of due.now).line (view line.now)) }
+{
+    if says(line, "stopped") != due.refusal().is_some() {
+        return Ok(Some(Field::Stopped));
+    }
+    match first_key(alloc, &KEYS, line, due)? {
+        Some(key) => Ok(Some(Field::Key(key))),
+        None => Ok(None),
+    }
+}
+
+/// Where a port's line differs from the one that is due, if it does: first whether both stop or none does, then the keys in their
+/// order. Want of memory for the texts of values.
+pub fn meet(alloc: Global, line: &PortLine<'_>, due: &Due<'_>) -> Result<Option<Field>, AllocError>
+    requires { IsOfMachine due.now }
+    ensures { IfOk result (λ f. f ≡ field_of (due_of due.now).line (read_as line.now)) }
+{
+    match line {
+        PortLine::Told(value) => told_field(alloc, value, due),
+        PortLine::OtherForm(_) => Ok(Some(Field::Line)),
+        PortLine::NoText => Ok(Some(Field::Line)),
+        PortLine::Nothing => Ok(Some(Field::Line)),
+    }
+}

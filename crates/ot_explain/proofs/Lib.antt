@@ -1,0 +1,3 @@
+mod Clients
+mod LineByLine
+mod Progress

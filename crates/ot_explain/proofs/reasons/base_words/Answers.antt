@@ -1,0 +1,26 @@
+use Rattle.std.proofs.Common.{◌≡◌, ◌∙◌, ◌++◌, ap, List, ℕ, rules, string_bytes}
+use Rattle.std.specs.Prelude.{IfOk, codes, decimal}
+use Rattle.std.proofs.lemmas.Result.{IfOk-weaker}
+use Rattle.ot_isa.specs.declared.elements.Tagged.{Tagged}
+use Rattle.ot_model.specs.Table.{Client}
+use Rattle.std.specs.Prelude.{length}
+use Rattle.ot_explain.specs.Reasons.{base_text, wide, wide_words}
+use Rattle.ot_explain.proofs.Clients.{said}
+use Rattle.ot_explain.proofs.reasons.base_words.Goals as goal
+
+abbrev edit_text : ℕ → ℕ → ℕ → List ℕ → List ℕ
+edit_text c base count words =
+    codes "the edit takes documents of " ++ (decimal base ++ (codes " characters, client " ++ (decimal c ++ (codes "'s has " ++ (decimal count ++ words)))))
+
+pub returns : goal.returns
+returns c =
+    let m = c.args.machine.now in
+    let n = c.args.client in
+    let list = c.document-list.result.now in
+    let words = string_bytes c.in_ok-words.words in
+    let made : IfOk c.format.result (λ s. string_bytes s ≡ edit_text n c.base_len-base.result c.len-count.result words) = search rules in
+    IfOk-weaker c.format.result _ _ (λ s e.
+    said m n (λ (x : Client). x.list) list (base_text n c.args.op.now.base) (string_bytes s) c.document-list.ensures
+    (e ∙ ap (λ (b : ℕ). edit_text n b c.len-count.result words) c.base_len-base.ensures.value
+    ∙ ap (λ (k : ℕ). edit_text n c.args.op.now.base k words) c.len-count.ensures.value
+    ∙ ap (edit_text n c.args.op.now.base (length list)) (c.in_ok-words.ensures ∙ ap wide_words c.in_ok-past.ensures))) made

@@ -1,0 +1,5 @@
+pub mod Words
+pub mod Told
+pub mod Reasons
+pub mod Placed
+pub mod Explained

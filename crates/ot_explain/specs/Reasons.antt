@@ -1,0 +1,93 @@
+-- Why an instruction is refused, and what would repair it.
+use Rattle.std.specs.Prelude.{ℕ, List, [], ◌++◌, ◌==◌, length, nat_lt, slice_get, Option, Some, None, codes, decimal, if◌then◌else◌}
+use Rattle.std.specs.List.{count_by}
+use Rattle.ot_isa.specs.Tagging.{chars_of}
+use Rattle.ot_isa.specs.declared.elements.Tagged.{Tagged}
+use Rattle.ot_isa.specs.declared.instruction.Instr.{Instr}
+use Rattle.ot_isa.specs.declared.instruction.Instr.TheVariants.{Edit, Take, Deliver, Acknowledge, Join, Read, ReadServer}
+use Rattle.ot_model.specs.declared.shown.Refusal.{Refusal}
+use Rattle.ot_model.specs.declared.shown.Refusal.TheVariants.{NoSuchClient, StepsFull, NotJoined, AlreadyJoined, BadBase, ClientFull, LinkEmpty, WrongHead, Memory}
+use Rattle.ot_model.specs.Operation.{Operation, inserted}
+use Rattle.ot_model.specs.Table.{Client, Message, State}
+use Rattle.ot_report.specs.Printed.{refusal_text}
+use Rattle.ot_explain.specs.Words.{entry_text, of_client}
+use Rattle.ot_explain.specs.Told.{heading}
+
+-- how many characters of a document are past U+FFFF: UTF-16 counts each of them twice
+abbrev pub wide : List Tagged → ℕ
+wide list = count_by (λ (t : Tagged). nat_lt 65535 t.ch) list
+
+abbrev pub wide_words : ℕ → List ℕ
+wide_words count =
+    if count == 0 then []
+    else (codes "; lengths count Unicode scalars, UTF-16 counts 2 for each past U+FFFF, here " ++ decimal count)
+
+-- an edit that is not over the whole document
+abbrev pub base_text : ℕ → ℕ → List Tagged → List ℕ
+base_text c base list =
+    codes "the edit takes documents of " ++ (decimal base ++ (codes " characters, client " ++ (decimal c ++ (codes "'s has " ++ (decimal (length list) ++ wide_words (wide list))))))
+
+abbrev pub base_words : ℕ → Operation ℕ → Client → List ℕ
+base_words c op x = base_text c op.base x.list
+
+-- a client that has inserted too much
+abbrev pub full_text : ℕ → ℕ → ℕ → List ℕ
+full_text c count more =
+    codes "client " ++ (decimal c ++ (codes " has inserted " ++ (decimal count ++ (codes " characters and would insert " ++ (decimal more ++ codes " more, at most 15000 in a run")))))
+
+abbrev pub full_words : ℕ → Operation ℕ → Client → List ℕ
+full_words c op x = full_text c x.count (inserted op)
+
+-- an acknowledgement that is not there: the message has not been taken, or there was none
+abbrev pub unconfirmed : ℕ → Option Message → List ℕ
+unconfirmed c None = codes "client " ++ (decimal c ++ codes " waits for no acknowledgement")
+unconfirmed c (Some m) = codes "the server has not taken the message of client " ++ (decimal c ++ (codes " yet: take " ++ (decimal c ++ codes " comes first")))
+
+-- a link without a message
+abbrev pub empty_words : Instr → State → List ℕ
+empty_words (Edit c op) s = []
+empty_words (Take c) s = codes "no message of client " ++ (decimal c ++ codes " is under way: it has to send an edit first, and a message is taken once")
+empty_words (Deliver c) s = codes "nothing is under way to client " ++ (decimal c ++ codes ": the server has to take another client's message first")
+empty_words (Acknowledge c) s = of_client s c (λ x. unconfirmed c x.message)
+empty_words (Join c) s = []
+empty_words (Read c) s = []
+empty_words ReadServer s = []
+
+abbrev pub next_text : ℕ → List ℕ → List ℕ
+next_text c entry = codes "the next message to client " ++ (decimal c ++ (codes " is " ++ (entry ++ (codes ": deliver " ++ decimal c))))
+
+-- a message of the other kind at the head of the link
+abbrev pub head_words : Instr → State → List ℕ
+head_words (Edit c op) s = []
+head_words (Take c) s = []
+head_words (Deliver c) s = codes "the next message to client " ++ (decimal c ++ (codes " acknowledges its own operation: ack " ++ decimal c))
+head_words (Acknowledge c) s = of_client s c (λ x. next_text c (entry_text (slice_get s.log x.revision)))
+head_words (Join c) s = []
+head_words (Read c) s = []
+head_words ReadServer s = []
+
+-- what is said of an edit
+abbrev pub of_edit : Instr → State → (ℕ → Operation ℕ → Client → List ℕ) → List ℕ
+of_edit (Edit c op) s words = of_client s c (words c op)
+of_edit (Take c) s words = []
+of_edit (Deliver c) s words = []
+of_edit (Acknowledge c) s words = []
+of_edit (Join c) s words = []
+of_edit (Read c) s words = []
+of_edit ReadServer s words = []
+
+-- why the instruction is refused in the state s
+abbrev pub reason : Refusal → Instr → State → List ℕ
+reason NoSuchClient i s = codes "the client is not there"
+reason StepsFull i s = codes "a machine performs at most 1000000 instructions"
+reason NotJoined i s = codes "the client has not joined: join comes first"
+reason AlreadyJoined i s = codes "the client has joined before"
+reason BadBase i s = of_edit i s base_words
+reason ClientFull i s = of_edit i s full_words
+reason LinkEmpty i s = empty_words i s
+reason WrongHead i s = head_words i s
+reason Memory i s = codes "no memory was found"
+
+-- a paragraph for an instruction that is refused
+abbrev pub refused_paragraph : ℕ → ℕ → Instr → State → Refusal → List ℕ
+refused_paragraph line number i s r = heading line number i ++ (codes "  refused: " ++ (refusal_text r ++ (codes ": " ++ (reason r i s ++ codes "\n"))))

@@ -1,0 +1,32 @@
+//! A schedule's run in words: a paragraph for each instruction, one for the instruction that is refused, and why a text is no schedule.
+//!
+//! ```text
+//!    heading     line 7, instruction 3: take 1                                       its line of the text, its number
+//!    before ───▶   the server takes client 1's message of revision 0, ["c",1], ..    told by the state before it
+//!    Machine::step
+//!    after ────▶   .. and appends [1,"c"] as revision 2                              told by the state after it
+//! ```
+//!
+//! - *What an instruction did* (`specs/Told.antt`): `paragraph`, a text made of the written table's states before and after the instruction
+//!   (`ot_model`'s specs/Table.antt), by way of what a line of `ot_steps` says (`delivers`, `last_of`, operations without tags).
+//! - *Why one is refused* (`specs/Reasons.antt`): `reason`, of the refusal and the state in which the run stands.
+//! - *Where an instruction stands* (`specs/Placed.antt`): [`places`], the lines of a text that are neither blank, nor comments, nor those
+//!   above the instructions.
+//! - *A run* (`specs/Explained.antt`): [`explain`] writes it while the run goes, and after a fault a first part of it stands.
+//! - *Why a text is no schedule*: [`fault_words`], the column and the cause behind a fault of `ot_asm`. Nothing is promised of these words.
+//!
+//! Begin reading at `paragraph` in specs/Told.antt, then at [`explain`].
+#![tactic(auto)]
+
+mod after;
+mod before;
+mod causes;
+mod paragraphs;
+mod placing;
+mod reasons;
+mod values;
+mod writing;
+
+pub use causes::fault_words;
+pub use placing::places;
+pub use writing::explain;

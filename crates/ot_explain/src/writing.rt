@@ -1,0 +1,62 @@
+//! A whole run in words.
+
+ghost use Rattle.std.specs.Prelude.{◌≡◌, IfErr, IfOk};
+ghost use Rattle.ot_model.specs.Runs.{opening_of};
+ghost use Rattle.ot_explain.specs.Explained.{MovesUpTo, WritesMoves, WritesRun, WritesUpTo};
+
+use crate::paragraphs::{last_words, opening_words, perform};
+use ot_isa::Schedule;
+use ot_machine::{Machine, Refusal};
+use ot_steps::StepsFault;
+use std::alloc::Global;
+use std::io::Write;
+use streams::put;
+
+// Performs the instructions up to the first that is not performed, and writes the paragraph of each.
+fn write_moves<W: Write>(
+    alloc: Global,
+    machine: &mut Machine,
+    lines: &[u64],
+    schedule: &Schedule,
+    output: &mut W,
+) -> Result<Option<(usize, Refusal)>, StepsFault>
+    requires { machine.old ≡ opening_of schedule.now }
+    ensures ok { IfOk result (λ stopped. WritesMoves lines.now schedule.now stopped machine.new (W.contents output.old) (W.contents output.new)) }
+    ensures err { IfErr result (λ f. MovesUpTo f lines.now schedule.now (W.contents output.old) (W.contents output.new)) }
+{
+    for number in 0..schedule.len() {
+        let Some(instr) = schedule.get(number) else {
+            unreachable!()
+        };
+        match perform(alloc, machine, lines, number, instr)? {
+            Ok(paragraph) => put(output, paragraph.as_bytes())?,
+            Err(refusal) => return Ok(Some((number, refusal))),
+        }
+    }
+    Ok(None)
+}
+
+/// Runs the schedule and writes its run in words while it goes: the opening, a paragraph for each performed instruction, the stop if an
+/// instruction was not performed (refused, or for want of memory), and the end. Says whether one was not performed. `lines` are the lines
+/// of the instructions, as [`places`](crate::places) of the schedule's text; an instruction without one has line 0.
+///
+/// After a fault a first part of the text is written; for want of memory whole paragraphs. Memory does not grow with the text: each
+/// paragraph is written before the next instruction is performed.
+pub fn explain<W: Write>(
+    alloc: Global,
+    schedule: &Schedule,
+    lines: &[u64],
+    output: &mut W,
+) -> Result<bool, StepsFault>
+    ensures ok { IfOk result (λ refused. WritesRun lines.now schedule.now refused (W.contents output.old) (W.contents output.new)) }
+    ensures err { IfErr result (λ f. WritesUpTo f lines.now schedule.now (W.contents output.old) (W.contents output.new)) }
+{
+    let clients = schedule.clients();
+    let mut machine = Machine::with_present(alloc, clients, schedule.present(), schedule.start())?;
+    let opening = opening_words(alloc, schedule)?;
+    put(output, opening.as_bytes())?;
+    let stopped = write_moves(alloc, &mut machine, lines, schedule, output)?;
+    let last = last_words(alloc, &machine, lines, schedule, stopped)?;
+    put(output, last.as_bytes())?;
+    Ok(stopped.is_some())
+}

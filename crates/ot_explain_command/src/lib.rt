@@ -1,0 +1,102 @@
+//! `explain`: the run of a schedule's text in words.
+//!
+//! ```text
+//!    text ── ot_asm ──▶ Schedule ── ot_explain ──▶ paragraphs on the output, written while the run goes
+//!      └── refused: the fault's line on the faults, and behind it words about its cause; nothing on the output
+//! ```
+//!
+//! [`run_explain`] does the whole work over any reader and two writers; `specs/Explains.antt` says what it writes and answers, over the
+//! paragraphs of `ot_explain` (specs/Told.antt, specs/Reasons.antt and specs/Explained.antt there). The text is read whole, since an
+//! instruction is shown with its line, and a fault with its column.
+#![tactic(auto)]
+
+ghost use Rattle.std.specs.Prelude.{IfSome};
+ghost use Rattle.ot_input.specs.Faults.{line_fault};
+ghost use Rattle.ot_explain_command.specs.Explains.{Explains, ExplainsText, MayExplain, Tells};
+
+use ot_asm::{AsmFault, assemble_from};
+use ot_explain::{explain, fault_words, places};
+use ot_input::complain_of_line;
+use ot_isa::Schedule;
+use ot_steps::StepsFault;
+use outcomes::{complain, complain_of_input, complain_of_memory};
+use std::alloc::Global;
+use std::io::{Read, Write};
+use streams::read_whole;
+
+// Writes the schedule's run in words; its instructions stand at these lines.
+fn write_words<O: Write, F: Write>(
+    alloc: Global,
+    lines: &[u64],
+    schedule: &Schedule,
+    output: &mut O,
+    faults: &mut F,
+) -> u8
+    ensures { MayExplain lines.now schedule.now result (record { output = O.contents output.old; output' = O.contents output.new; faults = F.contents faults.old; faults' = F.contents faults.new }) }
+{
+    match explain(alloc, schedule, lines, output) {
+        Ok(true) => 1,
+        Ok(false) => 0,
+        Err(StepsFault::WriteFault) => 1,
+        Err(StepsFault::Memory) => {
+            complain_of_memory(faults);
+            1
+        }
+    }
+}
+
+// Writes the fault of a text, and what its cause is.
+fn complain_of_text<F: Write>(alloc: Global, text: &[u8], fault: AsmFault, faults: &mut F)
+    ensures { Tells (line_fault fault) (F.contents faults.old) (F.contents faults.new) }
+{
+    complain_of_line(alloc, fault, faults);
+    match fault_words(alloc, text, fault) {
+        Ok(words) => complain(faults, words.as_str()),
+        Err(_) => complain_of_memory(faults),
+    }
+}
+
+// Explains a text.
+fn explain_text<O: Write, F: Write>(
+    alloc: Global,
+    text: &[u8],
+    output: &mut O,
+    faults: &mut F,
+) -> u8
+    ensures { ExplainsText text.now result (record { output = O.contents output.old; output' = O.contents output.new; faults = F.contents faults.old; faults' = F.contents faults.new }) }
+{
+    let mut rest = text;
+    match assemble_from(alloc, &mut rest) {
+        Ok(schedule) => {
+            let Ok(lines) = places(alloc, text) else {
+                complain_of_memory(faults);
+                return 1;
+            };
+            write_words(alloc, lines.as_slice(), &schedule, output, faults)
+        }
+        Err(fault) => {
+            complain_of_text(alloc, text, fault, faults);
+            1
+        }
+    }
+}
+
+/// Writes the run of the schedule whose text is the input in words, and answers the status: 0 where all instructions were performed; 1
+/// where one was not, for a refused text (its fault's line and the cause on the faults, nothing on the output), and for a fault of
+/// reading, writing or memory. The text is read whole, at most 2^30 bytes.
+pub fn run_explain<I: Read, O: Write, F: Write>(
+    alloc: Global,
+    input: &mut I,
+    output: &mut O,
+    faults: &mut F,
+) -> u8
+    ensures { IfSome (I.remaining input.old) (λ text. Explains text result (record { output = O.contents output.old; output' = O.contents output.new; faults = F.contents faults.old; faults' = F.contents faults.new })) }
+{
+    match read_whole(alloc, input) {
+        Ok(text) => explain_text(alloc, text.as_slice(), output, faults),
+        Err(fault) => {
+            complain_of_input(fault, faults);
+            1
+        }
+    }
+}

@@ -1,0 +1,5 @@
+pub mod Owing
+pub mod Moving
+pub mod Resting
+pub mod Walking
+pub mod Reading

@@ -1,0 +1,4 @@
+pub mod Left
+pub mod Shapes
+pub mod Walks
+pub mod Generated

@@ -1,0 +1,71 @@
+-- One more item of a loop's list.
+use Rattle.std.proofs.Common.{◌≡◌, ℕ, ◌+◌, ◌<◌, ◌≤◌, List, ◌∷◌, ◌++◌, length, drop, get_or, refl, sym, ap, ◌∙◌, subst, arith, add-one, length-drop, drop-cons, append_assoc, Option, Some, None, Bool, true}
+use Rattle.std.specs.Prelude.{codes}
+use Rattle.ot_text.specs.declared.Component.{Component}
+use Rattle.ot_text.specs.Operation.{Operation}
+use Rattle.ot_text.specs.Run.{Run, Keep, Add, Skip}
+use Rattle.ot_text.specs.Components.{run_of, runs}
+use Rattle.ot_rules.specs.Text.{concurrent_lines, given_operation}
+use Rattle.ot_rules.specs.Units.{IsAdded, behind, unit_run, units_from, with_one_more}
+use Rattle.ot_rules.specs.Wrong.{Pair, turned, turned_over}
+
+pub drop_here : {A : Type 0} (xs : List A) (i : ℕ) (x : A) → i < length xs → x ≡ get_or xs i x → drop i xs ≡ x ∷ drop (i + 1) xs
+drop_here xs i x here is =
+    let d : drop i xs ≡ get_or xs i x ∷ drop (i + 1) xs = rw (add-one, drop-cons xs i x) refl in
+    d ∙ ap (λ y. y ∷ drop (i + 1) xs) (sym is)
+
+-- ---- a message over the log
+
+over_step : (carried other : Operation ℕ) (rest : List (Operation ℕ)) (p : Option Pair) → turned carried other ≡ p
+    → turned_over carried (other ∷ rest) ≡ (elim p as (λ _. Option (Operation ℕ)) [ None ↦ None | Some pair ↦ turned_over pair.0 rest ])
+over_step carried other rest p e = ap (λ (q : Option Pair). elim q as (λ _. Option (Operation ℕ)) [ None ↦ None | Some pair ↦ turned_over pair.0 rest ]) e
+
+module _ (op carried other : Operation ℕ) (xs : List (Operation ℕ)) (i : ℕ) (here : i < length xs) (is : other ≡ get_or xs i other)
+    (so_far : turned_over carried (drop i xs) ≡ turned_over op xs) where
+  left : turned_over carried (other ∷ drop (i + 1) xs) ≡ turned_over op xs
+  left = ap (turned_over carried) (sym (drop_here xs i other here is)) ∙ so_far
+
+  pub over_none : turned carried other ≡ None → None ≡ turned_over op xs
+  over_none e = sym (over_step carried other (drop (i + 1) xs) None e) ∙ left
+
+  pub over_more : (next : Pair) → turned carried other ≡ Some next → turned_over next.0 (drop (i + 1) xs) ≡ turned_over op xs
+  over_more next e = sym (over_step carried other (drop (i + 1) xs) (Some next) e) ∙ left
+
+-- ---- components over a text
+
+units_step : (op : Operation ℕ) (text : List ℕ) (run : Run ℕ) (rest : List (Run ℕ)) (p : Option (Operation ℕ)) → with_one_more op (unit_run text run) ≡ p
+    → units_from op text (run ∷ rest) ≡ (elim p as (λ _. Option (Operation ℕ)) [ None ↦ None | Some next ↦ units_from next (behind text run) rest ])
+units_step op text run rest p e = ap (λ (q : Option (Operation ℕ)). elim q as (λ _. Option (Operation ℕ)) [ None ↦ None | Some next ↦ units_from next (behind text run) rest ]) e
+
+pub units_more : (op next : Operation ℕ) (text later : List ℕ) (cs : List (Component ℕ)) (i : ℕ) (c : Component ℕ) (all : Option (Operation ℕ)) (added : Bool) → i < length cs → c ≡ get_or cs i c
+    → units_from op text (runs (drop i cs)) ≡ all → added ≡ true → IsAdded op text (run_of c) next added → later ≡ behind text (run_of c)
+    → units_from next later (runs (drop (i + 1) cs)) ≡ all
+units_more op next text later cs i c all added here at so_far on is behind_is =
+    let one : with_one_more op (unit_run text (run_of c)) ≡ Some next = subst (IsAdded op text (run_of c) next) on is in
+    ap (λ (t : List ℕ). units_from next t (runs (drop (i + 1) cs))) behind_is
+    ∙ sym (units_step op text (run_of c) (runs (drop (i + 1) cs)) (Some next) one)
+    ∙ ap (λ (rest : List (Component ℕ)). units_from op text (runs rest)) (sym (drop_here cs i c here at))
+    ∙ so_far
+
+pub behind_within : (text later : List ℕ) (run : Run ℕ) → length text ≤ 1000000 → later ≡ behind text run → length later ≤ 1000000
+behind_within text later (Keep count) small is = omega (arith, ap length is, length-drop count text)
+behind_within text later (Add letters) small is = omega (arith, ap length is)
+behind_within text later (Skip count) small is = omega (arith, ap length is, length-drop count text)
+
+-- ---- lines of operations
+
+pub lines_more : (old text next : List ℕ) (ops : List (Operation ℕ)) (i : ℕ) (op : Operation ℕ) → i < length ops → op ≡ get_or ops i op
+    → text ++ concurrent_lines (drop i ops) ≡ old ++ concurrent_lines ops → next ≡ text ++ given_operation (codes "concurrent") op
+    → next ++ concurrent_lines (drop (i + 1) ops) ≡ old ++ concurrent_lines ops
+lines_more old text next ops i op here at so_far is =
+    ap (λ (t : List ℕ). t ++ concurrent_lines (drop (i + 1) ops)) is
+    ∙ append_assoc text (given_operation (codes "concurrent") op) (concurrent_lines (drop (i + 1) ops))
+    ∙ ap (λ (rest : List (Operation ℕ)). text ++ concurrent_lines rest) (sym (drop_here ops i op here at))
+    ∙ so_far
+
+-- texts behind one another
+two : (a b c x y : List ℕ) → b ≡ a ++ x → c ≡ b ++ y → c ≡ a ++ (x ++ y)
+two a b c x y first second = second ∙ ap (λ (t : List ℕ). t ++ y) first ∙ append_assoc a x y
+
+pub three : (a b c d x y z : List ℕ) → b ≡ a ++ x → c ≡ b ++ y → d ≡ c ++ z → d ≡ a ++ (x ++ (y ++ z))
+three a b c d x y z first second third = two a b d x (y ++ z) first (two b c d y z second third)

@@ -1,0 +1,18 @@
+use Rattle.std.proofs.Common.{arith}
+use Rattle.ot_rules.proofs.Reached.{is_begun, is_next, is_nowhere, is_there}
+use Rattle.ot_rules.proofs.explaining.machine_at.Goals as goal
+
+pub loop-number-init : goal.loop-number-init
+loop-number-init c = is_begun c.args.schedule.now c.in_ok-machine.machine c.in_ok-machine.ensures
+
+pub loop-number-preserved : goal.loop-number-preserved
+loop-number-preserved c =
+    is_next c.args.schedule.now c.loop-number.number c.in-Some.instr.now c.loop-number.machine c.step.new.self c.in-Ok.field-0 c.loop-number.invariant c.in-Some.ensures.some c.in-Ok.ensures.done
+
+pub returns-in-Err : goal.returns-in-Err
+returns-in-Err c =
+    is_nowhere c.args.schedule.now c.loop-number.number c.args.place c.in-Some.instr.now c.in-Err.refusal c.loop-number.machine
+    c.loop-number.invariant c.in-Some.ensures.some c.in-Err.ensures.refused c.in_ok-only_refused-in-Err.ensures c.loop-number-test.true c.requires
+
+pub returns : goal.returns
+returns c = is_there c.args.schedule.now c.loop-number.number c.args.place c.loop-number.machine (omega arith) (omega arith) c.loop-number.invariant

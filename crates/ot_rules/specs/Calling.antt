@@ -1,0 +1,54 @@
+-- Which method of ot.js an instruction calls, and what that is given.
+use Rattle.std.specs.Prelude.{ℕ, List, map, drop, slice_get, Option, Some, None}
+use Rattle.ot_isa.specs.declared.instruction.Instr.{Instr}
+use Rattle.ot_isa.specs.declared.instruction.Instr.TheVariants.{Edit, Take, Deliver, Acknowledge, Join, Read, ReadServer}
+use Rattle.ot_model.specs.Operation.{Operation}
+use Rattle.ot_model.specs.Table.{Phase, NotJoined, Synchronized, AwaitingConfirm, AwaitingWithBuffer, Entry, Message, State}
+use Rattle.ot_steps.specs.Lines.{plain_operation}
+use Rattle.ot_steps.specs.Steps.{client_in}
+use Rattle.ot_rules.specs.declared.call.Waiting.{Waiting}
+use Rattle.ot_rules.specs.declared.call.Waiting.TheVariants.{Nothing, Outstanding, Buffered}
+use Rattle.ot_rules.specs.Call.{Call, ApplyClient, ApplyServer, ServerAck, ReceiveOperation}
+
+-- what the client waits for, without tags; none where it has not joined
+abbrev pub waiting_in : Phase → Option Waiting
+waiting_in NotJoined = None
+waiting_in Synchronized = Some Nothing
+waiting_in (AwaitingConfirm o) = Some (Outstanding (plain_operation o))
+waiting_in (AwaitingWithBuffer o b) = Some (Buffered (plain_operation o) (plain_operation b))
+
+abbrev pub entry_operation : Entry → Operation ℕ
+entry_operation h = plain_operation h.op
+
+-- `applyClient` of the client's state
+abbrev pub edits : Option Waiting → Operation ℕ → Option Call
+edits None op = None
+edits (Some w) op = Some (ApplyClient w op)
+
+-- `applyServer` of the client's state: the next entry of the log
+abbrev pub delivers : Option Waiting → Option Entry → Option Call
+delivers None h = None
+delivers (Some w) None = None
+delivers (Some w) (Some h) = Some (ApplyServer w (entry_operation h))
+
+-- `serverAck` of a state that waits
+abbrev pub acknowledges : ℕ → Option Waiting → Option Call
+acknowledges revision None = None
+acknowledges revision (Some Nothing) = None
+acknowledges revision (Some (Outstanding o)) = Some (ServerAck revision (Outstanding o))
+acknowledges revision (Some (Buffered o b)) = Some (ServerAck revision (Buffered o b))
+
+-- `receiveOperation` of the server: the message, and the log from its revision on
+abbrev pub takes : List Entry → Option Message → Option Call
+takes log None = None
+takes log (Some m) = Some (ReceiveOperation m.revision (plain_operation m.op) (map entry_operation (drop m.revision log)))
+
+-- the call that an instruction is in the state before it, where it is performed
+abbrev pub call_of : State → Instr → Option Call
+call_of s (Edit c op) = edits (waiting_in (client_in s c).phase) op
+call_of s (Take c) = takes s.log (client_in s c).message
+call_of s (Deliver c) = delivers (waiting_in (client_in s c).phase) (slice_get s.log (client_in s c).revision)
+call_of s (Acknowledge c) = acknowledges (client_in s c).revision (waiting_in (client_in s c).phase)
+call_of s (Join c) = None
+call_of s (Read c) = None
+call_of s ReadServer = None

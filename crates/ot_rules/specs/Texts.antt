@@ -1,0 +1,88 @@
+-- The text that an operation of a line applies to.
+use Rattle.std.specs.Prelude.{ℕ, ◌+◌, List, [], ◌∷◌, length, take, ◌==◌, nat_lt, if◌then◌else◌, Option, Some, None, Vec}
+use Rattle.std.specs.declared.alloc.Global.{Global}
+use Rattle.std.specs.Option.{option_map}
+use Rattle.ot_isa.specs.Program.{client_of}
+use Rattle.ot_isa.specs.Tagging.{chars_of}
+use Rattle.ot_isa.specs.declared.elements.Tagged.{Tagged}
+use Rattle.ot_isa.specs.declared.instruction.Instr.{Instr}
+use Rattle.ot_isa.specs.declared.instruction.Instr.TheVariants.{Edit, Take, Deliver, Acknowledge, Join, Read, ReadServer}
+use Rattle.ot_model.specs.Operation.{Operation, apply}
+use Rattle.ot_model.specs.Table.{Entry, State, start_list}
+use Rattle.ot_steps.specs.Steps.{client_in}
+use Rattle.ot_rules.specs.declared.call.Waiting.TheVariants.{Nothing, Outstanding, Buffered}
+use Rattle.ot_rules.specs.declared.field.Field.{Field}
+use Rattle.ot_rules.specs.declared.field.Field.TheVariants as field
+use Rattle.ot_rules.specs.Call.{Call, ApplyClient, ApplyServer, ServerAck, ReceiveOperation}
+use Rattle.ot_rules.specs.Wrong.{first_of, transformed}
+
+abbrev pub letters : Vec ℕ Global → List ℕ
+letters v = v.items
+
+-- the list after these entries, where each fits
+abbrev pub replayed : List Tagged → List Entry → Option (List Tagged)
+replayed list [] = Some list
+replayed list (h ∷ log) = if h.op.base == length list then replayed (apply h.op list) log else None
+
+-- the server's text at a revision
+abbrev pub text_at : List ℕ → List Entry → ℕ → Option (List ℕ)
+text_at start log revision = option_map chars_of (replayed (start_list start) (take revision log))
+
+-- how many entries of the log its client has seen behind the instruction more than before it
+abbrev pub gained : Instr → ℕ
+gained (Edit c op) = 0
+gained (Take c) = 0
+gained (Deliver c) = 1
+gained (Acknowledge c) = 1
+gained (Join c) = 0
+gained (Read c) = 0
+gained ReadServer = 0
+
+-- the server's text at the client's revision behind the instruction
+abbrev pub text_seen : List ℕ → State → ℕ → Option ℕ → Option (List ℕ)
+text_seen start s more None = None
+text_seen start s more (Some c) = if nat_lt c (length s.clients) then text_at start s.log ((client_in s c).revision + more) else None
+
+abbrev pub text_behind : List ℕ → State → Instr → Option (List ℕ)
+text_behind start s i = text_seen start s (gained i) (client_of i)
+
+-- the text of the client that an instruction names
+abbrev pub own_text : State → Option ℕ → Option (List ℕ)
+own_text s None = None
+own_text s (Some c) = if nat_lt c (length s.clients) then Some (chars_of (client_in s c).list) else None
+
+-- what is outstanding behind the call
+abbrev pub outstanding_behind : Call → Option (Operation ℕ)
+outstanding_behind (ApplyClient Nothing op) = Some op
+outstanding_behind (ApplyClient (Outstanding o) op) = Some o
+outstanding_behind (ApplyClient (Buffered o b) op) = Some o
+outstanding_behind (ApplyServer Nothing op) = None
+outstanding_behind (ApplyServer (Outstanding o) op) = first_of (transformed o op)
+outstanding_behind (ApplyServer (Buffered o b) op) = first_of (transformed o op)
+outstanding_behind (ServerAck revision Nothing) = None
+outstanding_behind (ServerAck revision (Outstanding o)) = None
+outstanding_behind (ServerAck revision (Buffered o b)) = Some b
+outstanding_behind (ReceiveOperation revision op concurrent) = None
+
+-- the text that an operation makes, where it fits
+abbrev pub applied : Operation ℕ → List ℕ → Option (List ℕ)
+applied op text = if op.base == length text then Some (apply op text) else None
+
+abbrev pub applied_to : Option (Operation ℕ) → Option (List ℕ) → Option (List ℕ)
+applied_to None text = None
+applied_to (Some op) None = None
+applied_to (Some op) (Some text) = applied op text
+
+-- the text that the buffer behind the call is over
+abbrev pub text_under_buffer : List ℕ → State → Instr → Call → Option (List ℕ)
+text_under_buffer start s i call = applied_to (outstanding_behind call) (text_behind start s i)
+
+-- the text that the operation of a field applies to, in the line of an instruction of a run from this start, before which the state is s
+abbrev pub text_for : List ℕ → State → Instr → Call → Field → Option (List ℕ)
+text_for start s i call field.Edit = own_text s (client_of i)
+text_for start s i call field.Applied = own_text s (client_of i)
+text_for start s i call field.Outstanding = text_behind start s i
+text_for start s i call field.SentOperation = text_behind start s i
+text_for start s i call field.Buffer = text_under_buffer start s i call
+text_for start s i call field.Appended = Some (chars_of s.server)
+text_for start s i call _ = None

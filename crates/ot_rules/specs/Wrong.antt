@@ -1,0 +1,128 @@
+-- What typical wrong rules make of a call.
+use Rattle.std.specs.Prelude.{ℕ, ◌+◌, List, [], ◌∷◌, length, ◌==◌, ◌&&◌, nat_le, if◌then◌else◌, Bool, Option, Some, None}
+use Rattle.std.specs.Option.{option_map}
+use Rattle.ot_text.specs.Operation.{Operation, news}
+use Rattle.ot_algebra.specs.Merge.{transform}
+use Rattle.ot_rules.specs.declared.call.Waiting.{Waiting}
+use Rattle.ot_rules.specs.declared.call.Waiting.TheVariants.{Nothing, Outstanding, Buffered}
+use Rattle.ot_rules.specs.declared.field.Field.{Field}
+use Rattle.ot_rules.specs.declared.field.Field.TheVariants as field
+use Rattle.ot_rules.specs.declared.wrong.Made.{Made}
+use Rattle.ot_rules.specs.Call.{Call, ApplyClient, ApplyServer, ServerAck, ReceiveOperation}
+
+abbrev pub Pair : Type 0
+Pair = Operation ℕ × Operation ℕ
+
+-- transform takes the two: they have one base, and room for what both insert
+abbrev pub may_transform : Operation ℕ → Operation ℕ → Bool
+may_transform a b = (a.base == b.base) && nat_le (a.base + (length (news a.image) + length (news b.image))) 1000000
+
+-- both results of transform, where it takes the two
+abbrev pub transformed : Operation ℕ → Operation ℕ → Option Pair
+transformed a b = if may_transform a b then Some (transform a b) else None
+
+abbrev pub swapped : Pair → Pair
+swapped pair = (pair.1, pair.0)
+
+-- the same, with the text of the second first where both insert at one place
+abbrev pub turned : Operation ℕ → Operation ℕ → Option Pair
+turned a b = option_map swapped (transformed b a)
+
+-- ---- what a line has behind the call
+
+abbrev pub nothing : Made
+nothing = record { outstanding = None; buffer = None; applied = None; appended = None }
+
+abbrev pub in_field : Made → Field → Option (Operation ℕ)
+in_field made field.Outstanding = made.outstanding
+in_field made field.Buffer = made.buffer
+in_field made field.Applied = made.applied
+in_field made field.Appended = made.appended
+in_field made _ = None
+
+-- ---- the tie turned: each transform with the text of its second argument first
+
+abbrev pub turned_past : Option Pair → Made
+turned_past None = nothing
+turned_past (Some first) = record nothing { outstanding = Some first.0; applied = Some first.1 }
+
+abbrev pub turned_past_both : Operation ℕ → Option Pair → Made
+turned_past_both outstanding None = nothing
+turned_past_both outstanding (Some second) = record nothing { outstanding = Some outstanding; buffer = Some second.0; applied = Some second.1 }
+
+abbrev pub turned_past_buffer : Operation ℕ → Option Pair → Made
+turned_past_buffer buffer None = nothing
+turned_past_buffer buffer (Some first) = turned_past_both first.0 (turned buffer first.1)
+
+abbrev pub turned_delivery : Waiting → Operation ℕ → Made
+turned_delivery Nothing op = nothing
+turned_delivery (Outstanding o) op = turned_past (turned o op)
+turned_delivery (Buffered o b) op = turned_past_buffer b (turned o op)
+
+abbrev pub turned_over : Operation ℕ → List (Operation ℕ) → Option (Operation ℕ)
+turned_over op [] = Some op
+turned_over op (other ∷ others) = elim (turned op other) [ None ↦ None | Some pair ↦ turned_over pair.0 others ]
+
+abbrev pub made_turned : Call → Made
+made_turned (ApplyClient w op) = nothing
+made_turned (ApplyServer w op) = turned_delivery w op
+made_turned (ServerAck revision w) = nothing
+made_turned (ReceiveOperation revision op concurrent) = record nothing { appended = turned_over op concurrent }
+
+-- ---- no transform: each operation as it was
+
+abbrev pub untransformed : Waiting → Operation ℕ → Made
+untransformed Nothing op = nothing
+untransformed (Outstanding o) op = record nothing { outstanding = Some o; applied = Some op }
+untransformed (Buffered o b) op = record nothing { outstanding = Some o; buffer = Some b; applied = Some op }
+
+abbrev pub made_untransformed : Call → Made
+made_untransformed (ApplyClient w op) = nothing
+made_untransformed (ApplyServer w op) = untransformed w op
+made_untransformed (ServerAck revision w) = nothing
+made_untransformed (ReceiveOperation revision op concurrent) = record nothing { appended = Some op }
+
+-- ---- half of the transforms: the buffer over the delivered operation itself, and that over the outstanding operation alone
+
+abbrev pub first_of : Option Pair → Option (Operation ℕ)
+first_of None = None
+first_of (Some pair) = Some pair.0
+
+abbrev pub second_of : Option Pair → Option (Operation ℕ)
+second_of None = None
+second_of (Some pair) = Some pair.1
+
+abbrev pub by_half : Waiting → Operation ℕ → Made
+by_half Nothing op = nothing
+by_half (Outstanding o) op = nothing
+by_half (Buffered o b) op = record nothing { buffer = first_of (transformed b op); applied = second_of (transformed o op) }
+
+abbrev pub made_by_half : Call → Made
+made_by_half (ApplyClient w op) = nothing
+made_by_half (ApplyServer w op) = by_half w op
+made_by_half (ServerAck revision w) = nothing
+made_by_half (ReceiveOperation revision op concurrent) = nothing
+
+-- ---- no compose: the edit in the buffer's place, or the buffer without it
+
+abbrev pub edit_alone : Waiting → Operation ℕ → Made
+edit_alone Nothing op = nothing
+edit_alone (Outstanding o) op = nothing
+edit_alone (Buffered o b) op = record nothing { buffer = Some op }
+
+abbrev pub made_by_edit_alone : Call → Made
+made_by_edit_alone (ApplyClient w op) = edit_alone w op
+made_by_edit_alone (ApplyServer w op) = nothing
+made_by_edit_alone (ServerAck revision w) = nothing
+made_by_edit_alone (ReceiveOperation revision op concurrent) = nothing
+
+abbrev pub without_edit : Waiting → Made
+without_edit Nothing = nothing
+without_edit (Outstanding o) = nothing
+without_edit (Buffered o b) = record nothing { buffer = Some b }
+
+abbrev pub made_without_edit : Call → Made
+made_without_edit (ApplyClient w op) = without_edit w
+made_without_edit (ApplyServer w op) = nothing
+made_without_edit (ServerAck revision w) = nothing
+made_without_edit (ReceiveOperation revision op concurrent) = nothing

@@ -1,0 +1,27 @@
+//! Calls of the methods of ot.js, with what each is given.
+
+use ot_text::TextOp;
+
+/// The state of a client, with what it waits for.
+#[derive(Drop)]
+pub enum Waiting {
+    /// `Synchronized`: nothing is under way.
+    Nothing,
+    /// `AwaitingConfirm`, with the outstanding operation.
+    Outstanding(TextOp<char>),
+    /// `AwaitingWithBuffer`, with the outstanding operation and the buffer.
+    Buffered(TextOp<char>, TextOp<char>),
+}
+
+/// A call of a method of ot.js. Operations have no tags; revisions are counted in log entries.
+#[derive(Drop)]
+pub enum Call {
+    /// `applyClient` of the client's state: the user's edit.
+    ApplyClient(Waiting, TextOp<char>),
+    /// `applyServer` of the client's state: another's operation, the next one of the log.
+    ApplyServer(Waiting, TextOp<char>),
+    /// `serverAck` of the state of a client at this revision.
+    ServerAck(u32, Waiting),
+    /// `Server.receiveOperation`: the message's revision and operation, and the operations of the log from that revision on, oldest first.
+    ReceiveOperation(u32, TextOp<char>, Vec<TextOp<char>>),
+}

@@ -1,0 +1,177 @@
+//! What is said of a port's first difference.
+
+ghost use Rattle.std.specs.Prelude.{◌≡◌, ◌++◌, ◌≤◌, ◌≢◌, length, IfOk, OnOk, string_bytes};
+ghost use Rattle.std.specs.Option.{option_copied, option_map};
+ghost use Rattle.ot_model.specs.Runs.{opening_of, place_at};
+ghost use Rattle.ot_rules.specs.Call.{call_value};
+ghost use Rattle.ot_rules.specs.Explained as explained;
+ghost use Rattle.ot_rules.specs.Texts as texts;
+
+use crate::call::Call;
+use crate::calling::call_of;
+use crate::field::Field;
+use crate::note::{Asked, Note, first_note, sentence};
+use crate::printing::print_call;
+use crate::text::text_for;
+use ot_isa::{Instr, Schedule};
+use ot_machine::{Machine, Refusal};
+use std::alloc::{AllocError, Global};
+
+/// A value that a port printed where ot.js has another.
+#[derive(Clone, Copy)]
+pub struct Difference<'a> {
+    /// Which value it is.
+    pub field: Field,
+    /// The port's value, as compact JSON; or what is said of it where it has none.
+    pub found: &'a str,
+    /// The value of ot.js, in the same form.
+    pub wanted: &'a str,
+    /// The port printed the operation that the instruction applies to a document, and it is ot.js'.
+    pub printed: bool,
+}
+
+// An instruction was not performed: for want of memory, or it was refused.
+fn only_refused(refusal: Refusal) -> Result<(), AllocError>
+    ensures { OnOk result (refusal ≢ Refusal.Memory) }
+{
+    match refusal {
+        Refusal::Memory => Err(AllocError),
+        _ => Ok(()),
+    }
+}
+
+// The machine at the schedule's opening.
+fn opening(alloc: Global, schedule: &Schedule) -> Result<Machine, AllocError>
+    ensures { IfOk result (λ machine. machine ≡ opening_of schedule.now) }
+{
+    let clients = schedule.clients();
+    Machine::with_present(alloc, clients, schedule.present(), schedule.start())
+}
+
+// The machine in the run of the schedule after so many instructions; none where one of them is refused.
+fn machine_at(
+    alloc: Global,
+    schedule: &Schedule,
+    place: usize,
+) -> Result<Option<Machine>, AllocError>
+    requires { place ≤ length schedule.now.instrs }
+    ensures { IfOk result (λ machine. machine ≡ option_map explained.state_in (place_at schedule.now place)) }
+{
+    let mut machine = opening(alloc, schedule)?;
+    for number in 0..place {
+        let Some(instr) = schedule.get(number) else {
+            unreachable!()
+        };
+        match machine.step(instr) {
+            Ok(_) => {}
+            Err(refusal) => {
+                only_refused(refusal)?;
+                return Ok(None);
+            }
+        }
+    }
+    Ok(Some(machine))
+}
+
+// The line of a note, where there is one.
+fn push_note(text: &mut String, note: Option<Note>, field: Field) -> Result<(), AllocError>
+    ensures { OnOk result (string_bytes text.new ≡ string_bytes text.old ++ explained.note_lines note field) }
+{
+    match note {
+        None => Ok(()),
+        Some(note) => {
+            text.push_str("note ")?;
+            text.push_str(sentence(note, field))?;
+            text.push_str("\n")
+        }
+    }
+}
+
+// The lines of the call, and of the first note that is true.
+fn explain_call(
+    alloc: Global,
+    call: &Call,
+    text: Option<&[char]>,
+    difference: Difference<'_>,
+) -> Result<String, AllocError>
+    ensures { IfOk result (λ lines. explained.IsExplained (explained.asked_over (call_value call.now) (option_copied text.entry) (explained.difference_value difference.entry)) (string_bytes lines)) }
+{
+    let asked = Asked {
+        call,
+        field: difference.field,
+        found: difference.found,
+        wanted: difference.wanted,
+        text,
+        printed: difference.printed,
+    };
+    let note = first_note(alloc, &asked)?;
+    let mut lines = print_call(alloc, call)?;
+    push_note(&mut lines, note, difference.field)?;
+    Ok(lines)
+}
+
+// The letters of a text, if there is one.
+fn letters(text: &Option<Vec<char>>) -> Option<&[char]>
+    ensures { option_copied result ≡ option_map texts.letters text.now }
+{
+    match text {
+        Some(text) => Some(text.as_slice()),
+        None => None,
+    }
+}
+
+// What is said of the instruction, which the machine is before, if it is performed.
+fn explain_step(
+    alloc: Global,
+    schedule: &Schedule,
+    mut machine: Machine,
+    instr: &Instr,
+    difference: Difference<'_>,
+) -> Result<String, AllocError>
+    ensures { IfOk result (λ lines. explained.IsStepExplained schedule.now machine instr.now (explained.difference_value difference.entry) (string_bytes lines)) }
+{
+    let Some(call) = call_of(alloc, &machine, instr)? else {
+        return Ok(String::new(alloc));
+    };
+    let text = text_for(alloc, schedule, &machine, instr, &call, difference.field)?;
+    let lines = explain_call(alloc, &call, letters(&text), difference)?;
+    match machine.step(instr) {
+        Ok(_) => Ok(lines),
+        Err(refusal) => {
+            only_refused(refusal)?;
+            Ok(String::new(alloc))
+        }
+    }
+}
+
+// A rule of ot.js makes the value; the place, the instruction and its client are the schedule's.
+fn has_rule(field: Field) -> bool
+    ensures { result ≡ explained.has_rule field }
+{
+    !matches!(field, Field::Place | Field::Word | Field::Client)
+}
+
+/// The lines that say which rule of ot.js makes the value at the instruction with this number, counted from 0: `rule R`, a line `given NAME V` for each thing
+/// that it is given, and a line `note TEXT` where a note is true of what was found, the first of them. Empty where the instruction is not an edit, a take, a
+/// deliver or an ack that ot.js performs, and for `at`, `do` and `client`, which no rule makes.
+///
+/// The schedule is run again up to that instruction. `Err` is want of memory.
+pub fn explain(
+    alloc: Global,
+    schedule: &Schedule,
+    place: usize,
+    difference: Difference<'_>,
+) -> Result<String, AllocError>
+    ensures { IfOk result (λ lines. explained.Explains schedule.now place (explained.difference_value difference.entry) (string_bytes lines)) }
+{
+    if !has_rule(difference.field) {
+        return Ok(String::new(alloc));
+    }
+    let Some(instr) = schedule.get(place) else {
+        return Ok(String::new(alloc));
+    };
+    match machine_at(alloc, schedule, place)? {
+        Some(machine) => explain_step(alloc, schedule, machine, instr, difference),
+        None => Ok(String::new(alloc)),
+    }
+}

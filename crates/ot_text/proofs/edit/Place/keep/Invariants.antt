@@ -1,0 +1,12 @@
+use Rattle.std.proofs.Common.{◌-◌, length}
+use Rattle.ot_text.specs.Run.{Keep}
+use Rattle.ot_text.specs.Chunks.{lists}
+use Rattle.ot_text.specs.Spots.{step, spot_at}
+use Rattle.ot_text.proofs.Placed.{IsKeeping}
+use Rattle.ot_text.proofs.edit.Place.keep.Given as goal
+
+abbrev pub invariant-loop-ahead : goal.invariant-loop-ahead
+invariant-loop-ahead g l = IsKeeping (lists l.chunks) l.self l.ahead (step (Keep l.count) (spot_at (lists l.chunks) l.initial.self))
+
+abbrev pub decreases-loop-ahead : goal.decreases-loop-ahead
+decreases-loop-ahead g l = length l.chunks - l.self.chunk

@@ -1,0 +1,178 @@
+// Looks whether a change can be made in the chunks where they lie, and makes room in them.
+ghost use Rattle.std.specs.Prelude.{◌≡◌, ◌↔◌, ◌+◌, ◌<◌, ◌≤◌, suc, ◌++◌, ◌∷◌, [], length, take, drop, get_or, map, OnOk, IfOk, IsTrue, vec_capacity};
+ghost use Rattle.ot_text.specs.Run.{Keep, Add, Skip, base_of};
+ghost use Rattle.ot_text.specs.Components.{runs};
+ghost use Rattle.ot_text.specs.Chunks.{lists, joined, IsChunked};
+ghost use Rattle.ot_text.specs.Spots.{Spot, chunks_of, start, step, edited, capacities, HasMore, HaveRoom, behind, IsSurvey, Sees, HasLeft};
+
+use crate::Component;
+use crate::draft::CHUNK;
+use std::alloc::AllocError;
+
+// A spot in the chunks as they will be: how many items its chunk will have before it and has after it, and how many the chunk
+// before that one will have (512 where there is none).
+#[derive(Drop)]
+pub struct Survey {
+    pub chunk: usize,
+    pub done: usize,
+    pub rest: usize,
+    pub before: usize,
+}
+
+impl Survey {
+    // The spot before the first item.
+    fn start<T>(chunks: &[Vec<T>]) -> Survey
+        requires chunked { IsChunked (lists chunks.now) }
+        requires some { 0 < length chunks.now }
+        ensures survey { IsSurvey (lists chunks.now) result }
+        ensures ahead { result.rest + behind (lists chunks.now) result.chunk ≡ length (joined (lists chunks.now)) }
+        ensures spot { Sees (lists chunks.now) result (start (lists chunks.now)) }
+    {
+        Survey {
+            chunk: 0,
+            done: 0,
+            rest: chunks[0].len(),
+            before: CHUNK,
+        }
+    }
+
+    // May the chunk, as it will be, stand after the one before it?
+    fn may_stand<T>(&self, chunks: &[Vec<T>]) -> bool
+        requires { IsSurvey (lists chunks.now) self.now }
+        ensures { IsTrue result ↔ ((0 < self.now.done + self.now.rest) × (512 < self.now.before + (self.now.done + self.now.rest))) }
+    {
+        let size = self.done + self.rest;
+        size > 0 && self.before + size > CHUNK
+    }
+
+    // Goes on to the next chunk. May the chunk that is left stand as it will be?
+    fn leave<T>(&mut self, chunks: &[Vec<T>]) -> bool
+        requires chunked { IsChunked (lists chunks.now) }
+        requires survey { IsSurvey (lists chunks.now) self.old }
+        requires next { suc self.old.chunk < length chunks.now }
+        ensures chunk { self.new.chunk ≡ suc self.old.chunk }
+        ensures survey { IsSurvey (lists chunks.now) self.new }
+        ensures ahead { self.new.rest + behind (lists chunks.now) self.new.chunk ≡ behind (lists chunks.now) self.old.chunk }
+        ensures spot { IsTrue result → HasLeft (lists chunks.now) self.old self.new }
+    {
+        let stands = self.may_stand(chunks);
+        self.before = self.done + self.rest;
+        self.chunk += 1;
+        self.done = 0;
+        self.rest = chunks[self.chunk].len();
+        stands
+    }
+
+    // Goes over items that stay, unless a chunk on the way may not stand.
+    fn keep<T>(&mut self, chunks: &[Vec<T>], count: usize) -> bool
+        requires chunked { IsChunked (lists chunks.now) }
+        requires survey { IsSurvey (lists chunks.now) self.old }
+        requires within { count ≤ self.old.rest + behind (lists chunks.now) self.old.chunk }
+        ensures survey { IsSurvey (lists chunks.now) self.new }
+        ensures ahead { IsTrue result → self.new.rest + behind (lists chunks.now) self.new.chunk + count ≡ self.old.rest + behind (lists chunks.now) self.old.chunk }
+        ensures spot { IsTrue result → (s : Spot T) → Sees (lists chunks.now) self.old s → Sees (lists chunks.now) self.new (step (Keep count) s) }
+    {
+        let mut ahead = count;
+        while ahead > self.rest {
+            ahead -= self.rest;
+            if !self.leave(chunks) {
+                return false;
+            }
+        }
+        self.done += ahead;
+        self.rest -= ahead;
+        true
+    }
+
+    // Goes over items that go, unless a chunk on the way may not stand.
+    fn delete<T>(&mut self, chunks: &[Vec<T>], count: usize) -> bool
+        requires chunked { IsChunked (lists chunks.now) }
+        requires survey { IsSurvey (lists chunks.now) self.old }
+        requires within { count ≤ self.old.rest + behind (lists chunks.now) self.old.chunk }
+        ensures survey { IsSurvey (lists chunks.now) self.new }
+        ensures ahead { IsTrue result → self.new.rest + behind (lists chunks.now) self.new.chunk + count ≡ self.old.rest + behind (lists chunks.now) self.old.chunk }
+        ensures spot { IsTrue result → (s : Spot T) → Sees (lists chunks.now) self.old s → Sees (lists chunks.now) self.new (step (Skip count) s) }
+    {
+        let mut ahead = count;
+        while ahead > self.rest {
+            ahead -= self.rest;
+            self.rest = 0;
+            if !self.leave(chunks) {
+                return false;
+            }
+        }
+        self.rest -= ahead;
+        true
+    }
+
+    // Lets items come, where the chunk can hold them.
+    fn insert<T>(&mut self, chunks: &mut Vec<Vec<T>>, count: usize) -> Result<bool, AllocError>
+        requires survey { IsSurvey (lists chunks.old.items) self.old }
+        ensures same { lists chunks.new.items ≡ lists chunks.old.items }
+        ensures more { HasMore (capacities chunks.old.items) (capacities chunks.new.items) }
+        ensures survey { IsSurvey (lists chunks.old.items) self.new }
+        ensures added { IfOk result (λ fits. IsTrue fits → (self.new ≡ record self.old { done = self.old.done + count })) }
+        ensures room { IfOk result (λ fits. IsTrue fits → self.new.done + self.new.rest ≤ get_or (capacities chunks.new.items) self.old.chunk 0) }
+    {
+        if count > CHUNK - (self.done + self.rest) {
+            return Ok(false);
+        }
+        make_room(&mut chunks[self.chunk], self.done + count + self.rest)?;
+        self.done += count;
+        Ok(true)
+    }
+
+    // May the chunk, as it will be, stand between the one before it and the one after it?
+    fn may_end<T>(&self, chunks: &[Vec<T>]) -> bool
+        requires chunked { IsChunked (lists chunks.now) }
+        requires survey { IsSurvey (lists chunks.now) self.now }
+        ensures { IsTrue result → (s : Spot T) → Sees (lists chunks.now) self.now s → IsChunked (chunks_of s) }
+    {
+        if !self.may_stand(chunks) {
+            return false;
+        }
+        let next = self.chunk + 1;
+        next == chunks.len() || self.done + self.rest + chunks[next].len() > CHUNK
+    }
+}
+
+// Gives the chunk room for `size` items: for twice as many, where that is no more than a chunk may have.
+fn make_room<T>(chunk: &mut Vec<T>, size: usize) -> Result<(), AllocError>
+    requires { size ≤ 512 }
+    ensures items { chunk.new.items ≡ chunk.old.items }
+    ensures more { vec_capacity chunk.old ≤ vec_capacity chunk.new }
+    ensures room { OnOk result (size ≤ vec_capacity chunk.new) }
+{
+    let length = chunk.len();
+    if chunk.capacity() < size {
+        chunk.reserve_exact((size * 2).min(CHUNK) - length)?;
+    }
+    Ok(())
+}
+
+// Can the components be made of the chunks where they lie, so that they are chunks of 1 to 512 items, each two neighbours with
+// more than 512? Makes room for all that comes, so that it can then be made with no memory.
+pub fn survey_components<T>(
+    components: &[Component<T>],
+    chunks: &mut Vec<Vec<T>>,
+) -> Result<bool, AllocError>
+    requires chunked { IsChunked (lists chunks.old.items) }
+    requires some { 0 < length chunks.old.items }
+    requires base { base_of (runs components.now) ≤ length (joined (lists chunks.old.items)) }
+    ensures same { lists chunks.new.items ≡ lists chunks.old.items }
+    ensures chunked { IfOk result (λ fits. IsTrue fits → IsChunked (chunks_of (edited (runs components.now) (start (lists chunks.old.items))))) }
+    ensures room { IfOk result (λ fits. IsTrue fits → HaveRoom (runs components.now) (start (lists chunks.old.items)) (capacities chunks.new.items)) }
+{
+    let mut survey = Survey::start(chunks.as_slice());
+    for component in components {
+        let fits = match component {
+            Component::Retain(count) => survey.keep(chunks.as_slice(), *count),
+            Component::Insert(text) => survey.insert(chunks, text.len())?,
+            Component::Delete(count) => survey.delete(chunks.as_slice(), *count),
+        };
+        if !fits {
+            return Ok(false);
+        }
+    }
+    Ok(survey.may_end(chunks.as_slice()))
+}
