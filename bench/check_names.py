@@ -5,7 +5,9 @@
 
 What stands between backquotes in a document and ends as a file does must be the end of some file's path, and so must a file of
 definitions or proofs that is named without backquotes, as proofs/NAME.antt. Of all other words
-between backquotes in the documents on proofs and definitions, each must stand in a source of the repository.
+between backquotes in the documents on proofs and definitions, each must stand in a source of the repository. The table
+of tests/README.md must have a row for each folder of tests, and must name each crate in some row. And the README says how many
+wrong bodies there are.
 The last line says how many were looked up and how many were not found; the status is 1 where one was not.
 """
 import pathlib
@@ -20,7 +22,7 @@ WORD = re.compile(r"[A-Za-z_][A-Za-z0-9_'-]*")
 # What documents cite of other projects and of the toolchain.
 ELSEWHERE = {"byteorder", "rattle-kit-13b", "logic", "dac8208d650f15bf", "crates", "CRATE-NAME", "my-driver"}
 # What commands of the documents write.
-WRITTEN = {"session.html"}
+WRITTEN = {"session.html", "smaller.html", "smaller.ots"}
 # What stands for a name.
 PLACE = re.compile(r"\b(?:CRATE-NAME|FILE|FUNCTION|NAME)\b")
 
@@ -31,6 +33,22 @@ def sources():
         inside = path.relative_to(TOP)
         if path.is_file() and ".git" not in inside.parts and "out" not in inside.parts:
             yield inside
+
+
+def untried():
+    """Folders of tests that are there or have a row in the table of tests/README.md, but not both; and so with crates that some row names."""
+    rows = re.findall(r"^\| `(\w+)` \| (`[^|]*) \|", (TOP / "tests/README.md").read_text(encoding="utf-8"), re.MULTILINE)
+    there = {path.name for path in (TOP / "tests").iterdir() if path.is_dir()}
+    crates = {line.split(":")[0].split()[0] for line in (TOP / "crates.txt").read_text(encoding="utf-8").splitlines() if line}
+    tried = {crate for row in rows for crate in re.findall(r"`(\w+)`", row[1])}
+    return sorted(there ^ {row[0] for row in rows}) + sorted(crates ^ tried)
+
+
+def wrong_bodies():
+    """How many must-fail edits there are, where the README says another number."""
+    count = len(list(TOP.glob("crates/*/must-fail/*.edit")))
+    said = re.search(r"(\d+) wrong bodies", (TOP / "README.md").read_text(encoding="utf-8"))
+    return None if said and int(said.group(1)) == count else count
 
 
 def main():
@@ -55,6 +73,14 @@ def main():
                 missing += len(unknown)
                 for word in unknown:
                     print(f"{path}:{number}: not found: {word}")
+    for name in untried():
+        print(f"tests/README.md: its table and the folders and crates that are there differ: {name}")
+        looked, missing = looked + 1, missing + 1
+    count = wrong_bodies()
+    if count is not None:
+        missing += 1
+        print(f"README.md: there are {count} wrong bodies")
+    looked += 1
     print(f"names: {looked - missing} passed, {missing} failed")
     return 1 if missing or not looked else 0
 

@@ -18,6 +18,16 @@ COMMANDS = b"%%\nwatch doc 0\nbreak 4\nrun\nrun\nback 2\nshow\nstep 100\nback 10
 # One worker, so that each run makes the same growths; client 1 joins, and a session is parked.
 LATE = b'{"clients":2,"workers":1,"present":1,"typing":[[{"at":0,"insert":"a"}],[{"at":0,"insert":"b"},{"at":1,"delete":1}]]}'
 
+# What ot.js prints over examples/one-client.ots, and a port whose buffer a delivery does not change over examples/weak-order.ots.
+ONE_CLIENT = """{"at":0,"clients":1,"present":1,"start":"𝒳y"}
+{"at":1,"do":"edit","client":0,"edit":[1,"é",1],"revision":0,"state":"awaiting-confirm","outstanding":[1,"é",1],"buffer":null,"document":"𝒳éy"}
+{"at":2,"do":"take","client":0,"revision":1,"appended":[1,"é",1]}
+{"at":3,"do":"ack","client":0,"revision":1,"state":"synchronized"}
+{"at":4,"do":"read","client":0,"document":"𝒳éy"}
+{"at":4,"end":"quiet"}
+""".encode()
+BUFFER_KEPT = b"".join(b'{"at":%d}\n' % at for at in range(1, 7)) + b'{"at":7,"buffer":["a",-1,1]}\n'
+
 
 def cases():
     def text(name):
@@ -31,10 +41,17 @@ def cases():
     yield ["dis"], text("late-join.img")
     yield ["judge"], text("reversed.json")
     yield ["check"], text("weak-order.ots")
+    yield ["steps"], text("late-join.ots")
+    yield ["conform"], text("one-client.ots") + b"%%\n" + ONE_CLIENT
+    yield ["conform"], text("weak-order.ots") + b"%%\n" + BUFFER_KEPT
     yield ["debug"], text("two-clients.ots") + COMMANDS
     yield ["debug"], text("late-join.ots") + COMMANDS
     yield ["threads"], text("two-typists.json")
     yield ["threads"], LATE
+
+# How a subcommand says among its lines that memory was wanting.
+STOP = rb"^stopped at \d+: Memory$"
+SAID = {"run": STOP, "check": STOP, "conform": STOP, "debug": rb"^no memory$", "steps": rb'^\{"at":\d+,"do":.*,"stopped":"Memory"\}$'}
 
 
 def answer(command, given, shim, at):
@@ -57,8 +74,8 @@ def wants_memory(words, whole, got):
     if status != 1 or not re.fullmatch(rb"(otbench: ((line|byte) \d+: )?Memory\n)?", faults):
         return False
     if faults:
-        return whole[1].startswith(out) if words[0] == "debug" else not out
-    said = {"run": rb"^stopped at \d+: Memory$", "check": rb"^stopped at \d+: Memory$", "debug": rb"^no memory$"}.get(words[0])
+        return whole[1].startswith(out) if words[0] in ("debug", "steps") else not out
+    said = SAID.get(words[0])
     found = said and re.search(said, out, re.M)
     return bool(found) and whole[1].startswith(out[:found.start()])
 

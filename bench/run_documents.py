@@ -1,11 +1,12 @@
 #!/usr/bin/env python3
-"""Runs every command that a document shows, and compares what is printed with what the document shows.
+"""Runs every command that a document shows, and compares what is printed with what the document shows; and each example that `--help` gives.
 
     python3 bench/run_documents.py [DOCUMENT ..]
 
 A command is a line `    $ ..` of a document; the lines behind it, as far as they are set in, are what it prints, on the output
 and then on standard error. A line `..` stands for lines that are left out. Commands run in a folder of their own, with copies
 of the examples, and with `./otbench` a link to the repository's. What was built is used as it is where nothing has changed.
+An example of a subcommand's help has to end with status 0. Where documents are named, these alone are looked at.
 The last line says how many there were and how many differed; the status is 1 where one did.
 """
 import pathlib
@@ -54,6 +55,34 @@ def run(command, folder):
     return re.sub(r"\n\Z", "", said).split("\n") if said else []
 
 
+def help_of(words, folder):
+    """What the program's help says, as lines."""
+    ran = subprocess.run(["./otbench", *words, "--help"], cwd=folder, capture_output=True, timeout=600)
+    return ran.stderr.decode("utf-8").split("\n")
+
+
+def examples(folder):
+    """The example that each subcommand's help gives, if it gives one."""
+    lines = help_of([], folder)
+    commands = lines[lines.index("Commands:") + 1:]
+    for name in (line.split()[0] for line in commands[:commands.index("")] if line.split()[0] != "help"):
+        found = [line.split(":", 1)[1].strip() for line in help_of([name], folder) if line.startswith("Example:")]
+        yield name, found[0] if found else None
+
+
+def helps(folder):
+    """How many examples of the help end well, and how many do not."""
+    passed = failed = 0
+    for name, command in examples(folder):
+        ran = command and subprocess.run(["sh", "-c", re.sub(r"\botbench\b", "./otbench", command)], cwd=folder, capture_output=True, timeout=600)
+        if ran and ran.returncode == 0 and not ran.stderr:
+            passed += 1
+            continue
+        failed += 1
+        print(f"otbench {name} --help: {command}: {ran.stderr.decode('utf-8', 'replace') if ran else 'no example'}")
+    return passed, failed
+
+
 def main():
     paths = [pathlib.Path(word).resolve() for word in sys.argv[1:]] or documents()
     passed = failed = 0
@@ -72,6 +101,9 @@ def main():
                 print(f"{path.relative_to(TOP)}:{number}: {command}")
                 print("  shown:   " + "\n           ".join(shown))
                 print("  printed: " + "\n           ".join(printed[:20]))
+        if not sys.argv[1:]:
+            good, bad = helps(folder)
+            passed, failed = passed + good, failed + bad
     print(f"documents: {passed} passed, {failed} failed")
     return 1 if failed or not passed else 0
 

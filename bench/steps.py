@@ -6,7 +6,10 @@
 Writes N (1,000) seeded schedules: one to five clients, some of them late, delayed links, reads, characters that JSON escapes, and now and then an
 instruction that is refused. For each, the lines are folded as docs/FORMATS.md says (with `apply` and nothing else), and at each place what the
 fold has of clients and server is what `otbench debug` shows there; with --documents each document of a line is the fold's. The port's driver (examples/port/driver.js)
-performs the same schedule, and what it prints of each key is what `steps` prints. Ends at the first difference, with the schedule.
+performs the same schedule, and what it prints of each key is what `steps` prints.
+
+`otbench conform` is asked of each schedule too: the lines of `steps` conform, with and without --documents, and so do the driver's; with each fault of examples/port/bugs.js planted in it they conform only where the
+driver's lines are those without the fault; and one line with one value changed is named at its place, with its key. Ends at the first difference, with the schedule.
 """
 import argparse
 import json
@@ -22,6 +25,8 @@ HERE = os.path.dirname(os.path.abspath(__file__))
 TOP = os.path.dirname(HERE)
 LETTERS = ['a', 'b', 'c', ' ', '"', '\\', '\n', '\u0001', 'é', '\U0001d4b3']
 WAITING = ('revision', 'state', 'outstanding', 'buffer')
+FAULTS = ('tie', 'old-revision', 'buffer-kept', 'whole-log', 'order')
+THEIRS = WAITING + ('sent', 'document')
 PRINTED = ('do', 'client', 'edit') + WAITING + ('sent', 'applied', 'appended', 'document', 'end')
 
 
@@ -123,7 +128,100 @@ def output(words, text):
     return done.returncode, done.stdout.decode().split('\n')[:-1]
 
 
-def check(words, text, driver):
+class Port:
+    """The sample port's driver, one process for all schedules."""
+
+    def __init__(self, driver):
+        self.process = subprocess.Popen(['node', os.path.join(HERE, 'drive.js'), driver], stdin=subprocess.PIPE, stdout=subprocess.PIPE, text=True, encoding='utf-8')
+
+    def lines(self, text, short=False, bug=None):
+        self.process.stdin.write(json.dumps({'text': text, 'short': short, 'bug': bug}) + '\n')
+        self.process.stdin.flush()
+        return json.loads(self.process.stdout.readline())
+
+
+def conform(words, text, lines):
+    """Status and lines of the answer to these lines of a port."""
+    return output(words.program.split() + ['conform'], text + '%%\n' + ''.join(line + '\n' for line in lines))
+
+
+def other(r, value):
+    """Another value."""
+    if value is None:
+        return r.choice([0, 'a', [1], {}])
+    if isinstance(value, int):
+        return r.choice([value + 1, None, value + .5, str(value)])
+    if isinstance(value, str):
+        return r.choice([value + 'a', 'b' + value, None, 7, [value]])
+    if isinstance(value, list):
+        return r.choice([value + [1], value + ['a'], None, [value], value[:-1]])
+    return r.choice([None, 'a', [], 1])
+
+
+def whose(line):
+    if 'do' not in line:
+        return 'end' if 'end' in line else 'opening'
+    return '%s %d' % (line['do'], line['client']) if 'client' in line else line['do']
+
+
+def called(line, key):
+    """How a value of a line is called."""
+    name = key if isinstance(key, str) else ' '.join(key)
+    if 'do' not in line or (key if isinstance(key, str) else key[0]) not in THEIRS:
+        return name
+    return ('server ' if line['do'] in ('take', 'read-server') else 'client %d ' % line['client']) + name
+
+
+def changed(r, lines):
+    """One of the lines with one value changed, and the first line of the answer to it."""
+    n = r.randrange(len(lines))
+    line = json.loads(lines[n])
+    keys = [key for key in line if key != 'stopped' and (key != 'at' or n > 0) and not ('stopped' in line and key in ('do', 'edit', 'client'))]
+    if isinstance(line.get('sent'), dict):
+        keys += [('sent', 'revision'), ('sent', 'operation')]
+    key = r.choice(keys)
+    place, name = json.loads(lines[n])['at'], called(line, key)
+    if isinstance(key, str):
+        line[key] = other(r, line[key])
+    else:
+        line['sent'] = dict(line['sent'], **{key[1]: other(r, line['sent'][key[1]])})
+    what = whose(json.loads(lines[n]))
+    if key == 'at' and not (isinstance(line['at'], int) and line['at'] >= 0):
+        name = 'line'
+    return lines[:n] + [json.dumps(line, ensure_ascii=False)] + lines[n + 1:], 'differs at %d: %s: %s' % (place, what, name)
+
+
+def check_conform(words, text, port, r):
+    """What `conform` answers; how many faults it named, and whether a value was changed."""
+    for flags in ([], ['--documents']):
+        status, lines = output(words.program.split() + ['steps'] + flags, text)
+        said = conform(words, text, lines)
+        assert said[0] == 0 and said[1][0] == 'conforms', said
+    if not port:
+        return 0
+    right = port.lines(text)
+    said = conform(words, text, right)
+    assert said[0] == 0 and said[1][0] == 'conforms', said
+    lines, first = changed(r, right)
+    said = conform(words, text, lines)
+    assert said[0] == 1 and said[1][0] == first, (first, said)
+    named = 0
+    for fault in FAULTS:
+        lines = port.lines(text, bug=fault)
+        status, said = conform(words, text, lines)
+        same = [without_words(line) for line in lines] == [without_words(line) for line in right]
+        assert (status == 0) == (said[0] == 'conforms') == same, (fault, said)
+        named += not same
+    return named
+
+
+def without_words(line):
+    """A line without what its port says where it stops."""
+    line = json.loads(line)
+    return dict(line, stopped=True) if 'stopped' in line else line
+
+
+def check(words, text, port):
     status, raw = output(words.program.split() + ['steps'], text)
     lines = [json.loads(line) for line in raw]
     for line, written in zip(lines, raw):
@@ -141,14 +239,14 @@ def check(words, text, driver):
             line = json.loads(with_documents[p])
             mover = fold.document if line['do'] in ('take', 'read-server') else fold.clients[line['client']]['document']
             assert line['document'] == mover, (p, line)
-    if driver:
-        _, port = output(['node', driver, '--short'], text)
-        assert len(port) == len(lines), (len(port), len(lines))
-        for line, other in zip(lines, map(json.loads, port)):
-            assert ('stopped' in line) == ('stopped' in other), (line, other)
+    if port:
+        printed = port.lines(text, short=True)
+        assert len(printed) == len(lines), (len(printed), len(lines))
+        for line, found in zip(lines, map(json.loads, printed)):
+            assert ('stopped' in line) == ('stopped' in found), (line, found)
             for key in PRINTED:
                 if key in line or 'do' in line and 'stopped' not in line and key in WAITING and not line['do'].startswith('read') and line['do'] != 'take':
-                    assert line.get(key) == other.get(key), (key, line, other)
+                    assert line.get(key) == found.get(key), (key, line, found)
     return places
 
 
@@ -160,17 +258,20 @@ def main():
     words.add_argument('--debugger', default=os.path.join(TOP, 'otbench'))
     words.add_argument('--port', default=os.path.join(TOP, 'examples', 'port', 'driver.js'))
     words = words.parse_args()
-    driver = words.port if shutil.which('node') and os.path.exists(words.port) else None
-    states = 0
+    port = Port(words.port) if shutil.which('node') and os.path.exists(words.port) else None
+    states, named = 0, 0
     for seed in range(words.seed, words.seed + words.count):
         text = schedule(random.Random(seed))
         try:
-            states += check(words, text, driver) + 1
+            states += check(words, text, port) + 1
+            named += check_conform(words, text, port, random.Random(-seed))
         except AssertionError:
             print(text, end='')
             print('seed %d differs' % seed)
             raise
-    print('%d schedules, %d states: the fold is what the debugger shows%s' % (words.count, states, ', and the lines are those of the port' if driver else '; no port'))
+    print('%d schedules, %d states: the fold is what the debugger shows, and the lines of steps conform' % (words.count, states))
+    if port:
+        print('the lines are those of the port, which conforms; with a value changed it is named %d times, with a fault planted %d of %d times' % (words.count, named, words.count * len(FAULTS)))
 
 
 if __name__ == '__main__':

@@ -1,4 +1,6 @@
 """Schedules, and the sessions made at random."""
+import collections
+import unicodedata
 import unittest
 
 from paths import KIT
@@ -35,6 +37,40 @@ class Fitting(unittest.TestCase):
             self.assertEqual(fitted(edit, length), fits)
 
 
+def changes(operation):
+    """Where an operation inserts, and which characters it deletes, over the document that it is of."""
+    at, inserts, deleted = 0, set(), set()
+    for component in operation:
+        if isinstance(component, str):
+            inserts.add(at)
+        elif component < 0:
+            deleted.update(range(at, at - component))
+        at += 0 if isinstance(component, str) else abs(component)
+    return inserts, deleted
+
+
+def happenings(simulator, instruction):
+    """What breaks ports and is about to happen."""
+    word, client = instruction.word, instruction.client
+    if word == "edit":
+        length = simulator.length[client]
+        if length == 0:
+            yield "empty document"
+        if length > 1 and instruction.edit == (-length,):
+            yield "whole deletion"
+        if simulator.buffer[client] is not None:
+            yield "composed into a buffer"
+    if word == "deliver":
+        if len(simulator.log) - simulator.revision[client] > 4:
+            yield "far behind"
+        if simulator.outstanding[client] is not None:
+            own, other = changes(simulator.outstanding[client]), changes(simulator.log[simulator.revision[client]][1])
+            if own[0] & other[0]:
+                yield "against a text at its place"
+            if own[1] & other[1]:
+                yield "against a deletion"
+
+
 class AtRandom(unittest.TestCase):
     def perform(self, schedule):
         simulator = Simulator(schedule)
@@ -67,12 +103,24 @@ class AtRandom(unittest.TestCase):
     def test_what_breaks_ports_is_there(self):
         sessions = [generated(seed, 4, 60) for seed in range(40)]
         edits = [instruction.edit for session in sessions for instruction in session.instructions if instruction.word == "edit"]
+        characters = {character for edit in edits for component in edit if isinstance(component, str) for character in component}
         self.assertTrue(any(session.present < session.clients for session in sessions))
         self.assertTrue(any(not session.start for session in sessions))
-        self.assertTrue(any(len(edit) == 1 and not isinstance(edit[0], str) and edit[0] < -1 for edit in edits))
         self.assertTrue(any(len(edit) == 1 and not isinstance(edit[0], str) and edit[0] > 0 for edit in edits))
         self.assertTrue(any(len(edit) > 4 for edit in edits))
-        self.assertTrue(any(isinstance(component, str) and max(component) > "\uffff" for edit in edits for component in edit))
+        self.assertTrue(any(character > "\uffff" for character in characters))
+        self.assertTrue(any(unicodedata.combining(character) for character in characters))
+
+    def test_what_breaks_ports_happens(self):
+        seen = collections.Counter()
+        for seed in range(40):
+            schedule = generated(seed, 4, 60)
+            simulator = Simulator(schedule)
+            for instruction in schedule.instructions:
+                seen.update(happenings(simulator, instruction))
+                simulator.perform(instruction)
+        for what in ("whole deletion", "empty document", "composed into a buffer", "far behind", "against a deletion", "against a text at its place"):
+            self.assertGreater(seen[what], 10, what)
 
 
 if __name__ == "__main__":

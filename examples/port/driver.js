@@ -1,7 +1,7 @@
 #!/usr/bin/env node
 /*
  * The driver of a port: reads a schedule, performs it on the port, and prints a line of JSON for each instruction, as
- * `otbench steps` does. `first_difference.js` compares the two.
+ * `otbench steps` does. `otbench conform` compares the two.
  *
  *     (cat session.ots; echo %%; node driver.js < session.ots) | otbench view > session.html
  *

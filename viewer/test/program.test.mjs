@@ -54,7 +54,7 @@ test("the lines of steps are those of the driver", skipWithout("steps"), () => {
   }
 });
 
-test("ot.js and recorded sessions of it conform", process.env.OTBENCH ? skipWithout("conform") : { skip: "asked for by OTBENCH, the program" }, () => {
+test("ot.js and recorded sessions of it conform", skipWithout("conform"), () => {
   for (const schedule of schedules())
     assert.match(call("conform", `${schedule}\n%%\n${portLinesOf(schedule).join("\n")}\n`), /^conforms\n/);
   for (const kind of [{ clients: 5, late: 2 }, { wrapped: true }, { middle: true }, { cut: true }]) {
@@ -63,19 +63,35 @@ test("ot.js and recorded sessions of it conform", process.env.OTBENCH ? skipWith
   }
 });
 
-/* The first lines of what conform says of each fault, over examples/weak-order.ots. */
-const ANSWERS = {
-  tie: ["differs at 7: deliver 0: client 0 buffer", 'found [1,"a",-1,1]', 'ot.js ["a",1,-1,1]'],
-  "old-revision": ["differs at 8: ack 0: client 0 sent revision", "found 1", "ot.js 2"],
-  "buffer-kept": ["differs at 7: deliver 0: client 0 buffer", 'found ["a",-1,1]', 'ot.js ["a",1,-1,1]'],
-  "whole-log": ["differs at 9: take 0: stopped", 'found "Both operations have to have the same base length"', "ot.js performed"],
-  order: ["differs at 3: edit 0: client 0 buffer", 'found [-1,"a",1]', 'ot.js ["a",-1,1]'],
-};
+/* What conform says of each fault: over examples/weak-order.ots, and where that is said over another session. */
+const DELIVERED = ["rule AwaitingWithBuffer.applyServer", 'given outstanding [1,"z"]', 'given buffer ["a",-1,1]', 'given operation ["c",1]'];
+const BEFORE = "note that is the revision before this acknowledgement";
+const ANSWERS = [
+  ["tie", "weak-order", ["differs at 7: deliver 0: client 0 buffer", 'found [1,"a",-1,1]', 'ot.js ["a",1,-1,1]', ...DELIVERED, "note that is what transform gives if the text of its second argument goes first"]],
+  ["old-revision", "weak-order", ["differs at 8: ack 0: client 0 sent revision", "found 1", "ot.js 2", "rule AwaitingWithBuffer.serverAck", "given revision 1", 'given outstanding [2,"z"]', 'given buffer ["a",1,-1,1]', BEFORE]],
+  ["old-revision", "buffer", ["differs at 5: ack 0: client 0 sent revision", "found 0", "ot.js 1", "rule AwaitingWithBuffer.serverAck", "given revision 0", 'given outstanding [2,"c"]', "given buffer [3]", BEFORE]],
+  ["buffer-kept", "weak-order", ["differs at 7: deliver 0: client 0 buffer", 'found ["a",-1,1]', 'ot.js ["a",1,-1,1]', ...DELIVERED, "note that is the buffer as it was, not transformed"]],
+  ["whole-log", "weak-order", ["differs at 9: take 0: stopped", 'found "Both operations have to have the same base length"', "ot.js performed", "rule Server.receiveOperation", "given revision 2", 'given operation ["a",1,-1,1]']],
+  [
+    "order",
+    "weak-order",
+    [
+      "differs at 3: edit 0: client 0 buffer",
+      'found [-1,"a",1]',
+      'ot.js ["a",-1,1]',
+      "rule AwaitingWithBuffer.applyClient",
+      'given outstanding [1,"z"]',
+      'given buffer [1,"a",1]',
+      "given operation [-1,2]",
+      "note the same effect in another form: ot.js keeps an insertion before a deletion and merges neighbours",
+    ],
+  ],
+];
 
-test("what conform says of each of the five faults", process.env.OTBENCH ? skipWithout("conform") : { skip: "asked for by OTBENCH, the program" }, () => {
-  for (const [name, answer] of Object.entries(ANSWERS)) {
-    const lines = portLinesOf(example("weak-order"), bugs[name]);
-    const said = call("conform", `${example("weak-order")}%%\n${lines.join("\n")}\n`);
-    assert.deepEqual(said.split("\n").slice(0, 3), answer, name);
+test("what conform says of each of the five faults", skipWithout("conform"), () => {
+  for (const [name, session, answer] of ANSWERS) {
+    const lines = portLinesOf(example(session), bugs[name]);
+    const said = call("conform", `${example(session)}%%\n${lines.join("\n")}\n`);
+    assert.equal(said, `${answer.join("\n")}\n`, name);
   }
 });

@@ -12,8 +12,8 @@ use Rattle.ot_text.specs.Run.{Run, base_of, image_from, operation_of, IsNormal, 
 use Rattle.ot_algebra.specs.Cursor.{appended, target_of, skipped, skipped_made, runs_from, runs_left, span_of, made_of, keeps_of, composed_part}
 use Rattle.ot_text.specs.Components.{run_of}
 use Rattle.ot_algebra.specs.declared.cursor.Cursor.{Cursor}
-use Rattle.ot_algebra.specs.declared.cursor.Head.{Head}
-use Rattle.ot_algebra.specs.declared.cursor.Head.TheVariants.{Retain as RetainHead, Insert as InsertHead, Delete as DeleteHead, End}
+use Rattle.ot_algebra.specs.declared.cursor.Front.{Front}
+use Rattle.ot_algebra.specs.declared.cursor.Front.TheVariants.{Retain as RetainHead, Insert as InsertHead, Delete as DeleteHead, End}
 use Rattle.ot_algebra.proofs.RunLengths.{length-image_from}
 use Rattle.ot_algebra.proofs.ComposeLaws.{length-compose}
 use Rattle.ot_text.proofs.Lists.{StandsAt, StandsAt-tail}
@@ -328,7 +328,7 @@ module _ {A : Type 0} (a b built : Operation A) (count : ℕ) (xs ys : List (Run
 -- the arms of the loop
 
 pub compose_part :
-    {A : Type 0} (a b built : Operation A) (count : ℕ) → 0 < count → (h k : Head A) (xs ys : List (Run A))
+    {A : Type 0} (a b built : Operation A) (count : ℕ) → 0 < count → (h k : Front A) (xs ys : List (Run A))
     → count ≤ made_of h → count ≤ span_of k → ComposeProgress a b built (runs_from h xs) (runs_from k ys)
     → ComposeProgress a b (composed_part built h (keeps_of k) count) (skipped_made count (runs_from h xs)) (skipped count (runs_from k ys))
 compose_part a b built count some (RetainHead m) (RetainHead n) xs ys in_first in_second w = retain_retain a b built count xs ys m n in_first in_second w
@@ -350,7 +350,7 @@ compose_done a b built w =
 
 -- one side is used up
 pub compose_end :
-    {A : Type 0} (a b built : Operation A) (h k : Head A) (xs ys : List (Run A))
+    {A : Type 0} (a b built : Operation A) (h k : Front A) (xs ys : List (Run A))
     → ((count : ℕ) → h ≡ DeleteHead count → ⊥) → ((text : Bor (List A)) → k ≡ InsertHead text → ⊥)
     → min (made_of h) (span_of k) ≡ 0 → ComposeProgress a b built (runs_from h xs) (runs_from k ys) → built ≡ compose a b
 compose_end a b built End End xs ys not_h not_k none w = compose_done a b built w
@@ -369,7 +369,7 @@ compose_end a b built (InsertHead text) (DeleteHead n) xs ys not_h not_k none w 
 
 -- the first's runs fall too
 pub size_skipped_made :
-    {A : Type 0} (count : ℕ) → 0 < count → (h : Head A) (xs : List (Run A)) → count ≤ made_of h
+    {A : Type 0} (count : ℕ) → 0 < count → (h : Front A) (xs : List (Run A)) → count ≤ made_of h
     → runs_size (skipped_made count (runs_from h xs)) + count ≡ runs_size (runs_from h xs)
 size_skipped_made count some (RetainHead m) xs within = runs_size-skipped_retain count m xs within
 size_skipped_made {A} count some (InsertHead text) xs within = by (length text.now - count) (omega arith)
@@ -448,7 +448,7 @@ small_insert a b built xs at text bounds head_is w =
     (subst (λ head. ComposeProgress a b built xs (runs_from head (map run_of at.rest.now))) head_is w))
 
 pub small_composed :
-    {A : Type 0} (a b built : Operation A) (count : ℕ) → ComposeBounds a b → 0 < count → (h k : Head A) (xs ys : List (Run A))
+    {A : Type 0} (a b built : Operation A) (count : ℕ) → ComposeBounds a b → 0 < count → (h k : Front A) (xs ys : List (Run A))
     → count ≤ made_of h → count ≤ span_of k → ComposeProgress a b built (runs_from h xs) (runs_from k ys)
     → IsTooLong (composed_part built h (keeps_of k) count) → ⊥
 small_composed a b built count bounds some h k xs ys in_first in_second w =

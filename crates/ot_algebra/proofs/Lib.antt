@@ -14,5 +14,6 @@ pub mod RunLengths
 pub mod SkippedLaws
 pub mod TransformProgress
 pub mod TransformArms
+pub mod PartLeft
 pub mod ComposeProgress
 pub mod Examples

@@ -7,15 +7,15 @@ use Rattle.ot_algebra.specs.Merge.{first_after, second_after}
 use Rattle.ot_text.specs.Run.{Run, Keep, Add, Skip, operation_of}
 use Rattle.ot_algebra.specs.Cursor.{appended, skipped, runs_left, runs_from, span_of, keeps_of, transformed_part}
 use Rattle.ot_text.specs.Components.{run_of}
-use Rattle.ot_algebra.specs.declared.cursor.Head.{Head}
-use Rattle.ot_algebra.specs.declared.cursor.Head.TheVariants.{Retain as RetainHead, Insert as InsertHead, Delete as DeleteHead, End}
+use Rattle.ot_algebra.specs.declared.cursor.Front.{Front}
+use Rattle.ot_algebra.specs.declared.cursor.Front.TheVariants.{Retain as RetainHead, Insert as InsertHead, Delete as DeleteHead, End}
 use Rattle.ot_algebra.proofs.RunSlots.{StartsOtherwise}
 use Rattle.ot_algebra.proofs.SkippedLaws.{runs_size, runs_size-skipped_retain, runs_size-skipped_delete}
 use Rattle.ot_text.proofs.OperationLaws.{is_operation}
 use Rattle.ot_algebra.proofs.TransformProgress.{progress_small, Progress, progress_insert_first, progress_insert_second, progress_both_stay, progress_first_goes, progress_second_goes, progress_both_go, progress_end_first, progress_end_second}
 
 pub arm_part :
-    {A : Type 0} (a b first second : Operation A) (count : ℕ) → 0 < count → (h k : Head A) (xs ys : List (Run A))
+    {A : Type 0} (a b first second : Operation A) (count : ℕ) → 0 < count → (h k : Front A) (xs ys : List (Run A))
     → count ≤ span_of h → count ≤ span_of k → Progress a b first second (runs_from h xs) (runs_from k ys)
     → Progress a b (transformed_part first (keeps_of h) (keeps_of k) count) (transformed_part second (keeps_of k) (keeps_of h) count)
     (skipped count (runs_from h xs)) (skipped count (runs_from k ys))
@@ -30,8 +30,8 @@ arm_part a b first second count some (RetainHead m) End xs ys in_first in_second
 arm_part a b first second count some (DeleteHead m) (InsertHead text) xs ys in_first in_second w = absurd (omega (arith, in_second, some))
 arm_part a b first second count some (DeleteHead m) End xs ys in_first in_second w = absurd (omega (arith, in_second, some))
 
-otherwise_of :
-    {A : Type 0} (h : Head A) (xs : List (Run A)) → ((text : Bor (List A)) → h ≡ InsertHead text → ⊥) → StartsOtherwise (runs_from h xs)
+pub otherwise_of :
+    {A : Type 0} (h : Front A) (xs : List (Run A)) → ((text : Bor (List A)) → h ≡ InsertHead text → ⊥) → StartsOtherwise (runs_from h xs)
 otherwise_of (RetainHead m) xs not_insert = tt
 otherwise_of (InsertHead text) xs not_insert = absurd (not_insert text refl)
 otherwise_of (DeleteHead m) xs not_insert = tt
@@ -62,7 +62,7 @@ arm_insert_second a b first second first_next second_next other at next text not
 
 -- one side is used up
 pub arm_end :
-    {A : Type 0} (a b first second : Operation A) (h k : Head A) (xs ys : List (Run A))
+    {A : Type 0} (a b first second : Operation A) (h k : Front A) (xs ys : List (Run A))
     → ((text : Bor (List A)) → h ≡ InsertHead text → ⊥) → ((text : Bor (List A)) → k ≡ InsertHead text → ⊥)
     → min (span_of h) (span_of k) ≡ 0 → Progress a b first second (runs_from h xs) (runs_from k ys)
     → (first ≡ first_after a b) × (second ≡ second_after a b)
@@ -80,7 +80,7 @@ arm_end a b first second (DeleteHead m) (RetainHead n) xs ys not_h not_k none w 
 arm_end a b first second (DeleteHead m) (DeleteHead n) xs ys not_h not_k none w = absurd (omega (arith, none, w.first_normal.0, w.second_normal.0))
 
 pub size_skipped :
-    {A : Type 0} (count : ℕ) → 0 < count → (h : Head A) (xs : List (Run A)) → count ≤ span_of h
+    {A : Type 0} (count : ℕ) → 0 < count → (h : Front A) (xs : List (Run A)) → count ≤ span_of h
     → runs_size (skipped count (runs_from h xs)) + count ≡ runs_size (runs_from h xs)
 size_skipped count some (RetainHead m) xs within = runs_size-skipped_retain count m xs within
 size_skipped count some (InsertHead text) xs within = absurd (omega (arith, within, some))
@@ -95,7 +95,7 @@ pub record Whole {A : Type 0} (a b : Operation A) : Type 0 where
   pub same : a.base ≡ b.base
   pub fits : a.base + length (news a.image) + length (news b.image) ≤ 1000000
 
-small :
+pub small :
     {A : Type 0} (a b first second : Operation A) (xs ys : List (Run A)) → Whole a b → Progress a b first second xs ys
     → (IsTooLong first → ⊥) × (IsTooLong second → ⊥)
 small a b first second xs ys whole w =
@@ -125,7 +125,7 @@ small_insert_second a b first second other at text whole not_insert head_is w =
     (subst (λ head. Progress a b first second (runs_left other) (runs_from head (map run_of at.rest.now))) head_is w))
 
 pub small_part :
-    {A : Type 0} (a b first second : Operation A) (count : ℕ) → Whole a b → 0 < count → (h k : Head A) (xs ys : List (Run A))
+    {A : Type 0} (a b first second : Operation A) (count : ℕ) → Whole a b → 0 < count → (h k : Front A) (xs ys : List (Run A))
     → count ≤ span_of h → count ≤ span_of k → Progress a b first second (runs_from h xs) (runs_from k ys)
     → (IsTooLong (transformed_part first (keeps_of h) (keeps_of k) count) → ⊥) × (IsTooLong (transformed_part second (keeps_of k) (keeps_of h) count) → ⊥)
 small_part a b first second count whole some h k xs ys in_first in_second w =

@@ -1,10 +1,12 @@
-// Two operations, one after the other, as one.
+//! Two operations, one after the other, as one.
+
 ghost use Rattle.std.specs.Prelude.{◌≡◌, ◌≤◌, IfOk, OnOk, Bool, length};
 ghost use Rattle.ot_text.specs.Operation.{IsTooLong};
 ghost use Rattle.ot_algebra.specs.Compose.{compose as composition};
 ghost use Rattle.ot_algebra.specs.Cursor.{composed_part, made_of};
 
-use crate::cursor::{self, Head};
+use crate::cursor::{self, Front};
+use crate::transformation::SPLIT;
 use ot_text::{Element, TextOp, only_memory};
 use std::alloc::{AllocError, Global};
 
@@ -24,14 +26,14 @@ pub fn compose<T: Element>(
 {
     let mut at_a = cursor::start(a.components());
     let mut at_b = cursor::start(b.components());
-    let mut built = TextOp::with_capacity(alloc, a.components().len())?;
+    let mut built = TextOp::with_capacity(alloc, a.components().len().saturating_add(SPLIT))?;
     loop {
-        if let Head::Delete(count) = at_a.head {
+        if let Front::Delete(count) = at_a.head {
             only_memory(built.delete(count))?;
             at_a = cursor::next(at_a);
             continue;
         }
-        if let Head::Insert(text) = at_b.head {
+        if let Front::Insert(text) = at_b.head {
             only_memory(built.insert(text))?;
             at_b = cursor::next(at_b);
             continue;
@@ -49,7 +51,7 @@ pub fn compose<T: Element>(
 // Adds `count` elements of what the first operation makes, which the second keeps or deletes.
 fn add_part<T: Element>(
     built: &mut TextOp<T>,
-    head: Head<'_, T>,
+    head: Front<'_, T>,
     keeps: bool,
     count: usize,
 ) -> Result<(), AllocError>
@@ -58,9 +60,9 @@ fn add_part<T: Element>(
     ensures { OnOk result (built.new ≡ composed_part built.old head.entry keeps count) }
 {
     match head {
-        Head::Retain(_) if keeps => only_memory(built.retain(count)),
-        Head::Retain(_) => only_memory(built.delete(count)),
-        Head::Insert(text) if keeps => only_memory(built.insert(&text[..count])),
+        Front::Retain(_) if keeps => only_memory(built.retain(count)),
+        Front::Retain(_) => only_memory(built.delete(count)),
+        Front::Insert(text) if keeps => only_memory(built.insert(&text[..count])),
         _ => Ok(()),
     }
 }

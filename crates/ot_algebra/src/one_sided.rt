@@ -1,48 +1,61 @@
-// One operation after another, where what the other becomes is not wanted.
+//! One operation after another, where what the other becomes is not wanted.
+
 ghost use Rattle.std.specs.Prelude.{◌≡◌, ◌+◌, ◌≤◌, length, IfOk};
 ghost use Rattle.ot_text.specs.Operation.{news};
 ghost use Rattle.ot_algebra.specs.Merge.{first_after};
+ghost use Rattle.ot_text.specs.declared.TheConstants.{LIMIT};
 
-use crate::cursor::{self, Head};
-use crate::transformation::add_part;
-use ot_text::{Element, TextOp, only_memory};
-use std::alloc::{AllocError, Global};
+use crate::cursor::{self, Front};
+use crate::transformation::{SPLIT, add_part};
+use ot_text::{Component, Element, TextOp, only_memory};
+use std::alloc::AllocError;
 
-/// What `a` becomes after `b`: the first result of `transform`, under its conditions and at half its cost, as a server
-/// needs it that carries an operation over its log.
+/// What `a` becomes after `b`: the first result of `transform`, under its conditions, for an `a` that is no longer wanted, as a
+/// server needs it that carries an operation over its log. The texts of `a` move; no text is copied but one that is joined with
+/// another, and each component of both costs a step.
 ///
-/// `Err` comes only where memory was refused; `a` and `b` are only read.
-pub fn transform_first<T: Element>(
-    alloc: Global,
-    a: &TextOp<T>,
-    b: &TextOp<T>,
-) -> Result<TextOp<T>, AllocError>
-    requires same_base { a.now.base ≡ b.now.base }
-    requires fits { a.now.base + length (news a.now.image) + length (news b.now.image) ≤ 1000000 }
-    ensures { IfOk result (λ op. op ≡ first_after a.now b.now) }
+/// `Err` comes only where memory was refused, and `a` is gone then; `b` is only read.
+pub fn transform_first<T: Element>(a: TextOp<T>, b: &TextOp<T>) -> Result<TextOp<T>, AllocError>
+    requires same_base { a.base ≡ b.now.base }
+    requires fits { a.base + length (news a.image) + length (news b.now.image) ≤ LIMIT }
+    ensures { IfOk result (λ op. op ≡ first_after a b.now) }
 {
-    let mut at_a = cursor::start(a.components());
+    let room = a.components().len().saturating_add(SPLIT);
+    let mut first = TextOp::with_capacity(a.allocator(), room)?;
     let mut at_b = cursor::start(b.components());
-    let mut first = TextOp::with_capacity(alloc, a.components().len())?;
+    let mut parts = a.into_components().into_iter();
+    // What is left of a part of `a`: it keeps or deletes so many elements.
+    let mut keeps = true;
+    let mut ahead = 0;
     loop {
-        if let Head::Insert(text) = at_a.head {
-            only_memory(first.insert(text))?;
-            at_a = cursor::next(at_a);
+        if ahead == 0 {
+            match parts.next() {
+                Some(Component::Retain(count)) => {
+                    keeps = true;
+                    ahead = count;
+                }
+                Some(Component::Insert(text)) => only_memory(first.insert_vec(text))?,
+                Some(Component::Delete(count)) => {
+                    keeps = false;
+                    ahead = count;
+                }
+                None => {
+                    if let Front::Insert(text) = at_b.head {
+                        only_memory(first.retain(text.len()))?;
+                    }
+                    return Ok(first);
+                }
+            }
             continue;
         }
-        if let Head::Insert(text) = at_b.head {
+        if let Front::Insert(text) = at_b.head {
             only_memory(first.retain(text.len()))?;
             at_b = cursor::next(at_b);
             continue;
         }
-        let count = cursor::span(at_a.head).min(cursor::span(at_b.head));
-        if count == 0 {
-            return Ok(first);
-        }
-        let keeps_a = cursor::keeps(at_a.head);
-        let keeps_b = cursor::keeps(at_b.head);
-        add_part(&mut first, keeps_a, keeps_b, count)?;
-        at_a = cursor::skip(at_a, count);
+        let count = ahead.min(cursor::span(at_b.head));
+        add_part(&mut first, keeps, cursor::keeps(at_b.head), count)?;
         at_b = cursor::skip(at_b, count);
+        ahead -= count;
     }
 }

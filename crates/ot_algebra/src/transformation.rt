@@ -1,13 +1,18 @@
-// Two operations on one document, each after the other.
+//! Two operations on one document, each after the other.
+
 ghost use Rattle.std.specs.Prelude.{◌≡◌, ◌+◌, ◌≤◌, length, IfOk, OnOk};
 ghost use Rattle.ot_text.specs.Operation.{IsTooLong, news};
 ghost use Rattle.ot_algebra.specs.Compose.{compose};
 ghost use Rattle.ot_algebra.specs.Merge.{first_after, second_after};
 ghost use Rattle.ot_algebra.specs.Cursor.{transformed_part};
+ghost use Rattle.ot_text.specs.declared.TheConstants.{LIMIT};
 
-use crate::cursor::{self, Head};
+use crate::cursor::{self, Front};
 use ot_text::{Element, TextOp, only_memory};
 use std::alloc::{AllocError, Global};
+
+/// How many components an operation gains, mostly, by another one: one edit at one place splits one of them in three.
+pub(crate) const SPLIT: usize = 2;
 
 /// What `a` becomes after `b`, and what `b` becomes after `a` (`transform` of ot.js' `TextOperation`): `a` and then the
 /// second result make the same document as `b` and then the first.
@@ -23,21 +28,21 @@ pub fn transform<T: Element>(
     b: &TextOp<T>,
 ) -> Result<(TextOp<T>, TextOp<T>), AllocError>
     requires same_base { a.now.base ≡ b.now.base }
-    requires fits { a.now.base + length (news a.now.image) + length (news b.now.image) ≤ 1000000 }
+    requires fits { a.now.base + length (news a.now.image) + length (news b.now.image) ≤ LIMIT }
     ensures { IfOk result (λ pair. pair ≡ (first_after a.now b.now, second_after a.now b.now)) }
 {
     let mut at_a = cursor::start(a.components());
     let mut at_b = cursor::start(b.components());
-    let mut first = TextOp::with_capacity(alloc, a.components().len())?;
-    let mut second = TextOp::with_capacity(alloc, b.components().len())?;
+    let mut first = TextOp::with_capacity(alloc, a.components().len().saturating_add(SPLIT))?;
+    let mut second = TextOp::with_capacity(alloc, b.components().len().saturating_add(SPLIT))?;
     loop {
-        if let Head::Insert(text) = at_a.head {
+        if let Front::Insert(text) = at_a.head {
             only_memory(first.insert(text))?;
             only_memory(second.retain(text.len()))?;
             at_a = cursor::next(at_a);
             continue;
         }
-        if let Head::Insert(text) = at_b.head {
+        if let Front::Insert(text) = at_b.head {
             only_memory(first.retain(text.len()))?;
             only_memory(second.insert(text))?;
             at_b = cursor::next(at_b);

@@ -5,7 +5,7 @@ use Rattle.std.specs.Io.KnownBytes.{prepend_known}
 use Rattle.line_reader.specs.Lines.{lines_of}
 use Rattle.line_reader.specs.Taken.{TakesLine, Spends, LosesPiece}
 use Rattle.ot_isa.specs.Program.{Program}
-use Rattle.ot_asm.specs.Stepping.{Draft, line_step, ended, outcome_of_lines, IsFaultlessBefore, HidesOnlyJson, WantsMemoryIn}
+use Rattle.ot_asm.specs.Stepping.{BodyView, line_step, ended, outcome_of_lines, IsFaultlessBefore, HidesOnlyJson, WantsMemoryIn}
 use Rattle.ot_asm.specs.Words.{trimmed, first_word, keyword_of}
 use Rattle.ot_asm.specs.Parts.{is_mark, lines_before, TakesPart, StopsIn}
 use Rattle.ot_asm.specs.declared.fault.Kind.{Kind}
@@ -14,7 +14,7 @@ use Rattle.ot_asm.specs.declared.fault.AsmFault.{AsmFault}
 use Rattle.ot_asm.proofs.Running.{IsTaken, taken_start, taken_step, taken_fault, taken_want, taken_mark, mark_behind, taken_end, end_behind, rest_is, faultless, fault_is, no_lines}
 
 -- the lines before line number `line` made the draft, where the bytes are known
-abbrev pub IsTakenKnown : Bool → Option (List ℕ) → Option (List ℕ) → ℕ → Option Draft → Type 0
+abbrev pub IsTakenKnown : Bool → Option (List ℕ) → Option (List ℕ) → ℕ → Option BodyView → Type 0
 IsTakenKnown marked None rest line draft = ⊤
 IsTakenKnown marked (Some text) None line draft = ⊥
 IsTakenKnown marked (Some text) (Some rest) line draft = IsTaken marked (lines_of text) (lines_of rest) line draft
@@ -23,42 +23,42 @@ pub started_known : (marked : Bool) (text : Option (List ℕ)) → IsTakenKnown 
 started_known marked None = tt
 started_known marked (Some text) = taken_start marked (lines_of text)
 
-pub stepped_known : (marked : Bool) (text now next : Option (List ℕ)) (l : List ℕ) (line : ℕ) (draft after : Option Draft) → IsTakenKnown marked text now line draft → TakesLine now next true l → (marked && is_mark l) ≡ false → line_step draft l ≡ Ok after → IsTakenKnown marked text next (line + 1) after
+pub stepped_known : (marked : Bool) (text now next : Option (List ℕ)) (l : List ℕ) (line : ℕ) (draft after : Option BodyView) → IsTakenKnown marked text now line draft → TakesLine now next true l → (marked && is_mark l) ≡ false → line_step draft l ≡ Ok after → IsTakenKnown marked text next (line + 1) after
 stepped_known marked None now next l line draft after h t other e = tt
 stepped_known marked (Some text) None next l line draft after h t other e = absurd h
 stepped_known marked (Some text) (Some now) None l line draft after h t other e = absurd t
 stepped_known marked (Some text) (Some now) (Some next) l line draft after h t other e = let taken = rw t at h in taken_step l (lines_of next) taken other e
 
-pub faulted_known : (marked : Bool) (text now next : Option (List ℕ)) (l : List ℕ) (line : ℕ) (draft : Option Draft) (kind : Kind) → IsTakenKnown marked text now line draft → TakesLine now next true l → (marked && is_mark l) ≡ false → line_step draft l ≡ Err kind → IfSome text (λ t. outcome_of_lines (lines_before marked (lines_of t)) ≡ Err (record { line = line; kind = kind }))
+pub faulted_known : (marked : Bool) (text now next : Option (List ℕ)) (l : List ℕ) (line : ℕ) (draft : Option BodyView) (kind : Kind) → IsTakenKnown marked text now line draft → TakesLine now next true l → (marked && is_mark l) ≡ false → line_step draft l ≡ Err kind → IfSome text (λ t. outcome_of_lines (lines_before marked (lines_of t)) ≡ Err (record { line = line; kind = kind }))
 faulted_known marked None now next l line draft kind h t other e = tt
 faulted_known marked (Some text) None next l line draft kind h t other e = absurd h
 faulted_known marked (Some text) (Some now) None l line draft kind h t other e = absurd t
 faulted_known marked (Some text) (Some now) (Some next) l line draft kind h t other e = let taken = rw t at h in taken_fault l (lines_of next) taken other e
 
-pub wanting_known : (marked : Bool) (text now next : Option (List ℕ)) (l : List ℕ) (line : ℕ) (draft : Option Draft) → IsTakenKnown marked text now line draft → TakesLine now next true l → (marked && is_mark l) ≡ false → HidesOnlyJson (keyword_of (first_word (trimmed l))) (line_step draft l) → IfSome text (λ t. WantsMemoryIn (lines_before marked (lines_of t)) line)
+pub wanting_known : (marked : Bool) (text now next : Option (List ℕ)) (l : List ℕ) (line : ℕ) (draft : Option BodyView) → IsTakenKnown marked text now line draft → TakesLine now next true l → (marked && is_mark l) ≡ false → HidesOnlyJson (keyword_of (first_word (trimmed l))) (line_step draft l) → IfSome text (λ t. WantsMemoryIn (lines_before marked (lines_of t)) line)
 wanting_known marked None now next l line draft h t other hides = tt
 wanting_known marked (Some text) None next l line draft h t other hides = absurd h
 wanting_known marked (Some text) (Some now) None l line draft h t other hides = absurd t
 wanting_known marked (Some text) (Some now) (Some next) l line draft h t other hides = let taken = rw t at h in taken_want l (lines_of next) taken other hides
 
-pub faultless_known : (marked : Bool) (text now : Option (List ℕ)) (line : ℕ) (draft : Option Draft) → IsTakenKnown marked text now line draft → IfSome text (λ t. IsFaultlessBefore (lines_before marked (lines_of t)) line)
+pub faultless_known : (marked : Bool) (text now : Option (List ℕ)) (line : ℕ) (draft : Option BodyView) → IsTakenKnown marked text now line draft → IfSome text (λ t. IsFaultlessBefore (lines_before marked (lines_of t)) line)
 faultless_known marked None now line draft h = tt
 faultless_known marked (Some text) None line draft h = absurd h
 faultless_known marked (Some text) (Some now) line draft h = faultless h.read
 
-pub marked_known : (marked : Bool) (text now next : Option (List ℕ)) (l : List ℕ) (line : ℕ) (draft : Option Draft) (result : Result Program AsmFault) → IsTakenKnown marked text now line draft → TakesLine now next true l → (marked && is_mark l) ≡ true → ((count : ℕ) → count + 1 ≡ line → ended count (Ok draft) ≡ result) → IfSome text (λ t. outcome_of_lines (lines_before marked (lines_of t)) ≡ result)
+pub marked_known : (marked : Bool) (text now next : Option (List ℕ)) (l : List ℕ) (line : ℕ) (draft : Option BodyView) (result : Result Program AsmFault) → IsTakenKnown marked text now line draft → TakesLine now next true l → (marked && is_mark l) ≡ true → ((count : ℕ) → count + 1 ≡ line → ended count (Ok draft) ≡ result) → IfSome text (λ t. outcome_of_lines (lines_before marked (lines_of t)) ≡ result)
 marked_known marked None now next l line draft result h t mark e = tt
 marked_known marked (Some text) None next l line draft result h t mark e = absurd h
 marked_known marked (Some text) (Some now) None l line draft result h t mark e = absurd t
 marked_known marked (Some text) (Some now) (Some next) l line draft result h t mark e = let taken = rw t at h in taken_mark l (lines_of next) taken mark e
 
-pub marked_part : (marked : Bool) (text now next : Option (List ℕ)) (l : List ℕ) (line : ℕ) (draft : Option Draft) → IsTakenKnown marked text now line draft → TakesLine now next true l → (marked && is_mark l) ≡ true → TakesPart marked text next line
+pub marked_part : (marked : Bool) (text now next : Option (List ℕ)) (l : List ℕ) (line : ℕ) (draft : Option BodyView) → IsTakenKnown marked text now line draft → TakesLine now next true l → (marked && is_mark l) ≡ true → TakesPart marked text next line
 marked_part marked None now next l line draft h t mark = tt
 marked_part marked (Some text) None next l line draft h t mark = absurd h
 marked_part marked (Some text) (Some now) None l line draft h t mark = absurd t
 marked_part marked (Some text) (Some now) (Some next) l line draft h t mark = let taken = rw t at h in mark_behind l (lines_of next) taken mark
 
-pub ended_known : (marked : Bool) (text now next : Option (List ℕ)) (l : List ℕ) (line : ℕ) (draft : Option Draft) (result : Result Program AsmFault) → IsTakenKnown marked text now line draft → TakesLine now next false l → ((count : ℕ) → count + 1 ≡ line → ended count (Ok draft) ≡ result) → IfSome text (λ t. outcome_of_lines (lines_before marked (lines_of t)) ≡ result)
+pub ended_known : (marked : Bool) (text now next : Option (List ℕ)) (l : List ℕ) (line : ℕ) (draft : Option BodyView) (result : Result Program AsmFault) → IsTakenKnown marked text now line draft → TakesLine now next false l → ((count : ℕ) → count + 1 ≡ line → ended count (Ok draft) ≡ result) → IfSome text (λ t. outcome_of_lines (lines_before marked (lines_of t)) ≡ result)
 ended_known marked None now next l line draft result h t e = tt
 ended_known marked (Some text) None next l line draft result h t e = absurd h
 ended_known marked (Some text) (Some now) None l line draft result h t e = absurd t
@@ -67,7 +67,7 @@ ended_known marked (Some text) (Some now) (Some next) l line draft result h t e 
     let taken = rw none at h in
     taken_end taken e
 
-pub ended_part : (marked : Bool) (text now next : Option (List ℕ)) (l : List ℕ) (line : ℕ) (draft : Option Draft) → IsTakenKnown marked text now line draft → TakesLine now next false l → TakesPart marked text next (line - 1)
+pub ended_part : (marked : Bool) (text now next : Option (List ℕ)) (l : List ℕ) (line : ℕ) (draft : Option BodyView) → IsTakenKnown marked text now line draft → TakesLine now next false l → TakesPart marked text next (line - 1)
 ended_part marked None now next l line draft h t = tt
 ended_part marked (Some text) None next l line draft h t = absurd h
 ended_part marked (Some text) (Some now) None l line draft h t = absurd t
@@ -77,7 +77,7 @@ ended_part marked (Some text) (Some now) (Some next) l line draft h t =
     let taken = rw none at h in
     rw left (end_behind taken)
 
-pub stopped_known : (marked : Bool) (text now next : Option (List ℕ)) (line : ℕ) (draft : Option Draft) → IsTakenKnown marked text now line draft → LosesPiece now next → StopsIn text next line
+pub stopped_known : (marked : Bool) (text now next : Option (List ℕ)) (line : ℕ) (draft : Option BodyView) → IsTakenKnown marked text now line draft → LosesPiece now next → StopsIn text next line
 stopped_known marked None now next line draft h p = tt
 stopped_known marked (Some text) None next line draft h p = absurd h
 stopped_known marked (Some text) (Some now) None line draft h p = absurd p.2

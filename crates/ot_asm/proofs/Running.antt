@@ -4,7 +4,7 @@ use Rattle.std.specs.Prelude.{IfOk}
 use Rattle.std.proofs.Math.Seq.{take-append-add, drop-append-add}
 use Rattle.line_reader.specs.Lines.{lines_of, lacks}
 use Rattle.line_reader.proofs.Ends.{lines_last}
-use Rattle.ot_asm.specs.Stepping.{Draft, line_step, go_on, run, ended, outcome_of_lines, IsFaultlessBefore, HidesOnlyJson, WantsMemoryIn}
+use Rattle.ot_asm.specs.Stepping.{BodyView, line_step, go_on, run, ended, outcome_of_lines, IsFaultlessBefore, HidesOnlyJson, WantsMemoryIn}
 use Rattle.ot_asm.specs.Words.{trimmed, first_word, keyword_of}
 use Rattle.ot_asm.specs.Parts.{is_mark, lines_before, lines_behind}
 use Rattle.ot_isa.specs.Program.{Program}
@@ -13,13 +13,13 @@ use Rattle.ot_asm.specs.declared.fault.Kind.TheVariants.{Memory}
 use Rattle.ot_asm.specs.declared.fault.AsmFault.{AsmFault}
 
 -- the lines before line number `line`, which is the first of `rest`, have no fault and make the draft
-pub record HasRead (lines rest : List (List ℕ)) (line : ℕ) (draft : Option Draft) : Type 0 where
+pub record HasRead (lines rest : List (List ℕ)) (line : ℕ) (draft : Option BodyView) : Type 0 where
   pub before : List (List ℕ)
   pub all : lines ≡ before ++ rest
   pub number : line ≡ 1 + length before
   pub drafted_is : run 1 None before ≡ Ok draft
 
-run_append : (before rest : List (List ℕ)) (line : ℕ) (draft next : Option Draft) → run line draft before ≡ Ok next → run line draft (before ++ rest) ≡ run (line + length before) next rest
+run_append : (before rest : List (List ℕ)) (line : ℕ) (draft next : Option BodyView) → run line draft before ≡ Ok next → run line draft (before ++ rest) ≡ run (line + length before) next rest
 unfolding run
 run_append [] rest line draft next e =
     let same : draft ≡ next = cc in
@@ -27,7 +27,7 @@ run_append [] rest line draft next e =
     rw (same, z) refl
 run_append (l ∷ before) rest line draft next e = by (λ d g. run_append before rest (line + 1) d next g) (line_step draft l) e
   where
-    by : ((d : Option Draft) → run (line + 1) d before ≡ Ok next → run (line + 1) d (before ++ rest) ≡ run ((line + 1) + length before) next rest) → (answer : Result (Option Draft) Kind) → go_on line answer (λ d. run (line + 1) d before) ≡ Ok next → go_on line answer (λ d. run (line + 1) d (before ++ rest)) ≡ run (line + length (l ∷ before)) next rest
+    by : ((d : Option BodyView) → run (line + 1) d before ≡ Ok next → run (line + 1) d (before ++ rest) ≡ run ((line + 1) + length before) next rest) → (answer : Result (Option BodyView) Kind) → go_on line answer (λ d. run (line + 1) d before) ≡ Ok next → go_on line answer (λ d. run (line + 1) d (before ++ rest)) ≡ run (line + length (l ∷ before)) next rest
     by again (Ok d) g =
         let z : (line + 1) + length before ≡ line + length (l ∷ before) = omega arith in
         rw (← z) (again d g)
@@ -37,21 +37,21 @@ nothing : run 1 None [] ≡ Ok None
 unfolding run
 nothing = refl
 
-one_line : (l : List ℕ) (line : ℕ) (draft next : Option Draft) → line_step draft l ≡ Ok next → run line draft (l ∷ []) ≡ Ok next
+one_line : (l : List ℕ) (line : ℕ) (draft next : Option BodyView) → line_step draft l ≡ Ok next → run line draft (l ∷ []) ≡ Ok next
 unfolding run
 one_line l line draft next e = rw e refl
 
 pub started : (lines : List (List ℕ)) → HasRead lines lines 1 None
 started lines = record { before = []; all = refl; number = omega arith; drafted_is = nothing }
 
-rest_of : {lines rest : List (List ℕ)} {line : ℕ} {draft : Option Draft} → HasRead lines rest line draft → run 1 None lines ≡ run line draft rest
+rest_of : {lines rest : List (List ℕ)} {line : ℕ} {draft : Option BodyView} → HasRead lines rest line draft → run 1 None lines ≡ run line draft rest
 rest_of {lines} {rest} {line} {draft} h = rw (h.all, h.number) (run_append h.before rest 1 None draft h.drafted_is)
 
-pub faulted : {lines : List (List ℕ)} (l : List ℕ) (below : List (List ℕ)) {line : ℕ} {draft : Option Draft} {kind : Kind} → HasRead lines (l ∷ below) line draft → line_step draft l ≡ Err kind → outcome_of_lines lines ≡ Err (record { line = line; kind = kind })
+pub faulted : {lines : List (List ℕ)} (l : List ℕ) (below : List (List ℕ)) {line : ℕ} {draft : Option BodyView} {kind : Kind} → HasRead lines (l ∷ below) line draft → line_step draft l ≡ Err kind → outcome_of_lines lines ≡ Err (record { line = line; kind = kind })
 unfolding run
 faulted l below h e = rw (rest_of h, e) refl
 
-pub stepped : {lines : List (List ℕ)} (l : List ℕ) (below : List (List ℕ)) {line : ℕ} {draft next : Option Draft} → HasRead lines (l ∷ below) line draft → line_step draft l ≡ Ok next → HasRead lines below (line + 1) next
+pub stepped : {lines : List (List ℕ)} (l : List ℕ) (below : List (List ℕ)) {line : ℕ} {draft next : Option BodyView} → HasRead lines (l ∷ below) line draft → line_step draft l ≡ Ok next → HasRead lines below (line + 1) next
 stepped {lines} l below {line} {draft} {next} h e = record {
   before = h.before ++ l ∷ [];
   all = h.all ∙ sym (append_assoc h.before (l ∷ []) below);
@@ -59,10 +59,10 @@ stepped {lines} l below {line} {draft} {next} h e = record {
   drafted_is = run_append h.before (l ∷ []) 1 None draft h.drafted_is ∙ one_line l (1 + length h.before) draft next e;
 }
 
-pub line_number : {lines : List (List ℕ)} {line : ℕ} {draft : Option Draft} → HasRead lines [] line draft → length lines + 1 ≡ line
+pub line_number : {lines : List (List ℕ)} {line : ℕ} {draft : Option BodyView} → HasRead lines [] line draft → length lines + 1 ≡ line
 line_number h = omega (arith, h.number, ap length h.all, length-append h.before [])
 
-pub at_last : {lines : List (List ℕ)} {line : ℕ} {draft : Option Draft} {result : Result Program AsmFault} → HasRead lines [] line draft → ((count : ℕ) → count + 1 ≡ line → ended count (Ok draft) ≡ result) → outcome_of_lines lines ≡ result
+pub at_last : {lines : List (List ℕ)} {line : ℕ} {draft : Option BodyView} {result : Result Program AsmFault} → HasRead lines [] line draft → ((count : ℕ) → count + 1 ≡ line → ended count (Ok draft) ≡ result) → outcome_of_lines lines ≡ result
 unfolding run
 at_last {lines} h e = rw (rest_of h) (e (length lines) (line_number h))
 
@@ -71,7 +71,7 @@ front_of before rest =
     let z : length before + 0 ≡ length before = omega arith in
     rw (← z) (take-append-add before rest 0) ∙ append-nil before
 
-pub faultless : {lines rest : List (List ℕ)} {line : ℕ} {draft : Option Draft} → HasRead lines rest line draft → IsFaultlessBefore lines line
+pub faultless : {lines rest : List (List ℕ)} {line : ℕ} {draft : Option BodyView} → HasRead lines rest line draft → IsFaultlessBefore lines line
 faultless {lines} {rest} {line} {draft} h =
     let back : line - 1 ≡ length h.before = omega (arith, h.number) in
     let front : take (line - 1) lines ≡ h.before = rw (back, h.all) (front_of h.before rest) in (
@@ -85,7 +85,7 @@ back_of front rest =
     rw (← z) (drop-append-add front rest 0)
 
 -- memory ran out in the line after those that were read
-pub wanting : {lines : List (List ℕ)} (l : List ℕ) (below : List (List ℕ)) {line : ℕ} {draft : Option Draft} → HasRead lines (l ∷ below) line draft → HidesOnlyJson (keyword_of (first_word (trimmed l))) (line_step draft l) → WantsMemoryIn lines line
+pub wanting : {lines : List (List ℕ)} (l : List ℕ) (below : List (List ℕ)) {line : ℕ} {draft : Option BodyView} → HasRead lines (l ∷ below) line draft → HidesOnlyJson (keyword_of (first_word (trimmed l))) (line_step draft l) → WantsMemoryIn lines line
 wanting l below {line} {draft} h hides =
     let back : line - 1 ≡ length h.before = omega (arith, h.number) in
     record {
@@ -107,7 +107,7 @@ no_lines [] e = refl
 no_lines (b ∷ bs) e = absurd (omega (arith, e))
 
 -- `front` was taken of the lines, without a mark where marks count, and has no fault
-pub record IsTaken (marked : Bool) (lines rest : List (List ℕ)) (line : ℕ) (draft : Option Draft) : Type 0 where
+pub record IsTaken (marked : Bool) (lines rest : List (List ℕ)) (line : ℕ) (draft : Option BodyView) : Type 0 where
   pub read : HasRead (lines_before marked lines) (lines_before marked rest) line draft
   pub behind : lines_behind marked rest ≡ lines_behind marked lines
   pub front : List (List ℕ)
@@ -147,7 +147,7 @@ unfolding lines_before
 all_before [] = refl
 all_before (l ∷ ls) = ap (λ t. l ∷ t) (all_before ls)
 
-pub taken_step : {marked : Bool} {lines : List (List ℕ)} (l : List ℕ) (ls : List (List ℕ)) {line : ℕ} {draft next : Option Draft} → IsTaken marked lines (l ∷ ls) line draft → (marked && is_mark l) ≡ false → line_step draft l ≡ Ok next → IsTaken marked lines ls (line + 1) next
+pub taken_step : {marked : Bool} {lines : List (List ℕ)} (l : List ℕ) (ls : List (List ℕ)) {line : ℕ} {draft next : Option BodyView} → IsTaken marked lines (l ∷ ls) line draft → (marked && is_mark l) ≡ false → line_step draft l ≡ Ok next → IsTaken marked lines ls (line + 1) next
 taken_step {marked} {lines} l ls h other e =
     let read = rw (before_other marked l ls other) at h.read in
     record {
@@ -158,25 +158,25 @@ taken_step {marked} {lines} l ls h other e =
       number = omega (arith, h.number, length-append h.front (l ∷ []));
     }
 
-pub taken_fault : {marked : Bool} {lines : List (List ℕ)} (l : List ℕ) (ls : List (List ℕ)) {line : ℕ} {draft : Option Draft} {kind : Kind} → IsTaken marked lines (l ∷ ls) line draft → (marked && is_mark l) ≡ false → line_step draft l ≡ Err kind → outcome_of_lines (lines_before marked lines) ≡ Err (record { line = line; kind = kind })
+pub taken_fault : {marked : Bool} {lines : List (List ℕ)} (l : List ℕ) (ls : List (List ℕ)) {line : ℕ} {draft : Option BodyView} {kind : Kind} → IsTaken marked lines (l ∷ ls) line draft → (marked && is_mark l) ≡ false → line_step draft l ≡ Err kind → outcome_of_lines (lines_before marked lines) ≡ Err (record { line = line; kind = kind })
 taken_fault {marked} l ls h other e = let read = rw (before_other marked l ls other) at h.read in faulted l (lines_before marked ls) read e
 
-pub taken_want : {marked : Bool} {lines : List (List ℕ)} (l : List ℕ) (ls : List (List ℕ)) {line : ℕ} {draft : Option Draft} → IsTaken marked lines (l ∷ ls) line draft → (marked && is_mark l) ≡ false → HidesOnlyJson (keyword_of (first_word (trimmed l))) (line_step draft l) → WantsMemoryIn (lines_before marked lines) line
+pub taken_want : {marked : Bool} {lines : List (List ℕ)} (l : List ℕ) (ls : List (List ℕ)) {line : ℕ} {draft : Option BodyView} → IsTaken marked lines (l ∷ ls) line draft → (marked && is_mark l) ≡ false → HidesOnlyJson (keyword_of (first_word (trimmed l))) (line_step draft l) → WantsMemoryIn (lines_before marked lines) line
 taken_want {marked} l ls h other hides = let read = rw (before_other marked l ls other) at h.read in wanting l (lines_before marked ls) read hides
 
-pub taken_mark : {marked : Bool} {lines : List (List ℕ)} (l : List ℕ) (ls : List (List ℕ)) {line : ℕ} {draft : Option Draft} {result : Result Program AsmFault} → IsTaken marked lines (l ∷ ls) line draft → (marked && is_mark l) ≡ true → ((count : ℕ) → count + 1 ≡ line → ended count (Ok draft) ≡ result) → outcome_of_lines (lines_before marked lines) ≡ result
+pub taken_mark : {marked : Bool} {lines : List (List ℕ)} (l : List ℕ) (ls : List (List ℕ)) {line : ℕ} {draft : Option BodyView} {result : Result Program AsmFault} → IsTaken marked lines (l ∷ ls) line draft → (marked && is_mark l) ≡ true → ((count : ℕ) → count + 1 ≡ line → ended count (Ok draft) ≡ result) → outcome_of_lines (lines_before marked lines) ≡ result
 taken_mark {marked} l ls h mark e = let read = rw (before_mark marked l ls mark) at h.read in at_last read e
 
-pub mark_behind : {marked : Bool} {lines : List (List ℕ)} (l : List ℕ) (ls : List (List ℕ)) {line : ℕ} {draft : Option Draft} → IsTaken marked lines (l ∷ ls) line draft → (marked && is_mark l) ≡ true → (ls ≡ lines_behind marked lines) × (length lines ≡ line + length ls)
+pub mark_behind : {marked : Bool} {lines : List (List ℕ)} (l : List ℕ) (ls : List (List ℕ)) {line : ℕ} {draft : Option BodyView} → IsTaken marked lines (l ∷ ls) line draft → (marked && is_mark l) ≡ true → (ls ≡ lines_behind marked lines) × (length lines ≡ line + length ls)
 mark_behind {marked} l ls h mark = (sym (behind_mark marked l ls mark) ∙ h.behind, omega (arith, h.number, ap length h.all, length-append h.front (l ∷ ls)))
 
-pub taken_end : {marked : Bool} {lines : List (List ℕ)} {line : ℕ} {draft : Option Draft} {result : Result Program AsmFault} → IsTaken marked lines [] line draft → ((count : ℕ) → count + 1 ≡ line → ended count (Ok draft) ≡ result) → outcome_of_lines (lines_before marked lines) ≡ result
+pub taken_end : {marked : Bool} {lines : List (List ℕ)} {line : ℕ} {draft : Option BodyView} {result : Result Program AsmFault} → IsTaken marked lines [] line draft → ((count : ℕ) → count + 1 ≡ line → ended count (Ok draft) ≡ result) → outcome_of_lines (lines_before marked lines) ≡ result
 taken_end {marked} h e = let read = rw (before_none marked) at h.read in at_last read e
 
-pub end_behind : {marked : Bool} {lines : List (List ℕ)} {line : ℕ} {draft : Option Draft} → IsTaken marked lines [] line draft → ([] ≡ lines_behind marked lines) × (length lines ≡ (line - 1) + length {A = List ℕ} [])
+pub end_behind : {marked : Bool} {lines : List (List ℕ)} {line : ℕ} {draft : Option BodyView} → IsTaken marked lines [] line draft → ([] ≡ lines_behind marked lines) × (length lines ≡ (line - 1) + length {A = List ℕ} [])
 end_behind {marked} h = (sym (behind_none marked) ∙ h.behind, omega (arith, h.number, ap length h.all, length-append h.front []))
 
-pub rest_is : {marked : Bool} {lines rest : List (List ℕ)} {line : ℕ} {draft : Option Draft} → IsTaken marked lines rest line draft → drop (line - 1) lines ≡ rest
+pub rest_is : {marked : Bool} {lines rest : List (List ℕ)} {line : ℕ} {draft : Option BodyView} → IsTaken marked lines rest line draft → drop (line - 1) lines ≡ rest
 rest_is {marked} {lines} {rest} {line} h =
     let back : line - 1 ≡ length h.front = omega (arith, h.number) in
     rw (back, h.all) (back_of h.front rest)

@@ -12,7 +12,7 @@ use Rattle.ot_json.proofs.Faults.{never_memory}
 use Rattle.ot_asm.specs.Stepping.{drafted, pushed, with_start, with_edit, HidesOnlyJson}
 use Rattle.ot_asm.specs.declared.fault.Kind.TheVariants.{TooLong, TooMany}
 use Rattle.ot_asm.specs.declared.keyword.Keyword.TheVariants as word
-use Rattle.ot_asm.specs.declared.place.Place.TheVariants.{InBody}
+use Rattle.ot_asm.specs.declared.section.Section.TheVariants.{InBody}
 
 pub start_long : (program : Program) (start : List ℕ) → 40000 < length start → with_start program (Some start) ≡ Err TooLong
 start_long program start h = let e : nat_lt 40000 (length start) ≡ true = lt-ltb 40000 (length start) h in rw e refl

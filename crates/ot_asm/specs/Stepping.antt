@@ -19,20 +19,21 @@ use Rattle.ot_asm.specs.declared.keyword.Keyword.TheVariants as word
 use Rattle.ot_asm.specs.declared.fault.Kind.{Kind}
 use Rattle.ot_asm.specs.declared.fault.Kind.TheVariants.{BadText, NoClients, UnknownWord, BadNumber, BadClient, BadOperation, Extra, TooLong, TooMany, Memory}
 use Rattle.ot_asm.specs.declared.fault.AsmFault.{AsmFault}
-use Rattle.ot_asm.specs.declared.place.Place.{Place}
-use Rattle.ot_asm.specs.declared.place.Place.TheVariants.{AfterClients, AfterPresent, InBody}
+use Rattle.ot_asm.specs.declared.section.Section.{Section}
+use Rattle.ot_asm.specs.declared.section.Section.TheVariants.{AfterClients, AfterPresent, InBody}
+use Rattle.ot_isa.specs.declared.builder.TheConstants.{CLIENT_LIMIT, INSTR_LIMIT, START_LIMIT}
 
 -- the schedule so far, once the line of the clients was read, and where the next line stands
-pub record Draft : Type 0 where
-  pub place : Place
+pub record BodyView : Type 0 where
+  pub section : Section
   pub program : Program
 
 -- the answer of a line that counts
 abbrev pub Answer : Type 0
-Answer = Result Draft Kind
+Answer = Result BodyView Kind
 
-abbrev pub drafted : Place → Program → Answer
-drafted place program = Ok (record { place = place; program = program })
+abbrev pub drafted : Section → Program → Answer
+drafted place program = Ok (record { section = place; program = program })
 
 -- the number that a word is, handed on
 abbrev pub with_number : Option ℕ → (ℕ → Answer) → Answer
@@ -46,12 +47,12 @@ at_end (b ∷ bs) answer = Err Extra
 
 -- one more instruction
 abbrev pub pushed : Program → Instr → Answer
-pushed program i = if nat_le 100000 (length program.instrs) then Err TooMany else drafted InBody (with_instr program i)
+pushed program i = if nat_le INSTR_LIMIT (length program.instrs) then Err TooMany else drafted InBody (with_instr program i)
 
 -- `clients N`
 abbrev pub clients_line : List ℕ → Answer
 clients_line rest = with_number (number (first_word rest)) (λ n.
-    if nat_lt n 1 || nat_lt 64 n then Err BadClient else at_end (after_word rest) (drafted AfterClients (opening n n [])))
+    if nat_lt n 1 || nat_lt CLIENT_LIMIT n then Err BadClient else at_end (after_word rest) (drafted AfterClients (opening n n [])))
 
 -- `present P`
 abbrev pub present_line : Program → List ℕ → Answer
@@ -68,7 +69,7 @@ string_of_text bytes = option_map chars (option_and_then as_str (json_of bytes))
 
 abbrev pub with_start : Program → Option (List ℕ) → Answer
 with_start program None = Err BadText
-with_start program (Some start) = if nat_lt 40000 (length start) then Err TooLong else drafted InBody (opening program.clients program.present start)
+with_start program (Some start) = if nat_lt START_LIMIT (length start) then Err TooLong else drafted InBody (opening program.clients program.present start)
 
 -- `start S`
 abbrev pub start_line : Program → List ℕ → Answer
@@ -100,22 +101,22 @@ abbrev pub client_line : Program → List ℕ → (ℕ → Instr) → Answer
 client_line program rest make = with_client program.clients rest (λ client. at_end (after_word rest) (pushed program (make client)))
 
 -- `present P` stands only directly below `clients N`
-abbrev pub present_at : Place → Program → List ℕ → Answer
+abbrev pub present_at : Section → Program → List ℕ → Answer
 present_at AfterClients program rest = present_line program rest
 present_at AfterPresent program rest = Err UnknownWord
 present_at InBody program rest = Err UnknownWord
 
 -- `start S` stands only directly below these two
-abbrev pub start_at : Place → Program → List ℕ → Answer
+abbrev pub start_at : Section → Program → List ℕ → Answer
 start_at AfterClients program rest = start_line program rest
 start_at AfterPresent program rest = start_line program rest
 start_at InBody program rest = Err UnknownWord
 
 -- a line that counts, by its keyword, below the line `clients N`
-abbrev pub keyword_line : Draft → Keyword → List ℕ → Answer
+abbrev pub keyword_line : BodyView → Keyword → List ℕ → Answer
 keyword_line draft word.Clients rest = Err UnknownWord
-keyword_line draft word.Present rest = present_at draft.place draft.program rest
-keyword_line draft word.Start rest = start_at draft.place draft.program rest
+keyword_line draft word.Present rest = present_at draft.section draft.program rest
+keyword_line draft word.Start rest = start_at draft.section draft.program rest
 keyword_line draft word.Edit rest = edit_line draft.program rest
 keyword_line draft word.Take rest = client_line draft.program rest instr.Take
 keyword_line draft word.Deliver rest = client_line draft.program rest instr.Deliver
@@ -139,32 +140,32 @@ first_line word.Join rest = Err NoClients
 first_line word.ReadServer rest = Err NoClients
 first_line word.Other rest = Err NoClients
 
-abbrev pub counted_line : Option Draft → List ℕ → Answer
+abbrev pub counted_line : Option BodyView → List ℕ → Answer
 counted_line None line = first_line (keyword_of (first_word line)) (after_word line)
 counted_line (Some draft) line = keyword_line draft (keyword_of (first_word line)) (after_word line)
 
 -- what a line makes of the draft; there is none before the first line that counts
-abbrev pub now_drafted : Answer → Result (Option Draft) Kind
+abbrev pub now_drafted : Answer → Result (Option BodyView) Kind
 now_drafted (Ok draft) = Ok (Some draft)
 now_drafted (Err kind) = Err kind
 
 -- what a line does
-unfoldable pub line_step : Option Draft → List ℕ → Result (Option Draft) Kind
+unfoldable pub line_step : Option BodyView → List ℕ → Result (Option BodyView) Kind
 line_step draft line =
     if is_utf8 line then (if counts (trimmed line) then now_drafted (counted_line draft (trimmed line)) else Ok draft) else Err BadText
 
 -- go on below a line, or keep its fault
-abbrev pub go_on : ℕ → Result (Option Draft) Kind → (Option Draft → Result (Option Draft) AsmFault) → Result (Option Draft) AsmFault
+abbrev pub go_on : ℕ → Result (Option BodyView) Kind → (Option BodyView → Result (Option BodyView) AsmFault) → Result (Option BodyView) AsmFault
 go_on line (Ok draft) below = below draft
 go_on line (Err kind) below = Err (record { line = line; kind = kind })
 
 -- the lines from number `line` on, as far as the first faulty one
-unfoldable pub run : ℕ → Option Draft → List (List ℕ) → Result (Option Draft) AsmFault
+unfoldable pub run : ℕ → Option BodyView → List (List ℕ) → Result (Option BodyView) AsmFault
 run line draft [] = Ok draft
 run line draft (l ∷ ls) = go_on line (line_step draft l) (λ next. run (line + 1) next ls)
 
 -- the schedule at the end of a text of so many lines
-abbrev pub ended : ℕ → Result (Option Draft) AsmFault → Result Program AsmFault
+abbrev pub ended : ℕ → Result (Option BodyView) AsmFault → Result Program AsmFault
 ended lines (Ok None) = Err (record { line = lines + 1; kind = NoClients })
 ended lines (Ok (Some draft)) = Ok draft.program
 ended lines (Err fault) = Err fault
@@ -197,7 +198,7 @@ HidesOnlyJson keyword (Err kind) = IsBehindJson keyword kind
 
 -- memory ran out in line number `line`: no line before it has a fault, and it has none but one that only its JSON text tells
 pub record WantsMemoryIn (lines : List (List ℕ)) (line : ℕ) : Type 0 where
-  pub draft : Option Draft
+  pub draft : Option BodyView
   pub before : run 1 None (take (line - 1) lines) ≡ Ok draft
   pub text : List ℕ
   pub below : List (List ℕ)

@@ -12,31 +12,33 @@ ghost use Rattle.ot_asm.specs.Stepping.{Answer, pushed, clients_line, present_li
 ghost use Rattle.ot_asm.specs.Words.{after_word};
 
 use crate::fault::Kind;
-use crate::json_text::read_json;
+use crate::json_text::{read_json, read_plain_operation};
 use crate::keyword::Keyword;
 use crate::number::read_number;
-use crate::place::Place;
+use crate::section::Section;
 use crate::words::split_word;
-use ot_isa::{Builder, INSTR_LIMIT, Instr, PushFault, START_LIMIT, Schedule};
+use json::Scratch;
+use ot_isa::{Builder, CLIENT_LIMIT, INSTR_LIMIT, Instr, PushFault, START_LIMIT, Schedule};
 use ot_json::{OpFault, op_of_value};
 use serde_json::Value;
 use std::alloc::Global;
 use std::marker::Model;
 
-/// The schedule so far, and where the next line stands.
+/// The schedule so far, and where the next line stands; and memory for the JSON texts of the lines, kept from one to the next.
 #[derive(Drop)]
 pub struct Body {
-    place: Place,
+    section: Section,
     builder: Builder,
+    scratch: Box<Scratch>,
 }
 
 impl Model for Body {
     ghost use Rattle.std.specs.Prelude.{◌≡◌};
-    ghost use Rattle.ot_asm.specs.Stepping.{Draft};
+    ghost use Rattle.ot_asm.specs.Stepping.{BodyView};
 
-    ghost Value = { Draft };
+    ghost Value = { BodyView };
 
-    ghost view = { λ b. record { place = b.place; program = b.builder.program } };
+    ghost view = { λ b. record { section = b.section; program = b.builder.program } };
 }
 
 /// The number of a client that begins a text, and what follows it.
@@ -60,7 +62,8 @@ fn read_client(clients: u16, rest: &[u8]) -> Result<(u16, &[u8]), Kind>
 }
 
 impl Body {
-    /// The line `clients N`.
+    /// The line `clients N`. It is not inlined: a caller would pay for the scratch, which is large, on each line.
+    #[inline(never)]
     pub fn from_clients(alloc: Global, rest: &[u8]) -> Result<Body, Kind>
         ensures ok { IfOk result (λ b. clients_line rest.now ≡ Ok b) }
         ensures err { IfErr result (λ k. (k ≡ Kind.Memory) ⊎ (clients_line rest.now ≡ Err k)) }
@@ -73,17 +76,21 @@ impl Body {
                 if clients < 1 {
                     return Err(Kind::BadClient);
                 }
-                if clients > 64 {
+                if clients > CLIENT_LIMIT as u32 {
                     return Err(Kind::BadClient);
                 }
                 if !after.is_empty() {
                     return Err(Kind::Extra);
                 }
                 let clients = clients as u16;
+                let Ok(scratch) = Box::new(alloc, Scratch::new(alloc)) else {
+                    return Err(Kind::Memory);
+                };
                 match Builder::new(alloc, clients, &[]) {
                     Ok(builder) => Ok(Body {
-                        place: Place::AfterClients,
+                        section: Section::AfterClients,
                         builder,
+                        scratch,
                     }),
                     Err(_) => Err(Kind::Memory),
                 }
@@ -109,7 +116,7 @@ impl Body {
     {
         match self.builder.push(instr) {
             Ok(()) => {
-                self.place = Place::InBody;
+                self.section = Section::InBody;
                 Ok(())
             }
             Err((PushFault::TooMany, _)) => Err(Kind::TooMany),
@@ -136,7 +143,7 @@ impl Body {
                 let present = present as u16;
                 match Builder::with_present(alloc, self.builder.clients(), present, &[]) {
                     Ok(builder) => {
-                        self.place = Place::AfterPresent;
+                        self.section = Section::AfterPresent;
                         self.builder = builder;
                         Ok(())
                     }
@@ -168,7 +175,7 @@ impl Body {
             start.as_slice(),
         ) {
             Ok(builder) => {
-                self.place = Place::InBody;
+                self.section = Section::InBody;
                 self.builder = builder;
                 Ok(())
             }
@@ -224,6 +231,9 @@ impl Body {
         ensures other { IfErr result (λ k. k ≢ Kind.ReadFault) }
     {
         let (client, after) = read_client(self.builder.clients(), rest)?;
+        if let Some(op) = read_plain_operation(alloc, after, &mut *self.scratch) {
+            return self.push(Instr::Edit(client, op));
+        }
         match read_json(alloc, after) {
             Ok(Some(value)) => self.push_edit(alloc, client, &value),
             Ok(None) => Err(Kind::BadOperation),
@@ -321,15 +331,15 @@ impl Body {
         ensures other { IfErr result (λ k. k ≢ Kind.ReadFault) }
     {
         match keyword {
-            Keyword::Present => match self.place {
-                Place::AfterClients => self.present_line(alloc, rest),
-                Place::AfterPresent => Err(Kind::UnknownWord),
-                Place::InBody => Err(Kind::UnknownWord),
+            Keyword::Present => match self.section {
+                Section::AfterClients => self.present_line(alloc, rest),
+                Section::AfterPresent => Err(Kind::UnknownWord),
+                Section::InBody => Err(Kind::UnknownWord),
             },
-            Keyword::Start => match self.place {
-                Place::AfterClients => self.start_line(alloc, rest),
-                Place::AfterPresent => self.start_line(alloc, rest),
-                Place::InBody => Err(Kind::UnknownWord),
+            Keyword::Start => match self.section {
+                Section::AfterClients => self.start_line(alloc, rest),
+                Section::AfterPresent => self.start_line(alloc, rest),
+                Section::InBody => Err(Kind::UnknownWord),
             },
             Keyword::Edit => self.edit_line(alloc, rest),
             Keyword::Take => self.take_line(rest),

@@ -25,24 +25,24 @@
 
 mod assembling;
 mod body;
-mod carrying;
 mod disassembling;
 mod fault;
+mod from_reader;
 mod json_text;
 mod keyword;
 mod laws;
 mod lines;
 mod marks;
 mod number;
-mod place;
+mod section;
 mod stepping;
 mod words;
 mod writing;
 
 pub use assembling::assemble;
-pub use carrying::{assemble_from, assemble_until_mark};
 pub use disassembling::disassemble;
 pub use fault::{AsmFault, Kind};
+pub use from_reader::{assemble_from, assemble_until_mark};
 pub use json_text::read_text;
 pub use laws::{canonical_spells, spells_at_most_one};
 pub use number::read_number;

@@ -13,7 +13,7 @@ use Rattle.ot_model.specs.Session.{Session, Begins, IsPartIn, RunsTo}
 use Rattle.ot_machine.specs.Answers.{IsPerformed}
 use Rattle.ot_machine.specs.Ended.{IsRun}
 use Rattle.ot_machine.specs.Readers.{ClientHas}
-use Rattle.ot_machine.specs.declared.outcome.Run.{Run}
+use Rattle.ot_machine.specs.declared.outcome.Replay.{Replay}
 use Rattle.ot_board.specs.declared.lent.Lent.{Lent}
 use Rattle.ot_board.specs.declared.receipt.Receipt.{Receipt}
 use Rattle.ot_board.specs.declared.refusal.BoardRefusal.{BoardRefusal}
@@ -22,6 +22,8 @@ use Rattle.ot_board.specs.declared.refusal.SettleRefusal.{SettleRefusal}
 use Rattle.ot_board.specs.declared.refusal.SettleRefusal.TheVariants as settle
 use Rattle.ot_board.specs.Lents.{session_of}
 use Rattle.ot_board.specs.Sessions.{begun}
+use Rattle.ot_isa.specs.declared.builder.TheConstants.{INSTR_LIMIT}
+use Rattle.ot_model.specs.declared.limits.TheConstants.{SESSION_LIMIT}
 
 -- a board: its opening and what was recorded, the machine's state, which clients are out, and the session that waits in each client's slot
 pub record BoardView : Type 0 where
@@ -46,7 +48,7 @@ AreWaiting out parked = (c : ℕ) (x : Session) → slice_get parked c ≡ Some 
 -- record for 64 steps of each client that is out
 pub record IsBoard (b : BoardView) : Type 0 where
   pub replays : RunsTo (opening_of b.recorded) b.recorded.instrs b.state
-  pub fits : length b.recorded.instrs + 64 * outside b.out ≤ 100000
+  pub fits : length b.recorded.instrs + SESSION_LIMIT * outside b.out ≤ INSTR_LIMIT
   pub counted : b.state.steps ≡ length b.recorded.instrs
   pub clients : length b.state.clients ≡ b.recorded.clients
   pub outs : length b.out ≡ b.recorded.clients
@@ -83,7 +85,7 @@ pub record IsRecorded (b : BoardView) (steps : List Instr) (out : List Bool) (a 
 
 -- so many more steps fit into the record
 abbrev pub HasRoomFor : BoardView → ℕ → Type 0
-HasRoomFor b count = length b.recorded.instrs + 64 * outside b.out + count ≤ 100000
+HasRoomFor b count = length b.recorded.instrs + SESSION_LIMIT * outside b.out + count ≤ INSTR_LIMIT
 
 abbrev pub IsJoined : BoardView → ℕ → Bool → Type 0
 IsJoined b c on = ClientHas b.state c (λ x. is_joined x.phase) on
@@ -114,8 +116,8 @@ abbrev pub IsLendRefusal : BoardView → ℕ → BoardRefusal → Type 0
 IsLendRefusal b c NoSuchClient = b.recorded.clients ≤ c
 IsLendRefusal b c NotJoined = IsJoined b c false
 IsLendRefusal b c Out = IsJoined b c true × (slice_get b.out c ≡ Some true)
-IsLendRefusal b c RecordFull = IsJoined b c true × (slice_get b.out c ≡ Some false) × (HasRoomFor b 64 → ⊥)
-IsLendRefusal b c Memory = IsJoined b c true × (slice_get b.out c ≡ Some false) × HasRoomFor b 64
+IsLendRefusal b c RecordFull = IsJoined b c true × (slice_get b.out c ≡ Some false) × (HasRoomFor b SESSION_LIMIT → ⊥)
+IsLendRefusal b c Memory = IsJoined b c true × (slice_get b.out c ≡ Some false) × HasRoomFor b SESSION_LIMIT
 IsLendRefusal b c AlreadyJoined = ⊥
 IsLendRefusal b c NotParked = ⊥
 IsLendRefusal b c LinkEmpty = ⊥
@@ -168,4 +170,4 @@ EndsIn (Some stop) reached state = stop.1 ≡ table.Memory
 
 -- each run of the schedule ends in this state, or for want of memory before it
 abbrev pub RunsEndIn : Program → State → Type 0
-RunsEndIn s state = (run : Run) → IsRun s run → EndsIn run.stopped run.machine state
+RunsEndIn s state = (run : Replay) → IsRun s run → EndsIn run.stopped run.machine state

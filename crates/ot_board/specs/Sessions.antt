@@ -19,6 +19,8 @@ use Rattle.ot_machine.specs.declared.part.Message.{Message}
 use Rattle.ot_machine.specs.Parts.{part_in, head_in}
 use Rattle.ot_board.specs.declared.refusal.SessionRefusal.{SessionRefusal}
 use Rattle.ot_board.specs.declared.refusal.SessionRefusal.TheVariants.{BadBase, ClientFull, SessionFull, LinkEmpty, WrongHead, Memory}
+use Rattle.ot_isa.specs.declared.tagging.TheConstants.{INSERTED_LIMIT}
+use Rattle.ot_model.specs.declared.limits.TheConstants.{SESSION_LIMIT}
 
 -- a client's state with its list, its count and what it has sent, as the table's client
 abbrev pub client_in : state.State Tagged → List Tagged → ℕ → Option (Sent Tagged) → Client
@@ -63,29 +65,29 @@ IsPartPerformed PartNoRow = ⊥
 abbrev pub IsEditRefusal : Session → Instr → SessionRefusal → Type 0
 IsEditRefusal x i BadBase = part_row x.now i ≡ PartRefused table.BadBase
 IsEditRefusal x i ClientFull = part_row x.now i ≡ PartRefused table.ClientFull
-IsEditRefusal x i SessionFull = IsPartPerformed (part_row x.now i) × (length x.steps ≡ 64)
+IsEditRefusal x i SessionFull = IsPartPerformed (part_row x.now i) × (length x.steps ≡ SESSION_LIMIT)
 IsEditRefusal x i LinkEmpty = ⊥
 IsEditRefusal x i WrongHead = ⊥
-IsEditRefusal x i Memory = IsPartPerformed (part_row x.now i) × (length x.steps < 64)
+IsEditRefusal x i Memory = IsPartPerformed (part_row x.now i) × (length x.steps < SESSION_LIMIT)
 
 -- why another step is not made: for want of a 65th step, and then as on the part; memory is wanting only where it would be made
 abbrev pub IsStepRefusal : Session → Instr → SessionRefusal → Type 0
 IsStepRefusal x i BadBase = ⊥
 IsStepRefusal x i ClientFull = ⊥
-IsStepRefusal x i SessionFull = length x.steps ≡ 64
-IsStepRefusal x i LinkEmpty = (length x.steps < 64) × (part_row x.now i ≡ PartRefused table.LinkEmpty)
-IsStepRefusal x i WrongHead = (length x.steps < 64) × (part_row x.now i ≡ PartRefused table.WrongHead)
-IsStepRefusal x i Memory = (length x.steps < 64) × IsPartPerformed (part_row x.now i)
+IsStepRefusal x i SessionFull = length x.steps ≡ SESSION_LIMIT
+IsStepRefusal x i LinkEmpty = (length x.steps < SESSION_LIMIT) × (part_row x.now i ≡ PartRefused table.LinkEmpty)
+IsStepRefusal x i WrongHead = (length x.steps < SESSION_LIMIT) × (part_row x.now i ≡ PartRefused table.WrongHead)
+IsStepRefusal x i Memory = (length x.steps < SESSION_LIMIT) × IsPartPerformed (part_row x.now i)
 
 -- the edit of this operation would be made
 pub record MayEdit (x : Session) (op : Operation ℕ) : Type 0 where
   pub rises : IsOperation op
   pub base : op.base ≡ length x.now.client.list
-  pub count : x.now.client.count + inserted op ≤ 15000
-  pub room : length x.steps < 64
+  pub count : x.now.client.count + inserted op ≤ INSERTED_LIMIT
+  pub room : length x.steps < SESSION_LIMIT
 
 -- there is room for a step, and this message is the next
 pub record IsNextHead (x : Session) (head : Head) : Type 0 where
-  pub room : length x.steps < 64
+  pub room : length x.steps < SESSION_LIMIT
   pub rest : List Head
   pub incoming_is : x.now.incoming ≡ head ∷ rest

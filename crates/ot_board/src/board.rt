@@ -1,4 +1,5 @@
-// The board: what it lends, what it takes back, and what it records.
+//! The board: what it lends, what it takes back, and what it records.
+
 ghost use Rattle.std.specs.Prelude.{◌≡◌, ◌+◌, ◌*◌, ◌<◌, ◌≤◌, ◌↔◌, true, false, None, Some, length, map, replicate, set, slice_get, [], ◌∷◌, ◌++◌, IfErr, IfNone, IfOk, IfSome, IsTrue, OnErr, OnOk};
 ghost use Rattle.ot_isa.specs.Program.{with_instr, AreClients, IsForClients};
 ghost use Rattle.ot_isa.specs.declared.instruction.Instr.TheVariants.{Join, Take};
@@ -11,11 +12,12 @@ ghost use Rattle.ot_model.specs.Table.{is_joined};
 ghost use Rattle.ot_machine.specs.Readers.{ClientHas};
 ghost use Rattle.ot_board.specs.Boards.{IsBegun, with_steps};
 ghost use Rattle.ot_board.specs.Lents.{session_of};
+ghost use Rattle.ot_isa.specs.declared.builder.TheConstants.{START_LIMIT};
 
 use crate::lent::Lent;
 use crate::receipt::Receipt;
 use crate::refusal::{BoardRefusal, SettleRefusal};
-use crate::session::{Remains, STEP_LIMIT, Session};
+use crate::session::{Remains, SESSION_LIMIT, Session};
 use ot_client::Client;
 use ot_isa::{Builder, INSTR_LIMIT, Instr, PushFault, Schedule};
 use ot_machine::{Machine, Part};
@@ -56,7 +58,7 @@ impl Model for Board {
 // Adds the instruction to a record that takes it and has the room.
 fn append(builder: &mut Builder, instr: Instr)
     requires client { IsForClients builder.old.program.clients instr }
-    requires fits { length builder.old.program.instrs < 100000 }
+    requires fits { length builder.old.program.instrs < INSTR_LIMIT }
     requires room { 0 < builder.old.room }
     ensures program { builder.new.program ≡ with_instr builder.old.program instr }
     ensures room { builder.new.room + 1 ≡ builder.old.room }
@@ -75,7 +77,7 @@ impl Board {
     /// The board at the opening, with all of its 1 to 64 clients joined, nothing recorded and nobody out. The start text has at most 40,000 scalars.
     pub fn new(alloc: Global, clients: u16, start: &[char]) -> Result<Board, AllocError>
         requires clients { AreClients clients clients }
-        requires start { length start.now ≤ 40000 }
+        requires start { length start.now ≤ START_LIMIT }
         ensures { IfOk result (λ board. board ≡ fresh clients clients start.now) }
     {
         Board::with_present(alloc, clients, clients, start)
@@ -90,7 +92,7 @@ impl Board {
         start: &[char],
     ) -> Result<Board, AllocError>
         requires clients { AreClients clients present }
-        requires start { length start.now ≤ 40000 }
+        requires start { length start.now ≤ START_LIMIT }
         ensures { IfOk result (λ board. board ≡ fresh clients present start.now) }
     {
         let machine = Machine::with_present(alloc, clients, present, start)?;
@@ -150,10 +152,10 @@ impl Board {
 
     // Whether so many more steps fit into the record.
     fn has_room_for(&self, count: usize) -> bool
-        requires { count ≤ 64 }
+        requires { count ≤ SESSION_LIMIT }
         ensures { IsTrue result ↔ HasRoomFor self.now count }
     {
-        self.recorded.instrs().len() + STEP_LIMIT * self.outside() + count <= INSTR_LIMIT
+        self.recorded.instrs().len() + SESSION_LIMIT * self.outside() + count <= INSTR_LIMIT
     }
 
     // Performs the instruction, which the table performs, and records it.
@@ -236,7 +238,7 @@ impl Board {
         if self.out[client as usize] {
             return Err(BoardRefusal::Out);
         }
-        if !self.has_room_for(STEP_LIMIT) {
+        if !self.has_room_for(SESSION_LIMIT) {
             return Err(BoardRefusal::RecordFull);
         }
         let lent = copy_out(self.alloc, &self.machine, client)?;
@@ -393,7 +395,7 @@ fn copy_instrs(alloc: Global, instrs: &[Instr]) -> Result<Vec<Instr>, AllocError
 // Adds the instructions to a record that takes them and has the room.
 fn append_all(builder: &mut Builder, instrs: Vec<Instr>)
     requires clients { All (IsForClients builder.old.program.clients) instrs.items }
-    requires fits { length builder.old.program.instrs + length instrs.items ≤ 100000 }
+    requires fits { length builder.old.program.instrs + length instrs.items ≤ INSTR_LIMIT }
     requires room { length instrs.items ≤ builder.old.room }
     ensures { builder.new.program ≡ with_steps builder.old.program instrs.items }
 {
@@ -409,7 +411,7 @@ fn copy_out(alloc: Global, machine: &Machine, client: u16) -> Result<Lent, Alloc
 {
     // For the proof: what every machine keeps.
     let _sound = machine.clients();
-    let steps = Vec::with_capacity(alloc, STEP_LIMIT)?;
+    let steps = Vec::with_capacity(alloc, SESSION_LIMIT)?;
     let start = machine.part(client)?;
     let now = machine.part(client)?;
     let Part {

@@ -1,4 +1,5 @@
-// A session in whichever state.
+//! A session in whichever state.
+
 ghost use Rattle.std.specs.Prelude.{◌≡◌, length, None};
 ghost use Rattle.ot_machine.specs.Parts.{part_in};
 ghost use Rattle.ot_model.specs.Session.{IsAllowed};

@@ -38,5 +38,5 @@ pub use board::{Board, Finished, StillOut};
 pub use lent::Lent;
 pub use receipt::Receipt;
 pub use refusal::{BoardRefusal, SessionRefusal, SettleRefusal};
-pub use session::{STEP_LIMIT, Session};
+pub use session::{SESSION_LIMIT, Session};
 pub use state::{ClientState, EditedState};

@@ -1,4 +1,4 @@
-// What a worker gets for steps that were recorded.
+//! What a worker gets for steps that were recorded.
 
 use ot_isa::Instr;
 

@@ -1,4 +1,5 @@
-// Why a call is refused.
+//! Why a call is refused.
+
 ghost use Rattle.std.specs.Prelude.{◌≡◌};
 
 use std::alloc::AllocError;

@@ -1,4 +1,5 @@
-// Typed sessions: a client off the machine, and the steps that it makes there.
+//! Typed sessions: a client off the machine, and the steps that it makes there.
+
 ghost use Rattle.std.specs.Prelude.{◌≡◌, ◌≢◌, ◌<◌, ◌≤◌, suc, length, None, Some, IfErr, IfOk, IfNone, IfSome};
 ghost use Rattle.ot_isa.specs.declared.instruction.Instr.TheVariants.{Acknowledge, Deliver, Edit, Read};
 ghost use Rattle.ot_model.specs.Session.{IsAllowed, IsSoundPart, or_else};
@@ -16,12 +17,10 @@ use ot_client::{AwaitingConfirm, AwaitingWithBuffer, Sent, Synchronized};
 use ot_isa::{Instr, Tagged, tagged};
 use ot_links::Downlink;
 use ot_machine::{INSERTED_LIMIT, Message, Part};
+pub use ot_model::SESSION_LIMIT;
 use ot_text::{Doc, TextOp};
 use std::alloc::AllocError;
 use std::marker::Model;
-
-/// How many steps a session makes at most.
-pub const STEP_LIMIT: usize = 64;
 
 /// A client off the board, in the state S.
 #[derive(Drop)]
@@ -45,8 +44,9 @@ impl<S: ClientState> Model for Session<S> {
     ghost view = { λ s. session_in s.start s.steps.items (S.as_state s.state) s.list s.count s.incoming.items s.sent };
 
     ghost use Rattle.std.specs.Prelude.{◌≤◌, vec_capacity};
+    ghost use Rattle.ot_model.specs.declared.limits.TheConstants.{SESSION_LIMIT};
 
-    ghost invariant = { λ s. IsAllowed (session_in s.start s.steps.items (S.as_state s.state) s.list s.count s.incoming.items s.sent) × (64 ≤ vec_capacity s.steps) };
+    ghost invariant = { λ s. IsAllowed (session_in s.start s.steps.items (S.as_state s.state) s.list s.count s.incoming.items s.sent) × (SESSION_LIMIT ≤ vec_capacity s.steps) };
 }
 
 impl<S: ClientState> Session<S> {
@@ -105,7 +105,7 @@ impl<S: ClientState> Session<S> {
         if self.count as usize + op.inserted() > INSERTED_LIMIT {
             return Some(SessionRefusal::ClientFull);
         }
-        if self.steps.len() >= STEP_LIMIT {
+        if self.steps.len() >= SESSION_LIMIT {
             return Some(SessionRefusal::SessionFull);
         }
         None
@@ -117,7 +117,7 @@ impl<S: ClientState> Session<S> {
         ensures err { IfErr result (λ r. IsStepRefusal self.now (Deliver self.now.start.number) r) }
         ensures never { self.now.now.client.phase ≡ table.Synchronized → IfErr result (λ r. r ≢ SessionRefusal.WrongHead) }
     {
-        if self.steps.len() >= STEP_LIMIT {
+        if self.steps.len() >= SESSION_LIMIT {
             return Err(SessionRefusal::SessionFull);
         }
         match self.incoming.head() {
@@ -133,7 +133,7 @@ impl<S: ClientState> Session<S> {
         ensures err { IfErr result (λ r. IsStepRefusal self.now (Acknowledge self.now.start.number) r) }
         ensures never { IfErr result (λ r. r ≢ SessionRefusal.Memory) }
     {
-        if self.steps.len() >= STEP_LIMIT {
+        if self.steps.len() >= SESSION_LIMIT {
             return Err(SessionRefusal::SessionFull);
         }
         match self.incoming.head() {
@@ -151,7 +151,7 @@ impl<S: ClientState> Session<S> {
         ensures applied { IfOk result (λ given. given.1 ≡ carried self.now.now.client.phase op.now) }
         ensures base { IfOk result (λ given. given.1.base ≡ length self.now.now.client.list) }
     {
-        self.state.delivered(op.copy()?)
+        self.state.delivered(op)
     }
 
     /// Takes the next message, another's operation, off the session's own part of the downlink. Refusals in order: `SessionFull`, `LinkEmpty`,
@@ -185,7 +185,7 @@ impl<S: ClientState> Session<S> {
         ensures refused { IfErr result (λ back. IsStepRefusal self (Read self.start.number) back.0) }
         ensures back { IfErr result (λ back. back.1 ≡ self) }
     {
-        if self.steps.len() >= STEP_LIMIT {
+        if self.steps.len() >= SESSION_LIMIT {
             return Err((SessionRefusal::SessionFull, self));
         }
         let Ok(list) = self.list.copy() else {
@@ -218,7 +218,7 @@ impl<S: ClientState> Session<S> {
         requires sound { IsSoundPart (part_in start) }
         requires same { present_part start.number (S.as_state state) list count incoming.items sent ≡ part_in start }
         requires none { steps.items ≡ [] }
-        requires room { 64 ≤ vec_capacity steps }
+        requires room { SESSION_LIMIT ≤ vec_capacity steps }
         ensures { result ≡ begun (part_in start) }
     {
         Session {

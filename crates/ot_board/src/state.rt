@@ -1,8 +1,10 @@
-// The three states of a client, as a session has them.
+//! The three states of a client, as a session has them.
+
 ghost use Rattle.std.specs.Prelude.{◌≡◌, ◌<◌, IfOk};
 ghost use Rattle.std.specs.Option.{option_map};
 ghost use Rattle.ot_client.specs.State as state;
 ghost use Rattle.ot_client.specs.Client.{message_of, state_of};
+ghost use Rattle.ot_client.specs.declared.TheConstants.{REVISION_LIMIT};
 
 use ot_client::{AwaitingConfirm, AwaitingWithBuffer, Client, Sent, Synchronized};
 use ot_isa::Tagged;
@@ -22,11 +24,11 @@ pub trait ClientState: Drop {
         ensures { state_of result ≡ as_state self };
 
     /// The client after another's operation, and what its list is to be changed by. This one stays as it is.
-    fn delivered(&self, op: TextOp<Tagged>) -> Result<(Self, TextOp<Tagged>), AllocError>
-        requires revision { (as_state self.now).revision < 1000000 }
-        requires operations { state.MayDeliver (as_state self.now).phase op }
-        ensures state { IfOk result (λ given. as_state given.0 ≡ state.delivered (as_state self.now) op) }
-        ensures applied { IfOk result (λ given. given.1 ≡ state.carried (as_state self.now).phase op) };
+    fn delivered(&self, op: &TextOp<Tagged>) -> Result<(Self, TextOp<Tagged>), AllocError>
+        requires revision { (as_state self.now).revision < REVISION_LIMIT }
+        requires operations { state.MayDeliver (as_state self.now).phase op.now }
+        ensures state { IfOk result (λ given. as_state given.0 ≡ state.delivered (as_state self.now) op.now) }
+        ensures applied { IfOk result (λ given. given.1 ≡ state.carried (as_state self.now).phase op.now) };
 }
 
 /// A state that the user's edit leads on from, as each does.
@@ -50,9 +52,9 @@ impl ClientState for Synchronized {
         Client::Synchronized(self)
     }
 
-    fn delivered(&self, op: TextOp<Tagged>) -> Result<(Synchronized, TextOp<Tagged>), AllocError> {
-        let given = self.copy().deliver(op);
-        Ok(given)
+    fn delivered(&self, op: &TextOp<Tagged>) -> Result<(Synchronized, TextOp<Tagged>), AllocError> {
+        let (next, op) = self.deliver(op);
+        Ok((next, op.copy()?))
     }
 }
 
@@ -81,12 +83,9 @@ impl ClientState for AwaitingConfirm<Tagged> {
 
     fn delivered(
         &self,
-        op: TextOp<Tagged>,
+        op: &TextOp<Tagged>,
     ) -> Result<(AwaitingConfirm<Tagged>, TextOp<Tagged>), AllocError> {
-        match self.copy()?.deliver(op) {
-            Ok(given) => Ok(given),
-            Err((_state, _op)) => Err(AllocError),
-        }
+        self.deliver(op)
     }
 }
 
@@ -113,12 +112,9 @@ impl ClientState for AwaitingWithBuffer<Tagged> {
 
     fn delivered(
         &self,
-        op: TextOp<Tagged>,
+        op: &TextOp<Tagged>,
     ) -> Result<(AwaitingWithBuffer<Tagged>, TextOp<Tagged>), AllocError> {
-        match self.copy()?.deliver(op) {
-            Ok(given) => Ok(given),
-            Err((_state, _op)) => Err(AllocError),
-        }
+        self.deliver(op)
     }
 }
 

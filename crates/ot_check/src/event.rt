@@ -12,6 +12,8 @@ ghost use Rattle.ot_model.specs.Events.{insertions_from, tags};
 ghost use Rattle.ot_judge.specs.Views.{event_view};
 ghost use Rattle.ot_check.specs.Insertions.{placed_run};
 ghost use Rattle.ot_check.specs.Rows.{edit_made, read_event};
+ghost use Rattle.ot_isa.specs.declared.tagging.TheConstants.{INSERTED_LIMIT};
+ghost use Rattle.ot_text.specs.declared.TheConstants.{LIMIT};
 
 use ot_isa::{Tag, Tagged};
 use ot_judge::{Event, Placed};
@@ -65,8 +67,8 @@ fn push_placed(
     place: usize,
     count: usize,
 ) -> Result<(), AllocError>
-    requires serials { first + count ≤ 15000 }
-    requires places { place + count ≤ 1000000 }
+    requires serials { first + count ≤ INSERTED_LIMIT }
+    requires places { place + count ≤ LIMIT }
     ensures { OnOk result (placed.new.items ≡ placed.old.items ++ placed_run origin first place count) }
 {
     for i in 0..count {
@@ -89,9 +91,9 @@ fn insertions_of(
     origin: u16,
     first: u32,
 ) -> Result<Vec<Placed>, AllocError>
-    requires serials { first + length (news (image_from 0 (runs components.now))) ≤ 15000 }
-    requires base { base_of (runs components.now) ≤ 1000000 }
-    requires target { length (image_from 0 (runs components.now)) ≤ 1000000 }
+    requires serials { first + length (news (image_from 0 (runs components.now))) ≤ INSERTED_LIMIT }
+    requires base { base_of (runs components.now) ≤ LIMIT }
+    requires target { length (image_from 0 (runs components.now)) ≤ LIMIT }
     ensures { IfOk result (λ v. v.items ≡ insertions_from 0 (tagged_operation (operation_of (runs components.now)) origin first).image) }
 {
     let mut placed = Vec::new(alloc);
@@ -118,7 +120,7 @@ fn insertions(
     origin: u16,
     first: u32,
 ) -> Result<Vec<Placed>, AllocError>
-    requires { first + length (news op.now.image) ≤ 15000 }
+    requires { first + length (news op.now.image) ≤ INSERTED_LIMIT }
     ensures { IfOk result (λ v. v.items ≡ insertions_from 0 (tagged_operation op.now origin first).image) }
 {
     // For the proof: what every operation keeps.
@@ -138,7 +140,7 @@ pub(crate) fn edit_event(
     before: &[Tag],
     document: &Doc<Tagged>,
 ) -> Result<Event, AllocError>
-    requires { first + length (news op.now.image) ≤ 15000 }
+    requires { first + length (news op.now.image) ≤ INSERTED_LIMIT }
     ensures { IfOk result (λ x. event_view x ≡ edit_made client (tagged_operation op.now client first) before.now (tags document.now) seen.items) }
 {
     let list = tags_of(alloc, document)?;

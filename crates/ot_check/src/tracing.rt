@@ -10,6 +10,7 @@ ghost use Rattle.ot_judge.specs.Making.{is_full};
 ghost use Rattle.ot_judge.specs.Views.{views};
 ghost use Rattle.ot_check.specs.Rows.{seen_by};
 ghost use Rattle.ot_check.specs.Following.{counts_of, events_of, FitsState, Follows, IsStuck, IsTracedTo, IsWithin, LeadsTo, Overflows};
+ghost use Rattle.ot_text.specs.declared.TheConstants.{LIMIT};
 
 use crate::event::{edit_event, read_event, tags_of};
 use crate::ledger::Ledger;
@@ -45,7 +46,7 @@ fn perform(machine: &mut Machine, instr: &Instr) -> Result<bool, TraceStop>
 // How many entries there are with one more list, to which one more event belongs; `TraceFull` where that passes a limit.
 fn claim(events: usize, entries: usize, length: usize) -> Result<usize, TraceStop>
     requires few { entries ≤ 4000000 }
-    requires small { length ≤ 1000000 }
+    requires small { length ≤ LIMIT }
     ensures ok { IfOk result (λ count. (count ≡ entries + length) × (events < 4000) × (count ≤ 4000000)) }
     ensures err { IfErr result (λ e. e ≡ TraceStop.TraceFull) }
     ensures full { OnErr result ((4000 ≤ events) ⊎ (4000000 < entries + length)) }

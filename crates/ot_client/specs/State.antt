@@ -3,6 +3,7 @@ use Rattle.std.specs.Prelude.{◌≡◌, ℕ, suc, ◌+◌, ◌≤◌, length, O
 use Rattle.ot_text.specs.Operation.{Operation, news}
 use Rattle.ot_algebra.specs.Compose.{compose}
 use Rattle.ot_algebra.specs.Merge.{first_after, second_after}
+use Rattle.ot_text.specs.declared.TheConstants.{LIMIT}
 
 -- nothing under way; an operation sent and not yet confirmed; that and a buffer of later edits
 pub data Phase (A : Type 0) : Type 0 where
@@ -74,10 +75,10 @@ MayEdit (AwaitingWithBuffer outstanding buffer) op = op.base ≡ length buffer.i
 abbrev pub MayDeliver : {A : Type 0} → Phase A → Operation A → Type 0
 MayDeliver Synchronized op = Unit {0}
 MayDeliver (AwaitingConfirm outstanding) op =
-    (op.base ≡ outstanding.base) × (op.base + length (news outstanding.image) + length (news op.image) ≤ 1000000)
+    (op.base ≡ outstanding.base) × (op.base + length (news outstanding.image) + length (news op.image) ≤ LIMIT)
 MayDeliver (AwaitingWithBuffer outstanding buffer) op =
     (op.base ≡ outstanding.base)
-    × (op.base + length (news outstanding.image) + length (news buffer.image) + length (news op.image) ≤ 1000000)
+    × (op.base + length (news outstanding.image) + length (news buffer.image) + length (news op.image) ≤ LIMIT)
 
 -- what an acknowledgement asks: that something was sent
 abbrev pub IsAwaiting : {A : Type 0} → Phase A → Type 0

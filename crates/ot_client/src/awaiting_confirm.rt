@@ -1,7 +1,10 @@
-// A client of which one operation is under way.
-ghost use Rattle.std.specs.Prelude.{◌≡◌, ◌+◌, ◌<◌, ◌≤◌, length, IfOk, IfErr};
+//! A client of which one operation is under way.
+
+ghost use Rattle.std.specs.Prelude.{◌≡◌, ◌+◌, ◌<◌, ◌≤◌, length, IfOk};
 ghost use Rattle.ot_text.specs.Operation.{news};
 ghost use Rattle.ot_client.specs.State.{buffering, carried, confirming, delivered, edited};
+ghost use Rattle.ot_text.specs.declared.TheConstants.{LIMIT};
+ghost use Rattle.ot_client.specs.declared.TheConstants.{REVISION_LIMIT};
 
 use crate::{AwaitingWithBuffer, Synchronized};
 use ot_algebra::transform;
@@ -67,24 +70,18 @@ impl<T: Element> AwaitingConfirm<T> {
         AwaitingWithBuffer::new(self.revision, self.outstanding, op)
     }
 
-    /// Takes the next entry of the server's log, an operation of another client over the base of the outstanding one: the outstanding
-    /// operation goes after it, and what the document is to be changed by comes back. The revision, below 1,000,000, rises by 1. The base
-    /// and what both insert are at most 1,000,000 items together. For want of memory the client and the operation come back.
-    pub fn deliver(
-        self,
-        op: TextOp<T>,
-    ) -> Result<(AwaitingConfirm<T>, TextOp<T>), (AwaitingConfirm<T>, TextOp<T>)>
-        requires revision { self.revision < 1000000 }
-        requires base { op.base ≡ self.outstanding.base }
-        requires fits { op.base + length (news self.outstanding.image) + length (news op.image) ≤ 1000000 }
-        ensures state { IfOk result (λ given. confirming given.0 ≡ delivered (confirming self) op) }
-        ensures applied { IfOk result (λ given. given.1 ≡ carried (confirming self).phase op) }
-        ensures back { IfErr result (λ back. back ≡ (self, op)) }
+    /// The client after the next entry of the server's log, an operation of another client over the base of the outstanding one, which goes
+    /// after it; and what the document is to be changed by. The revision, below 1,000,000, rises by 1. The base and what both insert are at
+    /// most 1,000,000 items together. The client and the operation are only read: `Err` comes where memory was refused, and nothing is copied.
+    pub fn deliver(&self, op: &TextOp<T>) -> Result<(AwaitingConfirm<T>, TextOp<T>), AllocError>
+        requires revision { self.now.revision < REVISION_LIMIT }
+        requires base { op.now.base ≡ self.now.outstanding.base }
+        requires fits { op.now.base + length (news self.now.outstanding.image) + length (news op.now.image) ≤ LIMIT }
+        ensures state { IfOk result (λ given. confirming given.0 ≡ delivered (confirming self.now) op.now) }
+        ensures applied { IfOk result (λ given. given.1 ≡ carried (confirming self.now).phase op.now) }
     {
         let alloc = self.outstanding.allocator();
-        let Ok((outstanding, applied)) = transform(alloc, &self.outstanding, &op) else {
-            return Err((self, op));
-        };
+        let (outstanding, applied) = transform(alloc, &self.outstanding, op)?;
         let next = AwaitingConfirm {
             revision: self.revision + 1,
             outstanding,
@@ -94,7 +91,7 @@ impl<T: Element> AwaitingConfirm<T> {
 
     /// Takes the confirmation of the operation that was sent: nothing is under way. The revision, below 1,000,000, rises by 1. It takes no memory.
     pub fn acknowledge(self) -> Synchronized
-        requires { self.revision < 1000000 }
+        requires { self.revision < REVISION_LIMIT }
         ensures { result ≡ self.revision + 1 }
     {
         Synchronized::new(self.revision + 1)

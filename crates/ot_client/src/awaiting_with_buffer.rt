@@ -1,8 +1,11 @@
-// A client of which one operation is under way, with later edits.
+//! A client of which one operation is under way, with later edits.
+
 ghost use Rattle.std.specs.Prelude.{◌≡◌, ◌+◌, ◌<◌, ◌≤◌, length, IfOk, IfErr};
 ghost use Rattle.ot_text.specs.Operation.{news};
 ghost use Rattle.ot_client.specs.Client.{message_of};
 ghost use Rattle.ot_client.specs.State.{buffering, carried, confirming, delivered, edited, IsJoined};
+ghost use Rattle.ot_text.specs.declared.TheConstants.{LIMIT};
+ghost use Rattle.ot_client.specs.declared.TheConstants.{REVISION_LIMIT};
 
 use crate::{AwaitingConfirm, Sent};
 use ot_algebra::{compose, transform};
@@ -100,30 +103,23 @@ impl<T: Element> AwaitingWithBuffer<T> {
         })
     }
 
-    /// Takes the next entry of the server's log, an operation of another client over the base of the outstanding one: the outstanding operation goes
-    /// after it, the buffer after what that leaves of it, and what the document is to be changed by comes back. The revision, below 1,000,000, rises by
-    /// 1. The base and what all three insert are at most 1,000,000 items together. For want of memory the client and the operation come back.
-    pub fn deliver(
-        self,
-        op: TextOp<T>,
-    ) -> Result<(AwaitingWithBuffer<T>, TextOp<T>), (AwaitingWithBuffer<T>, TextOp<T>)>
-        requires revision { self.revision < 1000000 }
-        requires base { op.base ≡ self.outstanding.base }
-        requires fits { op.base + length (news self.outstanding.image) + length (news self.buffer.image) + length (news op.image) ≤ 1000000 }
-        ensures state { IfOk result (λ given. buffering given.0 ≡ delivered (buffering self) op) }
-        ensures applied { IfOk result (λ given. given.1 ≡ carried (buffering self).phase op) }
-        ensures back { IfErr result (λ back. back ≡ (self, op)) }
+    /// The client after the next entry of the server's log, an operation of another client over the base of the outstanding one: the outstanding
+    /// operation goes after it, and the buffer after what that leaves of it; and what the document is to be changed by. The revision, below 1,000,000,
+    /// rises by 1. The base and what all three insert are at most 1,000,000 items together. The client and the operation are only read: `Err` comes
+    /// where memory was refused, and nothing is copied.
+    pub fn deliver(&self, op: &TextOp<T>) -> Result<(AwaitingWithBuffer<T>, TextOp<T>), AllocError>
+        requires revision { self.now.revision < REVISION_LIMIT }
+        requires base { op.now.base ≡ self.now.outstanding.base }
+        requires fits { op.now.base + length (news self.now.outstanding.image) + length (news self.now.buffer.image) + length (news op.now.image) ≤ LIMIT }
+        ensures state { IfOk result (λ given. buffering given.0 ≡ delivered (buffering self.now) op.now) }
+        ensures applied { IfOk result (λ given. given.1 ≡ carried (buffering self.now).phase op.now) }
     {
         let alloc = self.buffer.allocator();
         // For the proof: what every operation keeps.
         let _operation = self.outstanding.base_len();
         let _operation = op.base_len();
-        let Ok((outstanding, passed)) = transform(alloc, &self.outstanding, &op) else {
-            return Err((self, op));
-        };
-        let Ok((buffer, applied)) = transform(alloc, &self.buffer, &passed) else {
-            return Err((self, op));
-        };
+        let (outstanding, passed) = transform(alloc, &self.outstanding, op)?;
+        let (buffer, applied) = transform(alloc, &self.buffer, &passed)?;
         let next = AwaitingWithBuffer {
             revision: self.revision + 1,
             outstanding,
@@ -135,7 +131,7 @@ impl<T: Element> AwaitingWithBuffer<T> {
     /// Takes the confirmation of the operation that was sent: the revision, below 1,000,000, rises by 1, and the buffer is sent with the risen
     /// revision and outstanding from now on. For want of memory the client comes back.
     pub fn acknowledge(self) -> Result<(AwaitingConfirm<T>, Sent<T>), AwaitingWithBuffer<T>>
-        requires { self.revision < 1000000 }
+        requires { self.revision < REVISION_LIMIT }
         ensures state { IfOk result (λ given. given.0 ≡ record { revision = self.revision + 1; outstanding = self.buffer }) }
         ensures sent { IfOk result (λ given. message_of given.1 ≡ record { revision = self.revision + 1; op = self.buffer }) }
         ensures back { IfErr result (λ back. back ≡ self) }

@@ -10,9 +10,10 @@
 //!   the client's document = the server's at the client's revision, with `outstanding` and then `buffer` applied
 //! ```
 //!
-//! Each call takes the state by value and gives the next one, so a state is never used twice, and an acknowledgement of nothing does
-//! not compile. `deliver` brings another's operation in: what waits goes after it by the first result of `transform`, and what
-//! the document is to be changed by comes back. Where memory is wanting, the state and the operation come back as they were.
+//! An edit and an acknowledgement take the state by value and give the next one, so what was sent is never sent or confirmed twice, and
+//! an acknowledgement of nothing does not compile; where memory is wanting, the state and the operation come back as they were. `deliver`
+//! brings another's operation in, and only reads the state and the operation: what waits goes after it by the first result of `transform`,
+//! so the next state is made anew, and so is what the document is to be changed by.
 //! These are the functions `applyClient`, `applyServer` and `serverAck` of the three states in ot.js' `Client`.
 //!
 //! Contracts see a state as `State` of `specs/State.antt`: a revision and a `Phase`. `edited` and `delivered` are two of the rules, `carried` what a
@@ -27,6 +28,9 @@ mod awaiting_with_buffer;
 mod client;
 mod sent;
 mod synchronized;
+
+/// The greatest revision of a client.
+pub const REVISION_LIMIT: u32 = 1_000_000;
 
 pub use awaiting_confirm::AwaitingConfirm;
 pub use awaiting_with_buffer::AwaitingWithBuffer;

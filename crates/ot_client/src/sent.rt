@@ -1,4 +1,5 @@
-// What a client sends to the server.
+//! What a client sends to the server.
+
 ghost use Rattle.std.specs.Prelude.{◌≡◌, IfOk};
 ghost use Rattle.ot_client.specs.Client.{message_of};
 

@@ -1,7 +1,9 @@
-// A client of which nothing is under way.
+//! A client of which nothing is under way.
+
 ghost use Rattle.std.specs.Prelude.{◌≡◌, ◌<◌, IfOk, IfErr};
 ghost use Rattle.ot_client.specs.Client.{message_of};
 ghost use Rattle.ot_client.specs.State.{confirming, delivered, edited, synchronized};
+ghost use Rattle.ot_client.specs.declared.TheConstants.{REVISION_LIMIT};
 
 use crate::{AwaitingConfirm, Sent};
 use ot_text::{Element, TextOp};
@@ -63,12 +65,12 @@ impl Synchronized {
         Ok((AwaitingConfirm::new(self.revision, op), sent))
     }
 
-    /// Takes the next entry of the server's log, an operation of another client, and gives what the document is to be changed by: the operation as
-    /// it came. The revision, below 1,000,000, rises by 1. It takes no memory.
-    pub fn deliver<T: Element>(self, op: TextOp<T>) -> (Synchronized, TextOp<T>)
-        requires { self < 1000000 }
-        ensures state { synchronized result.0 ≡ delivered (synchronized self) op }
-        ensures applied { result.1 ≡ op }
+    /// The client after the next entry of the server's log, an operation of another client, and what the document is to be changed by: the operation
+    /// as it came. The revision, below 1,000,000, rises by 1. It takes no memory.
+    pub fn deliver<'a, T: Element>(&self, op: &'a TextOp<T>) -> (Synchronized, &'a TextOp<T>)
+        requires { self.now < REVISION_LIMIT }
+        ensures state { synchronized result.0 ≡ delivered (synchronized self.now) op.now }
+        ensures applied { result.1.now ≡ op.now }
     {
         let next = Synchronized {
             revision: self.revision + 1,

@@ -1,6 +1,5 @@
 -- The keys of a line, one after the other.
-use Rattle.std.proofs.Common.{◌≡◌, ℕ, suc, ◌+◌, ◌<◌, ◌≤◌, List, [], ◌∷◌, length, drop, get_or, Bool, true, false, Option, Some, None, refl, sym, ap, ◌∙◌, arith, add-one, drop-cons}
-use Rattle.std.specs.Prelude.{if◌then◌else◌}
+use Rattle.std.proofs.Common.{◌≡◌, ℕ, ◌+◌, ◌<◌, ◌≤◌, List, [], ◌∷◌, length, drop, get_or, Bool, true, false, Some, None, refl, sym, ap, ◌∙◌, add-one, drop-cons}
 use Rattle.std.proofs.lemmas.List.{drop_all}
 use Rattle.serde_json.specs.Data.{Data}
 use Rattle.ot_steps.specs.Lines.{Line}
@@ -35,3 +34,7 @@ key_differs ks i k line d within differs = ap (λ (xs : List Key). first_key xs 
 
 pub no_key : (ks : List Key) (i : ℕ) (line : Line) (d : Data) → length ks ≤ i → first_key (drop i ks) line d ≡ None
 no_key ks i line d past = ap (λ (xs : List Key). first_key xs line d) (drop_all i ks past) ∙ nil line d
+
+pub all_agree : (ks : List Key) (line : Line) (d : Data) → ((k : Key) → agrees_at k (text_at k line) (found_at k d) ≡ true) → first_key ks line d ≡ None
+all_agree [] line d each = nil line d
+all_agree (k ∷ ks) line d each = cons_agrees k ks line d (each k) ∙ all_agree ks line d each

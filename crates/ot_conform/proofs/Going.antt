@@ -1,28 +1,24 @@
 -- A line that agrees leads to the rest of the lines.
-use Rattle.std.proofs.Common.{◌≡◌, ℕ, suc, ◌+◌, ◌<◌, ◌≤◌, List, [], ◌∷◌, length, drop, Bool, true, false, Option, Some, None, refl, sym, ap, ◌∙◌, subst, arith, add-one, inl, inr}
-use Rattle.std.specs.Prelude.{slice_get, if◌then◌else◌, ◌⊎◌, IsSome}
+use Rattle.std.proofs.Common.{◌≡◌, ℕ, suc, ◌+◌, ◌≤◌, List, [], ◌∷◌, length, drop, Bool, true, false, Option, Some, None, refl, sym, ap, ◌∙◌, subst, add-one}
+use Rattle.std.specs.Prelude.{slice_get}
 use Rattle.ot_isa.specs.Program.{Program}
 use Rattle.ot_isa.specs.declared.instruction.Instr.{Instr}
 use Rattle.ot_model.specs.declared.shown.Refusal.{Refusal}
-use Rattle.ot_model.specs.declared.shown.Refusal.TheVariants.{Memory}
 use Rattle.ot_model.specs.declared.shown.Shown.{Shown}
 use Rattle.ot_model.specs.Operation.{Operation}
 use Rattle.ot_model.specs.Runs.{place_at}
 use Rattle.ot_model.specs.Table.{Performed, Refused, State, step, with_shown}
 use Rattle.ot_model.proofs.Runs.{place_at-next}
 use Rattle.ot_steps.specs.Steps.{applies, is_quiet, sends}
-use Rattle.ot_conform.specs.Answers.{IsCompared}
 use Rattle.ot_conform.specs.Counted.{with_port_line}
-use Rattle.ot_conform.specs.Differences as differences
-use Rattle.ot_conform.specs.Differences.{Ahead, Wanted, Outcome, ahead_from, ending, field_of, from_opening, is_limit, over, stopping}
+use Rattle.ot_conform.specs.Differences.{Ahead, Wanted, ahead_from, ending, field_of, from_opening, is_limit, over}
 use Rattle.ot_conform.specs.Due.{DueLine, end_due, opening_due, step_due, stop_due}
 use Rattle.ot_conform.specs.Ports.{PortLine, Told, OtherForm, NoText, Nothing, front, is_opening_line}
-use Rattle.ot_conform.specs.Standing.{AgreesAt, Goes, IsAtOpening, IsStanding, IsVerdict, rest, rest_at}
-use Rattle.ot_conform.proofs.Outcomes.{IsThere, ahead_past, ahead_performed, ahead_refused, for_memory, goes_on, over_agrees, stops, table_or_memory}
+use Rattle.ot_conform.specs.Standing.{AgreesAt, Goes, IsAtOpening, IsStanding, rest, rest_at}
+use Rattle.ot_conform.proofs.Outcomes.{IsThere, ahead_past, ahead_performed, ahead_refused, goes_on, over_agrees}
 use Rattle.ot_conform.specs.declared.comparison.Comparison.{Comparison}
 use Rattle.ot_conform.specs.declared.comparison.Stage.{Stage}
 use Rattle.ot_conform.specs.declared.comparison.Stage.TheVariants.{Opening, Running, Ending, Over}
-use Rattle.ot_conform.specs.declared.comparison.Verdict.{Verdict}
 
 abbrev pub running : Comparison → Comparison
 running c = record c { stage = Running }

@@ -1,7 +1,7 @@
 -- Lines that agree, one after the other.
-use Rattle.std.proofs.Common.{◌≡◌, ℕ, zero, suc, ◌+◌, ◌==◌, List, [], ◌∷◌, ◌++◌, length, length-append, Bool, true, false, Option, Some, None, refl, sym, ap, ◌∙◌, subst, append_assoc, append-nil, inl, inr, arith}
+use Rattle.std.proofs.Common.{◌≡◌, ℕ, suc, ◌+◌, ◌==◌, List, [], ◌∷◌, ◌++◌, length, length-append, Bool, true, false, Option, Some, None, refl, sym, ap, ◌∙◌, subst, append_assoc, append-nil, inl, inr, arith}
 use Rattle.std.proofs.lemmas.Bool.{eqb-true}
-use Rattle.std.specs.Prelude.{◌⊎◌, ◌-◌, ◌^◌, min, IfSome, ⊤, if◌then◌else◌}
+use Rattle.std.specs.Prelude.{◌-◌, ◌^◌, min, IfSome, ⊤}
 use Rattle.std.specs.Str.{is_utf8}
 use Rattle.serde_json.specs.Data.{Data}
 use Rattle.serde_json.specs.Read.{read}
@@ -11,12 +11,11 @@ use Rattle.line_reader.specs.Lines.{lines_of}
 use Rattle.line_reader.specs.Taken.{TakesLine}
 use Rattle.ot_asm.specs.Words.{trimmed}
 use Rattle.ot_isa.specs.Program.{Program}
-use Rattle.ot_conform.specs.Compared.{IsNumber, IsVerdictOf, Leads, StopsBehind, WantsMemory}
-use Rattle.ot_conform.specs.Counted.{counted, with_port_line}
+use Rattle.ot_conform.specs.Compared.{IsNumber, IsVerdictOf, Leads, StopsBehind}
+use Rattle.ot_conform.specs.Counted.{counted}
 use Rattle.ot_conform.specs.Answers.{IsDifferenceOf}
-use Rattle.ot_conform.specs.Differences.{Outcome, outcome}
-use Rattle.ot_conform.specs.Differences as differences
-use Rattle.ot_conform.specs.Ports.{PortLine, Told, OtherForm, NoText, Nothing, counted_lines, front, is_empty, port_line, told_or_other}
+use Rattle.ot_conform.specs.Differences.{Outcome}
+use Rattle.ot_conform.specs.Ports.{PortLine, Nothing, counted_lines, front, is_empty, port_line, told_or_other}
 use Rattle.ot_conform.specs.Standing.{Goes, IsStanding, IsVerdict, begun, rest}
 use Rattle.ot_conform.proofs.Going.{front_there}
 use Rattle.ot_conform.proofs.Outcomes.{IsThere}

@@ -5,3 +5,4 @@ pub mod Fronts
 pub mod Going
 pub mod Settling
 pub mod Leading
+pub mod Conforming

@@ -1,14 +1,13 @@
 -- What comes of the lines that are left, one step at a time.
-use Rattle.std.proofs.Common.{◌≡◌, ℕ, suc, ◌+◌, ◌<◌, ◌≤◌, List, [], ◌∷◌, length, drop, get_or, Bool, true, false, Option, Some, None, refl, sym, ap, ◌∙◌, subst, arith, inl, inr, drop-cons}
-use Rattle.std.specs.Prelude.{slice_get, if◌then◌else◌, ◌⊎◌}
+use Rattle.std.proofs.Common.{◌≡◌, ℕ, suc, ◌≤◌, List, [], ◌∷◌, length, drop, true, false, Option, Some, None, refl, sym, ap, ◌∙◌, subst, inl, inr, drop-cons}
+use Rattle.std.specs.Prelude.{slice_get, ◌⊎◌}
 use Rattle.std.proofs.lemmas.List.{drop_all}
 use Rattle.std.proofs.lemmas.Option.{get_or_from_slice_get, slice_get_within}
-use Rattle.ot_isa.specs.Program.{Program}
 use Rattle.ot_isa.specs.declared.instruction.Instr.{Instr}
 use Rattle.ot_model.specs.declared.shown.Refusal.{Refusal}
 use Rattle.ot_model.specs.declared.shown.Refusal.TheVariants.{NoSuchClient, StepsFull, NotJoined, AlreadyJoined, BadBase, ClientFull, LinkEmpty, WrongHead, Memory}
 use Rattle.ot_model.specs.declared.shown.Shown.{Shown}
-use Rattle.ot_model.specs.Table.{Performed, Refused, NoRow, State, step}
+use Rattle.ot_model.specs.Table.{Performed, Refused, State, step}
 use Rattle.ot_machine.specs.Answers.{IsRefusal}
 use Rattle.ot_steps.specs.Steps.{applies, sends}
 use Rattle.ot_conform.specs.Answers.{IsCompared, IsDifferenceOf}

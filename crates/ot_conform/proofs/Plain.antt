@@ -1,7 +1,7 @@
 -- Plain values: they have no floats, so that their text is known.
-use Rattle.std.proofs.Common.{◌≡◌, ℕ, suc, ◌+◌, ◌<◌, List, [], ◌∷◌, length, drop, get_or, Bool, true, false, ◌&&◌, ◌||◌, not, refl, sym, ap, ◌∙◌, arith, add-one, drop-cons}
+use Rattle.std.proofs.Common.{◌≡◌, ℕ, suc, ◌+◌, ◌<◌, List, length, drop, get_or, Bool, true, false, ◌&&◌, not, refl, sym, ap, ◌∙◌, add-one, drop-cons}
 use Rattle.std.specs.Str.{bytes_eq}
-use Rattle.serde_json.specs.Data.{Num, Data, null, boolean, number, string, array, object, Items, no_items, item}
+use Rattle.serde_json.specs.Data.{Data, null, boolean, number, string, array, object, Items, no_items, item}
 use Rattle.serde_json.specs.Find.{is_float}
 use Rattle.serde_json.specs.View.{items_view, view}
 use Rattle.serde_json.specs.Written.{compact_text, has_float, items_have_float}

@@ -1,12 +1,11 @@
 -- What comes of a line once it is compared.
-use Rattle.std.proofs.Common.{◌≡◌, ℕ, suc, ◌+◌, ◌<◌, ◌≤◌, List, [], ◌∷◌, length, drop, Bool, true, false, Option, Some, None, refl, sym, ap, ◌∙◌, subst, inl, inr}
+use Rattle.std.proofs.Common.{◌≡◌, ℕ, suc, List, [], ◌∷◌, drop, Bool, true, false, Option, Some, None, refl, sym, ap, ◌∙◌, subst, inl, inr}
 use Rattle.std.specs.Prelude.{slice_get, ◌⊎◌, IfOk, IfSome, IsSome, Result, Ok, Err}
 use Rattle.ot_isa.specs.Program.{Program}
 use Rattle.ot_isa.specs.declared.instruction.Instr.{Instr}
 use Rattle.ot_model.specs.declared.shown.Refusal.{Refusal}
 use Rattle.ot_model.specs.declared.shown.Refusal.TheVariants.{Memory}
 use Rattle.ot_model.specs.declared.shown.Shown.{Shown}
-use Rattle.ot_model.specs.Operation.{Operation}
 use Rattle.ot_model.specs.Table.{Performed, Refused, State, step}
 use Rattle.ot_machine.specs.Answers.{IsRefusal}
 use Rattle.ot_steps.specs.Steps.{applies, is_quiet, sends}
@@ -18,12 +17,12 @@ use Rattle.ot_conform.specs.Due.{DueLine, end_due, step_due, stop_due}
 use Rattle.ot_conform.specs.Ports.{PortLine, Nothing, front}
 use Rattle.ot_conform.specs.Read.{read_as}
 use Rattle.ot_conform.specs.Standing.{AgreesAt, Goes, IsStanding, IsVerdict, rest, rest_at}
-use Rattle.ot_conform.proofs.Outcomes.{IsNeeded, IsThere, ahead_past, ahead_performed, ahead_refused, for_memory, goes_on, is_difference, stops, table_or_memory}
-use Rattle.ot_conform.proofs.Going.{ahead_of, goes_end, goes_step, goes_stop, running}
+use Rattle.ot_conform.proofs.Outcomes.{IsNeeded, IsThere, ahead_performed, ahead_refused, for_memory, goes_on, is_difference, stops, table_or_memory}
+use Rattle.ot_conform.proofs.Going.{ahead_of, goes_stop, running}
 use Rattle.ot_conform.specs.declared.answers.Difference.{Difference}
 use Rattle.ot_conform.specs.declared.comparison.Comparison.{Comparison}
 use Rattle.ot_conform.specs.declared.comparison.Stage.{Stage}
-use Rattle.ot_conform.specs.declared.comparison.Stage.TheVariants.{Ending, Over, Running}
+use Rattle.ot_conform.specs.declared.comparison.Stage.TheVariants.{Ending, Over}
 use Rattle.ot_conform.specs.declared.comparison.Verdict.{Verdict}
 use Rattle.ot_conform.specs.declared.comparison.Verdict.TheVariants.{Differs}
 use Rattle.ot_conform.specs.declared.lines.PortLine as read

@@ -1,5 +1,5 @@
 -- What is answered.
-use Rattle.std.specs.Prelude.{◌≡◌, ℕ, suc, zero, ◌==◌, List, [], ◌∷◌, ◌++◌, Bool, true, false, MatchBool, Option, Some, None, codes, decimal, string_bytes, ◌||◌, unwrap_or, option_map, option_and_then, if◌then◌else◌}
+use Rattle.std.specs.Prelude.{◌≡◌, ℕ, suc, ◌-◌, ◌==◌, List, [], ◌∷◌, ◌++◌, Bool, true, false, MatchBool, Option, Some, None, codes, decimal, string_bytes, ◌||◌, unwrap_or, option_map, option_and_then, if◌then◌else◌}
 use Rattle.std.specs.Str.{chars}
 use Rattle.json.specs.Print.{quoted}
 use Rattle.serde_json.specs.Data.{Data}
@@ -8,7 +8,7 @@ use Rattle.serde_json.specs.Written.{compact_text, has_float, IsInOrder}
 use Rattle.ot_isa.specs.Program.{client_of}
 use Rattle.ot_isa.specs.declared.instruction.Instr.{Instr}
 use Rattle.ot_model.specs.declared.shown.Refusal.{Refusal}
-use Rattle.ot_report.specs.Printed.{line, refusal_text, stop_line}
+use Rattle.ot_report.specs.Printed.{line, refusal_text}
 use Rattle.ot_steps.specs.Lines.{Line, word_of}
 use Rattle.ot_steps.specs.Text.{line_text, word_text}
 use Rattle.ot_conform.specs.Due.{DueLine, What, Opening, Instruction, End, placed_client}
@@ -171,6 +171,16 @@ tells_operation Nothing = false
 
 -- ---- a difference
 
+-- the number of the instruction that a line is of, counted from 0, where that was performed; the line's place is the one behind it
+abbrev pub number_before : ℕ → Option ℕ
+number_before at = if at == 0 then None else Some (at - 1)
+
+abbrev pub number_of : What → Option Refusal → ℕ → Option ℕ
+number_of Opening stopped at = None
+number_of (Instruction i) None at = number_before at
+number_of (Instruction i) (Some refusal) at = None
+number_of End stopped at = None
+
 -- a line that differs at a field
 pub record IsDifference (due : DueLine) (f : Field) (line : PortLine) (d : Difference) : Type 0 where
   pub place : d.place ≡ due.line.at
@@ -181,6 +191,7 @@ pub record IsDifference (due : DueLine) (f : Field) (line : PortLine) (d : Diffe
   pub wanted : string_bytes d.wanted ≡ wanted_text f due
   pub front : d.front ≡ front_at f due.line line
   pub operation : d.tells_operation ≡ tells_operation line
+  pub number : d.number ≡ number_of due.what due.line.stopped due.line.at
 
 -- a line agrees with the one that is due, or this is the difference
 abbrev pub IsCompared : DueLine → PortLine → Option Difference → Type 0
@@ -197,6 +208,7 @@ pub record IsLeftOver (last : ℕ) (left : PortLine) (d : Difference) : Type 0 w
   pub wanted : string_bytes d.wanted ≡ line (codes "nothing")
   pub front : d.front ≡ None
   pub operation : d.tells_operation ≡ false
+  pub number : d.number ≡ None
 
 abbrev pub IsDifferenceOf : Outcome → Difference → Type 0
 IsDifferenceOf Conforms d = ⊥

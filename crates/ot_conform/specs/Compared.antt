@@ -1,10 +1,9 @@
 -- What comes of comparing the lines of an input.
 use Rattle.std.specs.Prelude.{◌≡◌, ◌⊎◌, ◌+◌, ◌-◌, ◌^◌, min, ℕ, List, ◌++◌, length}
-use Rattle.ot_report.specs.Printed.{stop_line}
 use Rattle.ot_isa.specs.Program.{Program}
 use Rattle.ot_model.specs.declared.shown.Refusal.{Refusal}
 use Rattle.ot_model.specs.declared.shown.Refusal.TheVariants.{Memory}
-use Rattle.ot_conform.specs.Answers.{IsDifferenceOf, conforms_text, difference_text}
+use Rattle.ot_conform.specs.Answers.{IsDifferenceOf}
 use Rattle.ot_conform.specs.Counted.{counted, no_counts}
 use Rattle.ot_conform.specs.Differences as differences
 use Rattle.ot_conform.specs.Differences.{outcome}
@@ -53,12 +52,7 @@ pub record StopsBehind (s : Program) (stop : CompareStop) (earlier : ℕ) (all :
   pub leads : Leads s (begun s) (counted_lines lines) here
   pub number : IsNumber stop (earlier + length lines)
 
--- the verdict's lines, and its status
-abbrev pub verdict_text : Verdict → List ℕ
-verdict_text (Conforms counts) = conforms_text counts
-verdict_text (Differs difference) = difference_text difference
-verdict_text (Stopped place refusal) = stop_line place refusal
-
+-- the verdict's status
 abbrev pub verdict_status : Verdict → ℕ
 verdict_status (Conforms counts) = 0
 verdict_status (Differs difference) = 1

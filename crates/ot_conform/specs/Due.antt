@@ -1,5 +1,5 @@
 -- What the run of a schedule has for the lines that are due.
-use Rattle.std.specs.Prelude.{ℕ, List, length, Bool, false, Option, Some, None, option_map, if◌then◌else◌}
+use Rattle.std.specs.Prelude.{ℕ, length, Bool, false, Option, Some, None, option_map, if◌then◌else◌}
 use Rattle.std.specs.Borrow.{Bor}
 use Rattle.std.specs.Option.{option_copied}
 use Rattle.ot_client.specs.Client.{message_of}

@@ -8,3 +8,5 @@ pub mod Differences
 pub mod Answers
 pub mod Standing
 pub mod Compared
+pub mod Ruled
+pub mod Laws

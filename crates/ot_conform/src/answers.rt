@@ -38,6 +38,8 @@ pub struct Difference {
     pub front: Option<usize>,
     /// Whether the port's line tells the operation that the instruction applied.
     pub tells_operation: bool,
+    /// The number of the instruction that was performed there, counted from 0.
+    pub number: Option<usize>,
 }
 
 // The instruction's word, and its client.
@@ -295,6 +297,7 @@ pub fn differs(
         wanted,
         front,
         tells_operation: tells_operation(line),
+        number: due.number(),
     })
 }
 
@@ -315,5 +318,6 @@ pub fn left_over(alloc: Global, place: usize, line: &PortLine<'_>) -> Result<Dif
         wanted,
         front: None,
         tells_operation: false,
+        number: None,
     })
 }

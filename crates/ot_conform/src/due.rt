@@ -9,7 +9,7 @@ ghost use Rattle.ot_steps.specs.Lines.{plain_operation};
 ghost use Rattle.ot_steps.specs.Steps.{appended_by, buffer_of, client_in, document_in, edit_of, end_line, opening_line, outstanding_of, stop_line};
 ghost use Rattle.ot_report.specs.Printed.{phase_word};
 ghost use Rattle.ot_steps.specs.Text.{Name, end_text, line_text, message_text, value_text};
-ghost use Rattle.ot_conform.specs.Answers.{letters_at};
+ghost use Rattle.ot_conform.specs.Answers.{letters_at, number_before, number_of};
 ghost use Rattle.ot_conform.specs.Due.{IsOfMachine, applied_by, buffer_at, due_of, instr_of, message_if, messages, outstanding_at, placed_client, revision_at, state_at};
 ghost use Rattle.ot_conform.specs.Values.{text_at};
 
@@ -378,6 +378,13 @@ fn end_option(alloc: Global, at: usize, quiet: bool, key: Key) -> Result<Option<
     }
 }
 
+// The number of the instruction that leads to a place.
+fn number_before(at: usize) -> Option<usize>
+    ensures { result ≡ number_before at }
+{
+    if at == 0 { None } else { Some(at - 1) }
+}
+
 impl Due<'_> {
     /// The text of what the run has under a key, if it has something; want of memory for it.
     pub fn text(&self, alloc: Global, key: Key) -> Result<Option<String>, AllocError>
@@ -444,6 +451,16 @@ impl Due<'_> {
             Due::Step(step) => step.at,
             Due::Stop(stop) => stop.at,
             Due::End { at, .. } => *at,
+        }
+    }
+
+    /// The number of the instruction that it is the line of, counted from 0, where that was performed.
+    pub fn number(&self) -> Option<usize>
+        ensures { result ≡ number_of (due_of self.now).what (due_of self.now).line.stopped (due_of self.now).line.at }
+    {
+        match self {
+            Due::Step(step) => number_before(step.at),
+            _ => None,
         }
     }
 

@@ -1,13 +1,15 @@
 //! The answer, as lines.
 
 ghost use Rattle.std.specs.Prelude.{◌≡◌, ◌++◌, IfOk, OnOk, string_bytes};
-ghost use Rattle.ot_conform.specs.Compared.{verdict_text};
+ghost use Rattle.ot_conform.specs.Ruled.{IsAnswer, IsDifferenceText};
 ghost use Rattle.ot_conform.specs.Answers.{conforms_text, count_text, difference_text, first_counts, found_row, front_rows, head_row, other_counts, wanted_row};
 
 use crate::answers::Difference;
 use crate::comparison::Verdict;
 use crate::counts::Counts;
 use crate::meeting::Field;
+use crate::ruling::rules_of;
+use ot_isa::Schedule;
 use ot_report::print_stop;
 use std::alloc::{AllocError, Global};
 
@@ -108,14 +110,34 @@ fn print_conforms(alloc: Global, counts: &Counts) -> Result<String, AllocError>
     Ok(text)
 }
 
-/// The lines of a verdict: `conforms` with how much was compared; the first difference with what was found, what ot.js has, and for two
-/// texts how much of them is equal; or where the run stopped for a limit of the bench.
-pub fn print_verdict(alloc: Global, verdict: &Verdict) -> Result<String, AllocError>
-    ensures { IfOk result (λ s. string_bytes s ≡ verdict_text verdict.now) }
+// The lines of a difference, and behind them what the rules of ot.js say of it.
+fn print_explained(
+    alloc: Global,
+    schedule: &Schedule,
+    difference: &Difference,
+) -> Result<String, AllocError>
+    ensures { IfOk result (λ s. IsDifferenceText schedule.now difference.now (string_bytes s)) }
+{
+    let mut text = print_difference(alloc, difference)?;
+    let rules = rules_of(alloc, schedule, difference)?;
+    text.push_str(rules.as_str())?;
+    Ok(text)
+}
+
+/// The lines of a verdict on a port's lines for the schedule: `conforms` with how much was compared; the first difference with what was
+/// found, what ot.js has, for two texts how much of them is equal, and where an instruction was performed which rule of ot.js makes the
+/// value, what that is given, and the first note that is true of what was found; or where the run stopped for a limit of the bench. For
+/// the rules the schedule is run again up to the difference.
+pub fn print_verdict(
+    alloc: Global,
+    schedule: &Schedule,
+    verdict: &Verdict,
+) -> Result<String, AllocError>
+    ensures { IfOk result (λ s. IsAnswer schedule.now verdict.now (string_bytes s)) }
 {
     match verdict {
         Verdict::Conforms(counts) => print_conforms(alloc, counts),
-        Verdict::Differs(difference) => print_difference(alloc, difference),
+        Verdict::Differs(difference) => print_explained(alloc, schedule, difference),
         Verdict::Stopped { place, refusal } => print_stop(alloc, *place, *refusal),
     }
 }

@@ -15,10 +15,10 @@ use Rattle.ot_conform_command.specs.Conformed.{Compares, MayJudge, MayWrite, Tel
 
 -- the verdict on the lines that are left is written
 pub judged : (schedule : Program) (earlier : ℕ) (input : Option (List ℕ)) (verdict : Verdict) (status : ℕ) (streams : Streams)
-    → IfSome input (λ text. IsVerdictOf schedule (counted_lines (lines_of text)) verdict) → MayWrite verdict status streams
+    → IfSome input (λ text. IsVerdictOf schedule (counted_lines (lines_of text)) verdict) → MayWrite schedule verdict status streams
     → IfSome input (λ text. MayJudge schedule (lines_of text) earlier status streams)
 judged schedule earlier None verdict status streams is wrote = tt
-judged schedule earlier (Some text) verdict status streams is (inl gives) = inl (record { verdict = verdict; is = is; gives = gives })
+judged schedule earlier (Some text) verdict status streams is (inl answers) = inl (record { verdict = verdict; is = is; answers = answers })
 judged schedule earlier (Some text) verdict status streams is (inr wants) = inr (inr wants)
 
 -- the comparison broke off

@@ -8,21 +8,28 @@ use Rattle.ot_asm.specs.Parts.{lines_before, lines_behind}
 use Rattle.ot_asm.specs.Stepping.{outcome_of_lines}
 use Rattle.ot_input.specs.Faults.{RefusesLines, line_fault}
 use Rattle.outcomes.specs.Outcomes.{Streams, Complains, Gives, WantsMemory}
-use Rattle.ot_conform.specs.Compared.{IsVerdictOf, StopsBehind, verdict_status, verdict_text}
+use Rattle.ot_conform.specs.Compared.{IsVerdictOf, StopsBehind, verdict_status}
 use Rattle.ot_conform.specs.Ports.{counted_lines}
+use Rattle.ot_conform.specs.Ruled.{IsAnswer}
 use Rattle.ot_conform.specs.declared.comparison.Verdict.{Verdict}
 use Rattle.ot_conform.specs.declared.reading.CompareStop.{CompareStop}
 use Rattle.ot_conform.specs.declared.reading.CompareStop.TheVariants.{ReadFault, Memory}
 
--- a verdict is written with its status; or memory for its text was wanting
-abbrev pub MayWrite : Verdict → ℕ → Streams → Type 0
-MayWrite verdict status streams = Gives (verdict_status verdict) (verdict_text verdict) status streams ⊎ WantsMemory status streams
+-- the lines of a verdict are written, with its status
+pub record Answers (schedule : Program) (verdict : Verdict) (status : ℕ) (streams : Streams) : Type 0 where
+  pub text : List ℕ
+  pub is : IsAnswer schedule verdict text
+  pub gives : Gives (verdict_status verdict) text status streams
+
+-- or memory for them was wanting
+abbrev pub MayWrite : Program → Verdict → ℕ → Streams → Type 0
+MayWrite schedule verdict status streams = Answers schedule verdict status streams ⊎ WantsMemory status streams
 
 -- the verdict on the port's lines is written
 pub record Judges (schedule : Program) (lines : List (List ℕ)) (status : ℕ) (streams : Streams) : Type 0 where
   pub verdict : Verdict
   pub is : IsVerdictOf schedule (counted_lines lines) verdict
-  pub gives : Gives (verdict_status verdict) (verdict_text verdict) status streams
+  pub answers : Answers schedule verdict status streams
 
 -- the line of a comparison that broke off
 abbrev pub TellsStop : CompareStop → Option (List ℕ) → Option (List ℕ) → Type 0

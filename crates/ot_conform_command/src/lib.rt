@@ -15,7 +15,7 @@ ghost use Rattle.std.specs.Prelude.{◌≡◌, IfSome};
 ghost use Rattle.line_reader.specs.Lines.{lines_of};
 ghost use Rattle.line_reader.specs.Taken.{before};
 ghost use Rattle.outcomes.specs.Outcomes.{Gives, WantsMemory};
-ghost use Rattle.ot_conform.specs.Compared.{verdict_status, verdict_text};
+ghost use Rattle.ot_conform.specs.Compared.{verdict_status};
 ghost use Rattle.ot_conform_command.specs.Conformed.{Compares, MayJudge, MayWrite, TellsStop};
 
 use line_reader::ReadAhead;
@@ -62,16 +62,17 @@ fn verdict_status(verdict: &Verdict) -> u8
     }
 }
 
-// Writes a verdict.
+// Writes a verdict on lines for the schedule.
 fn write_verdict<O: Write, F: Write>(
     alloc: Global,
+    schedule: &Schedule,
     verdict: &Verdict,
     output: &mut O,
     faults: &mut F,
 ) -> u8
-    ensures { MayWrite verdict.now result (record { output = O.contents output.old; output' = O.contents output.new; faults = F.contents faults.old; faults' = F.contents faults.new }) }
+    ensures { MayWrite schedule.now verdict.now result (record { output = O.contents output.old; output' = O.contents output.new; faults = F.contents faults.old; faults' = F.contents faults.new }) }
 {
-    match print_verdict(alloc, verdict) {
+    match print_verdict(alloc, schedule, verdict) {
         Ok(text) => give(text.as_bytes(), verdict_status(verdict), output),
         Err(_) => {
             complain_of_memory(faults);
@@ -93,7 +94,7 @@ fn judge<I: Read, O: Write, F: Write>(
     ensures { IfSome (before ahead.old (I.remaining input.old)) (λ rest. MayJudge schedule.now (lines_of rest) earlier result (record { output = O.contents output.old; output' = O.contents output.new; faults = F.contents faults.old; faults' = F.contents faults.new })) }
 {
     match compare_lines(alloc, schedule, ahead, input, earlier) {
-        Ok(verdict) => write_verdict(alloc, &verdict, output, faults),
+        Ok(verdict) => write_verdict(alloc, schedule, &verdict, output, faults),
         Err(stop) => {
             complain_of_stop(alloc, stop, faults);
             1

@@ -1,4 +1,4 @@
-//! A debugger of schedules that steps forth and back.
+//! A debugger of schedules that steps back and forth.
 //!
 //! ```text
 //!   place        0        1        2        3        4   ..   length
@@ -20,7 +20,7 @@
 //! - What grows does so before anything is changed. After `Memory` the debugger stands after a whole number of instructions,
 //!   between its old place and the one to which the command would have gone.
 //!
-//! Begin reading at `Debugger` in debugger.rt, then stepping.rt (one instruction forth and back), watching.rt (what watches see) and
+//! Begin reading at `Debugger` in debugger.rt, then stepping.rt (one instruction back and forth), watching.rt (what watches see) and
 //! moving.rt (the commands that move); settings.rt has the others.
 #![tactic(auto)]
 

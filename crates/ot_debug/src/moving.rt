@@ -1,4 +1,5 @@
-// The commands that move.
+//! The commands that move.
+
 ghost use Rattle.std.specs.Prelude.{◌≡◌, ◌≢◌, ◌<◌, ◌↔◌, length, IfErr, IfOk, IsTrue, MatchOption, OnErr, OnOk};
 ghost use Rattle.ot_model.specs.declared.shown.Refusal.TheVariants.{Memory};
 ghost use Rattle.ot_debug.specs.Session.{IsBreak};

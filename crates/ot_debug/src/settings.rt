@@ -1,4 +1,5 @@
-// The commands that do not move.
+//! The commands that do not move.
+
 ghost use Rattle.std.specs.Prelude.{◌↔◌, length, IfOk, IsTrue};
 ghost use Rattle.ot_debug.specs.Session.{IsOfClients};
 ghost use Rattle.ot_debug.specs.Answers.{AddsWatch, ClearsBreak, RemovesWatches, SetsBreak, ShowsState};

@@ -1,4 +1,5 @@
-// One instruction forth or back.
+//! One instruction forth or back.
+
 ghost use Rattle.std.specs.Prelude.{◌≡◌, ◌≢◌, ◌<◌, length, vec_capacity, vec_len, IfErr, OnErr, OnOk};
 ghost use Rattle.ot_model.specs.declared.shown.Refusal.TheVariants.{Memory};
 ghost use Rattle.ot_model.specs.Table.{with_shown};

@@ -1,4 +1,5 @@
-// What watches see.
+//! What watches see.
+
 ghost use Rattle.std.specs.Prelude.{◌≡◌, ◌≢◌, length, map, slice_get, IfOk, MatchBool, MatchOption};
 ghost use Rattle.std.specs.List.{All};
 ghost use Rattle.ot_debug.specs.Session.{IsOfClients};

@@ -17,9 +17,10 @@ use Rattle.ot_explain.specs.Told.{heading}
 abbrev pub wide : List Tagged → ℕ
 wide list = count_by (λ (t : Tagged). nat_lt 65535 t.ch) list
 
+-- what may repair an edit's lengths: in a document with such characters they are mostly UTF-16's, else the rest was left out
 abbrev pub wide_words : ℕ → List ℕ
 wide_words count =
-    if count == 0 then []
+    if count == 0 then codes "; what an edit retains and deletes has to span the whole document"
     else (codes "; lengths count Unicode scalars, UTF-16 counts 2 for each past U+FFFF, here " ++ decimal count)
 
 -- an edit that is not over the whole document

@@ -201,7 +201,11 @@ fn first_cause(line: &[u8]) -> &'static str {
     if line.starts_with(b"\xEF\xBB\xBF".as_slice()) {
         return "a byte order mark stands in front: save the text as UTF-8 without it";
     }
-    "`clients N` is the first line, above all others but comments"
+    match line.first() {
+        Some(b'#' | b'/') => "a comment begins with `;`",
+        Some(b'A'..=b'Z') => "words are in lower case",
+        _ => "`clients N` is the first line, above all others but comments",
+    }
 }
 
 // Where a line stops being ASCII, if it does.

@@ -23,11 +23,15 @@ fn wide(list: &Doc<Tagged>) -> Result<usize, AllocError>
     Ok(items.iter().filter(|item| 0xFFFF < item.ch as u32).count())
 }
 
+// What may repair an edit's lengths.
 fn wide_words(alloc: Global, count: usize) -> Result<String, AllocError>
     ensures { IfOk result (λ s. string_bytes s ≡ wide_words count) }
 {
     if count == 0 {
-        return Ok(String::new(alloc));
+        return String::from_str(
+            alloc,
+            "; what an edit retains and deletes has to span the whole document",
+        );
     }
     format!(in alloc;
         "; lengths count Unicode scalars, UTF-16 counts 2 for each past U+FFFF, here {count}"

@@ -9,6 +9,7 @@ ghost use Rattle.ot_typing.specs.Typing.{action_view, edit_of};
 ghost use Rattle.ot_typing.specs.declared.typing.Typing.{Typing};
 ghost use Rattle.ot_follow.specs.Follows.{actions_of};
 ghost use Rattle.ot_follow.specs.Stepping.{counted, AreComplete, IsEdit, IsNext};
+ghost use Rattle.ot_text.specs.declared.TheConstants.{LIMIT};
 
 use ot_isa::Instr;
 use ot_machine::{Machine, Refusal};
@@ -32,7 +33,7 @@ fn is_edit(
     length: usize,
     op: &TextOp<char>,
 ) -> Result<bool, AllocError>
-    requires { length ≤ 1000000 }
+    requires { length ≤ LIMIT }
     ensures { IfOk result (λ b. IsTrue b ↔ (op.now ≡ edit_of (action_view action.now) length)) }
 {
     // For the proof: what every operation keeps, so that one past the limits is another.

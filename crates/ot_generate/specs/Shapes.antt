@@ -1,6 +1,7 @@
 -- What is asked of a session that is made at random.
 use Rattle.std.specs.Prelude.{ℕ, suc, ◌-◌, min, Bool, ◌&&◌, nat_le, List, [], length, Option, Some, None, if◌then◌else◌, unwrap_or, vec_items, option_map, Vec}
 use Rattle.std.specs.declared.alloc.Global.{Global}
+use Rattle.ot_isa.specs.declared.builder.TheConstants.{CLIENT_LIMIT, INSTR_LIMIT, START_LIMIT}
 
 -- how many clients there are; how many of them are present from the start, if that is asked; how many instructions are made before the
 -- reads at the end; the start text, if one is asked; and whether it may end anyhow
@@ -18,8 +19,8 @@ shape_in clients present instructions start is_open =
 -- 1 to 64 clients, no more present ones than clients, at most 100,000 instructions, and a start text of at most 40,000 characters
 abbrev pub is_shape : ShapeView → Bool
 is_shape shape =
-    nat_le 1 shape.clients && (nat_le shape.clients 64 && (nat_le (unwrap_or shape.present 0) shape.clients
-    && (nat_le shape.instructions 100000 && nat_le (length (unwrap_or shape.start [])) 40000)))
+    nat_le 1 shape.clients && (nat_le shape.clients CLIENT_LIMIT && (nat_le (unwrap_or shape.present 0) shape.clients
+    && (nat_le shape.instructions INSTR_LIMIT && nat_le (length (unwrap_or shape.start [])) START_LIMIT)))
 
 -- the shape, if it is one
 abbrev pub shape_if : ShapeView → Option ShapeView

@@ -14,6 +14,7 @@ use Rattle.ot_machine.specs.Readers.{ClientHas}
 use Rattle.ot_generate.specs.Left.{owed, due, edit_due}
 use Rattle.ot_generate.specs.declared.choice.Move.{Move}
 use Rattle.ot_generate.specs.declared.choice.Move.TheVariants.{Edits, Makes}
+use Rattle.ot_isa.specs.declared.builder.TheConstants.{INSTR_LIMIT}
 
 -- what was recorded, the state that it leads to, how many instructions there may be, and whether it may end anyhow
 pub record WalkView : Type 0 where
@@ -28,7 +29,7 @@ pub record IsWalk (w : WalkView) : Type 0 where
   pub counted : w.state.steps ≡ length w.recorded.instrs
   pub clients : length w.state.clients ≡ w.recorded.clients
   pub fits : length w.recorded.instrs + owed w.is_open w.state ≤ w.room
-  pub most : w.room ≤ 100000
+  pub most : w.room ≤ INSTR_LIMIT
   pub sound : IsSound w.state
 
 -- a session at its opening

@@ -2,6 +2,7 @@
 
 ghost use Rattle.std.specs.Prelude.{◌≡◌, ◌+◌, ◌≤◌, length, IfOk};
 ghost use Rattle.ot_text.specs.Operation.{news};
+ghost use Rattle.ot_text.specs.declared.TheConstants.{LIMIT};
 
 use crate::chance::{below, draw_text};
 use ot_text::{OpRefusal, TextOp, only_memory};
@@ -25,7 +26,7 @@ const NO_STROKE: Stroke = Stroke {
 
 // The document's ends, its middle, or anywhere: so edits of several clients often meet.
 fn draw_place(chance: &mut Pcg32, size: usize) -> usize
-    requires { size ≤ 1000000 }
+    requires { size ≤ LIMIT }
 {
     match below(chance, 4) {
         0 => 0,
@@ -44,7 +45,7 @@ fn draw_small(chance: &mut Pcg32, least: usize, count: u32) -> usize
 
 // One edit in six deletes two stretches or more, one in thirty the whole document, and one in sixty changes nothing.
 fn draw_strokes(chance: &mut Pcg32, size: usize) -> (Stroke, Stroke)
-    requires { size ≤ 1000000 }
+    requires { size ≤ LIMIT }
 {
     let keep = draw_place(chance, size);
     let come = draw_small(chance, 1, 3);
@@ -122,7 +123,7 @@ fn carry_out(
 }
 
 fn draw_changes(alloc: Global, chance: &mut Pcg32, size: usize) -> Result<TextOp<char>, OpRefusal>
-    requires { size ≤ 1000000 }
+    requires { size ≤ LIMIT }
     ensures { IfOk result (λ op. op.base ≡ size) }
 {
     let (first, second) = draw_strokes(chance, size);
@@ -134,7 +135,7 @@ fn draw_changes(alloc: Global, chance: &mut Pcg32, size: usize) -> Result<TextOp
 }
 
 fn keep_all(alloc: Global, size: usize) -> Result<TextOp<char>, AllocError>
-    requires { size ≤ 1000000 }
+    requires { size ≤ LIMIT }
     ensures base { IfOk result (λ op. op.base ≡ size) }
     ensures none { IfOk result (λ op. length (news op.image) ≡ 0) }
 {
@@ -151,7 +152,7 @@ pub fn draw_edit(
     size: usize,
     most: usize,
 ) -> Result<TextOp<char>, AllocError>
-    requires { size ≤ 1000000 }
+    requires { size ≤ LIMIT }
     ensures base { IfOk result (λ op. op.base ≡ size) }
     ensures few { IfOk result (λ op. length (news op.image) ≤ most) }
 {

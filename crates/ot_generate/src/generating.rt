@@ -6,6 +6,7 @@ ghost use Rattle.ot_machine.specs.Orders.{IsWhole};
 ghost use Rattle.ot_generate.specs.Generated.{reads_from, BeginsAs, EndsRead, IsGenerated, IsOpened, IsWandered};
 ghost use Rattle.ot_generate.specs.Shapes.{made};
 ghost use Rattle.ot_generate.specs.Walks.{IsAlong, IsRead};
+ghost use Rattle.ot_isa.specs.declared.builder.TheConstants.{START_LIMIT};
 
 use crate::chance::{below, draw_text};
 use crate::habits::Habits;
@@ -35,7 +36,7 @@ fn draw_present(chance: &mut Pcg32, shape: &Shape) -> u16
 // The text that is asked for, or else a short one.
 fn draw_start(alloc: Global, chance: &mut Pcg32, shape: &Shape) -> Result<Vec<char>, AllocError>
     ensures given { IfOk result (λ t. IfSome shape.now.start (λ text. t.items ≡ text)) }
-    ensures short { IfOk result (λ t. length t.items ≤ 40000) }
+    ensures short { IfOk result (λ t. length t.items ≤ START_LIMIT) }
 {
     match &shape.start {
         Some(text) => {
@@ -52,7 +53,7 @@ fn draw_start(alloc: Global, chance: &mut Pcg32, shape: &Shape) -> Result<Vec<ch
 // How many instructions are made before the reads at the end.
 fn room(shape: &Shape) -> usize
     ensures value { result ≡ made shape.now }
-    ensures most { result ≤ 100000 }
+    ensures most { result ≤ INSTR_LIMIT }
 {
     let asked = shape.instructions as usize;
     if shape.is_open {
@@ -115,7 +116,7 @@ fn read_all(walk: &mut Walk) -> Result<(), AllocError>
 // The schedule of a session that is quiet, with reads of everybody behind it.
 fn end_quiet(mut walk: Walk) -> Result<Schedule, AllocError>
     requires quiet { IsQuiet walk.state }
-    requires room { length walk.recorded.instrs + suc (length walk.state.clients) ≤ 100000 }
+    requires room { length walk.recorded.instrs + suc (length walk.state.clients) ≤ INSTR_LIMIT }
     ensures begins { IfOk result (λ s. BeginsAs walk.recorded s) }
     ensures whole { IfOk result (λ s. IsWhole s) }
     ensures ends { IfOk result (λ s. EndsRead (length walk.recorded.instrs) s) }

@@ -3,11 +3,8 @@
 ghost use Rattle.std.specs.Prelude.{◌≡◌, ◌≤◌, Some};
 ghost use Rattle.ot_generate.specs.Shapes.{shape_if, shape_in};
 
-use ot_isa::{INSTR_LIMIT, START_LIMIT};
+use ot_isa::{CLIENT_LIMIT, INSTR_LIMIT, START_LIMIT};
 use std::marker::Model;
-
-/// The most clients of a session.
-const CLIENT_LIMIT: u32 = 64;
 
 /// What is asked of a session: 1 to 64 clients, no more present ones than clients, at most 100,000 instructions before the reads at the
 /// end, and a start text of at most 40,000 characters.
@@ -44,7 +41,7 @@ impl Shape {
     ) -> Option<Shape>
         ensures { result ≡ shape_if (shape_in clients present instructions start is_open) }
     {
-        if clients < 1 || clients > CLIENT_LIMIT || present.unwrap_or(0) > clients {
+        if clients < 1 || clients > CLIENT_LIMIT as u32 || present.unwrap_or(0) > clients {
             return None;
         }
         if instructions as usize > INSTR_LIMIT {

@@ -1,4 +1,5 @@
-// A session that grows.
+//! A session that grows.
+
 ghost use Rattle.std.specs.Prelude.{◌≡◌, ◌+◌, ◌<◌, ◌≤◌, ◌∷◌, [], suc, false, true, length, IfOk, IfSome, None, OnOk};
 ghost use Rattle.ot_isa.specs.Program.{with_instr, AreClients, IsForClients, IsProgram};
 ghost use Rattle.ot_isa.specs.declared.instruction.Instr.TheVariants as instr;
@@ -6,6 +7,7 @@ ghost use Rattle.ot_model.specs.Table.{is_joined, IsQuiet};
 ghost use Rattle.ot_machine.specs.Readers.{ClientHas};
 ghost use Rattle.ot_generate.specs.Left.{due, drain_due, edit_due, left, owed, work};
 ghost use Rattle.ot_generate.specs.Walks.{begun, HasNoMessage, HasReceived, HasSpare, IsAlong, IsAtRest, IsMade, IsPossible, IsRead, IsReadAt, IsWalk, MayEdit, MayMake, opened_up};
+ghost use Rattle.ot_isa.specs.declared.builder.TheConstants.{INSTR_LIMIT, START_LIMIT};
 
 use crate::choice::{Choice, Move};
 use crate::edits::draw_edit;
@@ -65,7 +67,7 @@ fn work(machine: &Machine, client: u16) -> usize
 
 // After at most so many takes and receipts all is quiet.
 fn left(machine: &Machine) -> usize
-    requires { left machine.now ≤ 100000 }
+    requires { left machine.now ≤ INSTR_LIMIT }
     ensures { result ≡ left machine.now }
 {
     let mut left = 0;
@@ -78,7 +80,7 @@ fn left(machine: &Machine) -> usize
 // Adds the instruction to a record that takes it and has the room.
 fn append(recorded: &mut Builder, instr: Instr)
     requires client { IsForClients recorded.old.program.clients instr }
-    requires fits { length recorded.old.program.instrs < 100000 }
+    requires fits { length recorded.old.program.instrs < INSTR_LIMIT }
     requires room { 0 < recorded.old.room }
     ensures { recorded.new.program ≡ with_instr recorded.old.program instr }
 {
@@ -101,8 +103,8 @@ impl Walk {
         is_open: bool,
     ) -> Result<Walk, AllocError>
         requires clients { AreClients clients present }
-        requires start { length start.now ≤ 40000 }
-        requires room { room ≤ 100000 }
+        requires start { length start.now ≤ START_LIMIT }
+        requires room { room ≤ INSTR_LIMIT }
         ensures { IfOk result (λ walk. walk ≡ begun clients present start.now room is_open) }
     {
         let machine = Machine::with_present(alloc, clients, present, start)?;
@@ -123,6 +125,7 @@ impl Walk {
     fn keeps(&self)
         ensures { IsWalk self.now }
     {
+        // For the proof: what every walk keeps.
         let _room = self.room;
     }
 
@@ -293,6 +296,7 @@ impl Walk {
             Ok(_shown) => {}
             Err(_) => return Err(AllocError),
         }
+        // For the proof: what every machine keeps.
         let _sound = self.machine.clients();
         append(&mut self.recorded, instr);
         Ok(())
@@ -325,7 +329,7 @@ impl Walk {
 
     /// From here on the session may end anyhow, and has room for a read of each client and of the server.
     pub fn open_up(&mut self)
-        requires { length self.old.recorded.instrs + suc (length self.old.state.clients) ≤ 100000 }
+        requires { length self.old.recorded.instrs + suc (length self.old.state.clients) ≤ INSTR_LIMIT }
         ensures { self.new ≡ opened_up self.old }
     {
         let made = self.recorded.instrs().len();

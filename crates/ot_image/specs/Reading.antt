@@ -12,6 +12,8 @@ use Rattle.ot_image.specs.declared.fault.Kind.{Kind}
 use Rattle.ot_image.specs.declared.fault.Kind.TheVariants.{Cut, BadMagic, BadNumber, TooLong, TooMany, BadScalar, BadOpcode, BadClient, NotNormal, Trailing, Memory}
 use Rattle.ot_image.specs.declared.fault.ReadError.{ReadError}
 use Rattle.ot_image.specs.declared.fault.ReadError.TheVariants as errors
+use Rattle.ot_isa.specs.declared.builder.TheConstants.{CLIENT_LIMIT, INSTR_LIMIT, START_LIMIT}
+use Rattle.ot_text.specs.declared.TheConstants.{LIMIT}
 
 -- a place, and the bytes from there on
 pub record Spot : Type 0 where
@@ -89,14 +91,14 @@ version_at s =
     (if bytes_eq (take 4 s.rest) magic2 then Ok (2, past 4 s) else Err (fault s.at BadMagic)))
 
 unfoldable pub clients_at : Spot → Result (ℕ × Spot) ImageFault
-clients_at = tested w16 (λ n. nat_le 1 n && nat_le n 64) BadNumber
+clients_at = tested w16 (λ n. nat_le 1 n && nat_le n CLIENT_LIMIT) BadNumber
 
 -- version 1 does not have this field: all are present
 unfoldable pub present_at : ℕ → ℕ → Spot → Result (ℕ × Spot) ImageFault
 present_at version clients s = if version == 1 then Ok (clients, s) else tested w16 (λ n. nat_le n clients) BadNumber s
 
 unfoldable pub start_count_at : Spot → Result (ℕ × Spot) ImageFault
-start_count_at = tested w32 (λ n. nat_le n 40000) TooLong
+start_count_at = tested w32 (λ n. nat_le n START_LIMIT) TooLong
 
 unfoldable pub scalar_at : Spot → Result (ℕ × Spot) ImageFault
 scalar_at = tested w32 scalar BadScalar
@@ -130,7 +132,7 @@ target_with code op n = if code == 18 then length op.image else length op.image 
 unfoldable pub length_at : ℕ → Operation ℕ → Spot → Result (ℕ × Spot) ImageFault
 length_at code op s = number_at w32 s >>= λ n.
     if n.0 == 0 then Err (fault s.at BadNumber) else
-    (if nat_le (base_with code op n.0) 1000000 && nat_le (target_with code op n.0) 1000000 then Ok n else Err (fault s.at TooLong))
+    (if nat_le (base_with code op n.0) LIMIT && nat_le (target_with code op n.0) LIMIT then Ok n else Err (fault s.at TooLong))
 
 unfoldable pub filled_at : ℕ → ℕ → Operation ℕ → Spot → Result (Edited × Spot) ImageFault
 filled_at code n op s =
@@ -181,7 +183,7 @@ unfoldable pub push_instr : ℕ → Program → Spot → Result (Program × Spot
 push_instr version program s = instr_at version program.clients s >>= λ i. Ok (with_instr program i.0, i.1)
 
 unfoldable pub instr_count_at : Spot → Result (ℕ × Spot) ImageFault
-instr_count_at = tested w32 (λ n. nat_le n 100000) TooMany
+instr_count_at = tested w32 (λ n. nat_le n INSTR_LIMIT) TooMany
 
 -- ---- all of it
 

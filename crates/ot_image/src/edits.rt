@@ -4,6 +4,7 @@ ghost use Rattle.std.specs.Prelude.{◌≡◌, ◌≤◌, ◌<◌, ◌⊎◌, �
 ghost use Rattle.ot_text.specs.Operation.{empty};
 ghost use Rattle.ot_image.specs.Reading.{Gives, times, push_scalar, push_component, filled_at, components_at, operation_at};
 ghost use Rattle.ot_image.specs.Views.{seen};
+ghost use Rattle.ot_text.specs.declared.TheConstants.{LIMIT};
 
 use crate::fault::{ImageFault, Kind, ReadError};
 use crate::reading::{char_of, code_of, length_of, u32_at};
@@ -56,8 +57,8 @@ fn filled<'a>(
     op: &mut TextOp<char>,
     spot: Spot<'a>,
 ) -> Result<(u8, Spot<'a>), ReadError>
-    requires base { (code ≡ 17) ⊎ (op.old.base + count ≤ 1000000) }
-    requires target { (code ≡ 18) ⊎ (length op.old.image + count ≤ 1000000) }
+    requires base { (code ≡ 17) ⊎ (op.old.base + count ≤ LIMIT) }
+    requires target { (code ≡ 18) ⊎ (length op.old.image + count ≤ LIMIT) }
     requires place { at < spot.at }
     ensures { Gives (λ x. (record { last = x.0; op = op.new }, seen x.1)) result (filled_at code count op.old (seen spot.entry)) }
 {

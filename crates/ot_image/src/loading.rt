@@ -5,6 +5,7 @@ ghost use Rattle.ot_isa.specs.Program.{Program, client_of, IsForClients, IsProgr
 ghost use Rattle.ot_image.specs.Reading.{IsRead, Gives, Loads, times, named_at, instr_at, push_instr, head_at, program_at, image_at, image_of, plain_instr, IsWant};
 ghost use Rattle.ot_image.specs.Spelling.{IsImageOf, ImagesDiffer};
 ghost use Rattle.ot_image.specs.Views.{seen};
+ghost use Rattle.ot_isa.specs.declared.builder.TheConstants.{INSTR_LIMIT};
 
 use crate::edits::{chars_of, operation_of};
 use crate::fault::{ImageFault, Kind, ReadError};
@@ -81,7 +82,7 @@ fn instrs_of<'a>(
     requires version { version ≤ 2 }
     requires clients { clients ≡ builder.old.program.clients }
     requires empty { builder.old.program.instrs ≡ [] }
-    requires many { count ≤ 100000 }
+    requires many { count ≤ INSTR_LIMIT }
     ensures { Gives (λ t. (builder.new.program, seen t)) result (times (push_instr version) count builder.old.program (seen spot.entry)) }
 {
     let mut rest = spot;

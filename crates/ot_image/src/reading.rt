@@ -8,6 +8,7 @@ ghost use Rattle.ot_image.specs.Views.{seen};
 
 use crate::fault::{ImageFault, Kind};
 use crate::spot::Spot;
+use ot_isa::{CLIENT_LIMIT, INSTR_LIMIT, START_LIMIT};
 use ot_text::{LIMIT, TextOp};
 
 /// A fault at the spot.
@@ -93,10 +94,10 @@ pub fn version_of<'a>(spot: Spot<'a>) -> Result<(u8, Spot<'a>), ImageFault>
 #[tactic(auto, unfolding(crate::specs::Reading::clients_at))]
 pub fn clients_of<'a>(spot: Spot<'a>) -> Result<(u16, Spot<'a>), ImageFault>
     ensures read { IsRead (λ x. (x.0, seen x.1)) result (clients_at (seen spot.entry)) }
-    ensures range { IfOk result (λ x. (1 ≤ x.0) × (x.0 ≤ 64)) }
+    ensures range { IfOk result (λ x. (1 ≤ x.0) × (x.0 ≤ CLIENT_LIMIT)) }
 {
     let (clients, after) = u16_at(spot)?;
-    if clients == 0 || clients > 64 {
+    if clients == 0 || clients > CLIENT_LIMIT {
         return Err(bad(spot, Kind::BadNumber));
     }
     Ok((clients, after))
@@ -126,11 +127,11 @@ pub fn present_of<'a>(
 #[tactic(auto, unfolding(crate::specs::Reading::start_count_at))]
 pub fn start_count_of<'a>(spot: Spot<'a>) -> Result<(u32, Spot<'a>), ImageFault>
     ensures read { IsRead (λ x. (x.0, seen x.1)) result (start_count_at (seen spot.entry)) }
-    ensures range { IfOk result (λ x. x.0 ≤ 40000) }
+    ensures range { IfOk result (λ x. x.0 ≤ START_LIMIT) }
     ensures onward { IfOk result (λ x. spot.entry.at < x.1.at) }
 {
     let (count, after) = u32_at(spot)?;
-    if count > 40_000 {
+    if count as usize > START_LIMIT {
         return Err(bad(spot, Kind::TooLong));
     }
     Ok((count, after))
@@ -140,10 +141,10 @@ pub fn start_count_of<'a>(spot: Spot<'a>) -> Result<(u32, Spot<'a>), ImageFault>
 #[tactic(auto, unfolding(crate::specs::Reading::instr_count_at))]
 pub fn instr_count_of<'a>(spot: Spot<'a>) -> Result<(u32, Spot<'a>), ImageFault>
     ensures read { IsRead (λ x. (x.0, seen x.1)) result (instr_count_at (seen spot.entry)) }
-    ensures range { IfOk result (λ x. x.0 ≤ 100000) }
+    ensures range { IfOk result (λ x. x.0 ≤ INSTR_LIMIT) }
 {
     let (count, after) = u32_at(spot)?;
-    if count > 100_000 {
+    if count as usize > INSTR_LIMIT {
         return Err(bad(spot, Kind::TooMany));
     }
     Ok((count, after))
@@ -212,8 +213,8 @@ pub fn length_of<'a>(
     spot: Spot<'a>,
 ) -> Result<(u32, Spot<'a>), ImageFault>
     ensures read { IsRead (λ x. (x.0, seen x.1)) result (length_at code op.now (seen spot.entry)) }
-    ensures base { IfOk result (λ x. (code ≡ 17) ⊎ (op.now.base + x.0 ≤ 1000000)) }
-    ensures target { IfOk result (λ x. (code ≡ 18) ⊎ (length op.now.image + x.0 ≤ 1000000)) }
+    ensures base { IfOk result (λ x. (code ≡ 17) ⊎ (op.now.base + x.0 ≤ LIMIT)) }
+    ensures target { IfOk result (λ x. (code ≡ 18) ⊎ (length op.now.image + x.0 ≤ LIMIT)) }
     ensures onward { IfOk result (λ x. spot.entry.at < x.1.at) }
 {
     let (count, after) = u32_at(spot)?;

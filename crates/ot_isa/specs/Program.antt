@@ -7,6 +7,8 @@ use Rattle.ot_isa.specs.declared.instruction.Instr.{Instr}
 use Rattle.ot_isa.specs.declared.instruction.Instr.TheVariants.{Edit, Take, Deliver, Acknowledge, Read, Join, ReadServer}
 use Rattle.ot_isa.specs.declared.refusal.PushFault.{PushFault}
 use Rattle.ot_isa.specs.declared.refusal.PushFault.TheVariants as push
+use Rattle.ot_isa.specs.declared.builder.TheConstants.{CLIENT_LIMIT, INSTR_LIMIT, START_LIMIT}
+use Rattle.ot_text.specs.declared.TheConstants.{LIMIT}
 
 -- a schedule: how many clients there are, how many of them are present at the start, the start text, and what is done
 pub record Program : Type 0 where
@@ -32,8 +34,8 @@ IsForClients clients instr = IfSome (client_of instr) (λ client. client < clien
 -- an operation whose two lengths are within the limit
 pub record IsWithinLimit (op : Operation ℕ) : Type 0 where
   pub operation : IsOperation op
-  pub base : op.base ≤ 1000000
-  pub target : length op.image ≤ 1000000
+  pub base : op.base ≤ LIMIT
+  pub target : length op.image ≤ LIMIT
 
 -- an edit is an operation within the limit
 abbrev pub IsOfLimits : Instr → Type 0
@@ -62,10 +64,10 @@ IsInstr clients instr = IsForClients clients instr × IsOfLimits instr
 -- what the type of schedules keeps
 pub record IsProgram (program : Program) : Type 0 where
   pub clients_from : 1 ≤ program.clients
-  pub clients_to : program.clients ≤ 64
+  pub clients_to : program.clients ≤ CLIENT_LIMIT
   pub present_to : program.present ≤ program.clients
-  pub start_fits : length program.start ≤ 40000
-  pub instrs_fit : length program.instrs ≤ 100000
+  pub start_fits : length program.start ≤ START_LIMIT
+  pub instrs_fit : length program.instrs ≤ INSTR_LIMIT
   pub instrs_are : All (IsInstr program.clients) program.instrs
   pub start_scalars : all_scalars program.start ≡ true
   pub instrs_scalars : All HasScalars program.instrs
@@ -79,18 +81,18 @@ with_instr program instr = record program { instrs = program.instrs ++ instr ∷
 
 -- there are 1 to 64 clients, and no more present ones
 abbrev pub AreClients : ℕ → ℕ → Type 0
-AreClients clients present = (1 ≤ clients) × (clients ≤ 64) × (present ≤ clients)
+AreClients clients present = (1 ≤ clients) × (clients ≤ CLIENT_LIMIT) × (present ≤ clients)
 
 abbrev pub AreNoClients : ℕ → ℕ → Type 0
-AreNoClients clients present = (clients ≡ 0) ⊎ (64 < clients) ⊎ (clients < present)
+AreNoClients clients present = (clients ≡ 0) ⊎ (CLIENT_LIMIT < clients) ⊎ (clients < present)
 
 -- a schedule that is being made: what it says so far, and for how many more instructions there is memory
-pub record Draft : Type 0 where
+pub record BuilderView : Type 0 where
   pub program : Program
   pub room : ℕ
 
 -- the instruction is refused for this reason, and for none before it
-abbrev pub IsRefusal : Draft → Instr → PushFault → Type 0
+abbrev pub IsRefusal : BuilderView → Instr → PushFault → Type 0
 IsRefusal draft instr push.BadClient = IsForClients draft.program.clients instr → ⊥
-IsRefusal draft instr push.TooMany = IsForClients draft.program.clients instr × (length draft.program.instrs ≡ 100000)
-IsRefusal draft instr push.Memory = IsForClients draft.program.clients instr × (length draft.program.instrs < 100000) × (draft.room ≡ 0)
+IsRefusal draft instr push.TooMany = IsForClients draft.program.clients instr × (length draft.program.instrs ≡ INSTR_LIMIT)
+IsRefusal draft instr push.Memory = IsForClients draft.program.clients instr × (length draft.program.instrs < INSTR_LIMIT) × (draft.room ≡ 0)

@@ -11,7 +11,7 @@ use std::alloc::{AllocError, Global};
 use std::marker::Model;
 
 /// The most clients of a schedule.
-const CLIENT_LIMIT: u16 = 64;
+pub const CLIENT_LIMIT: u16 = 64;
 
 /// The most characters of a start text.
 pub const START_LIMIT: usize = 40_000;
@@ -31,9 +31,9 @@ pub struct Builder {
 
 impl Model for Builder {
     ghost use Rattle.std.specs.Prelude.{◌-◌, ◌≤◌, vec_len, vec_capacity};
-    ghost use Rattle.ot_isa.specs.Program.{Draft, IsProgram};
+    ghost use Rattle.ot_isa.specs.Program.{BuilderView, IsProgram};
 
-    ghost Value = { Draft };
+    ghost Value = { BuilderView };
 
     ghost view = { λ b. record { program = record { clients = b.clients; present = b.present; start = b.start.items; instrs = b.instrs.items }; room = vec_capacity b.instrs - vec_len b.instrs } };
 
@@ -46,7 +46,7 @@ impl Builder {
     pub fn new(alloc: Global, clients: u16, start: &[char]) -> Result<Builder, OpeningFault>
         ensures ok { IfOk result (λ b. b.program ≡ opening clients clients start.now) }
         ensures bad_client { IsErrOf result OpeningFault.BadClient ↔ AreNoClients clients clients }
-        ensures too_long { IsErrOf result OpeningFault.TooLong ↔ (AreClients clients clients × (40000 < length start.now)) }
+        ensures too_long { IsErrOf result OpeningFault.TooLong ↔ (AreClients clients clients × (START_LIMIT < length start.now)) }
     {
         Builder::with_present(alloc, clients, clients, start)
     }
@@ -62,7 +62,7 @@ impl Builder {
     ) -> Result<Builder, OpeningFault>
         ensures ok { IfOk result (λ b. b.program ≡ opening clients present start.now) }
         ensures bad_client { IsErrOf result OpeningFault.BadClient ↔ AreNoClients clients present }
-        ensures too_long { IsErrOf result OpeningFault.TooLong ↔ (AreClients clients present × (40000 < length start.now)) }
+        ensures too_long { IsErrOf result OpeningFault.TooLong ↔ (AreClients clients present × (START_LIMIT < length start.now)) }
     {
         if clients == 0 {
             return Err(OpeningFault::BadClient);
@@ -91,7 +91,7 @@ impl Builder {
     /// takes no memory where there is some. After a refusal nothing has changed, and the instruction comes back.
     pub fn push(&mut self, instr: Instr) -> Result<(), (PushFault, Instr)>
         ensures ok { OnOk result (self.new.program ≡ with_instr self.old.program instr) }
-        ensures fits { OnOk result (IsForClients self.old.program.clients instr × (length self.old.program.instrs < 100000)) }
+        ensures fits { OnOk result (IsForClients self.old.program.clients instr × (length self.old.program.instrs < INSTR_LIMIT)) }
         ensures room { 0 < self.old.room → OnOk result (self.new.room + 1 ≡ self.old.room) }
         ensures refusal { IfErr result (λ e. IsRefusal self.old instr e.0) }
         ensures err { IfErr result (λ e. (e.1 ≡ instr) × (self.new ≡ self.old)) }

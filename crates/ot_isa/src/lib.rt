@@ -26,7 +26,7 @@
 //! ```
 //!
 //! The definitions of the contracts: `specs/Tagging.antt` (tags, documents and operations over tagged characters) and
-//! `specs/Program.antt` (`Program`, the value of a schedule; `Draft`, that of a builder; `IsProgram`, what schedules
+//! `specs/Program.antt` (`Program`, the value of a schedule; `BuilderView`, that of a builder; `IsProgram`, what schedules
 //! keep). `proofs/Examples.antt` has examples of the first. Begin reading at `instruction.rt`, then `builder.rt`.
 #![tactic(auto)]
 
@@ -38,9 +38,9 @@ mod scalars;
 mod schedule;
 mod tagging;
 
-pub use builder::{Builder, INSTR_LIMIT, START_LIMIT};
+pub use builder::{Builder, CLIENT_LIMIT, INSTR_LIMIT, START_LIMIT};
 pub use elements::{Tag, Tagged};
 pub use instruction::Instr;
 pub use refusal::{OpeningFault, PushFault};
 pub use schedule::Schedule;
-pub use tagging::{START_ORIGIN, plain, start_doc, tagged};
+pub use tagging::{INSERTED_LIMIT, START_ORIGIN, plain, start_doc, tagged};

@@ -7,6 +7,8 @@ ghost use Rattle.ot_text.specs.Operation.{news};
 ghost use Rattle.ot_text.specs.Run.{base_of, image_from, operation_of};
 ghost use Rattle.ot_text.specs.Components.{runs};
 ghost use Rattle.ot_isa.specs.Tagging.{tagged_chars, tagged_operation, chars_of, HasNoTagTwice};
+ghost use Rattle.ot_text.specs.declared.TheConstants.{LIMIT};
+ghost use Rattle.ot_isa.specs.declared.builder.TheConstants.{START_LIMIT};
 
 use crate::elements::{Tag, Tagged};
 use ot_text::{Component, Doc, TextOp, only_memory};
@@ -15,13 +17,16 @@ use std::alloc::{AllocError, Global};
 /// The maker of the start text, which is no client's number.
 pub const START_ORIGIN: u16 = 65_535;
 
+/// How many characters a client inserts in a run at most. Deletions give nothing back.
+pub const INSERTED_LIMIT: usize = 15_000;
+
 fn tagged_text(
     alloc: Global,
     text: &[char],
     origin: u16,
     first: u32,
 ) -> Result<Vec<Tagged>, AllocError>
-    requires { first + length text.now ≤ 40000 }
+    requires { first + length text.now ≤ START_LIMIT }
     ensures { IfOk result (λ v. v.items ≡ tagged_chars origin first text.now) }
 {
     let mut items = Vec::new(alloc);
@@ -40,9 +45,9 @@ fn tagged_components(
     origin: u16,
     first: u32,
 ) -> Result<TextOp<Tagged>, AllocError>
-    requires serials { first + length (news (image_from 0 (runs components.now))) ≤ 15000 }
-    requires base { base_of (runs components.now) ≤ 1000000 }
-    requires target { length (image_from 0 (runs components.now)) ≤ 1000000 }
+    requires serials { first + length (news (image_from 0 (runs components.now))) ≤ INSERTED_LIMIT }
+    requires base { base_of (runs components.now) ≤ LIMIT }
+    requires target { length (image_from 0 (runs components.now)) ≤ LIMIT }
     ensures { IfOk result (λ op. op ≡ tagged_operation (operation_of (runs components.now)) origin first) }
 {
     let mut op = TextOp::with_capacity(alloc, components.len())?;
@@ -70,7 +75,7 @@ pub fn tagged(
     origin: u16,
     first: u32,
 ) -> Result<TextOp<Tagged>, AllocError>
-    requires { first + length (news op.now.image) ≤ 15000 }
+    requires { first + length (news op.now.image) ≤ INSERTED_LIMIT }
     ensures { IfOk result (λ t. t ≡ tagged_operation op.now origin first) }
 {
     // For the proof: what every operation keeps.
@@ -81,7 +86,7 @@ pub fn tagged(
 
 /// The document that a run starts with, of at most 40,000 characters: they are tagged 65,535:0, 65,535:1, and so on.
 pub fn start_doc(alloc: Global, start: &[char]) -> Result<Doc<Tagged>, AllocError>
-    requires { length start.now ≤ 40000 }
+    requires { length start.now ≤ START_LIMIT }
     ensures value { IfOk result (λ d. d ≡ tagged_chars 65535 0 start.now) }
     ensures tags { IfOk result (λ d. HasNoTagTwice d) }
 {

@@ -3,3 +3,4 @@ pub mod RoundTrip
 pub mod Built
 mod Counted
 pub mod Faults
+mod PlainItems

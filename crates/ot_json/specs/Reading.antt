@@ -7,6 +7,7 @@ use Rattle.ot_text.specs.Operation.{Operation, empty, with_retain, with_insert, 
 use Rattle.ot_text.specs.Run.{Run, Keep, Add, Skip}
 use Rattle.ot_json.specs.declared.fault.OpFault.{OpFault}
 use Rattle.ot_json.specs.declared.fault.OpFault.TheVariants.{NotJson, NotArray, BadComponent, TooLong}
+use Rattle.ot_text.specs.declared.TheConstants.{LIMIT}
 
 -- the component that a number is: above 0 a retain, below 0 a delete
 abbrev pub run_of_number : Num → Option (Run ℕ)
@@ -33,7 +34,7 @@ with_run op (Skip n) = with_delete op n
 
 -- the base or the image passes the limit of 1,000,000
 abbrev pub is_too_long : Operation ℕ → Bool
-is_too_long op = nat_lt 1000000 (max op.base (length op.image))
+is_too_long op = nat_lt LIMIT (max op.base (length op.image))
 
 -- the operation with component `i` added
 abbrev pub with_component : ℕ → Operation ℕ → Option (Run ℕ) → Result (Operation ℕ) OpFault

@@ -7,6 +7,7 @@ use Rattle.serde_json.specs.Written.{compact_text}
 use Rattle.ot_text.specs.Operation.{Operation}
 use Rattle.ot_text.specs.Run.{Run, Keep, Add, Skip}
 use Rattle.ot_text.specs.Run.{normal_runs}
+use Rattle.ot_text.specs.declared.TheConstants.{LIMIT}
 
 abbrev pub data_of : Run ℕ → Data
 data_of (Keep n) = number (unsigned n)
@@ -28,9 +29,9 @@ HasForm (Skip n) = (0 < n) × (n < 2 ^ 63)
 
 -- the count of a component is above 0 and within the limit
 abbrev pub IsCounted : Run ℕ → Type 0
-IsCounted (Keep n) = (0 < n) × (n ≤ 1000000)
+IsCounted (Keep n) = (0 < n) × (n ≤ LIMIT)
 IsCounted (Add s) = Unit {0}
-IsCounted (Skip n) = (0 < n) × (n ≤ 1000000)
+IsCounted (Skip n) = (0 < n) × (n ≤ LIMIT)
 
 -- new items are characters
 abbrev pub HasScalars : Run ℕ → Type 0

@@ -1,4 +1,5 @@
-// Why a text is no operation.
+//! Why a text is no operation.
+
 ghost use Rattle.std.specs.Prelude.{◌≡◌};
 ghost use Rattle.ot_json.specs.declared.fault.OpFault.TheVariants.{Memory};
 

@@ -11,16 +11,19 @@
 //!
 //! `serde_json` reads and writes the JSON values. The contracts' words: `specs/Reading.antt` (`operation_of_text`, the
 //! operation of a text or its fault) and `specs/Writing.antt` (`text_of_operation`). Begin with `reading.rt`; `building.rt`
-//! has the one pass, and a second one without memory which finds whether a fault stands behind a want of memory.
+//! has the one pass, and a second one without memory which finds whether a fault stands behind a want of memory. `plain.rt` reads
+//! what a program writes, arrays of strings and integers, with memory that is kept from text to text.
 #![tactic(auto)]
 
 mod building;
 mod fault;
 mod lengths;
 mod part;
+mod plain;
 mod reading;
 mod writing;
 
 pub use fault::OpFault;
+pub use plain::read_plain;
 pub use reading::{op_of_value, read_op};
 pub use writing::write_op;

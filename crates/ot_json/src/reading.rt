@@ -1,4 +1,5 @@
-// From a text to an operation.
+//! From a text to an operation.
+
 ghost use Rattle.std.specs.Prelude.{◌≡◌, ◌<◌, ◌⊎◌, Ok, Err, IfOk, IfErr, IsErrOf, IsOk, length};
 ghost use Rattle.serde_json.specs.View.{view};
 ghost use Rattle.ot_json.specs.Reading.{operation_of_data, operation_of_text};

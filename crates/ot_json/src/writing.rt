@@ -1,4 +1,5 @@
-// From an operation to a text.
+//! From an operation to a text.
+
 ghost use Rattle.std.specs.Prelude.{◌≡◌, Ok, IfOk, string_bytes};
 ghost use Rattle.std.specs.List.{All};
 ghost use Rattle.serde_json.specs.View.{view};

@@ -1,12 +1,12 @@
 -- Counted edits, and what an event sees after the last one of its replica.
-use Rattle.std.proofs.Common.{◌≡◌, ℕ, ◌+◌, ◌<◌, ◌≤◌, List, length, take, ap, sym, ◌∙◌, cond, arith, Bool, true, false, inl, inr, ◌⊎◌, subst, eq-eqb, below_more, ◌≢◌}
+use Rattle.std.proofs.Common.{◌≡◌, ℕ, ◌+◌, ◌<◌, ◌≤◌, List, length, take, ap, sym, ◌∙◌, cond, arith, Bool, true, inl, inr, subst, eq-eqb, below_more, ◌≢◌}
 use Rattle.std.specs.Prelude.{Option, Some, None, IfSome, IsTrue, sum_by}
 use Rattle.std.proofs.lemmas.Bool.{and_parts, cases_lt, cases_order, eqb-true, ltb-true, or_cases, or_right}
 use Rattle.std.proofs.lemmas.List.{take-take}
 use Rattle.std.proofs.lemmas.List.Sums.{sum_by_more, sum_by-take-le}
 use Rattle.ot_model.specs.Trace.{EventView, event_at, no_event}
 use Rattle.ot_model.specs.Visibility.{edits_before, follows, is_edit_of, seen_of, sees, SeesRightly}
-use Rattle.ot_judge.specs.Turns.{Backs, IsBacked, IsEdit, IsLast, IsLastOf, SeesAsMuch}
+use Rattle.ot_judge.specs.Turns.{IsBacked, IsEdit, IsLastOf, SeesAsMuch}
 
 abbrev number_of : Bool → ℕ
 number_of b = cond b 1 0

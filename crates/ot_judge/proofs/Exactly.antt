@@ -1,10 +1,10 @@
 -- What a list must hold, from the list before it.
-use Rattle.std.proofs.Common.{◌≡◌, ℕ, ◌+◌, ◌<◌, ◌≤◌, List, [], ◌∷◌, ◌++◌, length, get_or, set, take, drop, ap, sym, ◌∙◌, cond, arith, Bool, true, false, ◌||◌, ◌&&◌, inl, inr, subst, refl}
+use Rattle.std.proofs.Common.{◌≡◌, ℕ, ◌+◌, ◌<◌, List, [], ◌∷◌, ◌++◌, length, get_or, set, take, drop, ap, sym, ◌∙◌, cond, arith, Bool, true, false, ◌||◌, ◌&&◌, inl, inr, subst, refl}
 use Rattle.std.specs.Prelude.{Option, Some, None, All, filter, not}
 use Rattle.std.specs.List.{list_any}
 use Rattle.std.specs.HashSet.{HashSet, contains as set_contains}
 use Rattle.std.proofs.lemmas.List.{append-nil, drop_all, get_or-set_other, nil_from_length, take_all}
-use Rattle.std.proofs.lemmas.Bool.{and_from, and_parts, both_ways, cases_Bool, cases_eq, not-true, or_cases, or_left, or_right}
+use Rattle.std.proofs.lemmas.Bool.{and_from, and_parts, both_ways, cases_Bool, cases_eq, or_cases, or_left}
 use Rattle.std.proofs.lemmas.List.Folds.{list_any-append}
 use Rattle.std.proofs.lemmas.List.Elements.{All-weaker}
 use Rattle.ot_isa.specs.declared.elements.Tag.{Tag}

@@ -1,18 +1,18 @@
 -- What an event knows beyond the last one of its replica, and what both give.
-use Rattle.std.proofs.Common.{◌≡◌, ℕ, ◌+◌, ◌<◌, ◌≤◌, List, [], ◌∷◌, ◌++◌, length, get_or, take, ap, sym, ◌∙◌, cond, arith, Bool, true, false, ◌||◌, ◌&&◌, inl, inr, ◌⊎◌, subst, eq-eqb, lt-ltb, refl, suc, zero}
-use Rattle.std.specs.Prelude.{Option, Some, None, All, IsTrue}
+use Rattle.std.proofs.Common.{◌≡◌, ℕ, ◌+◌, ◌<◌, ◌≤◌, List, [], ◌∷◌, ◌++◌, length, get_or, take, ap, sym, ◌∙◌, cond, arith, Bool, true, false, ◌||◌, inl, inr, ◌⊎◌, subst, eq-eqb, lt-ltb, refl, suc, zero}
+use Rattle.std.specs.Prelude.{Option, Some, None, All}
 use Rattle.std.specs.List.{Contains, flat_map, range_with_len}
-use Rattle.std.proofs.lemmas.Bool.{and_from, and_parts, both_ways, cases_Bool, cases_lt, cases_order, eqb-true, ltb-true, or_cases, or_left, or_right}
+use Rattle.std.proofs.lemmas.Bool.{and_from, and_parts, both_ways, cases_Bool, cases_lt, eqb-true, ltb-true, or_cases, or_left, or_right}
 use Rattle.std.proofs.lemmas.List.{append-nil, get_or_past, take_more}
 use Rattle.std.proofs.lemmas.List.Elements.{All-push, Contains-append_left, Contains-push}
 use Rattle.std.proofs.lemmas.List.Folds.{list_any-append}
 use Rattle.std.proofs.lemmas.List.Concat.{flat_map-append}
 use Rattle.std.proofs.lemmas.List.FromFn.{get_or-range_with_len, length-range_with_len}
 use Rattle.ot_isa.specs.declared.elements.Tag.{Tag}
-use Rattle.ot_model.specs.Trace.{contains, event_at, EventView, inserted_tags, no_event, same_tag}
+use Rattle.ot_model.specs.Trace.{contains, event_at, EventView, no_event, same_tag}
 use Rattle.ot_model.specs.Visibility.{edits_before, is_edit_of, seen_of, sees, SeesRightly}
 use Rattle.ot_model.specs.WeakList.{from_known, knows}
-use Rattle.ot_judge.specs.Turns.{Adds, AreNews, given, given_before, IsEdit, IsKnown, IsLastOf, knew, ReadsOnly}
+use Rattle.ot_judge.specs.Turns.{Adds, AreNews, given, given_before, IsEdit, IsKnown, IsLastOf, knew}
 use Rattle.ot_judge.proofs.Counts.{edits-past, follows-same, one-edit, replica-is}
 
 -- ---- lists of lists

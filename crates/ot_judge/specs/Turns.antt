@@ -3,7 +3,7 @@ use Rattle.std.specs.Prelude.{ℕ, Bool, true, false, List, [], Option, Some, No
 use Rattle.std.specs.List.{Contains, flat_map}
 use Rattle.ot_isa.specs.declared.elements.Tag.{Tag}
 use Rattle.ot_model.specs.Trace.{EventView, contains, event_at, occurrences}
-use Rattle.ot_model.specs.Visibility.{SeesRightly, edits_before, is_edit_of, seen_of}
+use Rattle.ot_model.specs.Visibility.{edits_before, is_edit_of, seen_of}
 use Rattle.ot_model.specs.WeakList.{EventHolds, from_known, knows}
 
 -- p is the last event of the replica before e

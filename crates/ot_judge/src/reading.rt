@@ -158,11 +158,12 @@ fn trace_of(alloc: Global, value: &Value) -> Result<Trace, TraceFault>
 /// `"delete"` (an array of tags). Other keys are ignored; where a key stands twice, the last value counts.
 ///
 /// `NotJson`: `serde_json` refuses the text. `BadShape`: a key is missing, a value is of another kind or out of range, or
-/// a read inserts or deletes. `TraceFull`, `TagTwice`: as `Trace::new` says. `Memory`: no memory was found; once the text
-/// is JSON, it comes only where the shape and the size are right.
+/// a read inserts or deletes. `TraceFull`, `TagTwice`: as `Trace::new` says. `Memory`: no memory was found; the text
+/// is not empty then, and once it is JSON, this comes only where the shape and the size are right.
 pub fn read_trace(alloc: Global, text: &str) -> Result<Trace, TraceFault>
     ensures ok { IfOk result (λ t. trace_of_text text.now ≡ Ok t) }
     ensures err { IfErr result (λ e. (e ≡ TraceFault.Memory) ⊎ (trace_of_text text.now ≡ Err e)) }
+    ensures memory { IsErrOf result TraceFault.Memory → 0 < length text.now }
 {
     match Value::from_str(alloc, text) {
         Ok(value) => trace_of(alloc, &value),

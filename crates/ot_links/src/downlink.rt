@@ -1,4 +1,5 @@
-// The link from the server to a client.
+//! The link from the server to a client.
+
 ghost use Rattle.std.specs.Prelude.{◌≡◌, ◌+◌, ◌-◌, ◌<◌, ◌≤◌, ◌↔◌, [], ◌∷◌, ◌++◌, drop, take, length, slice_get, IfNone, IsTrue, OnErr, OnOk, OnSome};
 ghost use Rattle.std.specs.Option.{option_copied};
 

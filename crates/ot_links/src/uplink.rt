@@ -1,4 +1,5 @@
-// The link from a client to the server.
+//! The link from a client to the server.
+
 ghost use Rattle.std.specs.Prelude.{◌≡◌, ◌↔◌, length, IsTrue, Some, None};
 ghost use Rattle.std.specs.Option.{option_copied, option_to_list};
 

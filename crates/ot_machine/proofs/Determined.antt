@@ -1,14 +1,13 @@
 -- The record of a step and the state after it leave one state before it.
-use Rattle.std.proofs.Common.{◌≡◌, ℕ, zero, suc, ◌+◌, ◌-◌, List, [], ◌∷◌, length, set, take, refl, sym, ap, ◌∙◌, arith, Option, Some, None}
+use Rattle.std.proofs.Common.{◌≡◌, ℕ, zero, suc, ◌+◌, ◌-◌, List, [], ◌∷◌, length, set, take, refl, sym, ap, ◌∙◌, arith, Some, None}
 use Rattle.std.proofs.lemmas.Option.{same_Some}
 use Rattle.std.specs.Prelude.{slice_get}
 use Rattle.ot_isa.specs.declared.elements.Tagged.{Tagged}
 use Rattle.ot_text.specs.Operation.{Operation, apply}
 use Rattle.ot_client.specs.declared.sent.Sent.{Sent}
-use Rattle.ot_client.specs.Client.{message_of}
 use Rattle.ot_server.specs.History.{History}
 use Rattle.ot_server.proofs.Retracted as server
-use Rattle.ot_model.specs.Table.{Client, Message, State, absent}
+use Rattle.ot_model.specs.Table.{Client, State, absent}
 use Rattle.ot_machine.specs.declared.kept.Before.{Before}
 use Rattle.ot_machine.specs.declared.undo.Record.{Record}
 use Rattle.ot_machine.specs.declared.undo.Record.TheVariants.{ClientStep, Taken, Joined, Read}

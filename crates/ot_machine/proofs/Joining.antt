@@ -16,7 +16,7 @@ join_is :
     → step s (Join c) ≡ Performed (with_client s c (joined s x)) None
 join_is s c x at below off = rw (at, not_full s.steps below, off) refl
 
-absent_of : (client : Option (program.Client Tagged)) → is_some client ≡ false → is_joined (phase_of client) ≡ false
+pub absent_of : (client : Option (program.Client Tagged)) → is_some client ≡ false → is_joined (phase_of client) ≡ false
 absent_of None off = refl
 absent_of (Some client) off = absurd (cc)
 

@@ -12,7 +12,7 @@ use Rattle.ot_model.specs.Table.{Client, Message, State, absent, is_joined, with
 use Rattle.ot_model.specs.Sound.{IsSound}
 use Rattle.ot_machine.specs.declared.seat.Seat.{Seat}
 use Rattle.ot_machine.specs.declared.kept.Before.{Before}
-use Rattle.ot_machine.specs.Seats.{View, view_of, client_of, revision_of, numbers, incoming, sent, swept, idle, AreQueues, state_from, IsKept}
+use Rattle.ot_machine.specs.Seats.{View, view_of, client_of, revision_of, numbers, incoming, queued, swept, idle, AreQueues, state_from, IsKept}
 use Rattle.ot_machine.specs.Undoing.{message_at, message_in, queue_before, reverted, FitsBack, Restores, IsRecord}
 use Rattle.ot_machine.specs.declared.undo.Record.TheVariants.{ClientStep, Joined, Read}
 use Rattle.ot_machine.proofs.RowLaws.{client_at, joined_of, queue_at}
@@ -44,18 +44,18 @@ pub swept_end : (f : View → View) (i : ℕ) (seats before : List Seat) → map
 swept_end f i seats before is le = is ∙ swept_all f i (map view_of before) (simp length-map le)
 
 -- the message of a seat that was sent more since
-sent_message : (n : ℕ) (found : Option View) → message_in (option_map (sent n) found) ≡ message_in found
+sent_message : (n : ℕ) (found : Option View) → message_in (option_map (queued n) found) ≡ message_in found
 sent_message n None = refl
 sent_message n (Some v) = refl
 
 pub message_read :
     (seats between before : List Seat) (c n many : ℕ) (seat : Seat)
-    → map view_of seats ≡ map (sent n) (map view_of between) → map view_of between ≡ map view_of before → many ≡ length seats → c < many → seat ≡ get_or seats c seat
+    → map view_of seats ≡ map (queued n) (map view_of between) → map view_of between ≡ map view_of before → many ≡ length seats → c < many → seat ≡ get_or seats c seat
     → message_at (map view_of before) c ≡ option_map message_of seat.up
 message_read seats between before c n many seat is same long there read =
     sym (sent_message n (slice_get (map view_of before) c))
-    ∙ ap message_in (sym (slice_get-map (sent n) (map view_of before) c)
-    ∙ ap (λ vs. slice_get vs c) (ap (map (sent n)) (sym same) ∙ sym is)
+    ∙ ap message_in (sym (slice_get-map (queued n) (map view_of before) c)
+    ∙ ap (λ vs. slice_get vs c) (ap (map (queued n)) (sym same) ∙ sym is)
     ∙ slice_get-map view_of seats c ∙ ap (option_map view_of) (slice_get_read seats many c seat long there read))
 
 pub some_message : (up : Option (Sent Tagged)) (message : Option Message) → (message ≡ None → ⊥) → message ≡ option_map message_of up → up ≡ None → ⊥

@@ -11,7 +11,7 @@ use Rattle.ot_model.specs.Sound.{IsOutcomeSound, IsSound}
 use Rattle.ot_model.proofs.Steps.{step_sound}
 use Rattle.ot_model.proofs.Algebra.{laws}
 use Rattle.ot_machine.specs.declared.seat.Seat.{Seat}
-use Rattle.ot_machine.specs.Seats.{View, view_of, client_of, phase_of, numbers, incoming, sent, emptied, without_message, outstanding_at, received_from, AreQueues, state_from, IsKept}
+use Rattle.ot_machine.specs.Seats.{View, view_of, client_of, phase_of, numbers, incoming, queued, emptied, without_message, outstanding_at, received_from, AreQueues, state_from, IsKept}
 use Rattle.ot_client.specs.declared.sent.Sent.{Sent}
 use Rattle.ot_client.specs.Client.{message_of}
 use Rattle.std.specs.Option.{option_map}
@@ -29,17 +29,17 @@ take_is s c x m at below on message = rw (at, not_full s.steps below, on, messag
 quiet : Client → Client
 quiet x = record { revision = x.revision; phase = x.phase; list = x.list; count = x.count; message = None }
 
-clients_sent : (n : ℕ) (seats : List Seat) → map (λ (v : View). v.client) (map (sent n) (map view_of seats)) ≡ map client_of seats
+clients_sent : (n : ℕ) (seats : List Seat) → map (λ (v : View). v.client) (map (queued n) (map view_of seats)) ≡ map client_of seats
 clients_sent n [] = refl
 clients_sent n (y ∷ seats) = ap (λ xs. client_of y ∷ xs) (clients_sent n seats)
 
 clients_emptied :
     (n c : ℕ) (seats : List Seat) (seat : Seat) → slice_get seats c ≡ Some seat
-    → map (λ (v : View). v.client) (emptied c (map (sent n) (map view_of seats))) ≡ set (map client_of seats) c (quiet (client_of seat))
+    → map (λ (v : View). v.client) (emptied c (map (queued n) (map view_of seats))) ≡ set (map client_of seats) c (quiet (client_of seat))
 unfolding quiet
 clients_emptied n c [] seat at = absurd (cc)
 clients_emptied n zero (y ∷ seats) seat at =
-    ap (λ (z : Seat). quiet (client_of z) ∷ map (λ (v : View). v.client) (map (sent n) (map view_of seats))) (same_Some y seat at)
+    ap (λ (z : Seat). quiet (client_of z) ∷ map (λ (v : View). v.client) (map (queued n) (map view_of seats))) (same_Some y seat at)
     ∙ ap (λ xs. quiet (client_of seat) ∷ xs) (clients_sent n seats)
 clients_emptied n (suc c) (y ∷ seats) seat at = ap (λ xs. client_of y ∷ xs) (clients_emptied n c seats seat at)
 
@@ -57,16 +57,16 @@ numbers_more r n le =
     let end : r + (n - r) ≡ n = omega arith in
     ap (numbers r) more ∙ numbers_push r (n - r) ∙ ap (λ m. numbers r (n - r) ++ m ∷ []) end
 
-sent_right : (n : ℕ) (v : View) → v.queue ≡ incoming v.client n → v.client.revision ≤ n → (b : Bool) → is_joined v.client.phase ≡ b → (sent n v).queue ≡ incoming v.client (n + 1)
+sent_right : (n : ℕ) (v : View) → v.queue ≡ incoming v.client n → v.client.revision ≤ n → (b : Bool) → is_joined v.client.phase ≡ b → (queued n v).queue ≡ incoming v.client (n + 1)
 sent_right n v right le true on = rw on (ap (λ q. q ++ n ∷ []) (right ∙ rw on refl) ∙ sym (numbers_more v.client.revision n le))
 sent_right n v right le false off = rw off (right ∙ rw off refl)
 
 queues_sent :
     (n : ℕ) (seats : List Seat) → AreQueues n (map view_of seats) → ((d : ℕ) (x : Client) → slice_get (map client_of seats) d ≡ Some x → x.revision ≤ n)
-    → AreQueues (n + 1) (map (sent n) (map view_of seats))
+    → AreQueues (n + 1) (map (queued n) (map view_of seats))
 queues_sent n [] queues seen d v at = absurd (cc)
 queues_sent n (y ∷ seats) queues seen zero v at =
-    subst (λ (w : View). w.queue ≡ incoming w.client (n + 1)) (same_Some (sent n (view_of y)) v at)
+    subst (λ (w : View). w.queue ≡ incoming w.client (n + 1)) (same_Some (queued n (view_of y)) v at)
     (sent_right n (view_of y) (queues zero (view_of y) refl) (seen zero (client_of y) refl) (is_joined (phase_of y.client)) refl)
 queues_sent n (y ∷ seats) queues seen (suc d) v at = queues_sent n seats (λ e w h. queues (suc e) w h) (λ e x h. seen (suc e) x h) d v at
 
@@ -84,7 +84,7 @@ pub record Taken (server after : History Tagged) (seats left : List Seat) (steps
 pub take_done :
     (server after : History Tagged) (seats left : List Seat) (steps c : ℕ) (seat : Seat) (m : Message)
     → IsKept server seats steps → slice_get seats c ≡ Some seat → steps < 1000000 → is_some seat.client ≡ true → (client_of seat).message ≡ Some m
-    → after ≡ received server c m.revision m.op → map view_of left ≡ emptied c (map (sent (length server.log)) (map view_of seats))
+    → after ≡ received server c m.revision m.op → map view_of left ≡ emptied c (map (queued (length server.log)) (map view_of seats))
     → Taken server after seats left steps c
 unfolding quiet
 take_done server after seats left steps c seat m is_kept at below on message is_received views =
@@ -102,7 +102,7 @@ take_done server after seats left steps c seat m is_kept at below on message is_
       row = done;
       kept = record {
         sound = subst IsOutcomeSound done (step_sound laws s (Take c) is_kept.sound tt);
-        queues = rw (views, longer) (queues_emptied (n + 1) c (map (sent n) (map view_of seats)) (queues_sent n seats is_kept.queues is_kept.sound.2.seen));
+        queues = rw (views, longer) (queues_emptied (n + 1) c (map (queued n) (map view_of seats)) (queues_sent n seats is_kept.queues is_kept.sound.2.seen));
       };
     }
 
@@ -131,7 +131,7 @@ sender_performs server seats steps c seat t is value =
 
 pub sender_done :
     (server after : History Tagged) (seats left : List Seat) (steps c : ℕ) (seat : Seat)
-    → IsSender server seats steps c seat → after ≡ received_from server c (outstanding_at (map view_of seats) c) → map view_of left ≡ emptied c (map (sent (length server.log)) (map view_of seats))
+    → IsSender server seats steps c seat → after ≡ received_from server c (outstanding_at (map view_of seats) c) → map view_of left ≡ emptied c (map (queued (length server.log)) (map view_of seats))
     → Taken server after seats left steps c
 sender_done server after seats left steps c seat is is_received views =
     let m = the_message seat.up is.up in

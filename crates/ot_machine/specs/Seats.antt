@@ -1,5 +1,5 @@
 -- The program's clients as the table's.
-use Rattle.std.specs.Prelude.{◌≡◌, ◌+◌, ℕ, zero, suc, ◌-◌, Option, Some, None, true, List, [], ◌∷◌, ◌++◌, ◌<◌, ◌≤◌, map, length, slice_get, if◌then◌else◌}
+use Rattle.std.specs.Prelude.{◌≡◌, ℕ, zero, suc, ◌-◌, Option, Some, None, true, List, [], ◌∷◌, ◌++◌, ◌<◌, ◌≤◌, map, length, slice_get, if◌then◌else◌}
 use Rattle.ot_server.specs.declared.fault.ServerFault.{ServerFault}
 use Rattle.ot_server.specs.declared.fault.ServerFault.TheVariants as fault
 use Rattle.ot_server.specs.History.{History, fault_of, received}
@@ -13,6 +13,7 @@ use Rattle.ot_client.specs.declared.sent.Sent.{Sent}
 use Rattle.ot_client.specs.Client.{state_of, message_of}
 use Rattle.ot_machine.specs.declared.seat.Seat.{Seat}
 use Rattle.ot_model.specs.Table.{Phase, NotJoined, Synchronized, AwaitingConfirm, AwaitingWithBuffer, phase_in, is_joined, Client, State, Message}
+use Rattle.ot_client.specs.declared.TheConstants.{REVISION_LIMIT}
 
 -- a seat without a client is one that has not joined
 abbrev pub phase_of : Option (program.Client Tagged) → Phase
@@ -96,8 +97,8 @@ pub record IsKept (server : History Tagged) (seats : List Seat) (steps : ℕ) : 
   pub queues : AreQueues (length server.log) (map view_of seats)
 
 -- one more on the way to a client that has joined
-abbrev pub sent : ℕ → View → View
-sent number v = record { client = v.client; queue = if is_joined v.client.phase then v.queue ++ number ∷ [] else v.queue }
+abbrev pub queued : ℕ → View → View
+queued number v = record { client = v.client; queue = if is_joined v.client.phase then v.queue ++ number ∷ [] else v.queue }
 
 -- the first of a list changed
 abbrev pub swept : {X : Type 0} → (X → X) → ℕ → List X → List X
@@ -115,7 +116,7 @@ HaveRoomFrom i seats = (c : ℕ) (seat : Seat) → i ≤ c → slice_get seats c
 
 -- what a delivery needs of the client's state: of its revision, and what ot.js' client asks of the operations
 abbrev pub MayDeliverState : state.State Tagged → Operation Tagged → Type 0
-MayDeliverState client op = (client.revision < 1000000) × state.MayDeliver client.phase op
+MayDeliverState client op = (client.revision < REVISION_LIMIT) × state.MayDeliver client.phase op
 
 -- and of its list
 abbrev pub MayDeliverTo : Option (program.Client Tagged) → Operation Tagged → List Tagged → Type 0
@@ -135,7 +136,7 @@ IsAwaiting (AwaitingWithBuffer o b) = Unit {0}
 
 -- what an acknowledgement needs of the seat
 abbrev pub MaySeatAcknowledge : Seat → Type 0
-MaySeatAcknowledge seat = IsAwaiting (phase_of seat.client) × (revision_of seat.client < 1000000) × (seat.up ≡ None)
+MaySeatAcknowledge seat = IsAwaiting (phase_of seat.client) × (revision_of seat.client < REVISION_LIMIT) × (seat.up ≡ None)
 
 -- the client after a Join at a log of this length
 abbrev pub joined_at : ℕ → List Tagged → Client → Client

@@ -1,5 +1,5 @@
 -- What a step keeps so that it can be taken back.
-use Rattle.std.specs.Prelude.{◌≡◌, ℕ, suc, ◌-◌, true, List, ◌∷◌, Option, Some, None, length, slice_get, take, if◌then◌else◌}
+use Rattle.std.specs.Prelude.{◌≡◌, ◌↔◌, ℕ, suc, ◌-◌, Bool, true, IsTrue, List, ◌∷◌, Option, Some, None, length, slice_get, take, if◌then◌else◌}
 use Rattle.ot_isa.specs.declared.elements.Tagged.{Tagged}
 use Rattle.ot_text.specs.Operation.{Operation, apply}
 use Rattle.ot_client.specs.declared.sent.Sent.{Sent}
@@ -7,6 +7,7 @@ use Rattle.ot_client.specs.Client.{message_of}
 use Rattle.ot_server.specs.History.{IsUndo}
 use Rattle.ot_model.specs.Table.{Client, Message, State, is_joined, absent, taken, with_client}
 use Rattle.ot_model.specs.Sound.{IsSound}
+use Rattle.ot_machine.specs.declared.seat.Seat.{Seat}
 use Rattle.ot_machine.specs.declared.kept.Before.{Before}
 use Rattle.ot_machine.specs.declared.undo.Record.{Record}
 use Rattle.ot_machine.specs.declared.undo.Record.TheVariants.{ClientStep, Taken, Joined, Read}
@@ -37,6 +38,20 @@ queue_before before queue = if before.received then revision_of (Some before.cli
 abbrev pub FitsBack : Option (Operation Tagged) → List Tagged → Type 0
 FitsBack None list = Unit {0}
 FitsBack (Some inverse) list = inverse.base ≡ length list
+
+-- the inverse, if there is one, takes the list after back to the list before
+abbrev pub GivesBack : Option (Operation Tagged) → List Tagged → List Tagged → Type 0
+GivesBack inverse before after = FitsBack inverse after × (list_before inverse after ≡ before)
+
+-- what is kept of the seat's client: its revision and phase, its count, whether nothing is under way from it, and these two of the step
+abbrev pub IsBefore : Before → Seat → Option (Operation Tagged) → Bool → Type 0
+IsBefore before seat inverse received =
+    (phase_of (Some before.client) ≡ phase_of seat.client)
+    × (revision_of (Some before.client) ≡ revision_of seat.client)
+    × (before.count ≡ seat.count)
+    × (before.inverse ≡ inverse)
+    × (IsTrue before.unsent ↔ (seat.up ≡ None))
+    × (before.received ≡ received)
 
 -- the record leads from the client x after a step back to the client y before it
 pub record Restores (before : Before) (y x : Client) : Type 0 where

@@ -43,7 +43,6 @@ mod order_laws;
 mod outcome;
 mod part;
 mod readers;
-mod rows_kept;
 mod running;
 mod seat;
 mod state;
@@ -51,8 +50,8 @@ mod undo;
 
 pub use machine::{INSERTED_LIMIT, Machine, STEP_LIMIT};
 pub use ot_model::{Reader, Refusal, Shown};
-pub use outcome::Run;
+pub use outcome::Replay;
 pub use part::{Message, Part};
 pub use running::run;
-pub use state::{ClientView, Head, Phase, State};
+pub use state::{ClientView, Head, Phase, Snapshot};
 pub use undo::Undo;

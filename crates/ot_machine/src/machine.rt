@@ -1,23 +1,23 @@
-// The machine.
-ghost use Rattle.std.specs.Prelude.{◌≡◌, ◌<◌, ◌≤◌, length, OnOk, OnErr, IfErr, IfOk, Some, None};
+//! The machine.
+
+ghost use Rattle.std.specs.Prelude.{◌≡◌, ◌<◌, ◌≤◌, length, OnOk, OnErr, IfErr, IfOk, IsSomeAnd, IsTrue, Some, None};
 ghost use Rattle.ot_isa.specs.declared.instruction.Instr.TheVariants.{Acknowledge, Deliver, Edit, Join, Take, Read, ReadServer};
 ghost use Rattle.ot_isa.specs.Program.{AreClients};
 ghost use Rattle.ot_model.specs.Table.{opening, step, Performed, Refused};
 ghost use Rattle.ot_machine.specs.Answers.{IsRefusal};
+ghost use Rattle.ot_machine.specs.Undoing.{IsRecord};
+ghost use Rattle.ot_isa.specs.declared.builder.TheConstants.{START_LIMIT};
 
 use crate::seat::{self, Seat};
+use crate::undo::Record;
+pub use ot_isa::INSERTED_LIMIT;
 use ot_isa::{Instr, Tagged, start_doc, tagged};
+pub use ot_model::STEP_LIMIT;
 use ot_model::{Reader, Refusal, Shown};
 use ot_server::Server;
 use ot_text::TextOp;
 use std::alloc::{AllocError, Global};
 use std::marker::Model;
-
-/// How many instructions a machine performs at most.
-pub const STEP_LIMIT: u32 = 1_000_000;
-
-/// How many characters a client inserts in a run at most. Deletions give nothing back.
-pub const INSERTED_LIMIT: usize = 15_000;
 
 /// A server, its clients and the links between them. Its state is sound, always.
 #[derive(Drop)]
@@ -42,7 +42,7 @@ impl Machine {
     /// The machine at the opening, with all of its 1 to 64 clients joined. The start text has at most 40,000 scalars.
     pub fn new(alloc: Global, clients: u16, start: &[char]) -> Result<Machine, AllocError>
         requires clients { AreClients clients clients }
-        requires start { length start.now ≤ 40000 }
+        requires start { length start.now ≤ START_LIMIT }
         ensures { IfOk result (λ machine. machine ≡ opening clients clients start.now) }
     {
         Machine::with_present(alloc, clients, clients, start)
@@ -56,7 +56,7 @@ impl Machine {
         start: &[char],
     ) -> Result<Machine, AllocError>
         requires clients { AreClients clients present }
-        requires start { length start.now ≤ 40000 }
+        requires start { length start.now ≤ START_LIMIT }
         ensures { IfOk result (λ machine. machine ≡ opening clients present start.now) }
     {
         let document = start_doc(alloc, start)?;
@@ -70,11 +70,18 @@ impl Machine {
         })
     }
 
+    // The rows, each as a plain step and as one that is `KEPT`: then it gives the record that takes it back, made before anything is changed.
+
     // The client's own edit: tagged, applied to its list, and sent or kept in its buffer.
-    pub(crate) fn edit(&mut self, client: u16, op: &TextOp<char>) -> Result<(), Refusal>
+    pub(crate) fn edit<const KEPT: bool>(
+        &mut self,
+        client: u16,
+        op: &TextOp<char>,
+    ) -> Result<Option<Record>, Refusal>
         ensures done { OnOk result (step self.old (Edit client op.now) ≡ Performed self.new None) }
         ensures refused { IfErr result (λ r. IsRefusal (step self.old (Edit client op.now)) r) }
         ensures unchanged { OnErr result (self.new ≡ self.old) }
+        ensures kept { IsTrue KEPT → IfOk result (λ kept. IsSomeAnd kept (IsRecord self.old self.new)) }
     {
         let place = client as usize;
         if place >= self.seats.len() {
@@ -94,16 +101,17 @@ impl Machine {
             return Err(Refusal::ClientFull);
         }
         let op = tagged(op.allocator(), op, client, seat.count)?;
-        seat::edit(seat, &op)?;
+        let before = seat::edit::<KEPT>(seat, &op)?;
         self.steps += 1;
-        Ok(())
+        Ok(Record::of_client(client, before))
     }
 
     // The server receives what is under way from the client, and tells all joined clients.
-    pub(crate) fn take(&mut self, client: u16) -> Result<(), Refusal>
+    pub(crate) fn take<const KEPT: bool>(&mut self, client: u16) -> Result<Option<Record>, Refusal>
         ensures done { OnOk result (step self.old (Take client) ≡ Performed self.new None) }
         ensures refused { IfErr result (λ r. IsRefusal (step self.old (Take client)) r) }
         ensures unchanged { OnErr result (self.new ≡ self.old) }
+        ensures kept { IsTrue KEPT → IfOk result (λ kept. IsSomeAnd kept (IsRecord self.old self.new)) }
     {
         let place = client as usize;
         if place >= self.seats.len() {
@@ -119,16 +127,21 @@ impl Machine {
         if seat.up.is_empty() {
             return Err(Refusal::LinkEmpty);
         }
-        seat::carry(&mut self.server, &mut self.seats, client)?;
+        let taken = seat::take_in::<KEPT>(&mut self.server, &mut self.seats, client)?;
         self.steps += 1;
-        Ok(())
+        let (message, inverse) = taken;
+        Ok(Record::of_take(client, message, inverse))
     }
 
     // The client takes another's operation from the front of its downlink.
-    pub(crate) fn deliver(&mut self, client: u16) -> Result<(), Refusal>
+    pub(crate) fn deliver<const KEPT: bool>(
+        &mut self,
+        client: u16,
+    ) -> Result<Option<Record>, Refusal>
         ensures done { OnOk result (step self.old (Deliver client) ≡ Performed self.new None) }
         ensures refused { IfErr result (λ r. IsRefusal (step self.old (Deliver client)) r) }
         ensures unchanged { OnErr result (self.new ≡ self.old) }
+        ensures kept { IsTrue KEPT → IfOk result (λ kept. IsSomeAnd kept (IsRecord self.old self.new)) }
     {
         let place = client as usize;
         if place >= self.seats.len() {
@@ -147,16 +160,20 @@ impl Machine {
         if entry.maker() == client {
             return Err(Refusal::WrongHead);
         }
-        seat::deliver(seat, entry.operation())?;
+        let before = seat::deliver::<KEPT>(seat, entry.operation())?;
         self.steps += 1;
-        Ok(())
+        Ok(Record::of_client(client, before))
     }
 
     // The client takes the confirmation of its own operation from the front of its downlink.
-    pub(crate) fn acknowledge(&mut self, client: u16) -> Result<(), Refusal>
+    pub(crate) fn acknowledge<const KEPT: bool>(
+        &mut self,
+        client: u16,
+    ) -> Result<Option<Record>, Refusal>
         ensures done { OnOk result (step self.old (Acknowledge client) ≡ Performed self.new None) }
         ensures refused { IfErr result (λ r. IsRefusal (step self.old (Acknowledge client)) r) }
         ensures unchanged { OnErr result (self.new ≡ self.old) }
+        ensures kept { IsTrue KEPT → IfOk result (λ kept. IsSomeAnd kept (IsRecord self.old self.new)) }
     {
         let place = client as usize;
         if place >= self.seats.len() {
@@ -175,9 +192,9 @@ impl Machine {
         if entry.maker() != client {
             return Err(Refusal::WrongHead);
         }
-        seat::acknowledge(seat)?;
+        let before = seat::acknowledge::<KEPT>(seat)?;
         self.steps += 1;
-        Ok(())
+        Ok(Record::of_client(client, before))
     }
 
     // The client gets the server's list and revision.
@@ -185,6 +202,7 @@ impl Machine {
         ensures done { OnOk result (step self.old (Join client) ≡ Performed self.new None) }
         ensures refused { IfErr result (λ r. IsRefusal (step self.old (Join client)) r) }
         ensures unchanged { OnErr result (self.new ≡ self.old) }
+        ensures kept { OnOk result (IsRecord self.old self.new (Record.Joined client)) }
     {
         let place = client as usize;
         if place >= self.seats.len() {
@@ -208,6 +226,7 @@ impl Machine {
         ensures done { IfOk result (λ shown. step self.old (Read client) ≡ Performed self.new (Some shown)) }
         ensures refused { IfErr result (λ r. IsRefusal (step self.old (Read client)) r) }
         ensures unchanged { OnErr result (self.new ≡ self.old) }
+        ensures kept { OnOk result (IsRecord self.old self.new Record.Read) }
     {
         let place = client as usize;
         if place >= self.seats.len() {
@@ -233,6 +252,7 @@ impl Machine {
         ensures done { IfOk result (λ shown. step self.old ReadServer ≡ Performed self.new (Some shown)) }
         ensures refused { IfErr result (λ r. IsRefusal (step self.old ReadServer) r) }
         ensures unchanged { OnErr result (self.new ≡ self.old) }
+        ensures kept { OnOk result (IsRecord self.old self.new Record.Read) }
     {
         if self.steps >= STEP_LIMIT {
             return Err(Refusal::StepsFull);
@@ -262,19 +282,19 @@ impl Machine {
     {
         match instr {
             Instr::Edit(client, op) => {
-                self.edit(*client, op)?;
+                self.edit::<false>(*client, op)?;
                 Ok(None)
             }
             Instr::Take(client) => {
-                self.take(*client)?;
+                self.take::<false>(*client)?;
                 Ok(None)
             }
             Instr::Deliver(client) => {
-                self.deliver(*client)?;
+                self.deliver::<false>(*client)?;
                 Ok(None)
             }
             Instr::Acknowledge(client) => {
-                self.acknowledge(*client)?;
+                self.acknowledge::<false>(*client)?;
                 Ok(None)
             }
             Instr::Join(client) => {

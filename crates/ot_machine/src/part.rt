@@ -1,4 +1,5 @@
-// Clients off the machine: a copy of one, and how it comes back.
+//! Clients off the machine: a copy of one, and how it comes back.
+
 ghost use Rattle.std.specs.Prelude.{◌≡◌, ◌+◌, ◌-◌, ◌≤◌, ◌↔◌, drop, length, map, IfOk, IsTrue, None, true};
 ghost use Rattle.ot_client.specs.Client.{state_of};
 ghost use Rattle.ot_model.specs.Part.{Leads};
@@ -8,6 +9,7 @@ ghost use Rattle.ot_model.specs.Table.{head_for, is_joined};
 ghost use Rattle.ot_machine.specs.Parts.{head_in, part_in, AreFirst};
 ghost use Rattle.ot_machine.specs.Readers.{ClientHas};
 ghost use Rattle.ot_machine.specs.Seats.{client_of, MayPush};
+ghost use Rattle.ot_model.specs.declared.limits.TheConstants.{STEP_LIMIT};
 
 use crate::machine::Machine;
 use crate::seat::{self, Seat};
@@ -206,7 +208,7 @@ impl Machine {
         requires unsent { start.now.sent ≡ None }
         requires instrs { AreInstrs steps.now }
         requires leads { Leads (part_in start.now) steps.now (part_in now) }
-        requires room { length steps.now + self.old.steps ≤ 1000000 }
+        requires room { length steps.now + self.old.steps ≤ STEP_LIMIT }
         ensures { RunsTo self.old steps.now self.new }
     {
         let used = now.client.revision() - start.client.revision();

@@ -1,4 +1,5 @@
-// What callers see of a machine.
+//! What callers see of a machine.
+
 ghost use Rattle.std.specs.Prelude.{◌≡◌, ◌<◌, ◌↔◌, length, map, slice_get, IfOk, IsTrue, None, Some, true};
 ghost use Rattle.std.specs.Option.{option_copied, option_map};
 ghost use Rattle.ot_client.specs.Client.{message_of, state_of};
@@ -9,7 +10,7 @@ ghost use Rattle.ot_machine.specs.Seats.{client_of, incoming};
 
 use crate::machine::Machine;
 use crate::seat::{self, Seat};
-use crate::state::{ClientView, Head, Phase, State};
+use crate::state::{ClientView, Head, Phase, Snapshot};
 use ot_client::{Client, Sent};
 use ot_isa::Tagged;
 use ot_server::Entry;
@@ -191,12 +192,12 @@ impl Machine {
     }
 
     /// A copy of revisions, phases and lists, and whether all is quiet.
-    pub fn state(&self) -> Result<State, AllocError>
+    pub fn state(&self) -> Result<Snapshot, AllocError>
         ensures { IfOk result (λ view. IsShownState self.now view) }
     {
         let server = self.server_document().copy()?;
         let clients = self.views(server.allocator())?;
-        Ok(State {
+        Ok(Snapshot {
             clients,
             server_revision: self.server_revision(),
             server,

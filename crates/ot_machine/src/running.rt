@@ -1,4 +1,5 @@
-// Runs of schedules.
+//! Runs of schedules.
+
 ghost use Rattle.std.specs.Prelude.{◌≡◌, ◌∷◌, [], length, IfErr, IfOk, OnErr, OnOk, MatchOption, Some};
 ghost use Rattle.ot_isa.specs.declared.instruction.Instr.TheVariants.{Read, ReadServer};
 ghost use Rattle.ot_model.specs.Table as table;
@@ -7,7 +8,7 @@ ghost use Rattle.ot_machine.specs.Answers.{IsPerformed, IsRefusal};
 ghost use Rattle.ot_machine.specs.Ended.{IsRun};
 
 use crate::machine::{Machine, STEP_LIMIT};
-use crate::outcome::Run;
+use crate::outcome::Replay;
 use ot_isa::{Instr, Schedule};
 use ot_model::{Refusal, Shown};
 use std::alloc::{AllocError, Global};
@@ -69,10 +70,22 @@ impl Machine {
         ensures kept { OnErr result (shown.new.items ≡ shown.old.items) }
     {
         match instr {
-            Instr::Edit(client, op) => self.edit(*client, op),
-            Instr::Take(client) => self.take(*client),
-            Instr::Deliver(client) => self.deliver(*client),
-            Instr::Acknowledge(client) => self.acknowledge(*client),
+            Instr::Edit(client, op) => {
+                self.edit::<false>(*client, op)?;
+                Ok(())
+            }
+            Instr::Take(client) => {
+                self.take::<false>(*client)?;
+                Ok(())
+            }
+            Instr::Deliver(client) => {
+                self.deliver::<false>(*client)?;
+                Ok(())
+            }
+            Instr::Acknowledge(client) => {
+                self.acknowledge::<false>(*client)?;
+                Ok(())
+            }
             Instr::Join(client) => self.join(*client),
             Instr::Read(client) => self.keep_read(*client, shown),
             Instr::ReadServer => self.keep_read_server(shown),
@@ -82,7 +95,7 @@ impl Machine {
 
 /// Runs the schedule from its opening up to the first instruction that is not performed: one that is refused, one that finds no
 /// memory, or a read whose list cannot be kept. For want of memory at the opening there is no run.
-pub fn run(alloc: Global, schedule: &Schedule) -> Result<Run, AllocError>
+pub fn run(alloc: Global, schedule: &Schedule) -> Result<Replay, AllocError>
     ensures { IfOk result (λ run. IsRun schedule.now run) }
 {
     let clients = schedule.clients();
@@ -93,14 +106,14 @@ pub fn run(alloc: Global, schedule: &Schedule) -> Result<Run, AllocError>
             unreachable!()
         };
         if let Err(refusal) = machine.perform(instr, &mut shown) {
-            return Ok(Run {
+            return Ok(Replay {
                 machine,
                 shown,
                 stopped: Some((place, refusal)),
             });
         }
     }
-    Ok(Run {
+    Ok(Replay {
         machine,
         shown,
         stopped: None,

@@ -1,13 +1,18 @@
-// A client's place in the machine.
-ghost use Rattle.std.specs.Prelude.{◌≡◌, ◌+◌, ◌≤◌, ◌<◌, ◌↔◌, ◌++◌, drop, length, map, replicate, slice_get, OnOk, OnErr, IfOk, IsTrue, None, Some};
+//! A client's place in the machine, and the rows there. A row gives what takes it back where it is `KEPT` (kept.rt). Each has one caller, and is
+//! put in its place there, so that a plain row pays nothing for a record that it does not give.
+
+ghost use Rattle.std.specs.Prelude.{◌≡◌, ◌+◌, ◌≤◌, ◌<◌, ◌↔◌, ◌++◌, drop, length, map, replicate, slice_get, OnOk, OnErr, IfOk, IsSomeAnd, IsTrue, None, Some};
 ghost use Rattle.std.specs.Option.{option_copied, option_map};
 ghost use Rattle.ot_text.specs.Operation.{news};
 ghost use Rattle.ot_client.specs.State as state;
 ghost use Rattle.ot_client.specs.Client.{message_of, state_of};
-ghost use Rattle.ot_server.specs.History.{fault_of, received};
+ghost use Rattle.ot_server.specs.History.{fault_of, received, IsUndo};
 ghost use Rattle.ot_model.specs.Table.{absent, acknowledged, delivered, edited, present_with};
-ghost use Rattle.ot_machine.specs.Seats.{client_of, phase_of, revision_of, view_of, AreSettled, idle, sent, joined_at, under_way, Follows, MayPush, MaySend, HasRoom, HaveRoomFrom, MayDeliverState, MaySeatAcknowledge, MaySeatDeliver, IsMemory, IsReceivable, IsSettled, IsWaiting, emptied, outstanding_at, outstanding_of, received_from};
+ghost use Rattle.ot_machine.specs.Seats.{client_of, phase_of, revision_of, view_of, AreSettled, idle, queued, joined_at, under_way, Follows, MayPush, MaySend, HasRoom, HaveRoomFrom, MayDeliverState, MaySeatAcknowledge, MaySeatDeliver, IsMemory, IsReceivable, IsSettled, IsWaiting, emptied, outstanding_at, outstanding_of, received_from};
+ghost use Rattle.ot_machine.specs.Undoing.{message_at, Restores};
+ghost use Rattle.ot_isa.specs.declared.tagging.TheConstants.{INSERTED_LIMIT};
 
+use crate::kept::{self, Before};
 use ot_client::{Client, Sent, Synchronized};
 use ot_isa::Tagged;
 use ot_links::{Downlink, Uplink};
@@ -81,7 +86,7 @@ pub(crate) fn add_vacant(alloc: Global, seats: &mut Vec<Seat>, count: u16) -> Re
 }
 
 // The client after the user's edit, and what it sends.
-pub(crate) fn edited_client(
+fn edited_client(
     client: &Client<Tagged>,
     op: &TextOp<Tagged>,
 ) -> Result<(Client<Tagged>, Option<Sent<Tagged>>), AllocError>
@@ -117,24 +122,30 @@ pub(crate) fn put_up(up: &mut Uplink<Sent<Tagged>>, sent: Option<Sent<Tagged>>)
 }
 
 // The user's edit at a client that has joined.
-pub(crate) fn edit(seat: &mut Seat, op: &TextOp<Tagged>) -> Result<(), AllocError>
+#[inline(always)]
+pub(crate) fn edit<const KEPT: bool>(
+    seat: &mut Seat,
+    op: &TextOp<Tagged>,
+) -> Result<Option<Before>, AllocError>
     requires follows { Follows (phase_of seat.old.client) op.now.base }
     requires sends { MaySend (phase_of seat.old.client) seat.old.up }
     requires base { op.now.base ≡ length seat.old.list }
-    requires count { seat.old.count + length (news op.now.image) ≤ 15000 }
+    requires count { seat.old.count + length (news op.now.image) ≤ INSERTED_LIMIT }
     ensures ok { OnOk result (client_of seat.new ≡ edited (client_of seat.old) op.now) }
     ensures down { seat.new.down ≡ seat.old.down }
     ensures err { OnErr result (seat.new ≡ seat.old) }
+    ensures kept { IsTrue KEPT → IfOk result (λ kept. IsSomeAnd kept (λ before. Restores before (client_of seat.old) (client_of seat.new))) }
 {
     let Some(client) = &seat.client else {
         unreachable!()
     };
-    let (client, sent) = edited_client(client, op)?;
+    let (next, sent) = edited_client(client, op)?;
+    let inverse = kept::inverse_if::<KEPT>(op, &seat.list)?;
     seat.list.change(op)?;
-    seat.client = Some(client);
+    let before = kept::exchange::<KEPT>(seat, next, inverse, false);
     put_up(&mut seat.up, sent);
     seat.count += op.inserted() as u32;
-    Ok(())
+    Ok(before)
 }
 
 // Memory for one more message to the client.
@@ -148,7 +159,7 @@ fn reserve(seat: &mut Seat) -> Result<(), AllocError>
 // One more message to the client, if it has joined.
 fn send(seat: &mut Seat, number: u32)
     requires { HasRoom seat.old }
-    ensures { view_of seat.new ≡ sent number (view_of seat.old) }
+    ensures { view_of seat.new ≡ queued number (view_of seat.old) }
 {
     if seat.client.is_some() {
         seat.down.push(number);
@@ -169,7 +180,7 @@ pub(crate) fn reserve_all(seats: &mut Vec<Seat>) -> Result<(), AllocError>
 // One more message to each client that has joined.
 pub(crate) fn send_all(seats: &mut Vec<Seat>, number: u32)
     requires { HaveRoomFrom 0 seats.old.items }
-    ensures { map view_of seats.new.items ≡ map (sent number) (map view_of seats.old.items) }
+    ensures { map view_of seats.new.items ≡ map (queued number) (map view_of seats.old.items) }
 {
     for place in 0..seats.len() {
         send(&mut seats[place], number);
@@ -210,55 +221,40 @@ pub(crate) fn are_settled(seats: &[Seat]) -> bool
     true
 }
 
-// The client after the server's operation, and what it applies.
-pub(crate) fn after(
-    client: Client<Tagged>,
-    op: TextOp<Tagged>,
-) -> Result<(Client<Tagged>, TextOp<Tagged>), AllocError>
-    requires { MayDeliverState (state_of client) op }
-    ensures state { IfOk result (λ given. state_of given.0 ≡ state.delivered (state_of client) op) }
-    ensures applied { IfOk result (λ given. given.1 ≡ state.carried (state_of client).phase op) }
-{
-    match client {
-        Client::Synchronized(client) => {
-            let (client, op) = client.deliver(op);
-            Ok((Client::Synchronized(client), op))
-        }
-        Client::AwaitingConfirm(client) => match client.deliver(op) {
-            Ok((client, op)) => Ok((Client::AwaitingConfirm(client), op)),
-            Err((_client, _op)) => Err(AllocError),
-        },
-        Client::AwaitingWithBuffer(client) => match client.deliver(op) {
-            Ok((client, op)) => Ok((Client::AwaitingWithBuffer(client), op)),
-            Err((_client, _op)) => Err(AllocError),
-        },
-    }
-}
-
 // Takes the first message, another's operation, to the client.
-pub(crate) fn deliver(seat: &mut Seat, op: &TextOp<Tagged>) -> Result<(), AllocError>
+#[inline(always)]
+pub(crate) fn deliver<const KEPT: bool>(
+    seat: &mut Seat,
+    op: &TextOp<Tagged>,
+) -> Result<Option<Before>, AllocError>
     requires may { MaySeatDeliver seat.old op.now }
     ensures ok { OnOk result (client_of seat.new ≡ delivered (client_of seat.old) op.now) }
     ensures down { OnOk result (seat.new.down.items ≡ drop 1 seat.old.down.items) }
     ensures err { OnErr result (seat.new ≡ seat.old) }
+    ensures kept { IsTrue KEPT → IfOk result (λ kept. IsSomeAnd kept (λ before. Restores before (client_of seat.old) (client_of seat.new))) }
 {
     let Some(client) = &seat.client else {
-        return Err(AllocError);
+        unreachable!()
     };
-    let (client, op) = after(client.copy()?, op.copy()?)?;
-    seat.list.change(&op)?;
-    seat.client = Some(client);
+    let (next, carried) = client.deliver(op)?;
+    let applied = carried.as_ref().unwrap_or(op);
+    let inverse = kept::inverse_if::<KEPT>(applied, &seat.list)?;
+    seat.list.change(applied)?;
+    let before = kept::exchange::<KEPT>(seat, next, inverse, true);
     let _ = seat.down.pop();
-    Ok(())
+    Ok(before)
 }
 
 // Takes the first message, the acknowledgement of the client's own operation.
-pub(crate) fn acknowledge(seat: &mut Seat) -> Result<(), AllocError>
+#[inline(always)]
+pub(crate) fn acknowledge<const KEPT: bool>(seat: &mut Seat) -> Result<Option<Before>, AllocError>
     requires may { MaySeatAcknowledge seat.old }
     ensures ok { OnOk result (acknowledged (client_of seat.old) (phase_of seat.old.client) ≡ Some (client_of seat.new)) }
     ensures down { OnOk result (seat.new.down.items ≡ drop 1 seat.old.down.items) }
     ensures err { OnErr result (seat.new ≡ seat.old) }
+    ensures kept { IsTrue KEPT → IfOk result (λ kept. IsSomeAnd kept (λ before. Restores before (client_of seat.old) (client_of seat.new))) }
 {
+    let before = kept::copied::<KEPT>(seat)?;
     match seat.client.take() {
         Some(Client::AwaitingConfirm(client)) => {
             seat.client = Some(Client::Synchronized(client.acknowledge()));
@@ -276,7 +272,7 @@ pub(crate) fn acknowledge(seat: &mut Seat) -> Result<(), AllocError>
         _ => unreachable!(),
     }
     let _ = seat.down.pop();
-    Ok(())
+    Ok(before)
 }
 
 // Gives the client, which has not joined, the server's document and revision.
@@ -291,7 +287,7 @@ pub(crate) fn join(seat: &mut Seat, revision: u32, document: &Doc<Tagged>) -> Re
 }
 
 // The server's fault where it can only want memory.
-pub(crate) fn only_memory(fault: ServerFault) -> AllocError
+fn only_memory(fault: ServerFault) -> AllocError
     requires { IsMemory fault }
 {
     match fault {
@@ -303,56 +299,68 @@ pub(crate) fn only_memory(fault: ServerFault) -> AllocError
     }
 }
 
-// The server receives the operation, which it does not refuse.
-fn receive(
+// The server receives the operation, which it does not refuse. Gives the inverse of what it appended, where that is kept.
+fn receive<const KEPT: bool>(
     server: &mut Server<Tagged>,
     client: u16,
     revision: u32,
     op: &TextOp<Tagged>,
-) -> Result<(), AllocError>
+) -> Result<Option<TextOp<Tagged>>, AllocError>
     requires { fault_of server.old revision op.now ≡ None }
     ensures ok { OnOk result (server.new ≡ received server.old client revision op.now) }
     ensures err { OnErr result (server.new ≡ server.old) }
+    ensures undo { IsTrue KEPT → IfOk result (λ kept. IsSomeAnd kept (λ undo. IsUndo server.old server.new undo)) }
 {
-    match server.receive(client, revision, op) {
-        Ok(()) => Ok(()),
+    if !KEPT {
+        return match server.receive(client, revision, op) {
+            Ok(()) => Ok(None),
+            Err(fault) => Err(only_memory(fault)),
+        };
+    }
+    match server.receive_kept(client, revision, op) {
+        Ok(undo) => Ok(Some(undo)),
         Err(fault) => Err(only_memory(fault)),
     }
 }
 
 // The server receives what is under way from the client. The outstanding operation is the message carried over what the client has
 // seen of the log, so only the entries that it has not seen are left to carry it over.
-fn receive_outstanding(
+fn receive_outstanding<const KEPT: bool>(
     server: &mut Server<Tagged>,
     seat: &Seat,
     client: u16,
-) -> Result<(), AllocError>
+) -> Result<Option<TextOp<Tagged>>, AllocError>
     requires { IsReceivable server.old (outstanding_of (revision_of seat.now.client) (phase_of seat.now.client)) }
     ensures ok { OnOk result (server.new ≡ received_from server.old client (outstanding_of (revision_of seat.now.client) (phase_of seat.now.client))) }
     ensures err { OnErr result (server.new ≡ server.old) }
+    ensures undo { IsTrue KEPT → IfOk result (λ kept. IsSomeAnd kept (λ undo. IsUndo server.old server.new undo)) }
 {
     match &seat.client {
         Some(Client::AwaitingConfirm(sender)) => {
-            receive(server, client, sender.revision(), sender.outstanding())
+            receive::<KEPT>(server, client, sender.revision(), sender.outstanding())
         }
         Some(Client::AwaitingWithBuffer(sender)) => {
-            receive(server, client, sender.revision(), sender.outstanding())
+            receive::<KEPT>(server, client, sender.revision(), sender.outstanding())
         }
         _ => unreachable!(),
     }
 }
 
-// What is under way from this client goes to the server, and word of it to all.
-pub(crate) fn carry(
+// What is under way from this client goes to the server, and word of it to all. Gives the message, and the inverse of what the server
+// appended, where that is kept.
+pub(crate) fn take_in<const KEPT: bool>(
     server: &mut Server<Tagged>,
     seats: &mut Vec<Seat>,
     client: u16,
-) -> Result<(), AllocError>
+) -> Result<(Sent<Tagged>, Option<TextOp<Tagged>>), AllocError>
     requires accepts { IsReceivable server.old (outstanding_at (map view_of seats.old.items) client) }
+    requires sends { message_at (map view_of seats.old.items) client ≡ None → ⊥ }
     ensures ok { OnOk result (server.new ≡ received_from server.old client (outstanding_at (map view_of seats.old.items) client)) }
-    ensures views { OnOk result (map view_of seats.new.items ≡ emptied client (map (sent (length server.old.log)) (map view_of seats.old.items))) }
+    ensures views { OnOk result (map view_of seats.new.items ≡ emptied client (map (queued (length server.old.log)) (map view_of seats.old.items))) }
     ensures server { OnErr result (server.new ≡ server.old) }
     ensures seats { OnErr result (map view_of seats.new.items ≡ map view_of seats.old.items) }
+    ensures message { IfOk result (λ given. message_at (map view_of seats.old.items) client ≡ Some (message_of given.0)) }
+    ensures undo { IsTrue KEPT → IfOk result (λ given. IsSomeAnd given.1 (λ undo. IsUndo server.old server.new undo)) }
 {
     let place = client as usize;
     let number = server.revision() as u32;
@@ -360,8 +368,10 @@ pub(crate) fn carry(
     if place >= seats.len() {
         unreachable!();
     }
-    receive_outstanding(server, &seats[place], client)?;
+    let inverse = receive_outstanding::<KEPT>(server, &seats[place], client)?;
     send_all(seats, number);
-    let _ = seats[place].up.pop();
-    Ok(())
+    let Some(message) = seats[place].up.pop() else {
+        unreachable!()
+    };
+    Ok((message, inverse))
 }

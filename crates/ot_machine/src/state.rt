@@ -37,7 +37,7 @@ pub struct ClientView {
 
 /// Clients and server as they stand.
 #[derive(Drop)]
-pub struct State {
+pub struct Snapshot {
     /// By client number.
     pub clients: Vec<ClientView>,
     /// How many entries the log has.

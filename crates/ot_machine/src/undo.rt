@@ -1,6 +1,9 @@
-// Taking steps back.
-ghost use Rattle.std.specs.Prelude.{◌≡◌, IfErr, OnErr, OnOk};
-ghost use Rattle.ot_model.specs.Table.{State};
+//! Steps with what takes them back, and taking them back.
+
+ghost use Rattle.std.specs.Prelude.{◌≡◌, IfErr, IfOk, None, OnErr, OnOk, Some};
+ghost use Rattle.std.specs.Option.{option_map};
+ghost use Rattle.ot_model.specs.Table.{step, Performed, State};
+ghost use Rattle.ot_machine.specs.Answers.{IsRefusal};
 ghost use Rattle.ot_machine.specs.declared.undo.Record.TheVariants.{ClientStep, Joined, Read, Taken};
 ghost use Rattle.ot_machine.specs.Undoing.{IsRecord, IsUndoable, IsUndoableRecord, Undoes};
 
@@ -8,7 +11,8 @@ use crate::kept::{self, Before};
 use crate::machine::Machine;
 use crate::seat;
 use ot_client::Sent;
-use ot_isa::Tagged;
+use ot_isa::{Instr, Tagged};
+use ot_model::{Refusal, Shown};
 use ot_text::TextOp;
 use std::alloc::AllocError;
 
@@ -28,15 +32,82 @@ pub(crate) enum Record {
     Read,
 }
 
-impl Undo {
-    fn of(step: Record) -> Undo
-        ensures { result.step ≡ step }
+impl Record {
+    // Of a step at a client, where what was before it is kept.
+    #[inline(always)]
+    pub(crate) fn of_client(client: u16, before: Option<Before>) -> Option<Record>
+        ensures { result ≡ option_map (ClientStep client) before }
     {
+        match before {
+            Some(before) => Some(Record::ClientStep(client, before)),
+            None => None,
+        }
+    }
+
+    // Of a Take, where the inverse of what was appended is kept.
+    #[inline(always)]
+    pub(crate) fn of_take(
+        client: u16,
+        message: Sent<Tagged>,
+        inverse: Option<TextOp<Tagged>>,
+    ) -> Option<Record>
+        ensures { result ≡ option_map (Taken client message) inverse }
+    {
+        match inverse {
+            Some(inverse) => Some(Record::Taken(client, message, inverse)),
+            None => None,
+        }
+    }
+}
+
+impl Undo {
+    // Of a step of which a record was kept.
+    fn kept(made: Option<Record>) -> Undo
+        requires { made ≡ None → ⊥ }
+        ensures { made ≡ Some result.step }
+    {
+        let Some(step) = made else { unreachable!() };
         Undo { step }
+    }
+
+    fn of(made: Record) -> Undo
+        ensures { result.step ≡ made }
+    {
+        Undo { step: made }
     }
 }
 
 impl Machine {
+    /// Performs the instruction as `step` does, and gives what takes it back too: for `undo`, on the machine as it is then.
+    /// The refusals are those of `step`; what is kept is made before anything is changed, so that after `Memory` too nothing has changed.
+    pub fn step_kept(&mut self, instr: &Instr) -> Result<(Option<Shown>, Undo), Refusal>
+        ensures done { IfOk result (λ given. step self.old instr.now ≡ Performed self.new given.0) }
+        ensures refused { IfErr result (λ r. IsRefusal (step self.old instr.now) r) }
+        ensures unchanged { OnErr result (self.new ≡ self.old) }
+        ensures undo { IfOk result (λ given. Undoes self.old self.new given.1) }
+    {
+        match instr {
+            Instr::Edit(client, op) => Ok((None, Undo::kept(self.edit::<true>(*client, op)?))),
+            Instr::Take(client) => Ok((None, Undo::kept(self.take::<true>(*client)?))),
+            Instr::Deliver(client) => Ok((None, Undo::kept(self.deliver::<true>(*client)?))),
+            Instr::Acknowledge(client) => {
+                Ok((None, Undo::kept(self.acknowledge::<true>(*client)?)))
+            }
+            Instr::Join(client) => {
+                self.join(*client)?;
+                Ok((None, Undo::of(Record::Joined(*client))))
+            }
+            Instr::Read(client) => {
+                let shown = self.read(*client)?;
+                Ok((Some(shown), Undo::of(Record::Read)))
+            }
+            Instr::ReadServer => {
+                let shown = self.read_server()?;
+                Ok((Some(shown), Undo::of(Record::Read)))
+            }
+        }
+    }
+
     fn undo_client(&mut self, client: u16, before: Before) -> Result<(), (AllocError, Before)>
         requires { IsUndoableRecord self.old (ClientStep client before) }
         ensures ok { (earlier : State) → IsRecord earlier self.old (ClientStep client before) → OnOk result (self.new ≡ earlier) }

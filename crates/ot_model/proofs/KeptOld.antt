@@ -5,7 +5,7 @@ use Rattle.std.specs.Prelude.{◌⊎◌}
 use Rattle.std.specs.List.{filter_map, slice_get, cons_option}
 use Rattle.ot_text.specs.Operation.{Item, Old, New, Operation, RisesFrom, IsOperation, apply, invert, value_in, place_from, place_of}
 use Rattle.ot_algebra.specs.Compose.{compose}
-use Rattle.ot_algebra.specs.Merge.{Merged, First, Second, Both, gap, kept, merge_at, merge_from, merge, unmarked, merged, first_after, second_after}
+use Rattle.ot_algebra.specs.Merge.{Merged, First, Second, Both, gap, kept_by_both, merge_at, merge_from, merge, unmarked, merged, first_after, second_after}
 use Rattle.ot_algebra.proofs.ComposeLaws.{apply-compose}
 use Rattle.ot_algebra.proofs.TransformLaws.{compose-first_after}
 
@@ -50,7 +50,7 @@ old_left i (Both j p q ∷ xs) ys (inr there) = inr (old_left i xs ys there)
 
 merged_here : {A : Type 0} (a b : List (Item A)) (i p q : ℕ) → place_of a i ≡ Some p → place_of b i ≡ Some q → HasOld i (map unmarked (merge_at a b i))
 merged_here a b i p q e f =
-    old_right i (gap First a i ++ gap Second b i) (kept i (place_of a i) (place_of b i)) (rw (e, f) (inl refl))
+    old_right i (gap First a i ++ gap Second b i) (kept_by_both i (place_of a i) (place_of b i)) (rw (e, f) (inl refl))
 
 merged_old : {A : Type 0} (a b : List (Item A)) (k n i p q : ℕ) → k ≤ i → i ≤ k + n → place_of a i ≡ Some p → place_of b i ≡ Some q → HasOld i (map unmarked (merge_from a b k n))
 merged_old a b k zero i p q low high e f = let same : i ≡ k = omega arith in subst (λ (m : ℕ). HasOld i (map unmarked (merge_at a b m))) same (merged_here a b i p q e f)

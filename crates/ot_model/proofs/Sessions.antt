@@ -12,7 +12,7 @@ use Rattle.ot_model.specs.declared.shown.Shown.{Shown}
 use Rattle.ot_model.specs.Operation.{Operation}
 use Rattle.ot_model.specs.Table.{taken, is_joined, Client, State, Place, Entry, Message, Head, head_for, downlink, Outcome, Performed, Refused, NoRow, edited, delivered, acknowledged, joined, tag_operation, with_row, with_shown, step, run}
 use Rattle.ot_model.specs.Sound.{IsSound, AreInstrs}
-use Rattle.ot_model.specs.Part.{Part, PartOutcome, PartPerformed, PartRefused, PartNoRow, PartPlace, part_row, run_part, unsent, Leads, LeadsShowing}
+use Rattle.ot_model.specs.Part.{Part, PartOutcome, PartPerformed, PartRefused, PartNoRow, PartPlace, part_row, run_part, silent, Leads, LeadsShowing}
 use Rattle.ot_model.specs.Session.{IsPartIn, Session, IsAllowed, Begins, BeginsOver, or_else, installed, install, IsOthers, IsWaiting, RunsShowing, RunsTo}
 use Rattle.ot_model.proofs.Algebra.{laws}
 use Rattle.ot_model.proofs.States.{slice_get-set_same, slice_get-set_other}
@@ -31,7 +31,7 @@ pub begins_over : (p : Part) (s : State) (x : Client) (begins : Begins p s) → 
 begins_over p s x begins none at =
     let y = begins.client in
     let found : y ≡ x = same_Some y x (sym begins.at ∙ at) in
-    let same : unsent x ≡ unsent p.client = ap unsent (sym found) ∙ begins.same in
+    let same : silent x ≡ silent p.client = ap silent (sym found) ∙ begins.same in
     let revision : x.revision ≡ p.client.revision = ap (λ (z : Client). z.revision) same in
     let phase : x.phase ≡ p.client.phase = ap (λ (z : Client). z.phase) same in
     let now : x ≡ installed p.client x.message = ap (λ (z : Client). with_message z x.message) same ∙ ap (λ (w : Option Message). with_message p.client (or_else w x.message)) (sym none) in
@@ -50,7 +50,7 @@ part_begins s p part =
       client = part.client;
       at = part.at;
       joined = part.joined;
-      same = ap (λ (w : Part). unsent w.client) (sym part.part_is);
+      same = ap (λ (w : Part). silent w.client) (sym part.part_is);
       rest = [];
       downlink_is = ap (λ (w : Part). w.incoming) (sym part.part_is) ∙ sym (append-nil p.incoming);
     }
@@ -104,7 +104,7 @@ longer c r log e incoming rest link = elim (cases_lt (length log) r) [
 ]
 
 -- a client joined as it was, with its downlink as it was or longer
-begins_as : (p : Part) (s t : State) (begins : Begins p s) (y : Client) (rest : List Head) → slice_get t.clients p.number ≡ Some y → unsent y ≡ unsent begins.client → map (head_for p.number) (drop begins.client.revision t.log) ≡ p.incoming ++ rest → Begins p t
+begins_as : (p : Part) (s t : State) (begins : Begins p s) (y : Client) (rest : List Head) → slice_get t.clients p.number ≡ Some y → silent y ≡ silent begins.client → map (head_for p.number) (drop begins.client.revision t.log) ≡ p.incoming ++ rest → Begins p t
 begins_as p s t begins y rest at same link =
     let revision : y.revision ≡ begins.client.revision = ap (λ (z : Client). z.revision) same in
     let on : is_joined y.phase ≡ true = ap (λ (z : Client). is_joined z.phase) same ∙ begins.joined in
@@ -133,12 +133,12 @@ module _ (p : Part) (s : State) (begins : Begins p s) where
   -- a take, of whichever client
   take_waits : (d : ℕ) (x : Client) (op : Operation Tagged) → slice_get s.clients d ≡ Some x → Begins p (taken s d x op)
   take_waits d x op at =
-      let y : Client = unsent x in
+      let y : Client = silent x in
       let link = longer p.number begins.client.revision s.log (record { maker = d; op = op }) p.incoming begins.rest line in
       elim (cases_eq d p.number) [
         | inl own ↦
             let is : x ≡ begins.client = same_Some x begins.client (sym at ∙ ap (λ (k : ℕ). slice_get s.clients k) own ∙ begins.at) in
-            begins_as p s (taken s d x op) begins y link.0 (ap (λ (k : ℕ). slice_get (set s.clients d y) k) (sym own) ∙ slice_get-set_same s.clients d x y at) (ap unsent is) link.1
+            begins_as p s (taken s d x op) begins y link.0 (ap (λ (k : ℕ). slice_get (set s.clients d y) k) (sym own) ∙ slice_get-set_same s.clients d x y at) (ap silent is) link.1
         | inr other ↦ begins_as p s (taken s d x op) begins begins.client link.0 (slice_get-set_other s.clients d p.number y (λ e. other (sym e)) ∙ begins.at) refl link.1
       ]
 

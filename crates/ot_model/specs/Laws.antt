@@ -10,10 +10,13 @@ use Rattle.ot_model.specs.Table.{Phase, by_rule, is_joined, Client, State, Place
 use Rattle.ot_model.specs.Sound.{IsSound, IsInstr, AreInstrs, IsOutcomeSound}
 use Rattle.ot_model.specs.Limits.{IsWithinLimits}
 use Rattle.ot_model.specs.Runs.{IsRunnable, done, place_at}
+use Rattle.ot_isa.specs.declared.builder.TheConstants.{CLIENT_LIMIT, START_LIMIT}
+use Rattle.ot_client.specs.declared.TheConstants.{REVISION_LIMIT}
+use Rattle.ot_model.specs.declared.limits.TheConstants.{STEP_LIMIT}
 
 -- each opening within the limits is sound
 abbrev pub OpeningSound : Type 0
-OpeningSound = (clients present : ℕ) (text : List ℕ) → clients ≤ 64 → present ≤ clients → length text ≤ 40000 → IsSound (opening clients present text)
+OpeningSound = (clients present : ℕ) (text : List ℕ) → clients ≤ CLIENT_LIMIT → present ≤ clients → length text ≤ START_LIMIT → IsSound (opening clients present text)
 
 -- each row leads from a sound state to a sound one, and an acknowledgement in Synchronized never comes
 abbrev pub StepSound : Type 0
@@ -23,7 +26,7 @@ StepSound = (s : State) (i : Instr) → IsSound s → IsInstr i → IsOutcomeSou
 abbrev pub RunSound : Type 0
 RunSound =
     (clients present : ℕ) (text : List ℕ) (is : List Instr) (q : Place)
-    → clients ≤ 64 → present ≤ clients → length text ≤ 40000 → AreInstrs is
+    → clients ≤ CLIENT_LIMIT → present ≤ clients → length text ≤ START_LIMIT → AreInstrs is
     → run is (begin clients present text) ≡ Some q → IsSound q.state
 
 -- where a sound state is quiet, each joined client's list is the server's
@@ -36,7 +39,7 @@ QuietSame =
 abbrev pub Convergence : Type 0
 Convergence =
     (clients present : ℕ) (text : List ℕ) (is : List Instr) (q : Place)
-    → clients ≤ 64 → present ≤ clients → length text ≤ 40000 → AreInstrs is
+    → clients ≤ CLIENT_LIMIT → present ≤ clients → length text ≤ START_LIMIT → AreInstrs is
     → run is (begin clients present text) ≡ Some q → IsQuiet q.state
     → (c : ℕ) (x : Client) → slice_get q.state.clients c ≡ Some x → is_joined x.phase ≡ true → x.list ≡ q.state.server
 
@@ -48,7 +51,7 @@ history_of s = record { document = s.server; log = s.log }
 abbrev pub ServerAccepts : Type 0
 ServerAccepts =
     (s : State) (c : ℕ) (x : Client) (m : Message)
-    → IsSound s → s.steps < 1000000 → slice_get s.clients c ≡ Some x → x.message ≡ Some m
+    → IsSound s → s.steps < STEP_LIMIT → slice_get s.clients c ≡ Some x → x.message ≡ Some m
     → fault_of (history_of s) m.revision m.op ≡ None
 
 -- no length of a sound state passes 1,000,000
@@ -61,7 +64,7 @@ MayDeliver phase h = by_rule (Unit {0}) (λ p. client.MayDeliver p h) phase
 
 -- what an entry of another asks of the client that it is delivered to
 pub record IsDeliverable (x : Client) (h : Operation Tagged) : Type 0 where
-  pub revision : x.revision < 1000000
+  pub revision : x.revision < REVISION_LIMIT
   pub operations : MayDeliver x.phase h
   pub base : (carried x.phase h).base ≡ length x.list
 

@@ -6,13 +6,15 @@ use Rattle.ot_model.specs.declared.shown.Refusal.TheVariants.{LinkEmpty}
 use Rattle.ot_model.specs.Table.{State, Place, Performed, Refused, step, begin, run}
 use Rattle.ot_model.specs.Sound.{IsSound, AreInstrs}
 use Rattle.ot_model.specs.Orders.{IsIndependent, AreSameOrders, AreSameShown, awaits}
+use Rattle.ot_isa.specs.declared.builder.TheConstants.{CLIENT_LIMIT, START_LIMIT}
+use Rattle.ot_model.specs.declared.limits.TheConstants.{STEP_LIMIT}
 
 -- of two independent instructions, each performed in a sound state, either can come first, and they lead to the same state and
 -- show the same lists
 abbrev pub Commute : Type 0
 Commute =
     (s : State) (i j : Instr) (t u : State) (a b : Option Shown)
-    → IsSound s → IsIndependent i j → suc s.steps < 1000000
+    → IsSound s → IsIndependent i j → suc s.steps < STEP_LIMIT
     → step s i ≡ Performed t a → step s j ≡ Performed u b
     → (v : State) × (step t j ≡ Performed v b) × (step u i ≡ Performed v a)
 
@@ -29,7 +31,7 @@ Exchange =
 abbrev pub AnyOrder : Type 0
 AnyOrder =
     (clients present : ℕ) (text : List ℕ) (is js : List Instr) (q r : Place)
-    → clients ≤ 64 → present ≤ clients → length text ≤ 40000 → AreInstrs is → AreSameOrders is js
+    → clients ≤ CLIENT_LIMIT → present ≤ clients → length text ≤ START_LIMIT → AreInstrs is → AreSameOrders is js
     → run is (begin clients present text) ≡ Some q → run js (begin clients present text) ≡ Some r
     → (q.state ≡ r.state) × AreSameShown q.shown r.shown
 
@@ -50,7 +52,7 @@ pub record IsTooEarly (is : List Instr) (p : Place) : Type 0 where
 abbrev pub AnyOrderRuns : Type 0
 AnyOrderRuns =
     (clients present : ℕ) (text : List ℕ) (is js : List Instr) (q : Place)
-    → clients ≤ 64 → present ≤ clients → length text ≤ 40000 → AreInstrs is → AreSameOrders is js
+    → clients ≤ CLIENT_LIMIT → present ≤ clients → length text ≤ START_LIMIT → AreInstrs is → AreSameOrders is js
     → run is (begin clients present text) ≡ Some q
     → ((r : Place) × (run js (begin clients present text) ≡ Some r) × (q.state ≡ r.state) × AreSameShown q.shown r.shown)
     ⊎ IsTooEarly js (begin clients present text)

@@ -9,6 +9,7 @@ use Rattle.ot_model.specs.declared.shown.Reader.TheVariants as reader
 use Rattle.ot_model.specs.declared.shown.Shown.{Shown}
 use Rattle.ot_model.specs.Operation.{Operation, inserted}
 use Rattle.ot_model.specs.Table.{Client, State, Head, Ack, Op, downlink, edited, delivered, acknowledged, tag_operation, with_shown}
+use Rattle.ot_isa.specs.declared.tagging.TheConstants.{INSERTED_LIMIT}
 
 -- a client by its number, the messages that are left of its copy of the downlink, and as the client's message the one that it sent
 -- here, if it sent one
@@ -18,12 +19,12 @@ pub record Part : Type 0 where
   pub incoming : List Head
 
 -- a client with no message of its own
-abbrev pub unsent : Client → Client
-unsent x = record { revision = x.revision; phase = x.phase; list = x.list; count = x.count; message = None }
+abbrev pub silent : Client → Client
+silent x = record { revision = x.revision; phase = x.phase; list = x.list; count = x.count; message = None }
 
 -- client c as it is in the state, with its whole downlink and nothing sent
 abbrev pub part_of : State → ℕ → Client → Part
-part_of s c x = record { number = c; client = unsent x; incoming = downlink s c x }
+part_of s c x = record { number = c; client = silent x; incoming = downlink s c x }
 
 -- what an instruction comes to on a part; PartNoRow is another's instruction, a Take, a Join, or an acknowledgement in Synchronized
 pub data PartOutcome : Type 0 where
@@ -39,7 +40,7 @@ with_part p x incoming = record { number = p.number; client = x; incoming = inco
 abbrev pub part_edit : Part → Operation ℕ → PartOutcome
 part_edit p op =
     if not (op.base == length p.client.list) then PartRefused BadBase
-    else if nat_lt 15000 (p.client.count + inserted op) then PartRefused ClientFull
+    else if nat_lt INSERTED_LIMIT (p.client.count + inserted op) then PartRefused ClientFull
     else PartPerformed (with_part p (edited p.client (tag_operation p.number p.client.count op)) p.incoming) None
 
 -- Deliver: the first message has to be another's operation

@@ -3,12 +3,13 @@ use Rattle.std.specs.Prelude.{ℕ, ◌≤◌, length, Option, take}
 use Rattle.ot_isa.specs.Program.{Program}
 use Rattle.ot_model.specs.Table.{State, Place, opening, begin, run, performed}
 use Rattle.ot_model.specs.Sound.{AreInstrs}
+use Rattle.ot_isa.specs.declared.builder.TheConstants.{CLIENT_LIMIT, START_LIMIT}
 
 -- what a run asks of a schedule; each value of the type of schedules has it
 pub record IsRunnable (s : Program) : Type 0 where
-  pub clients : s.clients ≤ 64
+  pub clients : s.clients ≤ CLIENT_LIMIT
   pub present : s.present ≤ s.clients
-  pub start : length s.start ≤ 40000
+  pub start : length s.start ≤ START_LIMIT
   pub instrs : AreInstrs s.instrs
 
 -- the state in which the schedule begins

@@ -5,7 +5,8 @@ use Rattle.ot_isa.specs.declared.instruction.Instr.TheVariants.{Edit, Take, Deli
 use Rattle.ot_model.specs.declared.shown.Shown.{Shown}
 use Rattle.ot_model.specs.Table.{is_joined, Client, State, Message, Head, head_for, downlink, Outcome, Performed, Refused, NoRow, run}
 use Rattle.ot_model.specs.Sound.{IsSound, AreInstrs}
-use Rattle.ot_model.specs.Part.{Part, part_of, unsent, Leads}
+use Rattle.ot_model.specs.Part.{Part, part_of, silent, Leads}
+use Rattle.ot_model.specs.declared.limits.TheConstants.{SESSION_LIMIT}
 
 -- the part is a joined client's, as it is in the state
 pub record IsPartIn (s : State) (p : Part) : Type 0 where
@@ -30,7 +31,7 @@ pub record Session : Type 0 where
 -- at most 64 steps, none refused, to the present part
 pub record IsAllowed (x : Session) : Type 0 where
   pub start : IsSoundPart x.start
-  pub few : length x.steps ≤ 64
+  pub few : length x.steps ≤ SESSION_LIMIT
   pub instrs : AreInstrs x.steps
   pub leads : Leads x.start x.steps x.now
 
@@ -39,7 +40,7 @@ pub record Begins (p : Part) (s : State) : Type 0 where
   pub client : Client
   pub at : slice_get s.clients p.number ≡ Some client
   pub joined : is_joined client.phase ≡ true
-  pub same : unsent client ≡ unsent p.client
+  pub same : silent client ≡ silent p.client
   pub rest : List Head
   pub downlink_is : downlink s p.number client ≡ p.incoming ++ rest
 

@@ -6,6 +6,7 @@ use Rattle.ot_model.specs.Table.{Client, State, Message, Head, step}
 use Rattle.ot_model.specs.Sound.{IsSound, AreInstrs}
 use Rattle.ot_model.specs.Part.{Part, PartPerformed, part_row, Leads, LeadsShowing}
 use Rattle.ot_model.specs.Session.{IsPartIn, Session, IsAllowed, Begins, BeginsOver, IsOthers, IsWaiting, RunsShowing, RunsTo, install}
+use Rattle.ot_model.specs.declared.limits.TheConstants.{STEP_LIMIT}
 
 -- the table performs a session's steps as one block at any state that its start begins; the run shows what the session showed, and
 -- leaves the session's client in place of the one that was there
@@ -13,7 +14,7 @@ abbrev pub SessionBlock : Type 0
 SessionBlock =
     (p q : Part) (steps : List Instr) (shown : List Shown) (s : State) (x : Client)
     → Begins p s → p.client.message ≡ None → slice_get s.clients p.number ≡ Some x
-    → length steps + s.steps ≤ 1000000 → LeadsShowing p steps q shown
+    → length steps + s.steps ≤ STEP_LIMIT → LeadsShowing p steps q shown
     → RunsShowing s steps (install s q x.message (length steps + s.steps)) shown
 
 -- a part goes on beginning its client, whatever others do, and whoever's message is taken
@@ -25,7 +26,7 @@ abbrev pub SessionSound : Type 0
 SessionSound =
     (p q : Part) (steps : List Instr) (s : State) (x : Client)
     → IsSound s → Begins p s → p.client.message ≡ None → slice_get s.clients p.number ≡ Some x
-    → length steps + s.steps ≤ 1000000 → AreInstrs steps → Leads p steps q
+    → length steps + s.steps ≤ STEP_LIMIT → AreInstrs steps → Leads p steps q
     → IsSound (install s q x.message (length steps + s.steps))
 
 -- a client's part begins its client where it was made

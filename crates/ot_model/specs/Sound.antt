@@ -7,6 +7,9 @@ use Rattle.ot_isa.specs.declared.elements.Tagged.{Tagged}
 use Rattle.ot_isa.specs.declared.instruction.Instr.{Instr}
 use Rattle.ot_isa.specs.declared.instruction.Instr.TheVariants.{Edit, Take, Deliver, Acknowledge, Join, Read, ReadServer}
 use Rattle.ot_server.specs.History.{transform_over}
+use Rattle.ot_isa.specs.declared.builder.TheConstants.{CLIENT_LIMIT, START_LIMIT}
+use Rattle.ot_isa.specs.declared.tagging.TheConstants.{INSERTED_LIMIT}
+use Rattle.ot_model.specs.declared.limits.TheConstants.{STEP_LIMIT}
 
 -- an operation that can be applied to the list
 pub record Fits {A : Type 0} (op : Operation A) (d : List A) : Type 0 where
@@ -127,8 +130,8 @@ pending x = length (news_pending x)
 -- the log leads from it to the server's list, and each client is where its revision and its phase say
 pub record IsSoundFrom (start : List Tagged) (text : List ℕ) (s : State) : Type 0 where
   pub tagged : start ≡ start_list text
-  pub short : length start ≤ 40000
-  pub few : length s.clients ≤ 64
+  pub short : length start ≤ START_LIMIT
+  pub few : length s.clients ≤ CLIENT_LIMIT
   pub fit : FitAll start s.log
   pub server : s.server ≡ apply_entries start s.log
   pub makers : All (λ h. h.maker < length s.clients) s.log
@@ -136,10 +139,10 @@ pub record IsSoundFrom (start : List Tagged) (text : List ℕ) (s : State) : Typ
   pub clients : (c : ℕ) (x : Client) → slice_get s.clients c ≡ Some x → IsClientSound c start (take x.revision s.log) (drop x.revision s.log) x
   pub absents : (c : ℕ) (x : Client) → slice_get s.clients c ≡ Some x → IsAbsentSound c s.log x
   pub own : (c : ℕ) (x : Client) → slice_get s.clients c ≡ Some x → IsOwn c s.log x
-  pub counts : (c : ℕ) (x : Client) → slice_get s.clients c ≡ Some x → x.count ≤ 15000
+  pub counts : (c : ℕ) (x : Client) → slice_get s.clients c ≡ Some x → x.count ≤ INSERTED_LIMIT
   pub room : inserted_in s.log + sum_by pending s.clients ≤ sum_by (λ x. x.count) s.clients
   pub logged : length s.log ≤ s.steps
-  pub steps : s.steps ≤ 1000000
+  pub steps : s.steps ≤ STEP_LIMIT
 
 -- the state is sound, from some start
 abbrev pub IsSound : State → Type 0

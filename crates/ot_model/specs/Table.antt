@@ -15,6 +15,8 @@ use Rattle.ot_model.specs.declared.shown.Reader.{Reader}
 use Rattle.ot_model.specs.declared.shown.Reader.TheVariants as reader
 use Rattle.ot_model.specs.declared.shown.Shown.{Shown}
 use Rattle.ot_model.specs.Operation.{Operation, apply, inserted}
+use Rattle.ot_isa.specs.declared.tagging.TheConstants.{INSERTED_LIMIT}
+use Rattle.ot_model.specs.declared.limits.TheConstants.{STEP_LIMIT}
 
 -- the start text, with the origin of no client
 abbrev pub start_list : List ℕ → List Tagged
@@ -138,7 +140,7 @@ edited x op =
 abbrev pub edit_row : State → ℕ → Client → Operation ℕ → Outcome
 edit_row s c x op =
     if not (op.base == length x.list) then Refused BadBase
-    else if nat_lt 15000 (x.count + inserted op) then Refused ClientFull
+    else if nat_lt INSERTED_LIMIT (x.count + inserted op) then Refused ClientFull
     else Performed (with_client s c (edited x (tag_operation c x.count op))) None
 
 -- Take (ot.js: `receiveOperation`): the message, carried over what the log has gained since, is applied and appended
@@ -233,7 +235,7 @@ row s ReadServer c x = shows s reader.Server s.server
 
 -- a machine performs at most 1,000,000 instructions
 abbrev pub unless_full : State → Outcome → Outcome
-unless_full s outcome = if nat_le 1000000 s.steps then Refused StepsFull else outcome
+unless_full s outcome = if nat_le STEP_LIMIT s.steps then Refused StepsFull else outcome
 
 -- the client has to be there
 abbrev pub at_client : State → Instr → ℕ → Option Client → Outcome

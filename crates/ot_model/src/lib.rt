@@ -46,6 +46,7 @@
 #![tactic(auto)]
 
 pub mod laws;
+mod limits;
 mod list_laws;
 mod order_laws;
 mod part_laws;
@@ -53,5 +54,6 @@ mod session_laws;
 mod shown;
 mod trace;
 
+pub use limits::{SESSION_LIMIT, STEP_LIMIT};
 pub use shown::{Reader, Refusal, Shown};
 pub use trace::Placed;

@@ -1,4 +1,5 @@
-// The laws of the lists that runs show, each as the contract of a function that does nothing.
+//! The laws of the lists that runs show, each as the contract of a function that does nothing.
+
 ghost use Rattle.ot_model.specs.TraceLaws.{ListsAgree, OneHasBoth, OneOrder, TraceShape, WeakList};
 
 /// The trace of every schedule is a trace: at most 65 replicas, no tag inserted twice (the start

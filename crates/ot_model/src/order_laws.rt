@@ -1,4 +1,5 @@
-// The laws of instructions in other orders, each as the contract of a function that does nothing.
+//! The laws of instructions in other orders, each as the contract of a function that does nothing.
+
 ghost use Rattle.ot_model.specs.OrderLaws.{AnyOrder, AnyOrderRuns, Commute, Exchange, SameInstructions, SameMultiset, TooEarlyStops};
 
 /// Of two independent instructions that are each performed in a sound state, either can come first:

@@ -1,4 +1,5 @@
-// The laws of sessions off the table, each as the contract of a function that does nothing.
+//! The laws of sessions off the table, each as the contract of a function that does nothing.
+
 ghost use Rattle.ot_model.specs.SessionLaws.{PartBegins, PresentSound, RunsGoOn, SendsOnce, SessionBlock, SessionSound, SessionWaits, SessionsGoOn};
 
 /// A client's part begins its client where it was made.

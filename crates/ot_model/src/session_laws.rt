@@ -1,4 +1,5 @@
-// The laws of all runs, each as the contract of a function that does nothing.
+//! The laws of all runs, each as the contract of a function that does nothing.
+
 ghost use Rattle.ot_model.specs.Laws.{Convergence, DeliveriesFit, LengthsFit, OpeningSound, QuietSame, RunSound, RunsReach, SchedulesRun, ServerAccepts, StepSound};
 
 /// Every opening is sound: of at most 64 clients, of which as many are present as one likes, and a

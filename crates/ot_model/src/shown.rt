@@ -1,4 +1,5 @@
-// What a step answers.
+//! What a step answers.
+
 ghost use Rattle.std.specs.Prelude.{◌≡◌};
 
 use ot_isa::Tagged;

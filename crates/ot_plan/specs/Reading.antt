@@ -9,6 +9,9 @@ use Rattle.ot_typing.specs.Typing.{Action, inserted}
 use Rattle.ot_plan.specs.declared.fault.PlanFault.{PlanFault}
 use Rattle.ot_plan.specs.declared.fault.PlanFault.TheVariants.{NotJson, BadShape, BadNumber, TooLong, TooMany}
 use Rattle.ot_plan.specs.Plan.{PlanView}
+use Rattle.ot_isa.specs.declared.builder.TheConstants.{CLIENT_LIMIT, START_LIMIT}
+use Rattle.ot_isa.specs.declared.tagging.TheConstants.{INSERTED_LIMIT}
+use Rattle.ot_text.specs.declared.TheConstants.{LIMIT}
 
 -- ---- the shape, with numbers of any size
 
@@ -60,7 +63,7 @@ shape_of d = option_and_then shape_from (plan_data d)
 -- ---- the limits
 
 abbrev pub are_clients : ℕ → Bool
-are_clients n = nat_lt 0 n && nat_le n 64
+are_clients n = nat_lt 0 n && nat_le n CLIENT_LIMIT
 
 -- there is one list of actions for each client; where the number of clients is itself out of range, that is the fault
 abbrev pub has_lists : ℕ → ℕ → Bool
@@ -71,10 +74,10 @@ abbrev pub has_numbers : ℕ → ℕ → ℕ → Bool
 has_numbers clients workers present = are_clients clients && nat_lt 0 workers && nat_le workers 8 && nat_le present clients
 
 abbrev pub is_action : Action → Bool
-is_action a = nat_le a.at 1000000 && nat_le a.delete 1000000
+is_action a = nat_le a.at LIMIT && nat_le a.delete LIMIT
 
 abbrev pub is_short : List Action → Bool
-is_short actions = nat_le (inserted actions) 15000
+is_short actions = nat_le (inserted actions) INSERTED_LIMIT
 
 abbrev pub is_few : List Action → Bool
 is_few actions = nat_le (length actions) 1000
@@ -84,7 +87,7 @@ is_in_range p = has_numbers p.clients p.workers p.present && list_all (list_all 
 
 -- the start text, and each client's insertions together
 abbrev pub fits : PlanView → Bool
-fits p = nat_le (length p.start) 40000 && list_all is_short p.typing
+fits p = nat_le (length p.start) START_LIMIT && list_all is_short p.typing
 
 -- the first fault of a plan of right shape: of the number of lists, of the numbers' ranges, of lengths, of the number of actions
 abbrev pub first_fault : Bool → Bool → Bool → Bool → Option PlanFault

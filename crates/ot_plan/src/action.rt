@@ -8,12 +8,13 @@ ghost use Rattle.ot_plan.specs.Reading.{action_of, is_action};
 ghost use Rattle.ot_plan.specs.Layout.{text_action};
 
 use json_fields::{number_at, number_or, text_or_empty};
+use ot_text::LIMIT;
 use ot_typing::Typing;
 use serde_json::Value;
 use std::alloc::{AllocError, Global};
 
 /// The most that an action's place and number of deletions may be.
-const MOST: u64 = 1_000_000;
+const MOST: u64 = LIMIT as u64;
 
 /// An action whose text lies in the JSON value, its numbers of any size.
 #[derive(Clone, Copy)]

@@ -11,10 +11,14 @@ use crate::action::char_count;
 use crate::fault::PlanFault;
 use crate::survey::{Survey, survey_rows};
 use json_fields::{items_at, number_at, number_or, text_or_empty};
+use ot_isa::{CLIENT_LIMIT, START_LIMIT};
 use serde_json::Value;
 
 /// The most characters of a start text.
-const MOST_START: usize = 40_000;
+const MOST_START: usize = START_LIMIT;
+
+/// The most clients.
+const MOST_CLIENTS: u64 = CLIENT_LIMIT as u64;
 
 /// The fields of a plan.
 #[derive(Clone, Copy)]
@@ -48,19 +52,19 @@ fn layout_of(value: &Value) -> Option<Layout<'_>>
 fn has_lists(clients: u64, lists: usize) -> bool
     ensures { result ≡ has_lists clients lists }
 {
-    clients == 0 || clients > 64 || lists as u64 == clients
+    clients == 0 || clients > MOST_CLIENTS || lists as u64 == clients
 }
 
 // Whether these numbers are in range.
 fn has_numbers(clients: u64, workers: u64, present: u64) -> bool
     ensures { result ≡ has_numbers clients workers present }
 {
-    clients > 0 && clients <= 64 && workers > 0 && workers <= 8 && present <= clients
+    clients > 0 && clients <= MOST_CLIENTS && workers > 0 && workers <= 8 && present <= clients
 }
 
 // The first fault of fields of right shape, by the survey of their actions.
 fn fault_in(x: &Layout<'_>, actions: Survey) -> Option<PlanFault>
-    ensures value { result ≡ first_fault (has_lists x.now.clients (length x.now.typing.now)) (has_numbers x.now.clients x.now.workers x.now.present && actions.in_range) (nat_le (length (chars x.now.start.now)) 40000 && actions.short) actions.few }
+    ensures value { result ≡ first_fault (has_lists x.now.clients (length x.now.typing.now)) (has_numbers x.now.clients x.now.workers x.now.present && actions.in_range) (nat_le (length (chars x.now.start.now)) START_LIMIT && actions.short) actions.few }
     ensures other { result ≢ Some PlanFault.Memory }
 {
     if !has_lists(x.clients, x.typing.len()) {

@@ -7,10 +7,11 @@ ghost use Rattle.ot_plan.specs.Reading.{action_of, row_of};
 ghost use Rattle.ot_plan.specs.Layout.{both, row_survey, rows_survey};
 
 use crate::action::{action_of, char_count, is_action};
+use ot_isa::INSERTED_LIMIT;
 use serde_json::Value;
 
 /// The most characters that a client's actions insert, and the most actions of a client.
-const MOST_INSERTED: usize = 15_000;
+const MOST_INSERTED: usize = INSERTED_LIMIT;
 
 const MOST_ACTIONS: usize = 1_000;
 

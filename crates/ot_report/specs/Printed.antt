@@ -13,7 +13,7 @@ use Rattle.ot_model.specs.Table.{Client, State, IsQuiet}
 use Rattle.ot_machine.specs.declared.state.Phase.{Phase}
 use Rattle.ot_machine.specs.declared.state.Phase.TheVariants as phase
 use Rattle.ot_machine.specs.Readers.{phase_name}
-use Rattle.ot_machine.specs.declared.outcome.Run.{Run}
+use Rattle.ot_machine.specs.declared.outcome.Replay.{Replay}
 
 -- a text as a JSON string
 abbrev pub text_of : List Tagged → List ℕ
@@ -91,5 +91,5 @@ stop_text None = []
 stop_text (Some stop) = stop_line stop.0 stop.1
 
 -- the text is that of the run: its reads, its stop and its end
-abbrev pub IsReport : Run → List ℕ → Type 0
+abbrev pub IsReport : Replay → List ℕ → Type 0
 IsReport run text = (end : List ℕ) × IsEnd run.machine end × (text ≡ read_lines run.shown.items ++ stop_text run.stopped ++ end)

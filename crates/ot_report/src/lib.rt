@@ -1,7 +1,7 @@
 //! What is printed of a run, and of the verdicts on it.
 //!
 //! ```text
-//!   Run ── print_run ──▶ its reads, its stop, and its end (print_end: the state of any machine)
+//!   Replay ── print_run ──▶ its reads, its stop, and its end (print_end: the state of any machine)
 //!    └──── find ───────▶ its stop, whether all is quiet with one list, and the verdict of the schedule's trace
 //! ```
 //!

@@ -9,13 +9,14 @@ use Rattle.ot_rules.specs.declared.field.Field.{Field}
 use Rattle.ot_rules.specs.declared.field.Field.TheVariants as field
 use Rattle.ot_rules.specs.declared.wrong.Made.{Made}
 use Rattle.ot_rules.specs.Call.{Call, ApplyClient, ApplyServer, ServerAck, ReceiveOperation}
+use Rattle.ot_text.specs.declared.TheConstants.{LIMIT}
 
 abbrev pub Pair : Type 0
 Pair = Operation ℕ × Operation ℕ
 
 -- transform takes the two: they have one base, and room for what both insert
 abbrev pub may_transform : Operation ℕ → Operation ℕ → Bool
-may_transform a b = (a.base == b.base) && nat_le (a.base + (length (news a.image) + length (news b.image))) 1000000
+may_transform a b = (a.base == b.base) && nat_le (a.base + (length (news a.image) + length (news b.image))) LIMIT
 
 -- both results of transform, where it takes the two
 abbrev pub transformed : Operation ℕ → Operation ℕ → Option Pair

@@ -4,13 +4,14 @@ ghost use Rattle.std.specs.Prelude.{◌≡◌, ◌≤◌, drop, length, take, If
 ghost use Rattle.ot_text.specs.Components.{run_of, runs};
 ghost use Rattle.ot_text.specs.Operation.{empty};
 ghost use Rattle.ot_rules.specs.Units as units;
+ghost use Rattle.ot_text.specs.declared.TheConstants.{LIMIT};
 
 use ot_text::{Component, OpRefusal, TextOp};
 use std::alloc::{AllocError, Global};
 
 // How many UTF-16 units the characters have: two for each past U+FFFF.
 fn count_units(text: &[char]) -> usize
-    requires { length text.now ≤ 1000000 }
+    requires { length text.now ≤ LIMIT }
     ensures { result ≡ units.units text.now }
 {
     text.len() + text.iter().filter(|ch| **ch > '\u{ffff}').count()
@@ -39,7 +40,7 @@ fn add(
     text: &[char],
     component: &Component<char>,
 ) -> Result<bool, AllocError>
-    requires { length text.now ≤ 1000000 }
+    requires { length text.now ≤ LIMIT }
     ensures { IfOk result (λ added. units.IsAdded built.old text.now (run_of component.now) built.new added) }
 {
     let added = match component {
@@ -59,7 +60,7 @@ fn components_in_units(
     components: &[Component<char>],
     text: &[char],
 ) -> Result<Option<TextOp<char>>, AllocError>
-    requires { length text.now ≤ 1000000 }
+    requires { length text.now ≤ LIMIT }
     ensures { IfOk result (λ op. op ≡ units.units_from empty text.now (runs components.now)) }
 {
     let mut built = TextOp::new(alloc);

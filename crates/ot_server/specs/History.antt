@@ -4,6 +4,8 @@ use Rattle.ot_text.specs.Operation.{Operation, IsOperation, apply, invert, news}
 use Rattle.ot_algebra.specs.Merge.{first_after}
 use Rattle.ot_server.specs.declared.fault.ServerFault.{ServerFault}
 use Rattle.ot_server.specs.declared.fault.ServerFault.TheVariants.{NotInHistory, BadBase, LogFull, TooLong, Memory}
+use Rattle.ot_text.specs.declared.TheConstants.{LIMIT}
+use Rattle.ot_server.specs.declared.TheConstants.{LOG_LIMIT}
 
 -- an operation as it was applied, and the client that made it
 pub record Entry (A : Type 0) : Type 0 where
@@ -43,8 +45,8 @@ abbrev pub fault_of : {A : Type 0} → History A → ℕ → Operation A → Opt
 fault_of server revision op =
     if nat_lt (length server.log) revision then Some NotInHistory
     else if not (op.base == length_at server revision) then Some BadBase
-    else if nat_le 1000000 (length server.log) then Some LogFull
-    else if nat_lt 1000000 (longest_at server revision op) then Some TooLong
+    else if nat_le LOG_LIMIT (length server.log) then Some LogFull
+    else if nat_lt LIMIT (longest_at server revision op) then Some TooLong
     else None
 
 -- the answer names the fault if there is one; for want of memory it may refuse what has none

@@ -1,4 +1,5 @@
-// An entry of the server's log.
+//! An entry of the server's log.
+
 ghost use Rattle.std.specs.Prelude.{◌≡◌};
 
 use ot_text::{Element, TextOp};

@@ -1,4 +1,5 @@
-// Why the server does not receive an operation.
+//! Why the server does not receive an operation.
+
 ghost use Rattle.std.specs.Prelude.{◌≡◌};
 
 use std::alloc::{AllocError, AllocFailed};

@@ -1,4 +1,5 @@
-// The entries of the log from a revision on, which the maker of an operation at that revision did not have.
+//! The entries of the log from a revision on, which the maker of an operation at that revision did not have.
+
 ghost use Rattle.std.specs.Prelude.{◌≡◌, ◌+◌, ◌≤◌, length, IfOk, IsTrue, ◌↔◌};
 ghost use Rattle.ot_text.specs.Operation.{IsOperation, news};
 ghost use Rattle.ot_server.specs.History.{IsChain, base_at, inserted_in, transform_over};
@@ -10,9 +11,9 @@ use std::alloc::AllocError;
 
 // The length of the documents that these entries take, which lead to one of length `end`.
 pub fn base_length<T: Element>(entries: &[Entry<T>], end: usize) -> usize
-    requires { end ≤ 1000000 }
+    requires { end ≤ LIMIT }
     ensures value { result ≡ base_at entries.now end }
-    ensures small { result ≤ 1000000 }
+    ensures small { result ≤ LIMIT }
 {
     match entries.first() {
         Some(entry) => entry.operation().base_len(),
@@ -23,7 +24,7 @@ pub fn base_length<T: Element>(entries: &[Entry<T>], end: usize) -> usize
 // Whether the entries' insertions and `length` together are within the limit.
 pub fn has_room<T: Element>(entries: &[Entry<T>], length: usize) -> bool
     requires { length ≤ 2000000 }
-    ensures { IsTrue result ↔ (length + inserted_in entries.now ≤ 1000000) }
+    ensures { IsTrue result ↔ (length + inserted_in entries.now ≤ LIMIT) }
 {
     let mut total = length;
     if total > LIMIT {
@@ -46,18 +47,17 @@ pub fn transform_after<T: Element>(
 ) -> Result<TextOp<T>, AllocError>
     requires base { op.now.base ≡ base_at entries.now end }
     requires chain { IsChain entries.now end }
-    requires fits { op.now.base + inserted_in entries.now + length (news op.now.image) ≤ 1000000 }
+    requires fits { op.now.base + inserted_in entries.now + length (news op.now.image) ≤ LIMIT }
     ensures value { IfOk result (λ carried. carried ≡ transform_over op.now entries.now) }
     ensures base { IfOk result (λ carried. carried.base ≡ end) }
     ensures operation { IfOk result (λ carried. IsOperation carried) }
 {
-    let alloc = op.allocator();
     let mut carried = op.copy()?;
     for entry in entries {
         // For the proof: what every operation keeps.
         let _operation = carried.base_len();
         let _operation = entry.operation().base_len();
-        carried = transform_first(alloc, &carried, entry.operation())?;
+        carried = transform_first(carried, entry.operation())?;
     }
     // For the proof: what every operation keeps.
     let _operation = carried.base_len();

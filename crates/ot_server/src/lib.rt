@@ -52,7 +52,9 @@ impl<T> Model for Server<T> {
 
     ghost view = { λ s. record { document = s.document; log = s.log.items } };
 
-    ghost invariant = { λ s. IsChain s.log.items (length s.document) × (length s.log.items ≤ 1000000) };
+    ghost use Rattle.ot_server.specs.declared.TheConstants.{LOG_LIMIT};
+
+    ghost invariant = { λ s. IsChain s.log.items (length s.document) × (length s.log.items ≤ LOG_LIMIT) };
 }
 
 impl<T: Element> Server<T> {
@@ -85,7 +87,7 @@ impl<T: Element> Server<T> {
     /// How many log entries there are: at most 1,000,000.
     pub fn revision(&self) -> usize
         ensures value { result ≡ length self.now.log }
-        ensures small { result ≤ 1000000 }
+        ensures small { result ≤ LOG_LIMIT }
     {
         self.log.len()
     }
@@ -144,7 +146,7 @@ impl<T: Element> Server<T> {
         ensures value { IfOk result (λ carried. carried ≡ transform_over op.now (drop revision self.now.log)) }
         ensures base { IfOk result (λ carried. carried.base ≡ length self.now.document) }
         ensures operation { IfOk result (λ carried. IsOperation carried) }
-        ensures room { OnOk result (length self.now.log < 1000000) }
+        ensures room { OnOk result (length self.now.log < LOG_LIMIT) }
     {
         let count = self.log.len();
         let from = revision as usize;
@@ -170,7 +172,7 @@ impl<T: Element> Server<T> {
     fn append(&mut self, maker: u16, op: TextOp<T>) -> Result<(), AllocError>
         requires base { op.base ≡ length self.old.document }
         requires operation { IsOperation op }
-        requires room { length self.old.log < 1000000 }
+        requires room { length self.old.log < LOG_LIMIT }
         ensures ok { OnOk result (self.new ≡ with_entry self.old maker op) }
         ensures err { OnErr result (self.new ≡ self.old) }
     {

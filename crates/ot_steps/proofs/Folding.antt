@@ -20,7 +20,7 @@ use Rattle.ot_server.specs.History.{transform_over}
 use Rattle.ot_steps.specs.Lines.{Line, plain_item, plain_message, plain_operation}
 use Rattle.ot_steps.specs.Lines as lines
 use Rattle.ot_steps.specs.Steps.{carried_head, client_in, is_synchronized, last_of, step_line}
-use Rattle.ot_steps.specs.Fold.{ClientText, EntryText, Session, client_text, entry_text, folded, session_in, sent, with_client}
+use Rattle.ot_steps.specs.Fold.{ClientText, EntryText, Session, client_text, entry_text, folded, session_in, under_way, with_client}
 use Rattle.ot_steps.specs.Fold as fold
 
 -- ---- operations and lists without tags
@@ -125,7 +125,7 @@ if_sent phase message = if is_synchronized phase then option_map plain_message m
 module _ (documents : Bool) (at : ℕ) (s : State) (c : ℕ) (x : Client) (here : slice_get s.clients c ≡ Some x) where
   -- an edit
   edit_message : (phase : Phase) (o : Operation Tagged)
-      → sent (if_sent phase (table.message_edited phase x o)) (option_map plain_message x.message) ≡ option_map plain_message (table.message_edited phase x o)
+      → under_way (if_sent phase (table.message_edited phase x o)) (option_map plain_message x.message) ≡ option_map plain_message (table.message_edited phase x o)
   edit_message NotJoined o = refl
   edit_message Synchronized o = refl
   edit_message (AwaitingConfirm p) o = refl

@@ -52,9 +52,9 @@ applied None text = text
 applied (Some op) text = apply op text
 
 -- what is on the link to the server, where the line has a message it
-abbrev pub sent : Option Message → Option Message → Option Message
-sent None message = message
-sent (Some m) message = Some m
+abbrev pub under_way : Option Message → Option Message → Option Message
+under_way None message = message
+under_way (Some m) message = Some m
 
 -- the client's revision, state and what waits are the line's
 abbrev pub told : Line → ClientText → List ℕ → ClientText
@@ -65,7 +65,7 @@ told line x document =
       outstanding = line.outstanding;
       buffer = line.buffer;
       document = document;
-      message = sent line.sent x.message;
+      message = under_way line.sent x.message;
     }
 
 abbrev pub with_client : Session → ℕ → ClientText → Session

@@ -30,22 +30,15 @@ pub fn sends(machine: &Machine, instr: &Instr) -> bool
     }
 }
 
-// What the client makes of another's operation: a copy of the client takes it.
+// What the client makes of another's operation.
 fn carried(client: &Client<Tagged>, op: &TextOp<Tagged>) -> Result<TextOp<Tagged>, AllocError>
     requires { MayDeliverState (state_of client.now) op.now }
     ensures { IfOk result (λ applied. applied ≡ state.carried (state_of client.now).phase op.now) }
 {
-    let op = op.copy()?;
-    match client {
-        Client::Synchronized(_) => Ok(op),
-        Client::AwaitingConfirm(client) => match client.copy()?.deliver(op) {
-            Ok((_client, applied)) => Ok(applied),
-            Err((_client, _op)) => Err(AllocError),
-        },
-        Client::AwaitingWithBuffer(client) => match client.copy()?.deliver(op) {
-            Ok((_client, applied)) => Ok(applied),
-            Err((_client, _op)) => Err(AllocError),
-        },
+    let (_next, carried) = client.deliver(op)?;
+    match carried {
+        Some(applied) => Ok(applied),
+        None => op.copy(),
     }
 }
 

@@ -5,6 +5,7 @@ ghost use Rattle.ot_isa.specs.Tagging.{chars_of};
 ghost use Rattle.ot_text.specs.Components.{runs};
 ghost use Rattle.ot_text.specs.Run.{base_of, image_from, operation_of};
 ghost use Rattle.ot_steps.specs.Lines.{plain_operation};
+ghost use Rattle.ot_text.specs.declared.TheConstants.{LIMIT};
 
 use ot_isa::Tagged;
 use ot_text::{Component, TextOp, only_memory};
@@ -20,8 +21,8 @@ fn plain_components(
     alloc: Global,
     components: &[Component<Tagged>],
 ) -> Result<TextOp<char>, AllocError>
-    requires base { base_of (runs components.now) ≤ 1000000 }
-    requires target { length (image_from 0 (runs components.now)) ≤ 1000000 }
+    requires base { base_of (runs components.now) ≤ LIMIT }
+    requires target { length (image_from 0 (runs components.now)) ≤ LIMIT }
     ensures { IfOk result (λ op. op ≡ plain_operation (operation_of (runs components.now))) }
 {
     let mut op = TextOp::with_capacity(alloc, components.len())?;

@@ -4,7 +4,7 @@ use Rattle.std.specs.Prelude.{Vec, vec_items, slice_get, ◌↔◌}
 use Rattle.std.specs.declared.alloc.Global.{Global}
 use Rattle.std.proofs.lemmas.List.{length-map, drop-append-le, length-drop, drop-drop, take-take, length-take, append-nil, take-append-drop, nil_from_length}
 use Rattle.std.proofs.Math.Seq.{drop-nil, take-add}
-use Rattle.ot_text.specs.Chunks.{lists, joined, MayPrecede, IsChunked, MayEnd, rest_at, left_at, IsInside}
+use Rattle.ot_text.specs.Chunks.{lists, concatenated, MayPrecede, IsChunked, MayEnd, rest_at, left_at, IsInside}
 
 pub length-lists : {T : Type 0} (vs : List (Vec T Global)) → length (lists vs) ≡ length vs
 length-lists {T} vs = length-map vs (vec_items {X = T} {Z = Global})
@@ -19,9 +19,9 @@ lists_more [] i v h e = absurd (omega arith)
 lists_more (w ∷ vs) zero v h e = rw e refl
 lists_more {T} (w ∷ vs) (suc i) v h e = ap (λ (t : List (List T)). w.items ∷ t) (lists_more vs i v (omega arith) e)
 
-pub joined-append : {A : Type 0} (cs ds : List (List A)) → joined (cs ++ ds) ≡ joined cs ++ joined ds
-joined-append [] ds = refl
-joined-append (c ∷ cs) ds = rw (joined-append cs ds, append_assoc) refl
+pub concatenated-append : {A : Type 0} (cs ds : List (List A)) → concatenated (cs ++ ds) ≡ concatenated cs ++ concatenated ds
+concatenated-append [] ds = refl
+concatenated-append (c ∷ cs) ds = rw (concatenated-append cs ds, append_assoc) refl
 
 pub chunk_filled : {A : Type 0} (cs : List (List A)) (k : ℕ) → IsChunked cs → k < length cs → 0 < length (get_or cs k [])
 chunk_filled [] k p h = absurd (omega arith)
@@ -35,9 +35,9 @@ chunk_small (c ∷ cs) zero p = p.1
 chunk_small (c ∷ cs) (suc k) p = chunk_small cs k p.3
 
 -- what is left is what is left of the chunk, and the chunks after it
-pub left_split : {A : Type 0} (cs : List (List A)) (k o : ℕ) → k < length cs → o ≤ length (get_or cs k []) → left_at cs k o ≡ rest_at cs k o ++ joined (drop (suc k) cs)
+pub left_split : {A : Type 0} (cs : List (List A)) (k o : ℕ) → k < length cs → o ≤ length (get_or cs k []) → left_at cs k o ≡ rest_at cs k o ++ concatenated (drop (suc k) cs)
 left_split [] k o h i = absurd (omega arith)
-left_split (c ∷ cs) zero o h i = drop-append-le o c (joined cs) i
+left_split (c ∷ cs) zero o h i = drop-append-le o c (concatenated cs) i
 left_split (c ∷ cs) (suc k) o h i = left_split cs k o (omega arith) i
 
 pub in_range : {A : Type 0} (cs : List (List A)) (k o : ℕ) → 0 < length (left_at cs k o) → k < length cs
@@ -47,21 +47,21 @@ in_range (c ∷ cs) zero o h = omega arith
 in_range (c ∷ cs) (suc k) o h = let q = in_range cs k o h in omega arith
 
 -- how many chunks there are
-pub chunks_few : {A : Type 0} (cs : List (List A)) → IsChunked cs → length cs / 2 * 513 ≤ length (joined cs)
+pub chunks_few : {A : Type 0} (cs : List (List A)) → IsChunked cs → length cs / 2 * 513 ≤ length (concatenated cs)
 chunks_few [] p = omega arith
 chunks_few (c ∷ []) p = omega arith
 chunks_few (c ∷ d ∷ cs) p =
     let h = chunks_few cs p.3.3 in
     let n = p.2 in
-    omega (arith, length-append c (d ++ joined cs), length-append d (joined cs))
+    omega (arith, length-append c (d ++ concatenated cs), length-append d (concatenated cs))
 
-pub chunks_filled : {A : Type 0} (cs : List (List A)) → IsChunked cs → length cs ≤ length (joined cs)
+pub chunks_filled : {A : Type 0} (cs : List (List A)) → IsChunked cs → length cs ≤ length (concatenated cs)
 chunks_filled [] p = omega arith
-chunks_filled (c ∷ cs) p = let h = chunks_filled cs p.3 in omega (arith, length-append c (joined cs))
+chunks_filled (c ∷ cs) p = let h = chunks_filled cs p.3 in omega (arith, length-append c (concatenated cs))
 
-pub chunks_enough : {A : Type 0} (cs : List (List A)) → IsChunked cs → length (joined cs) ≤ 512 * length cs
+pub chunks_enough : {A : Type 0} (cs : List (List A)) → IsChunked cs → length (concatenated cs) ≤ 512 * length cs
 chunks_enough [] p = omega arith
-chunks_enough (c ∷ cs) p = let h = chunks_enough cs p.3 in omega (arith, length-append c (joined cs))
+chunks_enough (c ∷ cs) p = let h = chunks_enough cs p.3 in omega (arith, length-append c (concatenated cs))
 
 -- one more chunk
 may_precede : {A : Type 0} (c d : List A) (cs : List (List A)) → MayPrecede c (d ∷ cs) → (es : List (List A)) → MayPrecede c (d ∷ cs ++ es)
@@ -161,7 +161,7 @@ pub record IsComparing {A : Type 0} (cs : List (List A)) (a_chunk a_offset : ℕ
   pub b_inside : IsInside ds b_chunk b_offset
   pub a_ahead : length (left_at cs a_chunk a_offset) ≡ ahead
   pub b_ahead : length (left_at ds b_chunk b_offset) ≡ ahead
-  pub same : (joined cs ≡ joined ds) ↔ (left_at cs a_chunk a_offset ≡ left_at ds b_chunk b_offset)
+  pub same : (concatenated cs ≡ concatenated ds) ↔ (left_at cs a_chunk a_offset ≡ left_at ds b_chunk b_offset)
 
 rest_same : {A : Type 0} (l m : List A) (n : ℕ) → take n l ≡ take n m → drop n l ≡ drop n m → l ≡ m
 rest_same l m n e f = sym (take-append-drop n l) ∙ (rw (e, f) (take-append-drop n m))
@@ -182,7 +182,7 @@ comparing_more {A} cs ac ao ac' ao' ds bc bo bc' bo' ahead step w ia ib ea eb sa
       );
     }
 
-pub comparing_all : {A : Type 0} (cs : List (List A)) (ac ao : ℕ) (ds : List (List A)) (bc bo : ℕ) (ahead : ℕ) → IsComparing cs ac ao ds bc bo ahead → ahead ≤ 0 → joined cs ≡ joined ds
+pub comparing_all : {A : Type 0} (cs : List (List A)) (ac ao : ℕ) (ds : List (List A)) (bc bo : ℕ) (ahead : ℕ) → IsComparing cs ac ao ds bc bo ahead → ahead ≤ 0 → concatenated cs ≡ concatenated ds
 comparing_all cs ac ao ds bc bo ahead w h =
     let a = w.a_ahead in
     let b = w.b_ahead in

@@ -8,9 +8,9 @@ use Rattle.std.proofs.Math.Seq.{take-add}
 use Rattle.ot_text.specs.declared.draft.Draft.{Draft}
 use Rattle.ot_text.specs.declared.draft.Piece.{Piece}
 use Rattle.ot_text.specs.declared.draft.Piece.TheVariants.{Moved, Made}
-use Rattle.ot_text.specs.Chunks.{lists, joined, IsChunked, MayEnd, left_at, IsInside}
+use Rattle.ot_text.specs.Chunks.{lists, concatenated, IsChunked, MayEnd, left_at, IsInside}
 use Rattle.ot_text.specs.Draft.{content, contents, IsInOrder, IsDraft, written, Continues}
-use Rattle.ot_text.proofs.Chunked.{joined-append, chunked_push, chunked_longer, may_end_last, last_may_end, chunk_filled, chunk_small}
+use Rattle.ot_text.proofs.Chunked.{concatenated-append, chunked_push, chunked_longer, may_end_last, last_may_end, chunk_filled, chunk_small}
 
 pub in_order_wider : {T : Type 0} (from from' end end' : ℕ) (ps : List (Piece T)) → from' ≤ from → end ≤ end' → IsInOrder from end ps → IsInOrder from' end' ps
 in_order_wider from from' end end' [] f e o = tt
@@ -158,7 +158,7 @@ continues_pushed {T} cs old new made h f m is pieces none =
         chunked = rw cs' (chunked_push (contents cs old.pieces.items) old.pending.items h.chunked f h.short m);
         short = rw none (omega arith);
       };
-      text_is = rw (cs', none, joined-append, append-nil, append-nil, append-nil) refl;
+      text_is = rw (cs', none, concatenated-append, append-nil, append-nil, append-nil) refl;
       order = λ end o. rw pieces (in_order_made 0 end old.pieces.items made o);
     }
 
@@ -172,7 +172,7 @@ continues_joined {T} cs old new made k p h l e s is pieces none =
         chunked = rw cs' (chunked_longer a.front (content cs p) made.items (rw a.before at h.chunked) (omega arith) (omega arith));
         short = rw none (omega arith);
       };
-      text_is = rw (cs', none, a.before, is, joined-append, joined-append, append-nil, append-nil, append-nil, append-nil, append_assoc) refl;
+      text_is = rw (cs', none, a.before, is, concatenated-append, concatenated-append, append-nil, append-nil, append-nil, append-nil, append_assoc) refl;
       order = λ end o. rw pieces (in_order_set 0 end old.pieces.items k made o);
     }
 
@@ -229,8 +229,8 @@ moved_draft {T} cs mid new place h none chunked within m pieces pending =
 pub moved_text : {T : Type 0} (cs : List (List T)) (old mid new : Draft T) (place : ℕ) → Continues cs old mid [] → mid.pending.items ≡ [] → new.pieces.items ≡ mid.pieces.items ++ Moved place ∷ [] → new.pending.items ≡ mid.pending.items → written cs new ≡ written cs old ++ get_or cs place []
 moved_text {T} cs old mid new place q none pieces pending =
     let cs' : contents cs new.pieces.items ≡ contents cs mid.pieces.items ++ get_or cs place [] ∷ [] = rw (pieces, map-append) refl in
-    let before : joined (contents cs mid.pieces.items) ≡ written cs old = sym (append-nil (joined (contents cs mid.pieces.items))) ∙ (rw none at q.text_is) ∙ append-nil (written cs old) in
-    rw (cs', pending, none, joined-append, append-nil, append-nil, before) refl
+    let before : concatenated (contents cs mid.pieces.items) ≡ written cs old = sym (append-nil (concatenated (contents cs mid.pieces.items))) ∙ (rw none at q.text_is) ∙ append-nil (written cs old) in
+    rw (cs', pending, none, concatenated-append, append-nil, append-nil, before) refl
 
 pub later_order : {T : Type 0} (cs : List (List T)) (a b : Draft T) (text : List T) (place : ℕ) → IsInOrder 0 place a.pieces.items → Continues cs a b text → IsInOrder 0 (place + 1) b.pieces.items
 later_order cs a b text place o q = in_order_wider 0 0 place (place + 1) b.pieces.items (omega arith) (omega arith) (q.order place o)

@@ -8,7 +8,7 @@ use Rattle.ot_text.specs.declared.Component.TheVariants.{Retain, Insert, Delete}
 use Rattle.ot_text.specs.Operation.{Operation, empty, with_retain, with_insert, with_delete, IsTooLong, invert}
 use Rattle.ot_text.specs.Run.{base_of, image_from, operation_of}
 use Rattle.ot_text.specs.Components.{runs}
-use Rattle.ot_text.specs.Chunks.{joined, IsChunked, left_at, IsInside}
+use Rattle.ot_text.specs.Chunks.{concatenated, IsChunked, left_at, IsInside}
 use Rattle.ot_text.proofs.Chunked.{chunk_filled}
 use Rattle.ot_text.proofs.Inverted.{IsInverted, inverted_none, inverted_all, retain_in_range, delete_in_range, inverted_retain, inverted_insert, inverted_delete, room_to_retain, room_to_delete, room_to_insert}
 
@@ -18,15 +18,15 @@ gone d left = length d - length left
 
 -- the components up to place i have been taken back, and the cursor stands where they end
 pub record IsInverting {T : Type 0} (components : List (Component T)) (cs : List (List T)) (i chunk offset : ℕ) (op : Operation T) : Type 0 where
-  pub inverted : IsInverted components (joined cs) i (gone (joined cs) (left_at cs chunk offset)) op
-  pub left_is : left_at cs chunk offset ≡ drop (gone (joined cs) (left_at cs chunk offset)) (joined cs)
+  pub inverted : IsInverted components (concatenated cs) i (gone (concatenated cs) (left_at cs chunk offset)) op
+  pub left_is : left_at cs chunk offset ≡ drop (gone (concatenated cs) (left_at cs chunk offset)) (concatenated cs)
   pub inside : IsInside cs chunk offset
 
-pub inverting_none : {T : Type 0} (components : List (Component T)) (cs : List (List T)) → IsChunked cs → base_of (runs components) ≡ length (joined cs) → IsInverting components cs 0 0 0 empty
+pub inverting_none : {T : Type 0} (components : List (Component T)) (cs : List (List T)) → IsChunked cs → base_of (runs components) ≡ length (concatenated cs) → IsInverting components cs 0 0 0 empty
 inverting_none components cs chunked base =
-    let none : gone (joined cs) (joined cs) ≡ 0 = omega arith in
+    let none : gone (concatenated cs) (concatenated cs) ≡ 0 = omega arith in
     record {
-      inverted = rw none (inverted_none components (joined cs) base);
+      inverted = rw none (inverted_none components (concatenated cs) base);
       left_is = rw none refl;
       inside = λ f. chunk_filled cs 0 chunked f;
     }
@@ -36,35 +36,35 @@ module _ {T : Type 0} (components : List (Component T)) (cs : List (List T)) (i 
   left = left_at cs chunk offset
 
   abbrev at : ℕ
-  at = gone (joined cs) left
+  at = gone (concatenated cs) left
 
-  length-left : length left ≡ length (joined cs) - at
-  length-left = ap (λ (l : List T). length l) before.left_is ∙ length-drop at (joined cs)
+  length-left : length left ≡ length (concatenated cs) - at
+  length-left = ap (λ (l : List T). length l) before.left_is ∙ length-drop at (concatenated cs)
 
   pub retain_ahead : (n : ℕ) → c ≡ Retain n → n ≤ length left
-  retain_ahead n is = let f = retain_in_range components (joined cs) i at op c h e before.inverted n is in omega (arith, f, length-left)
+  retain_ahead n is = let f = retain_in_range components (concatenated cs) i at op c h e before.inverted n is in omega (arith, f, length-left)
 
   pub delete_ahead : (n : ℕ) → c ≡ Delete n → n ≤ length left
-  delete_ahead n is = let f = delete_in_range components (joined cs) i at op c h e before.inverted n is in omega (arith, f, length-left)
+  delete_ahead n is = let f = delete_in_range components (concatenated cs) i at op c h e before.inverted n is in omega (arith, f, length-left)
 
-  further_on : (n : ℕ) → n ≤ length left → gone (joined cs) (drop n left) ≡ at + n
+  further_on : (n : ℕ) → n ≤ length left → gone (concatenated cs) (drop n left) ≡ at + n
   further_on n within = omega (arith, within, length-left, length-drop n left)
 
-  further_left : (n : ℕ) → drop n left ≡ drop (at + n) (joined cs)
-  further_left n = ap (λ (l : List T). drop n l) before.left_is ∙ drop-drop n at (joined cs)
+  further_left : (n : ℕ) → drop n left ≡ drop (at + n) (concatenated cs)
+  further_left n = ap (λ (l : List T). drop n l) before.left_is ∙ drop-drop n at (concatenated cs)
 
   pub inverting_retain : (n : ℕ) → c ≡ Retain n → (chunk' offset' : ℕ) → IsInside cs chunk' offset' → left_at cs chunk' offset' ≡ drop n left → IsInverting components cs (i + 1) chunk' offset' (with_retain op n)
   inverting_retain n is chunk' offset' inside l =
       let on = further_on n (retain_ahead n is) in
       record {
-        inverted = rw (l, on) (inverted_retain components (joined cs) i at op c h e before.inverted n is);
+        inverted = rw (l, on) (inverted_retain components (concatenated cs) i at op c h e before.inverted n is);
         left_is = rw (l, on) (further_left n);
         inside = inside;
       }
 
   pub inverting_insert : (v : Vec T Global) → c ≡ Insert v → IsInverting components cs (i + 1) chunk offset (with_delete op (length v.items))
   inverting_insert v is = record {
-    inverted = inverted_insert components (joined cs) i at op c h e before.inverted v is;
+    inverted = inverted_insert components (concatenated cs) i at op c h e before.inverted v is;
     left_is = before.left_is;
     inside = before.inside;
   }
@@ -72,24 +72,24 @@ module _ {T : Type 0} (components : List (Component T)) (cs : List (List T)) (i 
   pub inverting_delete : (n : ℕ) → c ≡ Delete n → (chunk' offset' : ℕ) → IsInside cs chunk' offset' → left_at cs chunk' offset' ≡ drop n left → IsInverting components cs (i + 1) chunk' offset' (with_insert op (take n left))
   inverting_delete n is chunk' offset' inside l =
       let on = further_on n (delete_ahead n is) in
-      let text : take n (drop at (joined cs)) ≡ take n left = ap (λ (t : List T). take n t) (sym before.left_is) in
+      let text : take n (drop at (concatenated cs)) ≡ take n left = ap (λ (t : List T). take n t) (sym before.left_is) in
       record {
-        inverted = rw (l, on, ← text) (inverted_delete components (joined cs) i at op c h e before.inverted n is);
+        inverted = rw (l, on, ← text) (inverted_delete components (concatenated cs) i at op c h e before.inverted n is);
         left_is = rw (l, on) (further_left n);
         inside = inside;
       }
 
-  module _ (target_fits : length (image_from 0 (runs components)) ≤ 1000000) (base_fits : length (joined cs) ≤ 1000000) where
+  module _ (target_fits : length (image_from 0 (runs components)) ≤ 1000000) (base_fits : length (concatenated cs) ≤ 1000000) where
     pub retain_has_room : (n : ℕ) → c ≡ Retain n → IsTooLong (with_retain op n) → ⊥
-    retain_has_room = room_to_retain components (joined cs) i at op c h e before.inverted target_fits base_fits
+    retain_has_room = room_to_retain components (concatenated cs) i at op c h e before.inverted target_fits base_fits
 
     pub delete_has_room : (v : Vec T Global) → c ≡ Insert v → IsTooLong (with_delete op (length v.items)) → ⊥
-    delete_has_room = room_to_delete components (joined cs) i at op c h e before.inverted target_fits base_fits
+    delete_has_room = room_to_delete components (concatenated cs) i at op c h e before.inverted target_fits base_fits
 
     pub insert_has_room : (n : ℕ) → c ≡ Delete n → IsTooLong (with_insert op (take n left)) → ⊥
     insert_has_room n is =
-        let text : take n (drop at (joined cs)) ≡ take n left = ap (λ (t : List T). take n t) (sym before.left_is) in
-        rw (← text) (room_to_insert components (joined cs) i at op c h e before.inverted target_fits base_fits n is)
+        let text : take n (drop at (concatenated cs)) ≡ take n left = ap (λ (t : List T). take n t) (sym before.left_is) in
+        rw (← text) (room_to_insert components (concatenated cs) i at op c h e before.inverted target_fits base_fits n is)
 
-pub inverting_all : {T : Type 0} (components : List (Component T)) (cs : List (List T)) (i chunk offset : ℕ) (op : Operation T) → length components ≤ i → IsInverting components cs i chunk offset op → op ≡ invert (operation_of (runs components)) (joined cs)
-inverting_all components cs i chunk offset op h a = inverted_all components (joined cs) i (gone (joined cs) (left_at cs chunk offset)) op h a.inverted
+pub inverting_all : {T : Type 0} (components : List (Component T)) (cs : List (List T)) (i chunk offset : ℕ) (op : Operation T) → length components ≤ i → IsInverting components cs i chunk offset op → op ≡ invert (operation_of (runs components)) (concatenated cs)
+inverting_all components cs i chunk offset op h a = inverted_all components (concatenated cs) i (gone (concatenated cs) (left_at cs chunk offset)) op h a.inverted

@@ -6,7 +6,7 @@ use Rattle.std.proofs.lemmas.List.{take-append-drop, length-drop, length-take-le
 use Rattle.std.proofs.Math.Seq.{take-add, take-suc, drop-cons, take-suc-set, take-append_seam, drop-append_seam}
 use Rattle.ot_text.specs.declared.edit.Place.{Place}
 use Rattle.ot_text.specs.Run.{Run, Keep, Add, Skip}
-use Rattle.ot_text.specs.Chunks.{lists, joined}
+use Rattle.ot_text.specs.Chunks.{lists, concatenated}
 use Rattle.ot_text.specs.Spots.{Spot, chunks_of, kept, step, capacities, HasMore, HasRoom, HaveRoom, IsPlace, spot_at, behind}
 use Rattle.ot_text.proofs.Chunked.{in_range, list_at}
 use Rattle.ot_text.proofs.Drafted.{lists_set}
@@ -20,7 +20,7 @@ pub next_chunk : {A : Type 0} (cs : List (List A)) (k : ℕ) → suc k < length 
 next_chunk cs k h = drop-cons cs (suc k) [] h
 
 pub behind_next : {A : Type 0} (cs : List (List A)) (k : ℕ) → suc k < length cs → behind cs k ≡ length (get_or cs (suc k) []) + behind cs (suc k)
-behind_next cs k h = rw (next_chunk cs k h) (length-append (get_or cs (suc k) []) (joined (drop (suc (suc k)) cs)))
+behind_next cs k h = rw (next_chunk cs k h) (length-append (get_or cs (suc k) []) (concatenated (drop (suc (suc k)) cs)))
 
 -- a walk over items that stay, `ahead` of which lie before it
 pub record IsKeeping {A : Type 0} (cs : List (List A)) (place : Place) (ahead : ℕ) (whole : Spot A) : Type 0 where

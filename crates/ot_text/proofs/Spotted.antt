@@ -5,9 +5,9 @@ use Rattle.std.proofs.lemmas.List.{append-nil, take-append-drop, take-append-le,
 use Rattle.std.proofs.Math.Seq.{take-append-add, drop-append-add, drop-length}
 use Rattle.ot_text.specs.Operation.{apply}
 use Rattle.ot_text.specs.Run.{Run, Keep, Add, Skip, base_of, image_from, operation_of}
-use Rattle.ot_text.specs.Chunks.{joined}
+use Rattle.ot_text.specs.Chunks.{concatenated}
 use Rattle.ot_text.specs.Spots.{Spot, chunks_of, start, kept, skipped, step, edited}
-use Rattle.ot_text.proofs.Chunked.{joined-append}
+use Rattle.ot_text.proofs.Chunked.{concatenated-append}
 use Rattle.ot_text.proofs.Applied.{values, values-append, values-olds, values-news, values-shift}
 
 take_over : {A : Type 0} (n : ℕ) (r x : List A) → length r ≤ n → take n (r ++ x) ≡ r ++ take (n - length r) x
@@ -39,10 +39,10 @@ skipped_here b d r (c ∷ a) n h = rw (le-ltb (length r) n h) refl
 
 -- what has been made, and what is left, at a spot
 abbrev pub made : {A : Type 0} → Spot A → List A
-made s = joined s.before ++ s.done
+made s = concatenated s.before ++ s.done
 
 abbrev pub left : {A : Type 0} → Spot A → List A
-left s = s.rest ++ joined s.after
+left s = s.rest ++ concatenated s.after
 
 -- the chunks stay where items stay
 pub kept-chunks : {A : Type 0} (b : List (List A)) (d r : List A) (a : List (List A)) (n : ℕ) → chunks_of (kept b d r a n) ≡ b ++ (d ++ r) ∷ a
@@ -57,21 +57,21 @@ pub record Walks {A : Type 0} (s t : Spot A) (n : ℕ) (text : List A) : Type 0 
   pub made_is : made t ≡ made s ++ text
   pub left_is : left t ≡ drop n (left s)
 
-pub keeps : {A : Type 0} (b : List (List A)) (d r : List A) (a : List (List A)) (n : ℕ) → Walks (record { before = b; done = d; rest = r; after = a }) (kept b d r a n) n (take n (r ++ joined a))
+pub keeps : {A : Type 0} (b : List (List A)) (d r : List A) (a : List (List A)) (n : ℕ) → Walks (record { before = b; done = d; rest = r; after = a }) (kept b d r a n) n (take n (r ++ concatenated a))
 keeps b d r [] n = record { made_is = rw (append-nil, append_assoc) refl; left_is = rw (append-nil, append-nil) refl }
 keeps {A} b d r (c ∷ a) n = elim (cases_lt (length r) n) [
   | inl h ↦
       let e = kept_on b d r c a n h in
       let w = keeps (b ++ (d ++ r) ∷ []) [] c a (n - length r) in
       record {
-        made_is = ap (λ (s : Spot A). made s) e ∙ w.made_is ∙ rw (joined-append, take_over n r (c ++ joined a) (omega arith)) (simp (append_assoc, append-nil));
-        left_is = ap (λ (s : Spot A). left s) e ∙ w.left_is ∙ sym (drop_over n r (c ++ joined a) (omega arith));
+        made_is = ap (λ (s : Spot A). made s) e ∙ w.made_is ∙ rw (concatenated-append, take_over n r (c ++ concatenated a) (omega arith)) (simp (append_assoc, append-nil));
+        left_is = ap (λ (s : Spot A). left s) e ∙ w.left_is ∙ sym (drop_over n r (c ++ concatenated a) (omega arith));
       }
   | inr h ↦
       let e = kept_here b d r (c ∷ a) n h in
       record {
-        made_is = ap (λ (s : Spot A). made s) e ∙ rw (take-append-le n r (c ++ joined a) h, append_assoc) refl;
-        left_is = ap (λ (s : Spot A). left s) e ∙ sym (drop-append-le n r (c ++ joined a) h);
+        made_is = ap (λ (s : Spot A). made s) e ∙ rw (take-append-le n r (c ++ concatenated a) h, append_assoc) refl;
+        left_is = ap (λ (s : Spot A). left s) e ∙ sym (drop-append-le n r (c ++ concatenated a) h);
       }
 ]
 
@@ -82,20 +82,20 @@ skips {A} b d r (c ∷ a) n = elim (cases_lt (length r) n) [
       let e = skipped_on b d r c a n h in
       let w = skips (b ++ d ∷ []) [] c a (n - length r) in
       record {
-        made_is = ap (λ (s : Spot A). made s) e ∙ w.made_is ∙ rw joined-append (simp append-nil);
-        left_is = ap (λ (s : Spot A). left s) e ∙ w.left_is ∙ sym (drop_over n r (c ++ joined a) (omega arith));
+        made_is = ap (λ (s : Spot A). made s) e ∙ w.made_is ∙ rw concatenated-append (simp append-nil);
+        left_is = ap (λ (s : Spot A). left s) e ∙ w.left_is ∙ sym (drop_over n r (c ++ concatenated a) (omega arith));
       }
   | inr h ↦
       let e = skipped_here b d r (c ∷ a) n h in
       record {
-        made_is = ap (λ (s : Spot A). made s) e ∙ sym (append-nil (joined b ++ d));
-        left_is = ap (λ (s : Spot A). left s) e ∙ sym (drop-append-le n r (c ++ joined a) h);
+        made_is = ap (λ (s : Spot A). made s) e ∙ sym (append-nil (concatenated b ++ d));
+        left_is = ap (λ (s : Spot A). left s) e ∙ sym (drop-append-le n r (c ++ concatenated a) h);
       }
 ]
 
 -- what runs make from a spot on
-pub edited-text : {A : Type 0} (rs : List (Run A)) (s : Spot A) → joined (chunks_of (edited rs s)) ≡ made s ++ (values (image_from 0 rs) (left s) ++ drop (base_of rs) (left s))
-edited-text [] s = rw joined-append (simp append_assoc)
+pub edited-text : {A : Type 0} (rs : List (Run A)) (s : Spot A) → concatenated (chunks_of (edited rs s)) ≡ made s ++ (values (image_from 0 rs) (left s) ++ drop (base_of rs) (left s))
+edited-text [] s = rw concatenated-append (simp append_assoc)
 edited-text {A} (Keep n ∷ rs) s =
     let w = keeps s.before s.done s.rest s.after n in
     edited-text rs (step (Keep n) s) ∙
@@ -112,12 +112,12 @@ pub edited-last : {A : Type 0} (rs : List (Run A)) (n : ℕ) (s : Spot A) → ch
 edited-last [] n s = kept-chunks s.before s.done s.rest s.after n
 edited-last (r ∷ rs) n s = edited-last rs n (step r s)
 
-start-left : {A : Type 0} (cs : List (List A)) → made (start cs) ++ left (start cs) ≡ joined cs
+start-left : {A : Type 0} (cs : List (List A)) → made (start cs) ++ left (start cs) ≡ concatenated cs
 start-left [] = refl
 start-left (c ∷ cs) = refl
 
 -- an operation that takes the whole list makes its result
-pub edited-applies : {A : Type 0} (rs : List (Run A)) (cs : List (List A)) → base_of rs ≡ length (joined cs) → joined (chunks_of (edited rs (start cs))) ≡ apply (operation_of rs) (joined cs)
+pub edited-applies : {A : Type 0} (rs : List (Run A)) (cs : List (List A)) → base_of rs ≡ length (concatenated cs) → concatenated (chunks_of (edited rs (start cs))) ≡ apply (operation_of rs) (concatenated cs)
 unfolding apply
 edited-applies {A} rs [] h = edited-text rs (start []) ∙ rw (h, drop-length, append-nil) refl
 edited-applies {A} rs (c ∷ cs) h = edited-text rs (start (c ∷ cs)) ∙ rw (h, drop-length, append-nil) refl

@@ -9,7 +9,7 @@ use Rattle.ot_text.specs.declared.survey.Survey.{Survey}
 use Rattle.ot_text.specs.declared.edit.Place.{Place}
 use Rattle.ot_text.specs.Run.{Keep, Add, Skip, base_of}
 use Rattle.ot_text.specs.Components.{run_of, runs}
-use Rattle.ot_text.specs.Chunks.{lists, joined, IsChunked}
+use Rattle.ot_text.specs.Chunks.{lists, concatenated, IsChunked}
 use Rattle.ot_text.specs.Spots.{Spot, chunks_of, start, step, edited, capacities, HasMore, HaveRoom, behind, IsPlace, spot_at, IsSurvey, Sees}
 use Rattle.ot_text.proofs.Built.{past_end}
 use Rattle.ot_text.proofs.Applied.{runs_rest}
@@ -127,14 +127,14 @@ spot_start : {T : Type 0} (cs : List (List T)) → 0 < length cs → spot_at cs 
 spot_start [] h = absurd (omega arith)
 spot_start (c ∷ cs) h = refl
 
-start-left : {T : Type 0} (cs : List (List T)) → left (start cs) ≡ joined cs
+start-left : {T : Type 0} (cs : List (List T)) → left (start cs) ≡ concatenated cs
 start-left [] = refl
 start-left (c ∷ cs) = refl
 
-pub editing_none : {T : Type 0} (components : List (Component T)) (now : List (Vec T Global)) → 0 < length (lists now) → base_of (runs components) ≤ length (joined (lists now)) → HaveRoom (runs components) (start (lists now)) (capacities now) → IsEditing components (edited (runs components) (start (lists now))) 0 (record { chunk = 0; at = 0 }) now
+pub editing_none : {T : Type 0} (components : List (Component T)) (now : List (Vec T Global)) → 0 < length (lists now) → base_of (runs components) ≤ length (concatenated (lists now)) → HaveRoom (runs components) (start (lists now)) (capacities now) → IsEditing components (edited (runs components) (start (lists now))) 0 (record { chunk = 0; at = 0 }) now
 editing_none {T} components now some h room =
     let s = spot_start (lists now) some in
-    let size : length (left (spot_at (lists now) (record { chunk = 0; at = 0 }))) ≡ length (joined (lists now)) = ap (λ (t : Spot T). length (left t)) s ∙ ap length (start-left (lists now)) in
+    let size : length (left (spot_at (lists now) (record { chunk = 0; at = 0 }))) ≡ length (concatenated (lists now)) = ap (λ (t : Spot T). length (left t)) s ∙ ap length (start-left (lists now)) in
     record {
       place_is = record { there = some; inside = omega arith };
       within = rw size h;
@@ -149,12 +149,12 @@ module _ {T : Type 0} (components : List (Component T)) (whole : Spot T) (i : �
   pub edit_retain_within : (n : ℕ) → c ≡ Retain n → n ≤ length (spot_at (lists now) place).rest + behind (lists now) place.chunk
   edit_retain_within n is =
       let f = rw (rest_of (Retain n) is) at before.within in
-      omega (arith, f, length-append (spot_at (lists now) place).rest (joined (spot_at (lists now) place).after))
+      omega (arith, f, length-append (spot_at (lists now) place).rest (concatenated (spot_at (lists now) place).after))
 
   pub edit_delete_within : (n : ℕ) → c ≡ Delete n → n ≤ length (spot_at (lists now) place).rest + behind (lists now) place.chunk
   edit_delete_within n is =
       let f = rw (rest_of (Delete n) is) at before.within in
-      omega (arith, f, length-append (spot_at (lists now) place).rest (joined (spot_at (lists now) place).after))
+      omega (arith, f, length-append (spot_at (lists now) place).rest (concatenated (spot_at (lists now) place).after))
 
   pub edit_insert_room : (v : Vec T Global) → c ≡ Insert v → length (get_or (lists now) place.chunk []) + length v.items ≤ get_or (capacities now) place.chunk 0
   edit_insert_room v is =

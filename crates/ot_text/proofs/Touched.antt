@@ -5,7 +5,7 @@ use Rattle.ot_text.specs.declared.Component.TheVariants.{Retain, Insert, Delete}
 use Rattle.ot_text.specs.Operation.{Operation, apply}
 use Rattle.ot_text.specs.Run.{Run, Keep, base_of, operation_of}
 use Rattle.ot_text.specs.Components.{run_of, runs}
-use Rattle.ot_text.specs.Chunks.{joined, IsChunked, IsHeld}
+use Rattle.ot_text.specs.Chunks.{concatenated, IsChunked, IsHeld}
 use Rattle.ot_text.specs.Spots.{Spot, chunks_of, start, edited}
 use Rattle.ot_text.proofs.ApplyLaws.{length-apply}
 use Rattle.ot_text.proofs.OperationLaws.{is_operation}
@@ -30,16 +30,16 @@ pub same_before_last : {T : Type 0} (cs : List (Component T)) (k n : ℕ) → k 
 same_before_last {T} cs k n h e s =
     sym (edited-last (runs (take k cs)) n s) ∙ ap (λ (rs : List (Run T)). chunks_of (edited rs s)) (sym (runs_last cs k n h e))
 
-pub in_place_text : {T : Type 0} (op : Operation T) (touched all : List (Run T)) (old new : List (List T)) → operation_of all ≡ op → op.base ≡ length (joined old) → ((s : Spot T) → chunks_of (edited touched s) ≡ chunks_of (edited all s)) → new ≡ chunks_of (edited touched (start old)) → joined new ≡ apply op (joined old)
+pub in_place_text : {T : Type 0} (op : Operation T) (touched all : List (Run T)) (old new : List (List T)) → operation_of all ≡ op → op.base ≡ length (concatenated old) → ((s : Spot T) → chunks_of (edited touched s) ≡ chunks_of (edited all s)) → new ≡ chunks_of (edited touched (start old)) → concatenated new ≡ apply op (concatenated old)
 in_place_text {T} op touched all old new spells base same is =
-    let takes : base_of all ≡ length (joined old) = ap (λ (o : Operation T). o.base) spells ∙ base in
-    ap joined (is ∙ same (start old)) ∙ edited-applies all old takes ∙ ap (λ (o : Operation T). apply o (joined old)) spells
+    let takes : base_of all ≡ length (concatenated old) = ap (λ (o : Operation T). o.base) spells ∙ base in
+    ap concatenated (is ∙ same (start old)) ∙ edited-applies all old takes ∙ ap (λ (o : Operation T). apply o (concatenated old)) spells
 
-pub in_place_held : {T : Type 0} (op : Operation T) (touched all : List (Run T)) (old new : List (List T)) (count : ℕ) → operation_of all ≡ op → op.base ≡ length (joined old) → ((s : Spot T) → chunks_of (edited touched s) ≡ chunks_of (edited all s)) → new ≡ chunks_of (edited touched (start old)) → IsChunked (chunks_of (edited touched (start old))) → count ≡ length op.image → count ≤ 1000000 → IsHeld new count
+pub in_place_held : {T : Type 0} (op : Operation T) (touched all : List (Run T)) (old new : List (List T)) (count : ℕ) → operation_of all ≡ op → op.base ≡ length (concatenated old) → ((s : Spot T) → chunks_of (edited touched s) ≡ chunks_of (edited all s)) → new ≡ chunks_of (edited touched (start old)) → IsChunked (chunks_of (edited touched (start old))) → count ≡ length op.image → count ≤ 1000000 → IsHeld new count
 in_place_held {T} op touched all old new count spells base same is chunked size small =
     let text = in_place_text op touched all old new spells base same is in
     record {
       chunked = rw is chunked;
-      count_is = rw (size, text) (sym (length-apply op (joined old) (is_operation all op spells) (omega (arith, base))));
+      count_is = rw (size, text) (sym (length-apply op (concatenated old) (is_operation all op spells) (omega (arith, base))));
       fits = small;
     }

@@ -1,6 +1,7 @@
 -- Run-length form of an operation, and its normal form.
 use Rattle.std.specs.Prelude.{◌≡◌, ℕ, zero, suc, ◌+◌, ◌-◌, ◌<◌, ◌≤◌, List, [], ◌∷◌, ◌++◌, map, length}
 use Rattle.ot_text.specs.Operation.{Item, Old, New, olds, Operation, news}
+use Rattle.ot_text.specs.declared.TheConstants.{LIMIT}
 
 -- a run of places that stay, of new items, or of places that go
 pub data Run (A : Type 0) : Type 0 where
@@ -102,5 +103,5 @@ pub record IsSound {A : Type 0} (rs : List (Run A)) (base target inserted : ℕ)
   pub base_is : base ≡ base_of rs
   pub target_is : target ≡ length (image_from 0 rs)
   pub inserted_is : inserted ≡ length (news (image_from 0 rs))
-  pub base_fits : base ≤ 1000000
-  pub target_fits : target ≤ 1000000
+  pub base_fits : base ≤ LIMIT
+  pub target_fits : target ≤ LIMIT

@@ -4,7 +4,7 @@ use Rattle.std.specs.declared.alloc.Global.{Global}
 use Rattle.ot_text.specs.declared.survey.Survey.{Survey}
 use Rattle.ot_text.specs.declared.edit.Place.{Place}
 use Rattle.ot_text.specs.Run.{Run, Keep, Add, Skip}
-use Rattle.ot_text.specs.Chunks.{joined, IsChunked, MayEnd}
+use Rattle.ot_text.specs.Chunks.{concatenated, IsChunked, MayEnd}
 
 -- the chunks before a spot, its own chunk up to it and from it on, and the chunks after it
 pub record Spot (A : Type 0) : Type 0 where
@@ -82,7 +82,7 @@ spot_at cs place = record {
 
 -- how many items lie in the chunks behind that one
 abbrev pub behind : {A : Type 0} → List (List A) → ℕ → ℕ
-behind cs chunk = length (joined (drop (suc chunk) cs))
+behind cs chunk = length (concatenated (drop (suc chunk) cs))
 
 -- a survey stands in a chunk, and its numbers are small
 pub record IsSurvey {A : Type 0} (cs : List (List A)) (survey : Survey) : Type 0 where

@@ -1,11 +1,13 @@
-// What components make of a document's chunks.
+//! What components make of a document's chunks.
+
 ghost use Rattle.std.specs.Prelude.{◌≡◌, ◌≤◌, [], length, IfOk};
 ghost use Rattle.ot_text.specs.Operation.{apply, invert};
 ghost use Rattle.ot_text.specs.Run.{base_of, image_from, operation_of};
 ghost use Rattle.ot_text.specs.Components.{runs};
-ghost use Rattle.ot_text.specs.Chunks.{lists, joined, IsChunked};
+ghost use Rattle.ot_text.specs.Chunks.{lists, concatenated, IsChunked};
 ghost use Rattle.ot_text.specs.Spots.{Spot, chunks_of, edited};
 ghost use Rattle.ot_text.specs.Draft.{IsInOrder, IsDraft, written};
+ghost use Rattle.ot_text.specs.declared.TheConstants.{LIMIT};
 
 use crate::cursor::Cursor;
 use crate::draft::Draft;
@@ -31,11 +33,11 @@ pub fn draft_components<T: Copy>(
     chunks: &[Vec<T>],
 ) -> Result<Draft<T>, AllocError>
     requires chunked { IsChunked (lists chunks.now) }
-    requires base { base_of (runs components.now) ≤ length (joined (lists chunks.now)) }
+    requires base { base_of (runs components.now) ≤ length (concatenated (lists chunks.now)) }
     ensures draft { IfOk result (λ d. IsDraft (lists chunks.now) d) }
     ensures empty { IfOk result (λ d. d.pending.items ≡ []) }
     ensures order { IfOk result (λ d. IsInOrder 0 (length chunks.now) d.pieces.items) }
-    ensures text { IfOk result (λ d. written (lists chunks.now) d ≡ apply (operation_of (runs components.now)) (joined (lists chunks.now))) }
+    ensures text { IfOk result (λ d. written (lists chunks.now) d ≡ apply (operation_of (runs components.now)) (concatenated (lists chunks.now))) }
 {
     let room = chunks.len().saturating_add(components.len());
     let mut draft = Draft::new(alloc, room)?;
@@ -59,8 +61,8 @@ pub fn apply_components<T: Copy>(
     room: usize,
 ) -> Result<Vec<T>, AllocError>
     requires chunked { IsChunked (lists chunks.now) }
-    requires base { base_of (runs components.now) ≤ length (joined (lists chunks.now)) }
-    ensures { IfOk result (λ v. v.items ≡ apply (operation_of (runs components.now)) (joined (lists chunks.now))) }
+    requires base { base_of (runs components.now) ≤ length (concatenated (lists chunks.now)) }
+    ensures { IfOk result (λ v. v.items ≡ apply (operation_of (runs components.now)) (concatenated (lists chunks.now))) }
 {
     let mut items = Vec::with_capacity(alloc, room)?;
     let mut cursor = Cursor::start();
@@ -81,10 +83,10 @@ pub fn invert_components<T: Element>(
     chunks: &[Vec<T>],
 ) -> Result<TextOp<T>, AllocError>
     requires chunked { IsChunked (lists chunks.now) }
-    requires base { base_of (runs components.now) ≡ length (joined (lists chunks.now)) }
-    requires base_fits { length (joined (lists chunks.now)) ≤ 1000000 }
-    requires target_fits { length (image_from 0 (runs components.now)) ≤ 1000000 }
-    ensures { IfOk result (λ op. op ≡ invert (operation_of (runs components.now)) (joined (lists chunks.now))) }
+    requires base { base_of (runs components.now) ≡ length (concatenated (lists chunks.now)) }
+    requires base_fits { length (concatenated (lists chunks.now)) ≤ LIMIT }
+    requires target_fits { length (image_from 0 (runs components.now)) ≤ LIMIT }
+    ensures { IfOk result (λ op. op ≡ invert (operation_of (runs components.now)) (concatenated (lists chunks.now))) }
 {
     let mut inverse = TextOp::with_capacity(alloc, components.len())?;
     let mut cursor = Cursor::start();
@@ -98,7 +100,7 @@ pub fn invert_components<T: Element>(
             Component::Delete(count) => {
                 let mut text = Vec::with_capacity(alloc, *count)?;
                 cursor.read(chunks, *count, &mut text)?;
-                only_memory(inverse.insert(text.as_slice()))?;
+                only_memory(inverse.insert_vec(text))?;
             }
         }
     }

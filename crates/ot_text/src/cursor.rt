@@ -1,4 +1,5 @@
-// A place in a list that is held in chunks.
+//! A place in a list that is held in chunks.
+
 ghost use Rattle.std.specs.Prelude.{◌≡◌, ◌+◌, ◌<◌, ◌≤◌, ◌++◌, length, take, drop, OnOk};
 ghost use Rattle.ot_text.specs.Chunks.{lists, IsChunked, rest_at, left_at, IsInside};
 

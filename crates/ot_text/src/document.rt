@@ -1,7 +1,9 @@
-// A document: a list of items, held in chunks.
+//! A document: a list of items, held in chunks.
+
 ghost use Rattle.std.specs.Prelude.{◌≡◌, ◌+◌, ◌*◌, ◌/◌, ◌≤◌, ◌<◌, ◌↔◌, [], length, take, drop, OnOk, OnErr, IfOk, IsTrue, slice_get};
 ghost use Rattle.ot_text.specs.Operation.{apply};
-ghost use Rattle.ot_text.specs.Chunks.{lists, joined, IsChunked};
+ghost use Rattle.ot_text.specs.Chunks.{lists, concatenated, IsChunked};
+ghost use Rattle.ot_text.specs.declared.TheConstants.{LIMIT};
 
 use crate::change::{apply_components, draft_components, without_last_retain};
 use crate::compare::same_items;
@@ -26,9 +28,9 @@ impl<T> Model for Doc<T> {
 
     ghost Value = { List T };
 
-    ghost use Rattle.ot_text.specs.Chunks.{lists, joined, IsHeld};
+    ghost use Rattle.ot_text.specs.Chunks.{lists, concatenated, IsHeld};
 
-    ghost view = { λ d. joined (lists d.chunks.items) };
+    ghost view = { λ d. concatenated (lists d.chunks.items) };
 
     ghost invariant = { λ d. IsHeld (lists d.chunks.items) d.count };
 }
@@ -47,7 +49,7 @@ fn copy_chunks<T: Copy>(alloc: Global, chunks: &[Vec<T>]) -> Result<Vec<Vec<T>>,
 impl<T: Element> Doc<T> {
     /// The document of these elements, which are copied; at most 1,000,000. `AllocError` where a growth was refused.
     pub fn from_slice(alloc: Global, items: &[T]) -> Result<Doc<T>, AllocError>
-        requires { length items.now ≤ 1000000 }
+        requires { length items.now ≤ LIMIT }
         ensures { IfOk result (λ d. d ≡ items.now) }
     {
         let none = Vec::new(alloc);
@@ -79,7 +81,7 @@ impl<T: Element> Doc<T> {
     /// How many elements there are. A look-up.
     pub fn len(&self) -> usize
         ensures value { result ≡ length self.now }
-        ensures small { result ≤ 1000000 }
+        ensures small { result ≤ LIMIT }
     {
         self.count // kept beside the chunks
     }
@@ -229,9 +231,9 @@ impl<T: Element> Doc<T> {
 fn same_lists<T: Element>(a: &[Vec<T>], b: &[Vec<T>], count: usize) -> bool
     requires a { IsChunked (lists a.now) }
     requires b { IsChunked (lists b.now) }
-    requires a_count { length (joined (lists a.now)) ≡ count }
-    requires b_count { length (joined (lists b.now)) ≡ count }
-    ensures { IsTrue result ↔ (joined (lists a.now) ≡ joined (lists b.now)) }
+    requires a_count { length (concatenated (lists a.now)) ≡ count }
+    requires b_count { length (concatenated (lists b.now)) ≡ count }
+    ensures { IsTrue result ↔ (concatenated (lists a.now) ≡ concatenated (lists b.now)) }
 {
     let mut at_a = Cursor::start();
     let mut at_b = Cursor::start();

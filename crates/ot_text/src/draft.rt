@@ -1,6 +1,7 @@
-// The chunks of a changed document, before any old chunk moves.
+//! The chunks of a changed document, before any old chunk moves.
+
 ghost use Rattle.std.specs.Prelude.{◌≡◌, ◌↔◌, ◌+◌, ◌<◌, ◌≤◌, ◌++◌, ℕ, [], length, get_or, take, drop, OnOk, IsTrue, IfOk, vec_len, vec_capacity};
-ghost use Rattle.ot_text.specs.Chunks.{lists, joined, IsChunked, MayEnd, rest_at, left_at, IsInside};
+ghost use Rattle.ot_text.specs.Chunks.{lists, concatenated, IsChunked, MayEnd, rest_at, left_at, IsInside};
 ghost use Rattle.ot_text.specs.Draft.{content, contents, IsInOrder, IsDraft, written, Continues};
 
 use crate::cursor::Cursor;
@@ -116,7 +117,7 @@ impl<T: Copy> Draft<T> {
         Ok(())
     }
 
-    // Writes an old chunk: it moves, unless it has to be joined with what stands before it.
+    // Writes an old chunk: it moves, unless it has to be concatenated with what stands before it.
     fn keep(&mut self, chunks: &[Vec<T>], place: usize) -> Result<(), AllocError>
         requires draft { IsDraft (lists chunks.now) self.old }
         requires order { IsInOrder 0 place self.old.pieces.items }

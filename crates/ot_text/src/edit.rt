@@ -1,8 +1,9 @@
-// Makes a change in the chunks where they lie. Nothing is allocated.
+//! Makes a change in the chunks where they lie. Nothing is allocated.
+
 ghost use Rattle.std.specs.Prelude.{◌≡◌, ◌+◌, ◌<◌, ◌≤◌, suc, ◌++◌, [], length, take, drop, get_or, vec_len, vec_capacity};
 ghost use Rattle.ot_text.specs.Run.{Keep, Add, Skip, base_of};
 ghost use Rattle.ot_text.specs.Components.{runs};
-ghost use Rattle.ot_text.specs.Chunks.{lists, joined};
+ghost use Rattle.ot_text.specs.Chunks.{lists, concatenated};
 ghost use Rattle.ot_text.specs.Spots.{Spot, chunks_of, start, step, edited, capacities, HasMore, HaveRoom, behind, IsPlace, spot_at};
 
 use crate::Component;
@@ -97,7 +98,7 @@ impl Place {
 // Makes of the chunks what the components make of them, which have room for it.
 pub fn edit_components<T: Copy>(components: &[Component<T>], chunks: &mut Vec<Vec<T>>)
     requires some { 0 < length chunks.old.items }
-    requires base { base_of (runs components.now) ≤ length (joined (lists chunks.old.items)) }
+    requires base { base_of (runs components.now) ≤ length (concatenated (lists chunks.old.items)) }
     requires room { HaveRoom (runs components.now) (start (lists chunks.old.items)) (capacities chunks.old.items) }
     ensures { lists chunks.new.items ≡ chunks_of (edited (runs components.now) (start (lists chunks.old.items))) }
 {

@@ -1,4 +1,5 @@
-// What the items of a document are.
+//! What the items of a document are.
+
 ghost use Rattle.std.specs.Prelude.{◌≡◌, true};
 
 /// A type of elements: `char`, or a struct of your own. Copied freely (`Copy`), and `==` (`Eq`) is equality of values, which an

@@ -55,7 +55,7 @@ mod element;
 mod refusal;
 mod survey;
 
-use build::{add_delete, add_insert, add_retain};
+use build::{add_delete, add_insert, add_retain, add_text};
 use change::invert_components;
 use compare::same_components;
 use copy::copy_components;
@@ -148,7 +148,7 @@ impl<T: Element> TextOp<T> {
     }
 
     /// Adds the elements of `text`; an empty text adds nothing. Where the last component is a deletion the text comes before
-    /// it, and it is joined with an insertion that stands there. Copies `text` alone.
+    /// it, and it is concatenated with an insertion that stands there. Copies `text` alone.
     ///
     /// `TooLong` exactly where the target length would pass 1,000,000; else `Memory` where a growth was refused. After an
     /// error the operation is as it was.
@@ -168,6 +168,28 @@ impl<T: Element> TextOp<T> {
         add_insert(alloc, &mut self.components, text)?;
         self.target += count;
         self.inserted += count;
+        Ok(())
+    }
+
+    /// Does as `insert` with a text that is no longer wanted: it moves in, and is copied only where it is concatenated with an insertion.
+    ///
+    /// `TooLong` exactly where the target length would pass 1,000,000; else `Memory` where a growth was refused. After an
+    /// error the operation is as it was, and the text is gone.
+    pub fn insert_vec(&mut self, text: Vec<T>) -> Result<(), OpRefusal>
+        ensures ok { OnOk result (self.new ≡ with_insert self.old text.items) }
+        ensures too_long { IsErrOf result OpRefusal.TooLong ↔ IsTooLong (with_insert self.old text.items) }
+        ensures err { OnErr result (self.new ≡ self.old) }
+    {
+        let added = text.len();
+        if added > LIMIT - self.target {
+            return Err(OpRefusal::TooLong);
+        }
+        if added == 0 {
+            return Ok(());
+        }
+        add_text(&mut self.components, text)?;
+        self.target += added;
+        self.inserted += added;
         Ok(())
     }
 
@@ -200,17 +222,25 @@ impl<T: Element> TextOp<T> {
     pub fn components(&self) -> &[Component<T>]
         ensures normal { IsNormal (runs result.now) }
         ensures spells { operation_of (runs result.now) ≡ self.now }
-        ensures fits { max self.now.base (length self.now.image) ≤ 1000000 }
+        ensures fits { max self.now.base (length self.now.image) ≤ LIMIT }
         ensures form { runs result.now ≡ normal_runs self.now }
     {
         &self.components[..]
+    }
+
+    /// The components themselves, in order, where the operation is no longer wanted: nothing is copied.
+    pub fn into_components(self) -> Vec<Component<T>>
+        ensures normal { IsNormal (runs result.items) }
+        ensures spells { operation_of (runs result.items) ≡ self }
+    {
+        self.components
     }
 
     /// The base length: how many elements the documents have that the operation takes. A look-up.
     pub fn base_len(&self) -> usize
         ensures value { result ≡ self.now.base }
         ensures operation { IsOperation self.now }
-        ensures small { result ≤ 1000000 }
+        ensures small { result ≤ LIMIT }
     {
         self.base // kept beside the components
     }
@@ -218,7 +248,7 @@ impl<T: Element> TextOp<T> {
     /// The target length: how many elements the documents have that the operation makes. A look-up.
     pub fn target_len(&self) -> usize
         ensures value { result ≡ length self.now.image }
-        ensures small { result ≤ 1000000 }
+        ensures small { result ≤ LIMIT }
     {
         self.target // kept beside the components
     }
@@ -226,7 +256,7 @@ impl<T: Element> TextOp<T> {
     /// How many elements the operation adds, in all its insertions. A look-up.
     pub fn inserted(&self) -> usize
         ensures value { result ≡ length (news self.now.image) }
-        ensures small { result ≤ 1000000 }
+        ensures small { result ≤ LIMIT }
     {
         self.inserted // kept beside the components
     }

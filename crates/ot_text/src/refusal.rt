@@ -1,4 +1,5 @@
-// Why a builder call is refused.
+//! Why a builder call is refused.
+
 ghost use Rattle.std.specs.Prelude.{◌≡◌, OnOk, IsOk, IsErrOf};
 
 use std::alloc::{AllocError, AllocFailed};

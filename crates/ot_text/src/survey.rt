@@ -1,8 +1,9 @@
-// Looks whether a change can be made in the chunks where they lie, and makes room in them.
+//! Looks whether a change can be made in the chunks where they lie, and makes room in them.
+
 ghost use Rattle.std.specs.Prelude.{◌≡◌, ◌↔◌, ◌+◌, ◌<◌, ◌≤◌, suc, ◌++◌, ◌∷◌, [], length, take, drop, get_or, map, OnOk, IfOk, IsTrue, vec_capacity};
 ghost use Rattle.ot_text.specs.Run.{Keep, Add, Skip, base_of};
 ghost use Rattle.ot_text.specs.Components.{runs};
-ghost use Rattle.ot_text.specs.Chunks.{lists, joined, IsChunked};
+ghost use Rattle.ot_text.specs.Chunks.{lists, concatenated, IsChunked};
 ghost use Rattle.ot_text.specs.Spots.{Spot, chunks_of, start, step, edited, capacities, HasMore, HaveRoom, behind, IsSurvey, Sees, HasLeft};
 
 use crate::Component;
@@ -25,7 +26,7 @@ impl Survey {
         requires chunked { IsChunked (lists chunks.now) }
         requires some { 0 < length chunks.now }
         ensures survey { IsSurvey (lists chunks.now) result }
-        ensures ahead { result.rest + behind (lists chunks.now) result.chunk ≡ length (joined (lists chunks.now)) }
+        ensures ahead { result.rest + behind (lists chunks.now) result.chunk ≡ length (concatenated (lists chunks.now)) }
         ensures spot { Sees (lists chunks.now) result (start (lists chunks.now)) }
     {
         Survey {
@@ -158,7 +159,7 @@ pub fn survey_components<T>(
 ) -> Result<bool, AllocError>
     requires chunked { IsChunked (lists chunks.old.items) }
     requires some { 0 < length chunks.old.items }
-    requires base { base_of (runs components.now) ≤ length (joined (lists chunks.old.items)) }
+    requires base { base_of (runs components.now) ≤ length (concatenated (lists chunks.old.items)) }
     ensures same { lists chunks.new.items ≡ lists chunks.old.items }
     ensures chunked { IfOk result (λ fits. IsTrue fits → IsChunked (chunks_of (edited (runs components.now) (start (lists chunks.old.items))))) }
     ensures room { IfOk result (λ fits. IsTrue fits → HaveRoom (runs components.now) (start (lists chunks.old.items)) (capacities chunks.new.items)) }

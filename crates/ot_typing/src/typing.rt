@@ -1,7 +1,9 @@
-// Actions.
+//! Actions.
+
 ghost use Rattle.std.specs.Prelude.{◌≡◌, ◌≤◌, IfOk, IsErrOf};
 ghost use Rattle.ot_text.specs.Operation.{IsTooLong};
 ghost use Rattle.ot_typing.specs.Typing.{action_view, edit_of};
+ghost use Rattle.ot_text.specs.declared.TheConstants.{LIMIT};
 
 use ot_text::{OpRefusal, TextOp};
 use std::alloc::{AllocError, Global};
@@ -22,7 +24,7 @@ impl Typing {
     /// retain the rest. `TooLong` where the list would have more than 1,000,000 elements after it; else `Memory` where a growth
     /// was refused.
     pub fn edit(&self, alloc: Global, length: usize) -> Result<TextOp<char>, OpRefusal>
-        requires { length ≤ 1000000 }
+        requires { length ≤ LIMIT }
         ensures ok { IfOk result (λ op. op ≡ edit_of (action_view self.now) length) }
         ensures too_long { IsErrOf result OpRefusal.TooLong → IsTooLong (edit_of (action_view self.now) length) }
     {

@@ -14,6 +14,7 @@ use Rattle.ot_workers.specs.declared.fault.WorkFault.{WorkFault}
 use Rattle.ot_workers.specs.declared.fault.WorkFault.TheVariants.{RecordFull, Stopped, Memory, Refused}
 use Rattle.ot_workers.specs.declared.playing.Task.{Task}
 use Rattle.ot_workers.specs.declared.playing.Task.TheVariants.{Enter, Read as Reads}
+use Rattle.ot_model.specs.declared.limits.TheConstants.{SESSION_LIMIT}
 
 -- the step that takes a message off the client's downlink
 abbrev pub step_for : ℕ → Head → Instr
@@ -74,7 +75,7 @@ IsEnterFault x a Refused = IsUntypable x a
 
 -- a read is refused in a session of 64 steps alone, and of a turn that hears and types, the typing alone
 abbrev pub IsRefused : Session → Task → Session → Type 0
-IsRefused x Reads y = length x.steps ≡ 64
+IsRefused x Reads y = length x.steps ≡ SESSION_LIMIT
 IsRefused x (Enter None) y = ⊥
 IsRefused x (Enter (Some t)) y = HasMade x (heard x) y × IsUntypable y (action_view t.now)
 

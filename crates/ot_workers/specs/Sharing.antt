@@ -3,13 +3,14 @@ use Rattle.std.specs.Prelude.{◌≡◌, ℕ, ◌+◌, ◌≤◌, List, length, 
 use Rattle.ot_model.specs.Table.{Client}
 use Rattle.ot_typing.specs.Typing.{Action, inserted}
 use Rattle.ot_board.specs.Boards.{BoardView}
+use Rattle.ot_isa.specs.declared.tagging.TheConstants.{INSERTED_LIMIT}
 
 -- the client is not out, and its user has at most 1,000 actions, which with what the client has inserted already insert at most 15,000
 -- characters
 pub record MayType (b : BoardView) (c : ℕ) (actions : List Action) : Type 0 where
   pub home : slice_get b.out c ≡ Some false
   pub few : length actions ≤ 1000
-  pub short : (x : Client) → slice_get b.state.clients c ≡ Some x → x.count + inserted actions ≤ 15000
+  pub short : (x : Client) → slice_get b.state.clients c ≡ Some x → x.count + inserted actions ≤ INSERTED_LIMIT
 
 -- there is one list of actions for each client
 pub record MayShare (b : BoardView) (typing : List (List Action)) : Type 0 where

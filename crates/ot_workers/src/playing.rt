@@ -7,6 +7,7 @@ ghost use Rattle.ot_board.specs.Lents.{session_of};
 ghost use Rattle.ot_typing.specs.Typing.{action_view, edit_of};
 ghost use Rattle.ot_workers.specs.Playing.{heard, turn_steps, HasHeard, HasMade, IsCutShort, IsEnterFault, IsPlayFault, MayPlay};
 ghost use Rattle.ot_workers.specs.declared.playing.Task.TheVariants as Task;
+ghost use Rattle.ot_model.specs.declared.limits.TheConstants.{SESSION_LIMIT};
 
 use crate::fault::WorkFault;
 use crate::gate::Gate;
@@ -31,7 +32,7 @@ pub enum Task<'a> {
 // Delivers the next message, or acknowledges it where it is an acknowledgement. What is refused is memory.
 fn hear_next(lent: Lent) -> Result<Lent, Lent>
     requires next { 0 < length (session_of lent).now.incoming }
-    requires room { length (session_of lent).steps < 64 }
+    requires room { length (session_of lent).steps < SESSION_LIMIT }
     ensures ok { IfOk result (λ next. HasHeard (session_of lent) (session_of next)) }
     ensures back { IfErr result (λ back. back ≡ lent) }
 {
@@ -66,7 +67,7 @@ fn hear(mut lent: Lent) -> Result<Lent, Lent>
 
 // Types the action on the client's list.
 fn enter(alloc: Global, lent: Lent, action: &Typing) -> Result<Lent, (WorkFault, Lent)>
-    requires { length (session_of lent).steps < 64 }
+    requires { length (session_of lent).steps < SESSION_LIMIT }
     ensures ok { IfOk result (λ next. IsNext (session_of lent) (Edit (session_of lent).start.number (edit_of (action_view action.now) (length (session_of lent).now.client.list))) None (session_of next)) }
     ensures back { IfErr result (λ back. back.1 ≡ lent) }
     ensures fault { IfErr result (λ back. IsEnterFault (session_of lent) (action_view action.now) back.0) }

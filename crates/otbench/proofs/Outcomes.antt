@@ -5,8 +5,8 @@ use Rattle.std.proofs.KnownBytes.{Keeps-refl}
 use Rattle.streams.specs.Streams.{WritesPart}
 use Rattle.clap.specs.Words.{Text, takes}
 use Rattle.outcomes.specs.Outcomes.{Streams, memory_fault}
-use Rattle.otbench.specs.declared.words.Asked.{Asked}
-use Rattle.otbench.specs.Requests.{otbench_app, request_of}
+use Rattle.ot_words.specs.declared.words.Asked.{Asked}
+use Rattle.ot_words.specs.Requests.{otbench_app, request_of}
 use Rattle.otbench.specs.Served.{ServesAsked, ServesWords}
 
 -- a subcommand

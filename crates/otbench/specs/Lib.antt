@@ -1,4 +1,3 @@
-pub mod Requests
 pub mod Ran
 pub mod Converted
 pub mod Generated

@@ -2,7 +2,7 @@
 use Rattle.std.specs.Prelude.{◌⊎◌, ℕ, List, Option, Some, None}
 use Rattle.ot_isa.specs.Program.{Program}
 use Rattle.ot_model.specs.declared.shown.Refusal.{Refusal}
-use Rattle.ot_machine.specs.declared.outcome.Run.{Run}
+use Rattle.ot_machine.specs.declared.outcome.Replay.{Replay}
 use Rattle.ot_machine.specs.Ended.{IsRun}
 use Rattle.ot_report.specs.Printed.{IsReport}
 use Rattle.outcomes.specs.Outcomes.{Streams, Gives, WantsMemory}
@@ -14,7 +14,7 @@ stop_status (Some stop) = 1
 
 -- the run of the schedule, as it is printed
 pub record Reports (schedule : Program) (status : ℕ) (streams : Streams) : Type 0 where
-  pub run : Run
+  pub run : Replay
   pub is_run : IsRun schedule run
   pub text : List ℕ
   pub is_report : IsReport run text

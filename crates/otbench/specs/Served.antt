@@ -5,7 +5,7 @@ use Rattle.streams.specs.Streams.{WritesPart}
 use Rattle.clap.specs.Words.{Text, takes}
 use Rattle.ot_input.specs.Inputs.{OfText, OfImage}
 use Rattle.outcomes.specs.Outcomes.{Streams, WantsMemory}
-use Rattle.otbench.specs.Requests.{otbench_app, request_of}
+use Rattle.ot_words.specs.Requests.{otbench_app, request_of}
 use Rattle.otbench.specs.Ran.{MayReport}
 use Rattle.otbench.specs.Converted.{MayGiveImage, MayGiveText}
 use Rattle.otbench.specs.Generated.{Generates}
@@ -16,11 +16,11 @@ use Rattle.ot_steps_command.specs.Stepped.{Steps as DoesSteps}
 use Rattle.ot_explain_command.specs.Explains.{Explains}
 use Rattle.ot_conform_command.specs.Conformed.{Compares}
 use Rattle.ot_threads.specs.Threaded.{Threads as DoesThreads}
-use Rattle.otbench.specs.declared.words.Form.TheVariants as form
-use Rattle.otbench.specs.declared.words.Request.{Request}
-use Rattle.otbench.specs.declared.words.Request.TheVariants.{Run, Check, Debug, Assemble, Disassemble, Judge, Steps, Explain, Conform, Generate}
-use Rattle.otbench.specs.declared.words.Asked.{Asked}
-use Rattle.otbench.specs.declared.words.Asked.TheVariants.{Plainly, Threads}
+use Rattle.ot_words.specs.declared.words.Form.TheVariants as form
+use Rattle.ot_words.specs.declared.words.Request.{Request}
+use Rattle.ot_words.specs.declared.words.Request.TheVariants.{Run, Check, Debug, Assemble, Disassemble, Judge, Steps, Explain, Conform, Generate}
+use Rattle.ot_words.specs.declared.words.Asked.{Asked}
+use Rattle.ot_words.specs.declared.words.Asked.TheVariants.{Plainly, Threads}
 
 -- a subcommand that reads nothing
 abbrev pub WithoutInput : (ℕ → Streams → Type 0) → List ℕ → ℕ → Streams → Type 0

@@ -8,14 +8,14 @@ use crate::running::status_of;
 use ot_asm::assemble_from;
 use ot_input::complain_of_line;
 use ot_isa::Schedule;
-use ot_machine::{Run, run};
+use ot_machine::{Replay, run};
 use ot_report::find;
 use outcomes::{complain_of_memory, give};
 use std::alloc::Global;
 use std::io::{Read, Write};
 
 // The status of a run and of its trace.
-fn check_status(run: &Run, full: bool) -> u8
+fn check_status(run: &Replay, full: bool) -> u8
     ensures { result ≡ check_status full run.now.stopped }
 {
     if full { 1 } else { status_of(run) }

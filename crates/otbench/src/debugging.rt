@@ -1,4 +1,4 @@
-//! `debug`: a schedule's lines, a line `%%`, and commands that lead through its run forth and back.
+//! `debug`: a schedule's lines, a line `%%`, and commands that lead through its run back and forth.
 
 ghost use Rattle.std.specs.Prelude.{◌≡◌, Bool, IfSome};
 ghost use Rattle.line_reader.specs.Lines.{lines_of};

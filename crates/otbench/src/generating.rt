@@ -21,6 +21,7 @@ pub fn generate_session<O: Write, F: Write>(
 {
     match generate(alloc, seed as u64, shape) {
         Ok(schedule) => {
+            // For the proof: what every schedule keeps.
             let _limits = schedule.clients();
             give_text(alloc, &schedule, output, faults)
         }

@@ -1,13 +1,15 @@
 //! A proved test bench for ot.js sessions: the program.
 //!
 //! ```text
-//!    words ── words ──▶ Asked ── serving ──▶ running      run: a schedule's reads, stop and end
+//!    words ── ot_words ──▶ Asked ── serving ──▶ running      run: a schedule's reads, stop and end
 //!                                    ├──▶ checking     check: a run's stop, whether all is quiet, the verdict of its trace
-//!                                    ├──▶ debugging    debug: forth and back through a run, by commands
+//!                                    ├──▶ debugging    debug: back and forth through a run, by commands
 //!                                    ├──▶ converting   asm, dis: between a schedule's text and its image
 //!                                    ├──▶ judging      judge: whether a recorded trace has the weak list property
-//!                                    ├──▶ ot_steps_command  steps: a run as lines of JSON
 //!                                    ├──▶ generating   generate: a session made at random
+//!                                    ├──▶ ot_steps_command    steps: a run as lines of JSON
+//!                                    ├──▶ ot_explain_command  explain: a run in words
+//!                                    ├──▶ ot_conform_command  conform: a port's lines against the run
 //!                                    └──▶ ot_threads   threads: a plan that workers on threads type, as the schedule that they record
 //! ```
 //!
@@ -19,11 +21,9 @@ mod checking;
 mod converting;
 mod debugging;
 mod generating;
-mod help;
 mod judging;
 mod running;
 mod serving;
-mod words;
 
 use serving::serve;
 use std::process::ExitCode;

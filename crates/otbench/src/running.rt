@@ -8,7 +8,7 @@ use ot_asm::assemble_from;
 use ot_image::load;
 use ot_input::{complain_of_byte, complain_of_line};
 use ot_isa::Schedule;
-use ot_machine::{Run, run};
+use ot_machine::{Replay, run};
 use ot_report::print_run;
 use outcomes::{complain_of_input, complain_of_memory, give};
 use std::alloc::Global;
@@ -16,7 +16,7 @@ use std::io::{Read, Write};
 use streams::read_whole;
 
 /// The status of a run: 0 where all instructions were performed, else 1.
-pub fn status_of(run: &Run) -> u8
+pub fn status_of(run: &Replay) -> u8
     ensures { result ≡ stop_status run.now.stopped }
 {
     match run.stopped {

@@ -1,4 +1,4 @@
-use Rattle.std.proofs.Common.{◌≡◌, ◌∙◌, sym, arith}
+use Rattle.std.proofs.Common.{◌∙◌, sym, arith}
 use Rattle.serde_json.specs.View.{view}
 use Rattle.ot_conform.specs.Due.{due_of}
 use Rattle.ot_conform.proofs.FirstKey.{key_agrees, key_differs, no_key}

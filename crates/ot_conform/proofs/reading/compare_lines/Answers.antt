@@ -1,8 +1,6 @@
 use Rattle.std.proofs.Common.{◌≡◌, ◌+◌, ◌-◌, ◌^◌, ◌<◌, min, arith, subst, List, [], ◌∷◌, ℕ}
-use Rattle.std.specs.Prelude.{IfSome}
-use Rattle.line_reader.specs.Lines.{lines_of}
 use Rattle.line_reader.specs.Taken.{before, may_take}
-use Rattle.ot_conform.specs.Compared.{IsVerdictOf, Leads}
+use Rattle.ot_conform.specs.Compared.{Leads}
 use Rattle.ot_conform.specs.Ports.{counted_lines}
 use Rattle.ot_conform.proofs.Leading.{decided, finished, goes_further, is_begun, memory_at_first}
 use Rattle.ot_conform.proofs.Settling.{if_ok}

@@ -1,5 +1,4 @@
-use Rattle.std.proofs.Common.{◌≡◌, ◌∙◌, ◌+◌, ap, sym, arith, ℕ}
-use Rattle.ot_model.specs.Trace.{event_at}
+use Rattle.std.proofs.Common.{◌∙◌, ◌+◌, ap, sym, arith}
 use Rattle.ot_judge.specs.declared.trace.Event.{Event}
 use Rattle.ot_judge.specs.Turns.{HoldBefore, HoldsAfter}
 use Rattle.ot_judge.specs.Views.{views}

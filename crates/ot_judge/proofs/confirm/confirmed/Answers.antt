@@ -1,4 +1,4 @@
-use Rattle.std.proofs.Common.{◌≡◌, ◌∙◌, ap, sym, arith, get_or, length, List, Bool, true, false}
+use Rattle.std.proofs.Common.{◌≡◌, ◌∙◌, ap, sym, arith, get_or, length, List, Bool, false}
 use Rattle.std.proofs.lemmas.Bool.{both_ways}
 use Rattle.ot_judge.proofs.Exactly.{written}
 use Rattle.ot_judge.proofs.confirm.confirmed.Goals as goal

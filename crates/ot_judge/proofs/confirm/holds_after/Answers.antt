@@ -1,4 +1,4 @@
-use Rattle.std.proofs.Common.{◌≡◌, ◌<◌, ◌∙◌, ◌||◌, ap, sym, arith, length, refl, List, ℕ}
+use Rattle.std.proofs.Common.{◌<◌, ◌∙◌, ◌||◌, ap, sym, arith, length, refl, List, ℕ}
 use Rattle.std.specs.HashSet.{contains as set_contains}
 use Rattle.ot_isa.specs.declared.elements.Tag.{Tag}
 use Rattle.ot_model.specs.Trace.{contains, EventView, inserted_tags, same_tag}

@@ -1,4 +1,4 @@
-use Rattle.std.proofs.Common.{◌<◌, arith, ap, sym, length}
+use Rattle.std.proofs.Common.{◌<◌, arith, ap}
 use Rattle.ot_model.specs.Trace.{event_at}
 use Rattle.ot_model.specs.Visibility.{seen_of}
 use Rattle.ot_judge.specs.Views.{views}

@@ -1,4 +1,4 @@
-use Rattle.std.proofs.Common.{◌≡◌, ◌<◌, arith, ap, sym, length, inl, inr, subst, ℕ, List}
+use Rattle.std.proofs.Common.{◌≡◌, arith, ap, length, inl, inr, subst, ℕ, List}
 use Rattle.std.proofs.lemmas.Bool.{cases_lt}
 use Rattle.ot_model.specs.Trace.{event_at}
 use Rattle.ot_judge.specs.Turns.{Adds}

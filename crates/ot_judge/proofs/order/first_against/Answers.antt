@@ -1,4 +1,4 @@
-use Rattle.std.proofs.Common.{◌<◌, ◌∙◌, arith, sym, subst, inl, inr, map, ℕ, Vec, Global}
+use Rattle.std.proofs.Common.{◌∙◌, arith, sym, subst, inl, inr, map, ℕ, Vec, Global}
 use Rattle.std.proofs.lemmas.Bool.{cases_order}
 use Rattle.ot_isa.specs.declared.elements.Tag.{Tag}
 use Rattle.ot_judge.specs.declared.order.Reversal.{Reversal}

@@ -1,5 +1,5 @@
 use Rattle.std.proofs.Common.{◌<◌, ap, arith, length, refl}
-use Rattle.ot_model.specs.Visibility.{edits_before, seen_of}
+use Rattle.ot_model.specs.Visibility.{seen_of}
 use Rattle.ot_judge.specs.Views.{views}
 use Rattle.ot_judge.proofs.Counts.{sees-after}
 use Rattle.ot_judge.proofs.Views.{event_at-views, length-views}

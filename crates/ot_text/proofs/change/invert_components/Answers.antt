@@ -24,8 +24,8 @@ loop-component-preserved g c =
           let n : ℕ = w.in-Delete.count in
           let left = left_at (lists c.args.chunks.now) c.loop-component.cursor.chunk c.loop-component.cursor.offset in
           let done = w.in_ok-read-in-Delete.ensures in
-          let text : w.as_slice.result.now ≡ take n left = w.as_slice.ensures.value ∙ done.read ∙ rw w.in_ok-text-in-Delete.ensures.items refl in
-          let added = OnOk-at_ok w.insert.result (w.in_ok-only_memory-in-Delete.ensures) w.insert.ensures.ok in
+          let text : w.read.new.items.items ≡ take n left = done.read ∙ rw w.in_ok-text-in-Delete.ensures.items refl in
+          let added = OnOk-at_ok w.insert_vec.result (w.in_ok-only_memory-in-Delete.ensures) w.insert_vec.ensures.ok in
           rw (w.inverse-is, w.cursor-is, added, text)
           (inverting_delete _ _ _ _ _ _ _ c.loop-component-test.true c.component-item.is c.loop-component.invariant _ w.in-Delete.is _ _ done.inside done.left)
     ]
@@ -45,5 +45,5 @@ only_memory-requires-in-Insert g c = λ k.
 pub only_memory-requires-in-Delete : goal.only_memory-requires-in-Delete
 only_memory-requires-in-Delete g c = λ k.
     let left = left_at (lists c.args.chunks.now) c.loop-component.cursor.chunk c.loop-component.cursor.offset in
-    let text : c.as_slice.result.now ≡ take c.in-Delete.count left = c.as_slice.ensures.value ∙ c.in_ok-read-in-Delete.ensures.read ∙ rw c.in_ok-text-in-Delete.ensures.items refl in
-    insert_has_room _ _ _ _ _ _ _ c.loop-component-test.true c.component-item.is c.loop-component.invariant c.requires.target_fits c.requires.base_fits _ c.in-Delete.is (rw text at (c.insert.ensures.too_long.0 k))
+    let text : c.read.new.items.items ≡ take c.in-Delete.count left = c.in_ok-read-in-Delete.ensures.read ∙ rw c.in_ok-text-in-Delete.ensures.items refl in
+    insert_has_room _ _ _ _ _ _ _ c.loop-component-test.true c.component-item.is c.loop-component.invariant c.requires.target_fits c.requires.base_fits _ c.in-Delete.is (rw text at (c.insert_vec.ensures.too_long.0 k))

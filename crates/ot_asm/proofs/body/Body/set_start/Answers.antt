@@ -3,7 +3,7 @@ use Rattle.std.specs.Str.{chars}
 use Rattle.std.proofs.lemmas.Str.{chars_from_encodes}
 use Rattle.ot_isa.specs.Program.{Program}
 use Rattle.ot_asm.specs.Stepping.{drafted}
-use Rattle.ot_asm.specs.declared.place.Place.TheVariants.{InBody}
+use Rattle.ot_asm.specs.declared.section.Section.TheVariants.{InBody}
 use Rattle.ot_asm.proofs.Starts.{start_long, start_short}
 use Rattle.ot_asm.proofs.body.Body.set_start.Goals as goal
 

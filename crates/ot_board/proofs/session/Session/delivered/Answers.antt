@@ -1,7 +1,6 @@
 use Rattle.std.proofs.Common.{◌≡◌, ◌<◌, ap, sym, ◌∙◌, subst, length}
 use Rattle.ot_isa.specs.declared.elements.Tagged.{Tagged}
 use Rattle.ot_text.specs.Operation.{Operation}
-use Rattle.ot_client.specs.State as state
 use Rattle.ot_model.specs.Laws.{MayDeliver}
 use Rattle.ot_model.specs.Table.{Phase, carried}
 use Rattle.ot_model.specs.Session.{Session, IsAllowed}
@@ -18,12 +17,12 @@ pub delivered-requires-clause-operations : goal.delivered-requires-clause-operat
 delivered-requires-clause-operations g c =
     let fits = next_deliverable c.args.self.now c.args.op.now (subst IsAllowed c.self.view_is c.self.invariant.0) c.requires in
     let may = subst (λ (x : Session). MayDeliver x.now.client.phase c.args.op.now) (sym c.self.view_is) fits.operations in
-    subst (state.MayDeliver (g.S.ClientState.as_state c.self.inside.state).phase) (sym c.in_ok-copy.ensures) (operations_in _ c.args.op.now may)
+    operations_in _ c.args.op.now may
 
 pub returns-clause-base : goal.returns-clause-base
 returns-clause-base g c =
     let fits = next_deliverable c.args.self.now c.args.op.now (subst IsAllowed c.self.view_is c.self.invariant.0) c.requires in
     let phase = (g.S.ClientState.as_state c.self.inside.state).phase in
     let same = ap (λ (x : Session). x.now.client.phase) c.self.view_is in
-    let op = c.in_ok-copy.field-0 in
-    IfOk-weaker c.delivered.result _ _ (λ given is. ap (λ (o : Operation Tagged). o.base) (is ∙ sym (carried_in phase op) ∙ ap (λ (p : Phase). carried p op) same ∙ ap (carried c.args.self.now.now.client.phase) c.in_ok-copy.ensures) ∙ fits.base) c.delivered.ensures.applied
+    let op = c.args.op.now in
+    IfOk-weaker c.delivered.result _ _ (λ given is. ap (λ (o : Operation Tagged). o.base) (is ∙ sym (carried_in phase op) ∙ ap (λ (p : Phase). carried p op) same) ∙ fits.base) c.delivered.ensures.applied

@@ -4,7 +4,7 @@ use Rattle.ot_isa.specs.declared.elements.Tagged.{Tagged}
 use Rattle.ot_text.specs.Operation.{Operation}
 use Rattle.ot_steps.specs.Lines.{plain_operation}
 use Rattle.ot_steps.proofs.Progress.{performed_within}
-use Rattle.ot_conform.specs.Due.{DueLine, step_due}
+use Rattle.ot_conform.specs.Due.{step_due}
 use Rattle.ot_conform.specs.Read.{read_as}
 use Rattle.ot_conform.specs.declared.comparison.Comparison.{Comparison}
 use Rattle.ot_conform.proofs.Going.{due_is, goes_step}

@@ -4,26 +4,27 @@ use Rattle.ot_isa.specs.declared.instruction.Instr.TheVariants.{Deliver}
 use Rattle.ot_machine.specs.Seats.{client_of}
 use Rattle.ot_machine.proofs.RowLaws.{seat_at, of_value, wanting}
 use Rattle.ot_machine.proofs.Delivering.{receiver_queue, receiver_may, receiver_empty, receiver_done, receiver_performs, receiver_wrong}
+use Rattle.ot_machine.proofs.Keeping.{kept_client}
 use Rattle.ot_machine.proofs.machine.Machine.deliver.Goals as goal
 
 pub head-requires : goal.head-requires
-head-requires c =
+head-requires g c =
     receiver_queue c.self.inside.server c.self.inside.seats.items c.self.inside.steps c.args.client c.index_mut-seat.result.now (record { kept = c.self.invariant; at = seat_at c.self.inside.seats.items c.args.client c.len.result c.index_mut-seat.result.now (search rules) (search rules) c.index_mut-seat.ensures.value; below = search rules; on = c.if-is_none.ensures })
 
 pub returns-in_default-clause-refused : goal.returns-in_default-clause-refused
-returns-in_default-clause-refused c =
+returns-in_default-clause-refused g c =
     receiver_empty c.self.inside.server c.self.inside.seats.items c.self.inside.steps c.args.client c.index_mut-seat.result.now c.args.self.now
     (record { kept = c.self.invariant; at = seat_at c.self.inside.seats.items c.args.client c.len.result c.index_mut-seat.result.now (search rules) (search rules) c.index_mut-seat.ensures.value; below = search rules; on = c.if-is_none.ensures })
     c.self.view_is (sym c.in_default.ensures)
 
 pub returns-then-maker-client-clause-refused : goal.returns-then-maker-client-clause-refused
-returns-then-maker-client-clause-refused c =
+returns-then-maker-client-clause-refused g c =
     receiver_wrong c.self.inside.server c.self.inside.seats.items c.self.inside.steps c.args.client c.index_mut-seat.result.now c.in-Some.entry.now c.args.self.now
     (record { kept = c.self.invariant; at = seat_at c.self.inside.seats.items c.args.client c.len.result c.index_mut-seat.result.now (search rules) (search rules) c.index_mut-seat.ensures.value; below = search rules; on = c.if-is_none.ensures })
     (sym c.in-Some.ensures) (search rules) c.self.view_is
 
 pub deliver-requires : goal.deliver-requires
-deliver-requires c =
+deliver-requires g c =
     rw c.operation.ensures
     (record {
       may = receiver_may c.self.inside.server c.self.inside.seats.items c.self.inside.steps c.args.client c.index_mut-seat.result.now c.in-Some.entry.now
@@ -31,22 +32,29 @@ deliver-requires c =
           (sym c.in-Some.ensures) (search rules);
     })
 
-pub returns-in_err-deliver-clause-refused : goal.returns-in_err-deliver-clause-refused
-returns-in_err-deliver-clause-refused c =
+pub returns-in_err-before-clause-refused : goal.returns-in_err-before-clause-refused
+returns-in_err-before-clause-refused g c =
     wanting c.from_residual.result _ c.from_residual.ensures.1
     (receiver_performs c.self.inside.server c.self.inside.seats.items c.self.inside.steps c.args.client c.index_mut-seat.result.now c.in-Some.entry.now c.args.self.now
     (record { kept = c.self.invariant; at = seat_at c.self.inside.seats.items c.args.client c.len.result c.index_mut-seat.result.now (search rules) (search rules) c.index_mut-seat.ensures.value; below = search rules; on = c.if-is_none.ensures })
     (sym c.in-Some.ensures) (search rules) c.self.view_is)
 
 pub invariant_of-self-2 : goal.invariant_of-self-2
-invariant_of-self-2 c =
+invariant_of-self-2 g c =
     (receiver_done c.self.inside.server c.self.inside.seats.items c.self.inside.steps c.args.client c.index_mut-seat.result.now c.deliver.new.seat c.in-Some.entry.now
     (record { kept = c.self.invariant; at = seat_at c.self.inside.seats.items c.args.client c.len.result c.index_mut-seat.result.now (search rules) (search rules) c.index_mut-seat.ensures.value; below = search rules; on = c.if-is_none.ensures })
-    (sym c.in-Some.ensures) (search rules) (c.in_ok-deliver.ensures.ok ∙ ap (delivered (client_of c.index_mut-seat.result.now)) c.operation.ensures) c.in_ok-deliver.ensures.down).kept
+    (sym c.in-Some.ensures) (search rules) (c.in_ok-before.ensures.ok ∙ ap (delivered (client_of c.index_mut-seat.result.now)) c.operation.ensures) c.in_ok-before.ensures.down).kept
 
 pub returns-clause-done : goal.returns-clause-done
-returns-clause-done c =
+returns-clause-done g c =
     of_value _ _ (Deliver c.args.client) _ c.self.view_is
     (receiver_done c.self.inside.server c.self.inside.seats.items c.self.inside.steps c.args.client c.index_mut-seat.result.now c.deliver.new.seat c.in-Some.entry.now
     (record { kept = c.self.invariant; at = seat_at c.self.inside.seats.items c.args.client c.len.result c.index_mut-seat.result.now (search rules) (search rules) c.index_mut-seat.ensures.value; below = search rules; on = c.if-is_none.ensures })
-    (sym c.in-Some.ensures) (search rules) (c.in_ok-deliver.ensures.ok ∙ ap (delivered (client_of c.index_mut-seat.result.now)) c.operation.ensures) c.in_ok-deliver.ensures.down).row
+    (sym c.in-Some.ensures) (search rules) (c.in_ok-before.ensures.ok ∙ ap (delivered (client_of c.index_mut-seat.result.now)) c.operation.ensures) c.in_ok-before.ensures.down).row
+
+pub returns-clause-kept : goal.returns-clause-kept
+returns-clause-kept g c = λ yes.
+    rw c.of_client.ensures
+    (kept_client c.self.inside.server c.self.inside.seats.items c.self.inside.steps c.args.client c.index_mut-seat.result.now c.deliver.new.seat c.in_ok-before.before c.args.self.now c.self.invariant
+    (seat_at c.self.inside.seats.items c.args.client c.len.result c.index_mut-seat.result.now (search rules) (search rules) c.index_mut-seat.ensures.value)
+    c.self.view_is (c.in_ok-before.ensures.kept yes))

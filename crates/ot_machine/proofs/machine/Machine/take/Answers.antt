@@ -2,31 +2,45 @@ use Rattle.std.proofs.Common.{◌≡◌, rules, ◌∙◌}
 use Rattle.ot_machine.proofs.Taking.{sender_receivable, sender_performs, sender_done, kept_same, state_same}
 use Rattle.ot_machine.proofs.RowLaws.{seat_at, wanting, of_value}
 use Rattle.ot_isa.specs.declared.instruction.Instr.TheVariants.{Take}
+use Rattle.ot_machine.proofs.Keeping.{sender_sends, kept_take}
 use Rattle.ot_machine.proofs.machine.Machine.take.Goals as goal
 
-pub carry-requires : goal.carry-requires
-carry-requires c =
-    record { accepts = sender_receivable c.self.inside.server c.self.inside.seats.items c.self.inside.steps c.args.client c.index-seat.result.now (record { kept = c.self.invariant; at = seat_at c.self.inside.seats.items c.args.client c.len.result c.index-seat.result.now (search rules) (search rules) c.index-seat.ensures; below = search rules; on = c.if-is_none.ensures; up = search rules }) }
+pub take_in-requires-clause-accepts : goal.take_in-requires-clause-accepts
+take_in-requires-clause-accepts g c =
+    sender_receivable c.self.inside.server c.self.inside.seats.items c.self.inside.steps c.args.client c.index-seat.result.now
+    (record { kept = c.self.invariant; at = seat_at c.self.inside.seats.items c.args.client c.len.result c.index-seat.result.now (search rules) (search rules) c.index-seat.ensures; below = search rules; on = c.if-is_none.ensures; up = search rules })
+
+pub take_in-requires-clause-sends : goal.take_in-requires-clause-sends
+take_in-requires-clause-sends g c =
+    sender_sends c.self.inside.server c.self.inside.seats.items c.self.inside.steps c.args.client c.index-seat.result.now
+    (record { kept = c.self.invariant; at = seat_at c.self.inside.seats.items c.args.client c.len.result c.index-seat.result.now (search rules) (search rules) c.index-seat.ensures; below = search rules; on = c.if-is_none.ensures; up = search rules })
 
 pub invariant_of-self : goal.invariant_of-self
-invariant_of-self c =
-    kept_same c.self.inside.server c.carry.new.server c.self.inside.seats.items c.carry.new.seats.items c.self.inside.steps c.self.invariant c.in_err-carry.ensures.server c.in_err-carry.ensures.seats
+invariant_of-self g c =
+    kept_same c.self.inside.server c.take_in.new.server c.self.inside.seats.items c.take_in.new.seats.items c.self.inside.steps c.self.invariant c.in_err-taken.ensures.server c.in_err-taken.ensures.seats
 
-pub returns-in_err-carry-clause-refused : goal.returns-in_err-carry-clause-refused
-returns-in_err-carry-clause-refused c =
+pub returns-in_err-taken-clause-refused : goal.returns-in_err-taken-clause-refused
+returns-in_err-taken-clause-refused g c =
     wanting c.from_residual.result _ c.from_residual.ensures.1
     (sender_performs c.self.inside.server c.self.inside.seats.items c.self.inside.steps c.args.client c.index-seat.result.now c.args.self.now (record { kept = c.self.invariant; at = seat_at c.self.inside.seats.items c.args.client c.len.result c.index-seat.result.now (search rules) (search rules) c.index-seat.ensures; below = search rules; on = c.if-is_none.ensures; up = search rules }) c.self.view_is)
 
-pub returns-in_err-carry-clause-unchanged : goal.returns-in_err-carry-clause-unchanged
-returns-in_err-carry-clause-unchanged c =
-    let same : _ ≡ c.args.self.now = state_same c.self.inside.server c.carry.new.server c.self.inside.seats.items c.carry.new.seats.items c.self.inside.steps c.in_err-carry.ensures.server c.in_err-carry.ensures.seats ∙ c.self.view_is in
+pub returns-in_err-taken-clause-unchanged : goal.returns-in_err-taken-clause-unchanged
+returns-in_err-taken-clause-unchanged g c =
+    let same : _ ≡ c.args.self.now = state_same c.self.inside.server c.take_in.new.server c.self.inside.seats.items c.take_in.new.seats.items c.self.inside.steps c.in_err-taken.ensures.server c.in_err-taken.ensures.seats ∙ c.self.view_is in
     search (rules, same)
 
 pub invariant_of-self-2 : goal.invariant_of-self-2
-invariant_of-self-2 c =
-    (sender_done c.self.inside.server c.carry.new.server c.self.inside.seats.items c.carry.new.seats.items c.self.inside.steps c.args.client c.index-seat.result.now (record { kept = c.self.invariant; at = seat_at c.self.inside.seats.items c.args.client c.len.result c.index-seat.result.now (search rules) (search rules) c.index-seat.ensures; below = search rules; on = c.if-is_none.ensures; up = search rules }) c.in_ok-carry.ensures.ok c.in_ok-carry.ensures.views).kept
+invariant_of-self-2 g c =
+    (sender_done c.self.inside.server c.take_in.new.server c.self.inside.seats.items c.take_in.new.seats.items c.self.inside.steps c.args.client c.index-seat.result.now (record { kept = c.self.invariant; at = seat_at c.self.inside.seats.items c.args.client c.len.result c.index-seat.result.now (search rules) (search rules) c.index-seat.ensures; below = search rules; on = c.if-is_none.ensures; up = search rules }) c.in_ok-taken.ensures.ok c.in_ok-taken.ensures.views).kept
 
 pub returns-clause-done : goal.returns-clause-done
-returns-clause-done c =
+returns-clause-done g c =
     of_value _ _ (Take c.args.client) _ c.self.view_is
-    (sender_done c.self.inside.server c.carry.new.server c.self.inside.seats.items c.carry.new.seats.items c.self.inside.steps c.args.client c.index-seat.result.now (record { kept = c.self.invariant; at = seat_at c.self.inside.seats.items c.args.client c.len.result c.index-seat.result.now (search rules) (search rules) c.index-seat.ensures; below = search rules; on = c.if-is_none.ensures; up = search rules }) c.in_ok-carry.ensures.ok c.in_ok-carry.ensures.views).row
+    (sender_done c.self.inside.server c.take_in.new.server c.self.inside.seats.items c.take_in.new.seats.items c.self.inside.steps c.args.client c.index-seat.result.now (record { kept = c.self.invariant; at = seat_at c.self.inside.seats.items c.args.client c.len.result c.index-seat.result.now (search rules) (search rules) c.index-seat.ensures; below = search rules; on = c.if-is_none.ensures; up = search rules }) c.in_ok-taken.ensures.ok c.in_ok-taken.ensures.views).row
+
+pub returns-clause-kept : goal.returns-clause-kept
+returns-clause-kept g c = λ yes.
+    rw c.of_take.ensures
+    (kept_take c.self.inside.server c.take_in.new.server c.self.inside.seats.items c.take_in.new.seats.items c.self.inside.steps c.args.client c.index-seat.result.now c.in_ok-taken.taken.0 c.in_ok-taken.taken.1 c.args.self.now
+    (record { kept = c.self.invariant; at = seat_at c.self.inside.seats.items c.args.client c.len.result c.index-seat.result.now (search rules) (search rules) c.index-seat.ensures; below = search rules; on = c.if-is_none.ensures; up = search rules })
+    c.in_ok-taken.ensures.ok c.in_ok-taken.ensures.views c.in_ok-taken.ensures.message (c.in_ok-taken.ensures.undo yes) c.self.view_is)

@@ -1,6 +1,6 @@
 use Rattle.std.proofs.Common.{◌≡◌, length}
 use Rattle.ot_text.specs.Components.{runs}
-use Rattle.ot_text.specs.Chunks.{lists, joined}
+use Rattle.ot_text.specs.Chunks.{lists, concatenated}
 use Rattle.ot_text.specs.Spots.{chunks_of, start, edited}
 use Rattle.ot_text.proofs.Touched.{in_place_text, in_place_held}
 use Rattle.ot_text.proofs.document.Doc.change_in_place.Goals as goal
@@ -10,7 +10,7 @@ invariant_of-self-2 g c =
     let op = c.args.op.now in
     let old = lists c.self.inside.chunks.items in
     let touched = runs c.without_last_retain-touched.result.now in
-    let base : op.base ≡ length (joined old) = rw c.self.view_is c.requires in
+    let base : op.base ≡ length (concatenated old) = rw c.self.view_is c.requires in
     let new : lists c.edit_components.new.chunks.items ≡ chunks_of (edited touched (start old)) = rw c.survey_components.ensures.same at c.edit_components.ensures in
     in_place_held op touched (runs c.components.result.now) old (lists c.edit_components.new.chunks.items) c.target_len-self-inside.result c.components.ensures.spells base c.without_last_retain-touched.ensures.same new (c.in_ok-survey_components.ensures.chunked c.if-not-branch.false) c.target_len-self-inside.ensures.value c.target_len-self-inside.ensures.small
 
@@ -19,7 +19,7 @@ returns-clause-made g c = λ t.
     let op = c.args.op.now in
     let old = lists c.self.inside.chunks.items in
     let touched = runs c.without_last_retain-touched.result.now in
-    let base : op.base ≡ length (joined old) = rw c.self.view_is c.requires in
+    let base : op.base ≡ length (concatenated old) = rw c.self.view_is c.requires in
     let new : lists c.edit_components.new.chunks.items ≡ chunks_of (edited touched (start old)) = rw c.survey_components.ensures.same at c.edit_components.ensures in
     let text = in_place_text op touched (runs c.components.result.now) old (lists c.edit_components.new.chunks.items) c.components.ensures.spells base c.without_last_retain-touched.ensures.same new in
     rw c.self.view_is at text

@@ -1,6 +1,6 @@
 use Rattle.std.proofs.Common.{◌≡◌, length}
 use Rattle.ot_text.specs.Components.{runs}
-use Rattle.ot_text.specs.Chunks.{lists, joined}
+use Rattle.ot_text.specs.Chunks.{lists, concatenated}
 use Rattle.ot_text.specs.Draft.{contents}
 use Rattle.ot_text.proofs.Drafting.{changed_held}
 use Rattle.ot_text.proofs.document.Doc.changed.Goals as goal
@@ -10,7 +10,7 @@ invariant_of-result g c =
     let op = c.args.op.now in
     let old = lists c.self.inside.chunks.items in
     let draft = c.in_ok-draft.draft in
-    let base : op.base ≡ length (joined old) = rw c.self.view_is c.requires in
+    let base : op.base ≡ length (concatenated old) = rw c.self.view_is c.requires in
     let new : lists c.in_ok-chunks.chunks.items ≡ contents old draft.pieces.items = rw c.as_slice-old.ensures.value at c.in_ok-chunks.ensures in
     let sound = rw c.as_slice-old.ensures.value at c.in_ok-draft.ensures.draft in
     let text = rw c.as_slice-old.ensures.value at c.in_ok-draft.ensures.text in

@@ -1,0 +1,18 @@
+use Rattle.std.proofs.Common.{◌≤◌, ◌+◌}
+use Rattle.line_reader.specs.Taken.{may_take, before, Spends}
+use Rattle.ot_asm.proofs.Known.{IsTakenKnown}
+use Rattle.ot_asm.proofs.from_reader.assemble_part.Given as goal
+
+-- the lines that were taken have no fault, and no mark where marks count
+abbrev pub invariant-loop-body : goal.invariant-loop-body
+invariant-loop-body g l =
+    let remaining = g.R.Read.remaining in
+    record {
+      taken : IsTakenKnown l.fn.marked (before l.fn.ahead (remaining l.fn.reader)) (before l.ahead (remaining l.reader)) l.line l.body;
+      spent : Spends (may_take l.fn.ahead) (may_take l.ahead) (before l.fn.ahead (remaining l.fn.reader)) (before l.ahead (remaining l.reader));
+      low : 1 ≤ l.line;
+      few : l.line + may_take l.ahead ≤ 1 + may_take l.fn.ahead;
+    }
+
+abbrev pub decreases-loop-body : goal.decreases-loop-body
+decreases-loop-body g l = may_take l.ahead

@@ -1,0 +1,68 @@
+-- What comes of the lines of `steps` themselves.
+use Rattle.std.specs.Prelude.{◌≡◌, ◌≢◌, ℕ, List, [], ◌∷◌, Bool, Option, Some, None, codes, option_map, if◌then◌else◌}
+use Rattle.std.specs.Str.{encode_utf8_all}
+use Rattle.serde_json.specs.Data.{Data, number, unsigned, string, object, no_members, member}
+use Rattle.serde_json.specs.Find.{get}
+use Rattle.ot_text.specs.Run.{normal_runs}
+use Rattle.ot_json.specs.Writing.{array_of}
+use Rattle.ot_isa.specs.Program.{Program}
+use Rattle.ot_model.specs.Operation.{Operation}
+use Rattle.ot_model.specs.declared.shown.Refusal.{Refusal}
+use Rattle.ot_model.specs.declared.shown.Refusal.TheVariants.{Memory}
+use Rattle.ot_report.specs.Printed.{refusal_text}
+use Rattle.ot_steps.specs.Lines.{Line, Message}
+use Rattle.ot_steps.specs.Text.{Value, Number, Name, Text, Op, Sent}
+use Rattle.ot_steps.specs.Written.{AreRunLines}
+use Rattle.ot_conform.specs.Differences.{Outcome, Conforms, Stopped, is_limit, outcome}
+use Rattle.ot_conform.specs.Keys.{found_at}
+use Rattle.ot_conform.specs.Ports.{PortLine, Told, OtherForm, NoText, Nothing}
+use Rattle.ot_conform.specs.Values.{value_at}
+use Rattle.ot_conform.specs.declared.keys.Key.{Key}
+
+-- the values of lines as JSON
+abbrev pub operation_data : Operation ℕ → Data
+operation_data op = array_of (normal_runs op)
+
+abbrev pub message_data : Message → Data
+message_data m = object (member (codes "operation") (operation_data m.operation) (member (codes "revision") (number (unsigned m.revision)) no_members))
+
+abbrev pub data_of : Value → Data
+data_of (Number n) = number (unsigned n)
+data_of (Name name) = string name
+data_of (Text text) = string (encode_utf8_all text)
+data_of (Op op) = operation_data op
+data_of (Sent m) = message_data m
+
+-- an object says under each key what the line has there, and nothing where it has nothing
+pub record Says (line : Line) (d : Data) : Type 0 where
+  pub under : (k : Key) → found_at k d ≡ option_map data_of (value_at k line)
+  pub stopped : get (codes "stopped") d ≡ option_map (λ r. string (refusal_text r)) line.stopped
+
+-- a port's lines say these, one by one
+abbrev pub SaysLine : Line → PortLine → Type 0
+SaysLine line (Told d) = Says line d
+SaysLine line (OtherForm bytes) = ⊥
+SaysLine line NoText = ⊥
+SaysLine line Nothing = ⊥
+
+abbrev pub Say : List Line → List PortLine → Type 0
+Say [] [] = Unit {0}
+Say [] (port ∷ ports) = ⊥
+Say (line ∷ lines) [] = ⊥
+Say (line ∷ lines) (port ∷ ports) = SaysLine line port × Say lines ports
+
+-- what comes of a run that ends so
+abbrev pub outcome_at : Option (ℕ × Refusal) → Outcome
+outcome_at None = Conforms
+outcome_at (Some stop) = if is_limit stop.1 then Stopped stop.0 stop.1 else Conforms
+
+-- memory was not wanting
+abbrev pub IsOfTable : Option (ℕ × Refusal) → Type 0
+IsOfTable None = Unit {0}
+IsOfTable (Some stop) = stop.1 ≢ Memory
+
+-- a port that prints the lines of `steps` conforms, with and without documents; where the bench alone has the limit the comparison stops
+abbrev pub StepsConform : Type 0
+StepsConform =
+    (documents : Bool) (s : Program) (stopped : Option (ℕ × Refusal)) (lines : List Line) (ports : List PortLine)
+    → AreRunLines documents s stopped lines → IsOfTable stopped → Say lines ports → outcome s ports ≡ outcome_at stopped

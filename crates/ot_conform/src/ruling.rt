@@ -1,0 +1,68 @@
+//! What the rules of ot.js say of the first difference.
+
+ghost use Rattle.std.specs.Prelude.{◌≡◌, IfOk, string_bytes};
+ghost use Rattle.ot_conform.specs.Ruled.{AreRules, asked, ruled_field, ruled_key};
+
+use crate::answers::Difference;
+use crate::keys::Key;
+use crate::meeting::Field;
+use ot_isa::Schedule;
+use ot_rules::{Difference as Asked, Field as Ruled, explain};
+use std::alloc::{AllocError, Global};
+
+// The value under a key, as the rules name it.
+fn ruled_key(key: Key) -> Ruled
+    ensures { result ≡ ruled_key key }
+{
+    match key {
+        Key::At => Ruled::Place,
+        Key::Clients => Ruled::Clients,
+        Key::Present => Ruled::Present,
+        Key::Start => Ruled::Start,
+        Key::Do => Ruled::Word,
+        Key::Client => Ruled::Client,
+        Key::Edit => Ruled::Edit,
+        Key::Revision => Ruled::Revision,
+        Key::State => Ruled::State,
+        Key::Outstanding => Ruled::Outstanding,
+        Key::Buffer => Ruled::Buffer,
+        Key::Sent => Ruled::Sent,
+        Key::SentRevision => Ruled::SentRevision,
+        Key::SentOperation => Ruled::SentOperation,
+        Key::Applied => Ruled::Applied,
+        Key::Appended => Ruled::Appended,
+        Key::Document => Ruled::Document,
+        Key::End => Ruled::End,
+    }
+}
+
+fn ruled_field(field: Field) -> Ruled
+    ensures { result ≡ ruled_field field }
+{
+    match field {
+        Field::Line => Ruled::Line,
+        Field::Stopped => Ruled::Stopped,
+        Field::Key(key) => ruled_key(key),
+    }
+}
+
+/// The lines that the rules of ot.js say of a difference in the schedule's run: the rule, what it is given, and the first note that is
+/// true. None where no instruction was performed. Want of memory is for the run up to there, and for the lines.
+pub(crate) fn rules_of(
+    alloc: Global,
+    schedule: &Schedule,
+    difference: &Difference,
+) -> Result<String, AllocError>
+    ensures { IfOk result (λ s. AreRules schedule.now difference.now.number (asked difference.now) (string_bytes s)) }
+{
+    let Some(number) = difference.number else {
+        return Ok(String::new(alloc));
+    };
+    let asked = Asked {
+        field: ruled_field(difference.field),
+        found: difference.found.as_str(),
+        wanted: difference.wanted.as_str(),
+        printed: difference.tells_operation,
+    };
+    explain(alloc, schedule, number, asked)
+}

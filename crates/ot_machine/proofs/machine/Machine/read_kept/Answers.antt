@@ -1,7 +1,0 @@
-use Rattle.std.proofs.Common.{subst, Some}
-use Rattle.ot_model.specs.Sound.{IsSound}
-use Rattle.ot_machine.proofs.Keeping.{read_record}
-use Rattle.ot_machine.proofs.machine.Machine.read_kept.Goals as goal
-
-pub returns-clause-record_is : goal.returns-clause-record_is
-returns-clause-record_is c = read_record c.args.self.now c.read.new.self c.args.client (Some c.in_ok-shown.shown) (subst IsSound c.self.view_is c.self.invariant.sound) c.in_ok-shown.ensures.done

@@ -1,0 +1,37 @@
+use Rattle.std.proofs.Common.{ap, ap₂, codes, rules, ◌≡◌, ◌∙◌}
+use Rattle.std.proofs.lemmas.Result.{IfOk-weaker}
+use Rattle.clap.specs.Words.{App, app_of, with_rule}
+use Rattle.ot_words.specs.Requests.{◌+>◌, flag_rule, flagged_app, top_app}
+use Rattle.ot_words.proofs.Shapes.{plain_of}
+use Rattle.ot_words.proofs.words.command.Goals as goal
+
+pub returns : goal.returns
+returns c =
+    let run : app_of c.in_ok-run.run' ≡ flagged_app (codes "run") (codes "image") =
+    c.in_ok-run.ensures ∙ ap (λ (a : App). with_rule a (flag_rule (codes "image"))) c.plain.ensures in
+    let one = c.in_ok-program.ensures (ap plain_of run) ∙ ap₂ (◌+>◌) c.top.ensures run in
+    let two = c.in_ok-program-2.ensures (ap plain_of c.plain-check.ensures) ∙ ap₂ (◌+>◌) one c.plain-check.ensures in
+    let three = c.in_ok-program-3.ensures (ap plain_of c.plain-debug.ensures) ∙ ap₂ (◌+>◌) two c.plain-debug.ensures in
+    let four = c.in_ok-program-4.ensures (ap plain_of c.plain-asm.ensures) ∙ ap₂ (◌+>◌) three c.plain-asm.ensures in
+    let five = c.in_ok-program-5.ensures (ap plain_of c.plain-dis.ensures) ∙ ap₂ (◌+>◌) four c.plain-dis.ensures in
+    let six = c.in_ok-program-6.ensures (ap plain_of c.plain-judge.ensures) ∙ ap₂ (◌+>◌) five c.plain-judge.ensures in
+    let steps : app_of c.in_ok-steps.steps ≡ flagged_app (codes "steps") (codes "documents") =
+    c.in_ok-steps.ensures ∙ ap (λ (a : App). with_rule a (flag_rule (codes "documents"))) c.plain-2.ensures in
+    let seven = c.in_ok-program-7.ensures (ap plain_of steps) ∙ ap₂ (◌+>◌) six steps in
+    let eight = c.in_ok-program-8.ensures (ap plain_of c.plain-explain.ensures) ∙ ap₂ (◌+>◌) seven c.plain-explain.ensures in
+    let nine = c.in_ok-program-9.ensures (ap plain_of c.plain-conform.ensures) ∙ ap₂ (◌+>◌) eight c.plain-conform.ensures in
+    let ten = c.in_ok-program-10.ensures (ap plain_of c.plain-threads.ensures) ∙ ap₂ (◌+>◌) nine c.plain-threads.ensures in
+    let generate = c.in_ok-generate.ensures in
+    IfOk-weaker c.joined-11.result _ _ (λ r h. h (ap plain_of generate) ∙ ap₂ (◌+>◌) ten generate) c.joined-11.ensures
+
+pub returns-in_err-program : goal.returns-in_err-program
+returns-in_err-program c = let r = c.from_residual-in_err-program.ensures in search rules
+
+pub returns-in_err-program-2 : goal.returns-in_err-program-2
+returns-in_err-program-2 c = let r = c.from_residual-in_err-program-2.ensures in search rules
+
+pub returns-in_err-program-3 : goal.returns-in_err-program-3
+returns-in_err-program-3 c = let r = c.from_residual-in_err-program-3.ensures in search rules
+
+pub returns-in_err-steps : goal.returns-in_err-steps
+returns-in_err-steps c = let r = c.from_residual-in_err-steps.ensures in search rules

@@ -1,0 +1,386 @@
+//! The program's words as a request.
+
+ghost use Rattle.std.specs.Prelude.{◌≡◌, Some, IfOk, IfErr, IsSome, map, true, option_and_then, option_map, vec_items};
+ghost use Rattle.std.specs.Str.{chars};
+ghost use Rattle.clap.specs.Words.{app_of, found_of, kind_of, rows_of, subcommand_rows_of, takes, with_rule};
+ghost use Rattle.ot_words.specs.Requests.{◌+>◌, IsPlain, chars_among, flag_among, flag_rule, form_among, generate_among, generate_app, number_among, number_if_among, option_rule, otbench_app, plain_app, request_in_rows, request_of, session_among, top_app};
+
+use crate::help;
+use clap::error::ErrorKind;
+use clap::{Arg, ArgAction, ArgMatches, Command, Error};
+use ot_asm::read_number;
+use ot_generate::Shape;
+use std::alloc::{AllocError, Global};
+use std::convert::AsStr;
+
+/// The form of the schedule on standard input.
+#[derive(Clone, Copy, Debug, PartialEq, Eq)]
+pub enum Form {
+    Text,
+    Image,
+}
+
+/// A subcommand.
+#[derive(Drop)]
+pub enum Request {
+    /// Runs a schedule and prints what it shows and where it ends.
+    Run(Form),
+    /// Runs a schedule and prints what is found of it: a stop, whether all is quiet, and whether its trace has the weak list property.
+    Check,
+    /// Steps through a schedule by commands, back and forth.
+    Debug,
+    /// Turns a schedule's text into its image.
+    Assemble,
+    /// Turns a schedule's image into its text.
+    Disassemble,
+    /// Judges a trace.
+    Judge,
+    /// Runs a schedule and prints what each instruction changes, as lines of JSON; whether the documents too.
+    Steps(bool),
+    /// Runs a schedule and tells in words what each instruction did.
+    Explain,
+    /// Compares the lines that a port printed with the run of its schedule.
+    Conform,
+    /// Prints a session made at random: its seed, and what is asked of it.
+    Generate(u32, Shape),
+}
+
+/// What the words ask for: a subcommand that needs no handle, or the one that starts threads.
+#[derive(Drop)]
+pub enum Asked {
+    Plainly(Request),
+    /// Has workers on threads type a plan, and prints the schedule that they record.
+    Threads,
+}
+
+// The program without its subcommands.
+fn top<'a>(alloc: Global) -> Command<'a>
+    ensures { app_of result ≡ top_app }
+{
+    Command::new(alloc, "otbench")
+        .about("A proved test bench for ot.js sessions; all input is read from standard input")
+        .version("0.1.0")
+        .after_help(help::ALL)
+        .subcommand_required(true)
+}
+
+// A subcommand without arguments: its name, what it does, and what its help says besides.
+fn plain<'a>(alloc: Global, name: &'a str, about: &'a str, more: &'a str) -> Command<'a>
+    ensures { app_of result ≡ plain_app name.entry.now }
+{
+    Command::new(alloc, name).about(about).after_help(more)
+}
+
+// The subcommand with a flag.
+fn flagged<'a>(
+    alloc: Global,
+    command: Command<'a>,
+    flag: &'a str,
+    about: &'a str,
+) -> Result<Command<'a>, AllocError>
+    ensures { IfOk result (λ c. app_of c ≡ with_rule (app_of command.entry) (flag_rule flag.entry.now)) }
+{
+    let arg = Arg::new(alloc, flag)
+        .long(flag)
+        .action(ArgAction::SetTrue)
+        .help(about);
+    command.arg(arg)
+}
+
+// The subcommand with an option and what help calls its value.
+fn valued<'a>(
+    alloc: Global,
+    command: Command<'a>,
+    option: &'a str,
+    value: &'a str,
+    about: &'a str,
+) -> Result<Command<'a>, AllocError>
+    ensures { IfOk result (λ c. app_of c ≡ with_rule (app_of command.entry) (option_rule option.entry.now)) }
+{
+    let arg = Arg::new(alloc, option)
+        .long(option)
+        .value_name(value)
+        .action(ArgAction::Set)
+        .help(about);
+    command.arg(arg)
+}
+
+// The subcommand `generate`.
+fn generate_command<'a>(alloc: Global) -> Result<Command<'a>, AllocError>
+    ensures { IfOk result (λ c. app_of c ≡ generate_app) }
+{
+    let command = plain(
+        alloc,
+        "generate",
+        "Print a session made at random, of which no instruction is refused",
+        help::GENERATE,
+    );
+    let command = valued(
+        alloc,
+        command,
+        "seed",
+        "N",
+        "What the session follows from [1]",
+    )?;
+    let command = valued(
+        alloc,
+        command,
+        "clients",
+        "C",
+        "How many clients, 1 to 64 [4]",
+    )?;
+    let command = valued(
+        alloc,
+        command,
+        "present",
+        "P",
+        "How many of them are there from the start [by the seed]",
+    )?;
+    let command = valued(
+        alloc,
+        command,
+        "instructions",
+        "M",
+        "How many instructions before the reads at the end, 0 to 100000 [60]",
+    )?;
+    let command = valued(
+        alloc,
+        command,
+        "start",
+        "TEXT",
+        "The start text [by the seed]",
+    )?;
+    flagged(
+        alloc,
+        command,
+        "open",
+        "Stop after M instructions, whatever is under way",
+    )
+}
+
+// The program with one subcommand more.
+fn joined<'a>(program: Command<'a>, subcommand: Command<'a>) -> Result<Command<'a>, AllocError>
+    ensures { IfOk result (λ c. IsPlain (app_of subcommand.entry) → app_of c ≡ (app_of program.entry +> app_of subcommand.entry)) }
+{
+    program.subcommand(subcommand)
+}
+
+// The program's command line.
+fn command<'a>(alloc: Global) -> Result<Command<'a>, AllocError>
+    ensures { IfOk result (λ c. app_of c ≡ otbench_app) }
+{
+    let run = flagged(
+        alloc,
+        plain(
+            alloc,
+            "run",
+            "Run a schedule: its reads, a stop if an instruction is refused, and where it ends",
+            help::RUN,
+        ),
+        "image",
+        "Read a schedule's image in place of its text",
+    )?;
+    let program = joined(top(alloc), run)?;
+    let check = plain(
+        alloc,
+        "check",
+        "Run a schedule and judge it: convergence, and the weak list specification",
+        help::CHECK,
+    );
+    let program = joined(program, check)?;
+    let debug = plain(
+        alloc,
+        "debug",
+        "Step through a schedule, back and forth: its text, a line '%%', then commands",
+        help::DEBUG,
+    );
+    let program = joined(program, debug)?;
+    let asm = plain(
+        alloc,
+        "asm",
+        "Turn a schedule's text into its image",
+        help::ASM,
+    );
+    let program = joined(program, asm)?;
+    let dis = plain(
+        alloc,
+        "dis",
+        "Turn a schedule's image into its canonical text",
+        help::DIS,
+    );
+    let program = joined(program, dis)?;
+    let judge = plain(
+        alloc,
+        "judge",
+        "Judge a recorded trace (JSON) by the weak list specification",
+        help::JUDGE,
+    );
+    let program = joined(program, judge)?;
+    let steps = flagged(
+        alloc,
+        plain(
+            alloc,
+            "steps",
+            "Run a schedule and print what each instruction changes, as lines of JSON",
+            help::STEPS,
+        ),
+        "documents",
+        "Print with each instruction the document of the one that moved",
+    )?;
+    let program = joined(program, steps)?;
+    let explain = plain(
+        alloc,
+        "explain",
+        "Run a schedule and tell in words what each instruction did, and why one is refused",
+        help::EXPLAIN,
+    );
+    let program = joined(program, explain)?;
+    let conform = plain(
+        alloc,
+        "conform",
+        "Compare a port's own run with ot.js: a schedule's text, a line '%%', then the port's lines",
+        help::CONFORM,
+    );
+    let program = joined(program, conform)?;
+    let threads = plain(
+        alloc,
+        "threads",
+        "Have workers on threads type a plan, and print the schedule that they record",
+        help::THREADS,
+    );
+    let program = joined(program, threads)?;
+    let generate = generate_command(alloc)?;
+    joined(program, generate)
+}
+
+// Whether a flag was given.
+fn is_set(matches: &ArgMatches<'_>, id: &str) -> bool
+    ensures { result ≡ flag_among id.now (rows_of (found_of matches.now)) }
+{
+    match matches.get_str(id) {
+        Some(text) => text == "true",
+        None => false,
+    }
+}
+
+// The form that the matches of `run` say.
+fn form_in(matches: &ArgMatches<'_>) -> Form
+    ensures { result ≡ form_among (rows_of (found_of matches.now)) }
+{
+    if is_set(matches, "image") {
+        Form::Image
+    } else {
+        Form::Text
+    }
+}
+
+// The number that an option gives, or else this one; none where what it gives is no number.
+fn number_in(matches: &ArgMatches<'_>, id: &str, otherwise: u32) -> Option<u32>
+    ensures { result ≡ number_among id.now otherwise (rows_of (found_of matches.now)) }
+{
+    match matches.get_str(id) {
+        Some(text) => read_number(text.as_bytes()),
+        None => Some(otherwise),
+    }
+}
+
+// The number that an option gives, if it is there; none where what it gives is no number.
+fn number_if(matches: &ArgMatches<'_>, id: &str) -> Option<Option<u32>>
+    ensures { result ≡ number_if_among id.now (rows_of (found_of matches.now)) }
+{
+    match matches.get_str(id) {
+        Some(text) => match read_number(text.as_bytes()) {
+            Some(number) => Some(Some(number)),
+            None => None,
+        },
+        None => Some(None),
+    }
+}
+
+// The characters of a text.
+fn chars_of(alloc: Global, text: &str) -> Result<Vec<char>, AllocError>
+    ensures { IfOk result (λ v. v.items ≡ chars text.now) }
+{
+    text.chars().collect(alloc)
+}
+
+// The characters that an option gives, if it is there.
+fn chars_in(
+    alloc: Global,
+    matches: &ArgMatches<'_>,
+    id: &str,
+) -> Result<Option<Vec<char>>, AllocError>
+    ensures { IfOk result (λ text. option_map vec_items text ≡ chars_among id.now (rows_of (found_of matches.now))) }
+{
+    match matches.get_str(id) {
+        Some(text) => {
+            let text = chars_of(alloc, text)?;
+            Ok(Some(text))
+        }
+        None => Ok(None),
+    }
+}
+
+#[tactic(auto, unfolding(crate::specs::Requests::session_among))]
+// The session that the matches of `generate` ask for, with this start text; none where a number is none, or out of its range.
+fn session_in(matches: &ArgMatches<'_>, start: Option<Vec<char>>) -> Option<Request>
+    ensures { result ≡ session_among (option_map vec_items start) (rows_of (found_of matches.now)) }
+{
+    let seed = number_in(matches, "seed", 1)?;
+    let clients = number_in(matches, "clients", 4)?;
+    let present = number_if(matches, "present")?;
+    let instructions = number_in(matches, "instructions", 60)?;
+    let is_open = is_set(matches, "open");
+    let shape = Shape::new(clients, present, instructions, start, is_open)?;
+    Some(Request::Generate(seed, shape))
+}
+
+#[tactic(auto, unfolding(crate::specs::Requests::generate_among))]
+// The request that the matches of `generate` say, if they say one.
+fn generate_in(alloc: Global, matches: &ArgMatches<'_>) -> Result<Option<Asked>, AllocError>
+    ensures { IfOk result (λ r. r ≡ generate_among (rows_of (found_of matches.now))) }
+{
+    let start = chars_in(alloc, matches, "start")?;
+    match session_in(matches, start) {
+        Some(request) => Ok(Some(Asked::Plainly(request))),
+        None => Ok(None),
+    }
+}
+
+// The request that the matches say, if they say one.
+fn request_in(alloc: Global, matches: &ArgMatches<'_>) -> Result<Option<Asked>, AllocError>
+    ensures { IfOk result (λ r. r ≡ option_and_then request_in_rows (subcommand_rows_of matches.now)) }
+{
+    let Some((name, found)) = matches.subcommand() else {
+        return Ok(None);
+    };
+    match name {
+        "run" => Ok(Some(Asked::Plainly(Request::Run(form_in(found))))),
+        "check" => Ok(Some(Asked::Plainly(Request::Check))),
+        "debug" => Ok(Some(Asked::Plainly(Request::Debug))),
+        "asm" => Ok(Some(Asked::Plainly(Request::Assemble))),
+        "dis" => Ok(Some(Asked::Plainly(Request::Disassemble))),
+        "judge" => Ok(Some(Asked::Plainly(Request::Judge))),
+        "steps" => Ok(Some(Asked::Plainly(Request::Steps(is_set(found, "documents"))))),
+        "explain" => Ok(Some(Asked::Plainly(Request::Explain))),
+        "conform" => Ok(Some(Asked::Plainly(Request::Conform))),
+        "threads" => Ok(Some(Asked::Threads)),
+        "generate" => generate_in(alloc, found),
+        _ => Ok(None),
+    }
+}
+
+/// What the words ask for, the program's name being the first of them. Where they ask for nothing that the program does, for a session with
+/// a number out of its range, or for help, the
+/// answer is `clap`'s error with its text; `ErrorKind::OutOfMemory` stands for want of memory.
+pub fn read_request<'a, S: AsStr>(alloc: Global, words: &'a [S]) -> Result<Asked, Error>
+    ensures ok { IfOk result (λ r. request_of (map S.text words.entry.now) ≡ Some r) }
+    ensures refused { IfErr result (λ e. takes otbench_app (map S.text words.entry.now) ≡ true
+        → IsSome (request_of (map S.text words.entry.now)) → kind_of e ≡ ErrorKind.OutOfMemory) }
+{
+    let matches = command(alloc)?.try_get_matches_from(words)?;
+    match request_in(alloc, &matches)? {
+        Some(request) => Ok(request),
+        None => Err(command(alloc)?.error(ErrorKind::ValueValidation, help::GENERATE_RANGES)?),
+    }
+}
