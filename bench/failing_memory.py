@@ -1,8 +1,8 @@
 """Runs the program once for each growth that it makes, with that growth refused.
 
-Each run must either answer as with all memory, or say that memory was wanting: nothing on the output and a fault
-`Memory` on the other writer, or a stop `Memory` in a report, or `no memory` among a debugger's replies, each with status 1.
-There is no third thing. Prints how many growths were refused in each case, and the first answer that is none of these.
+Each run must either answer as with all memory, or say that memory was wanting: nothing on the output (of `run` and `steps` the
+first lines, of `debug` the first replies) and a fault `Memory` on the other writer, or a stop `Memory` in a report, or `no memory`
+among a debugger's replies, each with status 1. There is no third thing. Prints how many growths were refused in each case, and the first answer that is none of these.
 """
 import os
 import re
@@ -17,6 +17,9 @@ COMMANDS = b"%%\nwatch doc 0\nbreak 4\nrun\nrun\nback 2\nshow\nstep 100\nback 10
 
 # One worker, so that each run makes the same growths; client 1 joins, and a session is parked.
 LATE = b'{"clients":2,"workers":1,"present":1,"typing":[[{"at":0,"insert":"a"}],[{"at":0,"insert":"b"},{"at":1,"delete":1}]]}'
+
+# Reads whose lines are more than are gathered before they are written.
+READS = b"clients 1\nstart \"" + b"x" * 30000 + b"\"\n" + b"read 0\n" * 6
 
 # What ot.js prints over examples/one-client.ots, and a port whose buffer a delivery does not change over examples/weak-order.ots.
 ONE_CLIENT = """{"at":0,"clients":1,"present":1,"start":"𝒳y"}
@@ -36,6 +39,7 @@ def cases():
 
     yield ["run"], text("weak-order.ots")
     yield ["run"], text("late-join.ots")
+    yield ["run"], READS
     yield ["run", "--image"], text("late-join.img")
     yield ["asm"], text("weak-order.ots")
     yield ["dis"], text("late-join.img")
@@ -67,6 +71,11 @@ def answer(command, given, shim, at):
     return refused, (ran.returncode, ran.stdout, ran.stderr)
 
 
+def is_first_part(out, whole):
+    """Whether these are the first lines of the whole, or none."""
+    return whole.startswith(out) and (not out or out.endswith(b"\n"))
+
+
 def wants_memory(words, whole, got):
     """Whether the answer says that memory was wanting, and is the whole answer up to where it says so. What follows a stop or a
     reply `no memory` is not compared: it depends on the place where the program then stands."""
@@ -74,7 +83,7 @@ def wants_memory(words, whole, got):
     if status != 1 or not re.fullmatch(rb"(otbench: ((line|byte) \d+: )?Memory\n)?", faults):
         return False
     if faults:
-        return whole[1].startswith(out) if words[0] in ("debug", "steps") else not out
+        return is_first_part(out, whole[1]) if words[0] in ("run", "debug", "steps") else not out
     said = SAID.get(words[0])
     found = said and re.search(said, out, re.M)
     return bool(found) and whole[1].startswith(out[:found.start()])

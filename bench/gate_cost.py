@@ -106,6 +106,7 @@ def edits_in_turn(crate):
 def measured(name, part):
     """In a process of its own: what the part's calls used, by what they are of."""
     crate = crates()[name]
+    os.makedirs(f"{crate.folder}/out", exist_ok=True)
     with open(os.devnull, "w") as quiet:
         sys.stdout = crate.out = quiet
         try:

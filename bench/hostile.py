@@ -1,16 +1,14 @@
 """Writes traces within the limits that are hard to judge, and times `otbench judge` on each.
 
-Each has the weak list property. Beside it stands the same trace with one event more in front, which sees an edit that never was: it is read as a whole and judged at once, so that its
+Each has the weak list property. Beside it stands the same trace whose last event inserts one element twice: it is read as a whole and refused before it is judged, so that its
 time is the time of reading. `python3 bench/hostile.py [--program PATH] [SHAPE..]` times all shapes or those that are named, `--write FOLDER` writes them there.
 """
 import json
 import os
-import subprocess
 import sys
-import tempfile
 
-ROOT = os.path.dirname(os.path.dirname(os.path.abspath(__file__)))
-PROGRAM = f"{ROOT}/crates/otbench/out/otbench"
+from shapes import main, run
+
 START = 65535
 
 
@@ -50,6 +48,16 @@ def replicas():
     made = Trace(65, [])
     for e in range(4000):
         made.add(e % 65, "edit", made.counts, [])
+    return made.whole()
+
+
+def rounds():
+    """65 replicas that edit at once, round by round, with empty lists: each event sees 65 edits of which none saw another."""
+    made = Trace(65, [])
+    for _ in range(61):
+        seen = list(made.counts)
+        for replica in range(65):
+            made.add(replica, "edit", seen, [])
     return made.whole()
 
 
@@ -116,6 +124,7 @@ def long_cycle(edits=3970, width=990):
 SHAPES = {
     "entries": entries,
     "replicas": replicas,
+    "rounds": rounds,
     "deletions": lambda: deletions(100_000),
     "more-deletions": lambda: deletions(500_000),
     "known-deletions": lambda: deletions(500_000, 64),
@@ -124,19 +133,11 @@ SHAPES = {
 }
 
 
-def unseen(whole):
-    """The same trace, whose first event sees an edit that never was."""
-    first = {"replica": 0, "kind": "read", "seen": [4000] * whole["replicas"], "list": []}
-    return {**whole, "events": [first, *whole["events"]][:4000]}
-
-
-def judged(program, path):
-    """Processor time in seconds, peak memory in MB, and what was printed."""
-    with open(path, "rb") as given:
-        child = subprocess.Popen([program, "judge"], stdin=given, stdout=subprocess.PIPE)
-        out = child.stdout.read()
-        _, _, used = os.wait4(child.pid, 0)
-    return used.ru_utime + used.ru_stime, used.ru_maxrss / 1024, out.decode().strip()
+def twice(whole):
+    """The same trace, whose last event inserts one element twice."""
+    tag = [START, 4294967295, 0]
+    last = {**whole["events"][-1], "kind": "edit", "insert": [tag, tag]}
+    return {**whole, "events": [*whole["events"][:-1], last]}
 
 
 def write(whole, path):
@@ -144,26 +145,15 @@ def write(whole, path):
         json.dump(whole, it, separators=(",", ":"))
 
 
-def main():
-    words = sys.argv[1:]
-    if words[:1] == ["--write"]:
-        for name, shape in SHAPES.items():
-            write(shape(), f"{words[1]}/{name}.json")
-        return 0
-    program = PROGRAM
-    if words[:1] == ["--program"]:
-        program, words = words[1], words[2:]
-    for name in words or SHAPES:
-        with tempfile.TemporaryDirectory() as room:
-            whole = SHAPES[name]()
-            paths = [f"{room}/whole.json", f"{room}/read.json"]
-            write(whole, paths[0])
-            write(unseen(whole), paths[1])
-            (all_of, memory, said), (reading, _, _) = (judged(program, path) for path in paths)
-            size = os.path.getsize(paths[0]) / 1e6
-            print(f"{name}: {size:.1f} MB, reading {reading:.2f} s, judging {all_of - reading:.2f} s ({said}), {memory:.0f} MB", flush=True)
-    return 0
+def measure(program, whole, room):
+    """The trace's size, the time of reading it and of judging it, what was said, and the peak memory."""
+    paths = [f"{room}/whole.json", f"{room}/read.json"]
+    write(whole, paths[0])
+    write(twice(whole), paths[1])
+    (all_of, memory, _, said), (reading, _, _, _) = (run(program, "judge", path) for path in paths)
+    size = os.path.getsize(paths[0]) / 1e6
+    return f"{size:.1f} MB, reading {reading:.2f} s, judging {all_of - reading:.2f} s ({said.decode().strip()}), {memory:.0f} MB"
 
 
 if __name__ == "__main__":
-    sys.exit(main())
+    sys.exit(main(SHAPES, "json", write, measure))

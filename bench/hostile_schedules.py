@@ -3,13 +3,9 @@
 `python3 bench/hostile_schedules.py [--program PATH] [SHAPE..]` times all shapes or those that are named, and prints processor time and peak memory;
 `--write FOLDER` writes them there. Those that are debugged carry a line `%%` and their commands.
 """
-import os
-import subprocess
 import sys
-import tempfile
 
-ROOT = os.path.dirname(os.path.dirname(os.path.abspath(__file__)))
-PROGRAM = f"{ROOT}/crates/otbench/out/otbench"
+from shapes import main, run
 
 
 def opening(clients, length):
@@ -69,37 +65,18 @@ def idle_watch(edits=20000, length=40000):
 SHAPES = {"long-message": long_message, "buffers": buffers, "pending": pending, "idle-watch": idle_watch}
 
 
-def run(program, path):
-    """Processor time in seconds, peak memory in MB, and the status."""
-    debugged = b"%%" in open(path, "rb").read()
-    with open(path, "rb") as given:
-        child = subprocess.Popen([program, "debug" if debugged else "run"], stdin=given, stdout=subprocess.DEVNULL)
-        _, status, used = os.wait4(child.pid, 0)
-    return used.ru_utime + used.ru_stime, used.ru_maxrss / 1024, os.waitstatus_to_exitcode(status)
-
-
 def write(lines, path):
     with open(path, "w") as it:
         it.write("\n".join(lines) + "\n")
 
 
-def main():
-    words = sys.argv[1:]
-    if words[:1] == ["--write"]:
-        for name, shape in SHAPES.items():
-            write(shape(), f"{words[1]}/{name}.ots")
-        return 0
-    program = PROGRAM
-    if words[:1] == ["--program"]:
-        program, words = words[1], words[2:]
-    for name in words or SHAPES:
-        with tempfile.TemporaryDirectory() as room:
-            path = f"{room}/{name}.ots"
-            write(SHAPES[name](), path)
-            seconds, memory, status = run(program, path)
-            print(f"{name}: {seconds:.2f} s, {memory:.0f} MB, status {status}", flush=True)
-    return 0
+def measure(program, lines, room):
+    """Processor time, peak memory, and the status."""
+    path = f"{room}/schedule.ots"
+    write(lines, path)
+    seconds, memory, status, _ = run(program, "debug" if "%%" in lines else "run", path)
+    return f"{seconds:.2f} s, {memory:.0f} MB, status {status}"
 
 
 if __name__ == "__main__":
-    sys.exit(main())
+    sys.exit(main(SHAPES, "ots", write, measure))

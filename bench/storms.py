@@ -2,7 +2,7 @@
 """Writes large schedules for benchmarks, each within the limits that
 docs/FORMATS.md names.
 
-    python3 storms.py OUTDIR [--only a,b,c,d] [--seed S] [--time]
+    python3 storms.py OUTDIR [--only a,b,c,d,e,f] [--seed S] [--time]
 
 a-typing.txt      one client, 20,000 edits, each taken and acknowledged
 b-eight.txt       8 clients typing at once, 100,000 instructions in random
@@ -12,6 +12,11 @@ d-lag.txt         64 clients; one types 9,000 edits in order, 62 edits made at
                   revision 0 are taken in between, so that takes transform over
                   thousands of log entries; then clients with outstanding and
                   buffer deliver backlogs of more than 9,000 operations
+e-crowd.txt       64 clients that edit at random places of 8,000 characters,
+                  90,000 instructions, most of them deliveries
+f-behind.txt      four clients, each with an operation and a buffer of some
+                  hundred components under way, deliver 9,000 operations of a
+                  fifth
 
 --time runs each under `node otjs.js --quiet --time`, three times, and prints
 the whole process' wall time and the time of the steps alone.
@@ -303,14 +308,52 @@ def bench_d(r):
     return s
 
 
+def bench_e(r):
+    s = Sim(64, ''.join(r.choice(LETTERS) for _ in range(8000)))
+    while s.instrs() < 90_000:
+        c = r.randrange(64)
+        k = r.random()
+        if k < .05 and s.backlog(c) < 60:
+            at = r.randint(0, s.len[c] - 4)
+            one_place(s, c, at, r.choice([0, 0, 0, 1, 3]),
+                      ''.join(r.choice(LETTERS) for _ in range(r.randint(1, 4))))
+        elif k < .12:
+            if s.msg[c]:
+                s.take(c)
+        else:
+            for _ in range(r.randint(1, 9)):
+                if s.backlog(c):
+                    s.down(c)
+    return s
+
+
+def bench_f(r):
+    s = Sim(5, ''.join(r.choice(LETTERS) for _ in range(4000)))
+    for c in range(4):
+        for _ in range(300):
+            at = r.randint(0, s.len[c] - 2)
+            one_place(s, c, at, r.randint(0, 1), r.choice(['x', 'yz']))
+    for _ in range(9000):
+        at = r.randint(0, s.len[4] - 2)
+        one_place(s, 4, at, r.randint(0, 1), r.choice(LETTERS))
+        s.take(4)
+        s.down(4)
+    for c in range(4):
+        while s.backlog(c):
+            s.down(c)
+        s.take(c)
+    return s
+
+
 BENCHES = {'a': ('a-typing.txt', bench_a), 'b': ('b-eight.txt', bench_b),
-           'c': ('c-large.txt', bench_c), 'd': ('d-lag.txt', bench_d)}
+           'c': ('c-large.txt', bench_c), 'd': ('d-lag.txt', bench_d),
+           'e': ('e-crowd.txt', bench_e), 'f': ('f-behind.txt', bench_f)}
 
 
 def main():
     a = argparse.ArgumentParser()
     a.add_argument('outdir')
-    a.add_argument('--only', default='a,b,c,d')
+    a.add_argument('--only', default='a,b,c,d,e,f')
     a.add_argument('--seed', default='1')
     a.add_argument('--time', action='store_true')
     a = a.parse_args()

@@ -1,29 +1,25 @@
-"""Writes traces of 4,000 events and about 3.8 million list entries, and times `otbench judge` on each.
+"""Writes traces of 4,000 events and up to 3.8 million list entries, and times `otbench judge` on each.
 
-Each trace has the weak list property: every event sees all edits before it. Beside it stands the same trace whose first event sees an edit
-that never was: it is read as a whole, and judged at once, so that its time is the time of reading.
+Each trace has the weak list property. Beside it stands the same trace whose last event inserts one element twice: it is read as a whole and refused
+before it is judged, so that its time is the time of reading. `python3 bench/traces.py [--program PATH] [SEED]`; each time is the least of three.
 """
-import json
-import os
 import random
-import resource
-import subprocess
 import sys
 import tempfile
 
-ROOT = os.path.dirname(os.path.dirname(os.path.abspath(__file__)))
-PROGRAM = f"{ROOT}/crates/otbench/out/otbench"
+from hostile import twice, write
+from shapes import PROGRAM, run
 
 
-def trace(replicas, seed):
-    """One insertion or deletion an event, 950 to 1,000 elements a list."""
+def trace(replicas, seed, length=950):
+    """Edits in turn, one insertion or deletion each, lists of some `length` elements; each event sees all edits before it."""
     draw = random.Random(seed)
-    start = [[65535, i] for i in range(950)]
+    start = [[65535, i] for i in range(length)]
     elements, counts, events = list(start), [0] * replicas, []
     for e in range(4000):
         replica = e % replicas
         event = {"replica": replica, "kind": "edit", "seen": list(counts)}
-        if len(elements) >= 1000 or (len(elements) > 950 and draw.random() < 0.5):
+        if len(elements) >= length + 50 or (len(elements) > length and draw.random() < 0.5):
             event["delete"] = [elements.pop(draw.randrange(len(elements)))]
         else:
             place = draw.randrange(len(elements) + 1)
@@ -36,28 +32,25 @@ def trace(replicas, seed):
     return {"replicas": replicas, "start": start, "events": events}
 
 
-def judged(path):
-    """Processor time in seconds, peak memory in MB, and what was printed."""
-    with open(path, "rb") as given:
-        child = subprocess.Popen([PROGRAM, "judge"], stdin=given, stdout=subprocess.PIPE)
-        out = child.stdout.read()
-        _, _, used = os.wait4(child.pid, 0)
-    return used.ru_utime + used.ru_stime, used.ru_maxrss / 1024, out.decode().strip()
+def least(program, path):
+    """The least processor time of three runs, with its peak memory and what was printed."""
+    return min((run(program, "judge", path) for _ in range(3)), key=lambda it: it[0])
 
 
 def main():
+    words, program = sys.argv[1:], PROGRAM
+    if words[:1] == ["--program"]:
+        program, words = words[1], words[2:]
+    seed = int(words[0]) if words else 1
     with tempfile.TemporaryDirectory() as room:
-        for replicas in (3, 65):
-            whole = trace(replicas, replicas)
+        for replicas, length in ((3, 950), (65, 950), (65, 100), (65, 0), (16, 400), (1, 950)):
+            whole = trace(replicas, seed + replicas, length)
             entries = sum(len(e["list"]) for e in whole["events"])
-            paths = [f"{room}/whole.json", f"{room}/read.json"]
-            for path in paths:
-                with open(path, "w") as it:
-                    json.dump(whole, it, separators=(",", ":"))
-                whole["events"][0]["seen"][0] = 4_000
-            (all_of, memory, said), (reading, _, first) = judged(paths[0]), judged(paths[1])
-            print(f"{replicas} replicas, {len(whole['events'])} events, {entries} entries: reading {reading:.2f} s ({first}), "
-                  f"judging {all_of - reading:.2f} s ({said}), {(all_of - reading) / reading:.1f} times reading, {memory:.0f} MB")
+            write(whole, f"{room}/whole.json")
+            write(twice(whole), f"{room}/read.json")
+            (all_of, memory, _, said), (reading, _, _, _) = (least(program, f"{room}/{name}.json") for name in ("whole", "read"))
+            print(f"{replicas} replicas, {len(whole['events'])} events, {entries} entries: reading {reading:.2f} s, "
+                  f"judging {all_of - reading:.2f} s ({said.decode().strip()}), {(all_of - reading) / reading:.1f} times reading, {memory:.0f} MB", flush=True)
     return 0
 
 

@@ -1,21 +1,20 @@
 -- What the loop of compose keeps: what is built, and the composition of what is left, make the composition.
-use Rattle.std.proofs.Common.{◌≡◌, ℕ, suc, zero, ◌+◌, ◌-◌, ◌<◌, ◌≤◌, List, [], ◌∷◌, ◌++◌, length, take, drop, map, max, min, refl, sym, ap, subst, ◌∙◌, arith, length-append, length-take, length-drop, append_assoc, append-nil}
+use Rattle.std.proofs.Common.{◌≡◌, ℕ, suc, zero, ◌+◌, ◌-◌, ◌<◌, ◌≤◌, List, [], ◌∷◌, ◌++◌, length, take, drop, map, max, min, refl, sym, ap, subst, Option, Some, None, ◌∙◌, arith, length-append, length-take, length-drop, append_assoc, append-nil}
 use Rattle.std.proofs.lemmas.List.{map-append, length-map}
 use Rattle.std.proofs.lemmas.List.Elements.{filter_map-append}
 use Rattle.std.proofs.Math.ListN.{take-append-drop}
 use Rattle.std.specs.List.{filter_map, slice_get, cons_option}
 use Rattle.std.specs.Borrow.{Bor}
 use borrow.Author.Tests.{eq-eqb, ne_eqb}
-use Rattle.ot_text.specs.Operation.{Item, Operation, Old, New, olds, apply, invert, IsOperation, IsTooLong, empty, with_insert, with_delete}
+use Rattle.ot_text.specs.Operation.{Item, Operation, Old, New, olds, apply, invert, IsTooLong, empty, with_insert, with_delete}
 use Rattle.ot_algebra.specs.Compose.{compose, item_in}
 use Rattle.ot_text.specs.Run.{Run, base_of, image_from, operation_of, IsNormal, Keep, Add, Skip}
-use Rattle.ot_algebra.specs.Cursor.{appended, target_of, skipped, skipped_made, runs_from, runs_left, span_of, made_of, keeps_of, composed_part}
+use Rattle.ot_algebra.specs.Cursor.{appended, target_of, skipped, skipped_made, runs_from, runs_left, span_of, made_of, keeps_of, composed_part, last_keep, Covers}
 use Rattle.ot_text.specs.Components.{run_of}
 use Rattle.ot_algebra.specs.declared.cursor.Cursor.{Cursor}
 use Rattle.ot_algebra.specs.declared.cursor.Front.{Front}
 use Rattle.ot_algebra.specs.declared.cursor.Front.TheVariants.{Retain as RetainHead, Insert as InsertHead, Delete as DeleteHead, End}
 use Rattle.ot_algebra.proofs.RunLengths.{length-image_from}
-use Rattle.ot_algebra.proofs.ComposeLaws.{length-compose}
 use Rattle.ot_text.proofs.Lists.{StandsAt, StandsAt-tail}
 use Rattle.ot_text.proofs.RunLemmas.{length-olds}
 use Rattle.ot_algebra.proofs.SkippedLaws.{skipped_retain-whole, skipped_retain-part, skipped_delete-whole, skipped_delete-part, runs_size, runs_size-skipped_retain}
@@ -26,7 +25,7 @@ slice_get-past [] ys j k e = ap (slice_get ys) (let same : k ≡ j = omega (arit
 slice_get-past (x ∷ xs) ys j zero e = absurd (omega (arith, e))
 slice_get-past (x ∷ xs) ys j (suc k) e = slice_get-past xs ys j k (omega (arith, e))
 
-picked_olds :
+pub picked_olds :
     {A : Type 0} (xs rest : List (Item A)) (i j count : ℕ) → j ≡ length xs + i
     → filter_map (item_in (xs ++ rest)) (olds j count) ≡ filter_map (item_in rest) (olds i count)
 picked_olds xs rest i j zero e = refl
@@ -34,7 +33,7 @@ picked_olds xs rest i j (suc count) e =
     rw (slice_get-past xs rest i j e)
     (ap (cons_option (slice_get rest i)) (picked_olds xs rest (suc i) (suc j) count (omega (arith, e))))
 
-picked_news :
+pub picked_news :
     {A : Type 0} (image : List (Item A)) (text : List A) → filter_map (item_in image) (map New text) ≡ map New text
 picked_news image [] = refl
 picked_news image (x ∷ text) = ap (λ rest. New x ∷ rest) (picked_news image text)
@@ -55,7 +54,7 @@ picked_later xs rest i j (Add text ∷ runs) e =
     ∙ sym (filter_map-append (item_in rest) (map New text) (image_from i runs)))
 picked_later xs rest i j (Skip count ∷ runs) e = picked_later xs rest (i + count) (j + count) runs (omega (arith, e))
 
-picked_here :
+pub picked_here :
     {A : Type 0} (whole xs rest : List (Item A)) (place : ℕ) → StandsAt whole place (xs ++ rest)
     → filter_map (item_in whole) (olds place (length xs)) ≡ xs
 picked_here whole [] rest place stands = refl
@@ -64,7 +63,7 @@ picked_here whole (x ∷ xs) rest place stands =
     (ap (λ more. x ∷ more) (picked_here whole xs rest (suc place) (StandsAt-tail whole place x (xs ++ rest) stands)))
 
 -- the first items are kept
-composed_kept :
+pub composed_kept :
     {A : Type 0} (xs rest : List (Item A)) (count : ℕ) (runs : List (Run A)) → length xs ≡ count
     → filter_map (item_in (xs ++ rest)) (olds 0 count ++ image_from count runs) ≡ xs ++ filter_map (item_in rest) (image_from 0 runs)
 composed_kept xs rest count runs e =
@@ -83,20 +82,20 @@ composed_gone xs rest count runs e = picked_later xs rest 0 count runs (omega (a
 
 -- the image of what is skipped
 
-olds-append : {A : Type 0} (i j m n : ℕ) → j ≡ i + m → olds {A = A} i (m + n) ≡ olds i m ++ olds j n
+pub olds-append : {A : Type 0} (i j m n : ℕ) → j ≡ i + m → olds {A = A} i (m + n) ≡ olds i m ++ olds j n
 olds-append {A} i j zero n e =
     let start : i ≡ j = omega (arith, e) in let count : 0 + n ≡ n = omega arith in rw (count, start) refl
 olds-append {A} i j (suc m) n e =
     let count : suc m + n ≡ suc (m + n) = omega arith in
     rw count (ap (λ rest. Old i ∷ rest) (olds-append {A = A} (suc i) j m n (omega (arith, e))))
 
-record RetainMade {A : Type 0} (i count : ℕ) (before after : List (Run A)) : Type 0 where
-  normal : IsNormal after
-  base : base_of after + count ≡ base_of before
-  target : target_of after + count ≡ target_of before
-  image : image_from i before ≡ olds i count ++ image_from (i + count) after
+pub record RetainMade {A : Type 0} (i count : ℕ) (before after : List (Run A)) : Type 0 where
+  pub normal : IsNormal after
+  pub base : base_of after + count ≡ base_of before
+  pub target : target_of after + count ≡ target_of before
+  pub image : image_from i before ≡ olds i count ++ image_from (i + count) after
 
-retain_made :
+pub retain_made :
     {A : Type 0} (i count all m : ℕ) (runs : List (Run A)) → IsNormal (Keep all ∷ runs) → all ≡ count + m
     → RetainMade i count (Keep all ∷ runs) (skipped count (Keep all ∷ runs))
 retain_made i count all zero runs normal e =
@@ -177,28 +176,74 @@ insert_made i count (suc m) text runs normal e =
       image = image;
     })
 
+-- what is covered falls with what covers it
+
+pub last_keep_within : {A : Type 0} (ys : List (Run A)) → last_keep ys ≤ base_of ys
+last_keep_within [] = omega arith
+last_keep_within (Keep n ∷ []) = omega arith
+last_keep_within (Add text ∷ []) = omega arith
+last_keep_within (Skip n ∷ []) = omega arith
+last_keep_within (Keep n ∷ y ∷ ys) = omega (arith, last_keep_within (y ∷ ys))
+last_keep_within (Add text ∷ y ∷ ys) = last_keep_within (y ∷ ys)
+last_keep_within (Skip n ∷ y ∷ ys) = omega (arith, last_keep_within (y ∷ ys))
+
+pub covers_exactly : {A : Type 0} (count : ℕ) (ys : List (Run A)) → count ≡ base_of ys → Covers count ys
+covers_exactly count ys e = (omega (arith, e), omega (arith, e))
+
+covers_insert : {A : Type 0} (made : ℕ) (text : List A) (ys : List (Run A)) → Covers made (Add text ∷ ys) → Covers made ys
+covers_insert made text [] w = w
+covers_insert made text (y ∷ ys) w = w
+
+covers_retain :
+    {A : Type 0} (count n made : ℕ) (ys : List (Run A)) → count ≤ n → Covers (made + count) (Keep n ∷ ys) → Covers made (skipped count (Keep n ∷ ys))
+covers_retain {A} count n made ys within w = by ys (n - count) (omega (arith, within)) w
+  where
+    by : (ys : List (Run A)) (m : ℕ) → n ≡ count + m → Covers (made + count) (Keep n ∷ ys) → Covers made (skipped count (Keep n ∷ ys))
+    by [] zero e w = rw (skipped_retain-whole count n [] e) (omega (arith, w.0, e), omega arith)
+    by [] (suc m) e w = rw (skipped_retain-part count n m [] e) (omega (arith, w.0, e), omega arith)
+    by (y ∷ ys) zero e w = rw (skipped_retain-whole count n (y ∷ ys) e) (omega (arith, w.0, e), omega (arith, w.1, e))
+    by (y ∷ ys) (suc m) e w = rw (skipped_retain-part count n m (y ∷ ys) e) (omega (arith, w.0, e), omega (arith, w.1, e))
+
+covers_delete :
+    {A : Type 0} (count n made : ℕ) (ys : List (Run A)) → count ≤ n → Covers (made + count) (Skip n ∷ ys) → Covers made (skipped count (Skip n ∷ ys))
+covers_delete {A} count n made ys within w = by ys (n - count) (omega (arith, within)) w
+  where
+    by : (ys : List (Run A)) (m : ℕ) → n ≡ count + m → Covers (made + count) (Skip n ∷ ys) → Covers made (skipped count (Skip n ∷ ys))
+    by [] zero e w = rw (skipped_delete-whole count n [] e) (omega (arith, w.0, e), omega arith)
+    by [] (suc m) e w = rw (skipped_delete-part count n m [] e) (omega (arith, w.0, e), omega (arith, w.1, e))
+    by (y ∷ ys) zero e w = rw (skipped_delete-whole count n (y ∷ ys) e) (omega (arith, w.0, e), omega (arith, w.1, e))
+    by (y ∷ ys) (suc m) e w = rw (skipped_delete-part count n m (y ∷ ys) e) (omega (arith, w.0, e), omega (arith, w.1, e))
+
 -- `built` is made, `xs` and `ys` are left
 pub record ComposeProgress {A : Type 0} (a b : Operation A) (built : Operation A) (xs ys : List (Run A)) : Type 0 where
   pub first_normal : IsNormal xs
   pub second_normal : IsNormal ys
-  pub meets : target_of xs ≡ base_of ys
+  pub covers : Covers (target_of xs) ys
   pub base : built.base + base_of xs ≡ (compose a b).base
   pub image : built.image ++ filter_map (item_in (image_from built.base xs)) (image_from 0 ys) ≡ (compose a b).image
 
 pub compose_start :
-    {A : Type 0} (xs ys : List (Run A)) → IsNormal xs → IsNormal ys → target_of xs ≡ base_of ys
-    → ComposeProgress (operation_of xs) (operation_of ys) (operation_of []) xs ys
+    {A : Type 0} (xs ys : List (Run A)) → IsNormal xs → IsNormal ys → Covers (target_of xs) ys
+    → ComposeProgress (operation_of xs) (operation_of ys) empty xs ys
 unfolding apply compose invert merge merged first_after second_after
-compose_start xs ys first_normal second_normal meets =
-    record { first_normal = first_normal; second_normal = second_normal; meets = meets; base = omega arith; image = refl }
+compose_start xs ys first_normal second_normal covers =
+    record { first_normal = first_normal; second_normal = second_normal; covers = covers; base = omega arith; image = refl }
 
-pub compose_begin :
-    {A : Type 0} (a b : Operation A) (xs ys : List (Run A)) → operation_of xs ≡ a → operation_of ys ≡ b
-    → IsNormal xs → IsNormal ys → length a.image ≡ b.base → ComposeProgress a b empty xs ys
-compose_begin {A} a b xs ys a_is b_is first_normal second_normal meets =
+-- operations that fit together
+
+pub covers_begin :
+    {A : Type 0} (a b : Operation A) (xs ys : List (Run A)) → operation_of xs ≡ a → operation_of ys ≡ b → length a.image ≡ b.base
+    → Covers (target_of xs) ys
+covers_begin {A} a b xs ys a_is b_is meets =
     let same : length (image_from 0 xs) ≡ base_of ys =
     ap (λ (op : Operation A). length op.image) a_is ∙ meets ∙ sym (ap (λ (op : Operation A). op.base) b_is) in
-    rw (← a_is, ← b_is) (compose_start xs ys first_normal second_normal (sym (length-image_from 0 xs) ∙ same))
+    covers_exactly (target_of xs) ys (sym (length-image_from 0 xs) ∙ same)
+
+pub base_begin : {A : Type 0} (a : Operation A) (xs : List (Run A)) → operation_of xs ≡ a → max a.base (length a.image) ≤ 1000000 → base_of xs ≤ 1000000
+base_begin {A} a xs a_is fits = omega (arith, ap (λ (op : Operation A). op.base) a_is, fits)
+
+pub target_begin : {A : Type 0} (a : Operation A) (xs : List (Run A)) → operation_of xs ≡ a → max a.base (length a.image) ≤ 1000000 → length (image_from 0 xs) ≤ 1000000
+target_begin {A} a xs a_is fits = omega (arith, ap (λ (op : Operation A). length op.image) a_is, fits)
 
 -- the first deletes
 pub compose_delete :
@@ -208,7 +253,7 @@ compose_delete a b built count xs ys w =
     record {
       first_normal = w.first_normal.2;
       second_normal = w.second_normal;
-      meets = w.meets;
+      covers = w.covers;
       base = omega (arith, w.base);
       image = w.image;
     }
@@ -225,7 +270,7 @@ compose_insert a b built text xs ys w =
     record {
       first_normal = w.first_normal;
       second_normal = w.second_normal.2;
-      meets = w.meets;
+      covers = covers_insert (target_of xs) text ys w.covers;
       base = w.base;
       image = append_assoc built.image (map New text) _ ∙ ap (λ rest. built.image ++ rest) (sym step) ∙ w.image;
     }
@@ -249,7 +294,7 @@ module _ {A : Type 0} (a b built : Operation A) (count : ℕ) (xs ys : List (Run
       record {
         first_normal = f.normal;
         second_normal = g.normal;
-        meets = omega (arith, f.target, g.base, w.meets);
+        covers = covers_retain count n (target_of (skipped count (Keep m ∷ xs))) ys in_second (rw (sym f.target) at w.covers);
         base = omega (arith, f.base, w.base);
         image = append_assoc built.image (olds built.base count) _ ∙ ap (λ rest. built.image ++ rest) (sym step) ∙ w.image;
       }
@@ -272,7 +317,7 @@ module _ {A : Type 0} (a b built : Operation A) (count : ℕ) (xs ys : List (Run
       record {
         first_normal = f.normal;
         second_normal = g.normal;
-        meets = omega (arith, f.target, g.base, w.meets);
+        covers = covers_delete count n (target_of (skipped count (Keep m ∷ xs))) ys in_second (rw (sym f.target) at w.covers);
         base = omega (arith, f.base, w.base);
         image = ap (λ rest. built.image ++ rest) (sym step) ∙ w.image;
       }
@@ -296,7 +341,7 @@ module _ {A : Type 0} (a b built : Operation A) (count : ℕ) (xs ys : List (Run
       record {
         first_normal = f.normal;
         second_normal = g.normal;
-        meets = omega (arith, f.target, g.base, w.meets);
+        covers = covers_retain count n (target_of (skipped_made count (Add text ∷ xs))) ys in_second (rw (sym f.target) at w.covers);
         base = omega (arith, f.base, w.base);
         image = append_assoc built.image (map New (take count text)) _ ∙ ap (λ rest. built.image ++ rest) (sym step) ∙ w.image;
       }
@@ -320,7 +365,7 @@ module _ {A : Type 0} (a b built : Operation A) (count : ℕ) (xs ys : List (Run
       record {
         first_normal = f.normal;
         second_normal = g.normal;
-        meets = omega (arith, f.target, g.base, w.meets);
+        covers = covers_delete count n (target_of (skipped_made count (Add text ∷ xs))) ys in_second (rw (sym f.target) at w.covers);
         base = omega (arith, f.base, w.base);
         image = ap (λ rest. built.image ++ rest) (sym step) ∙ w.image;
       }
@@ -342,6 +387,25 @@ compose_part a b built count some (InsertHead more) End xs ys in_first in_second
 compose_part a b built count some (DeleteHead m) k xs ys in_first in_second w = absurd (omega (arith, in_first, some))
 compose_part a b built count some End k xs ys in_first in_second w = absurd (omega (arith, in_first, some))
 
+-- past the end of an image nothing is picked
+pub picked_none : {A : Type 0} (image : List (Item A)) (j count : ℕ) → length image ≤ j → filter_map (item_in image) (olds j count) ≡ []
+picked_none image j zero past = refl
+picked_none image j (suc count) past = rw (none image j past) (picked_none image (suc j) count (omega (arith, past)))
+  where
+    none : {X : Type 0} (xs : List X) (j : ℕ) → length xs ≤ j → slice_get xs j ≡ None
+    none [] j past = refl
+    none (x ∷ xs) zero past = absurd (omega (arith, past))
+    none (x ∷ xs) (suc j) past = none xs j (omega (arith, past))
+
+-- the second keeps more than the first makes
+compose_over : {A : Type 0} (a b built : Operation A) (n : ℕ) → ComposeProgress a b built [] (Keep n ∷ []) → built ≡ compose a b
+compose_over {A} a b built n w =
+    let base : built.base ≡ (compose a b).base = omega (arith, w.base) in
+    let nothing : filter_map (item_in {A = A} []) (olds 0 n ++ []) ≡ [] = rw append-nil (picked_none {A = A} [] 0 n (omega arith)) in
+    let image : built.image ≡ (compose a b).image =
+    sym (append-nil built.image) ∙ ap (λ rest. built.image ++ rest) (sym nothing) ∙ w.image in
+    λ i. record { base = base i; image = image i }
+
 compose_done : {A : Type 0} (a b built : Operation A) → ComposeProgress a b built [] [] → built ≡ compose a b
 compose_done a b built w =
     let base : built.base ≡ (compose a b).base = omega (arith, w.base) in
@@ -354,15 +418,17 @@ pub compose_end :
     → ((count : ℕ) → h ≡ DeleteHead count → ⊥) → ((text : Bor (List A)) → k ≡ InsertHead text → ⊥)
     → min (made_of h) (span_of k) ≡ 0 → ComposeProgress a b built (runs_from h xs) (runs_from k ys) → built ≡ compose a b
 compose_end a b built End End xs ys not_h not_k none w = compose_done a b built w
-compose_end a b built End (RetainHead n) xs ys not_h not_k none w = absurd (omega (arith, w.meets, w.second_normal.0))
+compose_end a b built End (RetainHead n) xs [] not_h not_k none w = compose_over a b built n w
+compose_end a b built End (RetainHead n) xs (y ∷ ys) not_h not_k none w = absurd (omega (arith, w.covers.1, last_keep_within (y ∷ ys), w.second_normal.0))
 compose_end a b built End (InsertHead text) xs ys not_h not_k none w = absurd (not_k text refl)
-compose_end a b built End (DeleteHead n) xs ys not_h not_k none w = absurd (omega (arith, w.meets, w.second_normal.0))
+compose_end a b built End (DeleteHead n) xs [] not_h not_k none w = absurd (omega (arith, w.covers.1, w.second_normal.0))
+compose_end a b built End (DeleteHead n) xs (y ∷ ys) not_h not_k none w = absurd (omega (arith, w.covers.1, last_keep_within (y ∷ ys), w.second_normal.0))
 compose_end a b built (DeleteHead m) k xs ys not_h not_k none w = absurd (not_h m refl)
-compose_end a b built (RetainHead m) End xs ys not_h not_k none w = absurd (omega (arith, w.meets, w.first_normal.0))
+compose_end a b built (RetainHead m) End xs ys not_h not_k none w = absurd (omega (arith, w.covers.0, w.first_normal.0))
 compose_end a b built (RetainHead m) (RetainHead n) xs ys not_h not_k none w = absurd (omega (arith, none, w.first_normal.0, w.second_normal.0))
 compose_end a b built (RetainHead m) (InsertHead text) xs ys not_h not_k none w = absurd (not_k text refl)
 compose_end a b built (RetainHead m) (DeleteHead n) xs ys not_h not_k none w = absurd (omega (arith, none, w.first_normal.0, w.second_normal.0))
-compose_end a b built (InsertHead text) End xs ys not_h not_k none w = absurd (omega (arith, w.meets, w.first_normal.0))
+compose_end a b built (InsertHead text) End xs ys not_h not_k none w = absurd (omega (arith, w.covers.0, w.first_normal.0))
 compose_end a b built (InsertHead text) (RetainHead n) xs ys not_h not_k none w = absurd (omega (arith, none, w.first_normal.0, w.second_normal.0))
 compose_end a b built (InsertHead text) (InsertHead more) xs ys not_h not_k none w = absurd (not_k more refl)
 compose_end a b built (InsertHead text) (DeleteHead n) xs ys not_h not_k none w = absurd (omega (arith, none, w.first_normal.0, w.second_normal.0))
@@ -411,16 +477,21 @@ compose_fits a b built xs ys w = (
 -- what the arms add is never too long
 
 pub record ComposeBounds {A : Type 0} (a b : Operation A) : Type 0 where
-  pub second_rises : IsOperation b
-  pub meets : length a.image ≡ b.base
   pub base_fits : a.base ≤ 1000000
-  pub target_fits : length b.image ≤ 1000000
+  pub target_fits : length (compose a b).image ≤ 1000000
 
-pub bounds_of :
-    {A : Type 0} (a b : Operation A) → IsOperation b → length a.image ≡ b.base
-    → max a.base (length a.image) ≤ 1000000 → max b.base (length b.image) ≤ 1000000 → ComposeBounds a b
-bounds_of a b rises meets first_fits second_fits =
-    record { second_rises = rises; meets = meets; base_fits = omega (arith, first_fits); target_fits = omega (arith, second_fits) }
+at_most_one : {Y : Type 0} (o : Option Y) (ys : List Y) (n : ℕ) → length ys ≤ n → length (cons_option o ys) ≤ suc n
+at_most_one None ys n within = omega (arith, within)
+at_most_one (Some y) ys n within = omega (arith, within)
+
+length-filter_map-le : {X Y : Type 0} (h : X → Option Y) (xs : List X) → length (filter_map h xs) ≤ length xs
+length-filter_map-le h [] = omega arith
+length-filter_map-le h (x ∷ xs) = at_most_one (h x) (filter_map h xs) (length xs) (length-filter_map-le h xs)
+
+pub bounds_of : {A : Type 0} (xs ys : List (Run A)) → base_of xs ≤ 1000000 → length (image_from 0 ys) ≤ 1000000 → ComposeBounds (operation_of xs) (operation_of ys)
+unfolding compose
+bounds_of xs ys base_fits target_fits =
+    record { base_fits = base_fits; target_fits = omega (arith, target_fits, length-filter_map-le (item_in (image_from 0 xs)) (image_from 0 ys)) }
 
 small :
     {A : Type 0} (a b built : Operation A) (xs ys : List (Run A)) → ComposeBounds a b → ComposeProgress a b built xs ys
@@ -429,7 +500,7 @@ small a b built xs ys bounds w =
     let fits = compose_fits a b built xs ys w in
     let image_fits = fits.0 in
     let base_fits = fits.1 in
-    λ long. omega (arith, image_fits, base_fits, length-compose a b bounds.second_rises (sym bounds.meets), long, bounds.base_fits, bounds.target_fits)
+    λ long. omega (arith, image_fits, base_fits, long, bounds.base_fits, bounds.target_fits)
 
 pub small_delete :
     {A : Type 0} (a b built : Operation A) (at : Cursor A) (ys : List (Run A)) (count : ℕ) → ComposeBounds a b

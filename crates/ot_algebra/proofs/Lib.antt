@@ -16,4 +16,6 @@ pub mod TransformProgress
 pub mod TransformArms
 pub mod PartLeft
 pub mod ComposeProgress
+pub mod ComposeSpliced
+pub mod Walked
 pub mod Examples

@@ -1,13 +1,17 @@
 //! Two operations, one after the other, as one.
 
-ghost use Rattle.std.specs.Prelude.{◌≡◌, ◌≤◌, IfOk, OnOk, Bool, length};
+ghost use Rattle.std.specs.Prelude.{◌≡◌, ◌+◌, ◌≤◌, IfOk, OnOk, OnErr, Bool, length, drop, slice_range};
 ghost use Rattle.ot_text.specs.Operation.{IsTooLong};
+ghost use Rattle.ot_text.specs.Components.{runs};
+ghost use Rattle.ot_text.specs.Run.{base_of, image_from, operation_of, IsNormal};
 ghost use Rattle.ot_algebra.specs.Compose.{compose as composition};
-ghost use Rattle.ot_algebra.specs.Cursor.{composed_part, made_of};
+ghost use Rattle.ot_algebra.specs.Cursor.{after_kept, composed_part, end_keep, first_keep, made_of, runs_left, target_of, Covers};
+ghost use Rattle.ot_text.specs.declared.TheConstants.{LIMIT};
 
-use crate::cursor::{self, Front};
+use crate::cursor::{self, Cursor, Front};
+use crate::touched::{Spot, end_touched, first_touched};
 use crate::transformation::SPLIT;
-use ot_text::{Element, TextOp, only_memory};
+use ot_text::{Component, Element, TextOp, only_memory};
 use std::alloc::{AllocError, Global};
 
 /// First `a`, then `b`, as one operation: applying it is applying `a` and then `b` (`compose` of ot.js' `TextOperation`).
@@ -24,9 +28,29 @@ pub fn compose<T: Element>(
     requires { length a.now.image ≡ b.now.base }
     ensures { IfOk result (λ op. op ≡ composition a.now b.now) }
 {
-    let mut at_a = cursor::start(a.components());
-    let mut at_b = cursor::start(b.components());
-    let mut built = TextOp::with_capacity(alloc, a.components().len().saturating_add(SPLIT))?;
+    let ours = a.components();
+    let others = b.components();
+    let room = ours.len().saturating_add(SPLIT);
+    compose_left(alloc, room, cursor::start(ours), cursor::start(others))
+}
+
+// What is left before two cursors as one operation, with room for so many components. The second may keep more at its end than the first makes.
+fn compose_left<T: Element>(
+    alloc: Global,
+    room: usize,
+    first: Cursor<'_, T>,
+    second: Cursor<'_, T>,
+) -> Result<TextOp<T>, AllocError>
+    requires first_normal { IsNormal (runs_left first) }
+    requires second_normal { IsNormal (runs_left second) }
+    requires covers { Covers (target_of (runs_left first)) (runs_left second) }
+    requires base_fits { base_of (runs_left first) ≤ LIMIT }
+    requires target_fits { length (image_from 0 (runs_left second)) ≤ LIMIT }
+    ensures { IfOk result (λ op. op ≡ composition (operation_of (runs_left first.entry)) (operation_of (runs_left second.entry))) }
+{
+    let mut at_a = first;
+    let mut at_b = second;
+    let mut built = TextOp::with_capacity(alloc, room)?;
     loop {
         if let Front::Delete(count) = at_a.head {
             only_memory(built.delete(count))?;
@@ -46,6 +70,69 @@ pub fn compose<T: Element>(
         at_a = cursor::skip_made(at_a, count);
         at_b = cursor::skip(at_b, count);
     }
+}
+
+/// Composes `b` into `a`, which becomes what `compose` gives of the two. Where `b` keeps much of what `a` makes at its ends, as an edit at one
+/// place of a long operation does, only the components of `a` between are made anew: it costs these, a look at those before them, and
+/// a move of those behind where their number changes.
+///
+/// `b` takes what `a` makes: `a.target_len() == b.base_len()`, in scalars. `Err` comes only where memory was refused; `a` is as it was then.
+pub fn compose_into<T: Element>(a: &mut TextOp<T>, b: &TextOp<T>) -> Result<(), AllocError>
+    requires { length a.old.image ≡ b.now.base }
+    ensures ok { OnOk result (a.new ≡ composition a.old b.now) }
+    ensures err { OnErr result (a.new ≡ a.old) }
+{
+    let alloc = a.allocator();
+    let ours = a.components();
+    let others = b.components();
+    let first = first_touched(ours, others);
+    let end = end_touched(ours, others, first, b.base_len());
+    // Where half of it is touched or more, all of it is made anew.
+    if end - first.at < ours.len() / 2 {
+        let part = compose_part(alloc, ours, others, first, end)?;
+        if a.may_replace(first.at, end, &part) {
+            return a.replace(first.at, end, part);
+        }
+    }
+    *a = compose(alloc, a, b)?;
+    Ok(())
+}
+
+// The components `from` up to `end` of the first, which make what the second changes, composed with it.
+fn compose_part<T: Element>(
+    alloc: Global,
+    ours: &[Component<T>],
+    others: &[Component<T>],
+    from: Spot,
+    end: usize,
+) -> Result<TextOp<T>, AllocError>
+    requires order { from.at ≤ end }
+    requires within { end ≤ length ours.now }
+    requires ours { IsNormal (runs ours.now) }
+    requires others { IsNormal (runs others.now) }
+    requires meets { target_of (runs ours.now) ≡ base_of (runs others.now) }
+    requires spot { from.before + target_of (drop from.at (runs ours.now)) ≡ target_of (runs ours.now) }
+    requires kept_first { from.before ≤ first_keep (runs others.now) }
+    requires kept_last { target_of (drop end (runs ours.now)) ≤ end_keep (runs others.now) }
+    requires base_fits { base_of (runs ours.now) ≤ LIMIT }
+    requires target_fits { length (image_from 0 (runs others.now)) ≤ LIMIT }
+    ensures { IfOk result (λ op. op ≡ composition (operation_of (runs (slice_range ours.now from.at end))) (operation_of (after_kept from.before (runs others.now)))) }
+{
+    let room = (end - from.at).saturating_add(SPLIT);
+    let part = cursor::start(&ours[from.at..end]);
+    compose_left(alloc, room, part, past_kept(others, from.before))
+}
+
+// The cursor past so many elements, which the first component keeps.
+fn past_kept<T: Copy>(components: &[Component<T>], count: usize) -> Cursor<'_, T>
+    requires { count ≤ first_keep (runs components.now) }
+    ensures { runs_left result ≡ after_kept count (runs components.now) }
+{
+    let all = cursor::start(components);
+    if count == 0 {
+        return all;
+    }
+    cursor::skip(all, count)
 }
 
 // Adds `count` elements of what the first operation makes, which the second keeps or deletes.

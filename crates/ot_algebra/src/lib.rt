@@ -22,7 +22,8 @@
 //! ```
 //!
 //! Each turn of a loop ends a component of `a` or `b`, so the cost is that of the components of both and of the text
-//! that is inserted: nothing is paid for each character that is kept or deleted.
+//! that is inserted: nothing is paid for each character that is kept or deleted. Where `b` changes one place of a long `a`, `compose_into`
+//! goes over the components at that place alone, and puts what comes of them in their place.
 //!
 //! Contracts: `specs/Compose.antt` has `compose`, `specs/Merge.antt` has `merge`, `first_after` and `second_after`, and
 //! `specs/Laws.antt` the laws, each of which is the contract of a function in [`laws`]. `specs/Cursor.antt` serves the
@@ -33,8 +34,9 @@ mod composition;
 mod cursor;
 pub mod laws;
 mod one_sided;
+mod touched;
 mod transformation;
 
-pub use composition::compose;
+pub use composition::{compose, compose_into};
 pub use one_sided::transform_first;
 pub use transformation::transform;

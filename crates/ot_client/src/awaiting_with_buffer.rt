@@ -8,7 +8,7 @@ ghost use Rattle.ot_text.specs.declared.TheConstants.{LIMIT};
 ghost use Rattle.ot_client.specs.declared.TheConstants.{REVISION_LIMIT};
 
 use crate::{AwaitingConfirm, Sent};
-use ot_algebra::{compose, transform};
+use ot_algebra::{compose_into, transform};
 use ot_text::{Element, TextOp};
 use std::alloc::AllocError;
 use std::marker::Model;
@@ -83,7 +83,8 @@ impl<T: Element> AwaitingWithBuffer<T> {
         })
     }
 
-    /// Takes the user's edit, over what the buffer makes: it is composed into the buffer. For want of memory the client and the edit come back.
+    /// Takes the user's edit, over what the buffer makes: it is composed into the buffer, at the cost of the
+    /// components that it touches. For want of memory the client and the edit come back.
     pub fn edit(
         self,
         op: TextOp<T>,
@@ -92,9 +93,14 @@ impl<T: Element> AwaitingWithBuffer<T> {
         ensures state { IfOk result (λ client. buffering client ≡ edited (buffering self) op) }
         ensures back { IfErr result (λ back. back ≡ (self, op)) }
     {
-        let alloc = self.buffer.allocator();
-        let Ok(buffer) = compose(alloc, &self.buffer, &op) else {
-            return Err((self, op));
+        let mut buffer = self.buffer;
+        let Ok(()) = compose_into(&mut buffer, &op) else {
+            let client = AwaitingWithBuffer {
+                revision: self.revision,
+                outstanding: self.outstanding,
+                buffer,
+            };
+            return Err((client, op));
         };
         Ok(AwaitingWithBuffer {
             revision: self.revision,

@@ -3,19 +3,20 @@ use Rattle.std.specs.Prelude.{◌≡◌, ◌≢◌, ℕ, List, [], ◌∷◌, Bo
 use Rattle.std.specs.Str.{encode_utf8_all}
 use Rattle.serde_json.specs.Data.{Data, number, unsigned, string, object, no_members, member}
 use Rattle.serde_json.specs.Find.{get}
+use Rattle.line_reader.specs.Lines.{lines_of}
 use Rattle.ot_text.specs.Run.{normal_runs}
 use Rattle.ot_json.specs.Writing.{array_of}
-use Rattle.ot_isa.specs.Program.{Program}
+use Rattle.ot_isa.specs.Program.{IsProgram, Program}
 use Rattle.ot_model.specs.Operation.{Operation}
 use Rattle.ot_model.specs.declared.shown.Refusal.{Refusal}
 use Rattle.ot_model.specs.declared.shown.Refusal.TheVariants.{Memory}
 use Rattle.ot_report.specs.Printed.{refusal_text}
 use Rattle.ot_steps.specs.Lines.{Line, Message}
-use Rattle.ot_steps.specs.Text.{Value, Number, Name, Text, Op, Sent}
+use Rattle.ot_steps.specs.Text.{Value, Number, Name, Text, Op, Sent, lines_text}
 use Rattle.ot_steps.specs.Written.{AreRunLines}
 use Rattle.ot_conform.specs.Differences.{Outcome, Conforms, Stopped, is_limit, outcome}
 use Rattle.ot_conform.specs.Keys.{found_at}
-use Rattle.ot_conform.specs.Ports.{PortLine, Told, OtherForm, NoText, Nothing}
+use Rattle.ot_conform.specs.Ports.{PortLine, Told, OtherForm, NoText, Nothing, counted_lines}
 use Rattle.ot_conform.specs.Values.{value_at}
 use Rattle.ot_conform.specs.declared.keys.Key.{Key}
 
@@ -66,3 +67,10 @@ abbrev pub StepsConform : Type 0
 StepsConform =
     (documents : Bool) (s : Program) (stopped : Option (ℕ × Refusal)) (lines : List Line) (ports : List PortLine)
     → AreRunLines documents s stopped lines → IsOfTable stopped → Say lines ports → outcome s ports ≡ outcome_at stopped
+
+-- the bytes that `steps` prints of a schedule's run, read as a port's lines, conform; where the bench alone has the limit the comparison stops
+abbrev pub PrintedStepsConform : Type 0
+PrintedStepsConform =
+    (documents : Bool) (s : Program) (stopped : Option (ℕ × Refusal)) (lines : List Line)
+    → IsProgram s → AreRunLines documents s stopped lines → IsOfTable stopped
+    → outcome s (counted_lines (lines_of (lines_text lines))) ≡ outcome_at stopped

@@ -5,3 +5,4 @@ pub mod Stopping
 pub mod Once
 pub mod Deciding
 pub mod Ever
+pub mod Untouched

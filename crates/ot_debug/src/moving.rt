@@ -35,13 +35,26 @@ impl Debugger {
         ensures refused { IfErr result (λ r. r ≢ Memory → IsRefusedAt self.old.schedule self.old.position r) }
         ensures unchanged { OnErr result (self.new ≡ self.old) }
     {
+        let place = self.position();
+        let Some(instr) = self.schedule.get(place) else {
+            unreachable!()
+        };
         let seen = look(
             *self.watches.allocator(),
             &self.machine,
+            instr,
             self.watches.as_slice(),
         )?;
         self.forward()?;
-        Ok(first_other(&self.machine, self.watches.as_slice(), seen.as_slice()))
+        let Some(instr) = self.schedule.get(place) else {
+            unreachable!()
+        };
+        Ok(first_other(
+            &self.machine,
+            instr,
+            self.watches.as_slice(),
+            seen.as_slice(),
+        ))
     }
 
     // There is a break at the place.

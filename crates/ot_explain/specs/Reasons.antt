@@ -26,7 +26,7 @@ wide_words count =
 -- an edit that is not over the whole document
 abbrev pub base_text : ℕ → ℕ → List Tagged → List ℕ
 base_text c base list =
-    codes "the edit takes documents of " ++ (decimal base ++ (codes " characters, client " ++ (decimal c ++ (codes "'s has " ++ (decimal (length list) ++ wide_words (wide list))))))
+    codes "the edit takes documents of length " ++ (decimal base ++ (codes ", client " ++ (decimal c ++ (codes "'s has length " ++ (decimal (length list) ++ wide_words (wide list))))))
 
 abbrev pub base_words : ℕ → Operation ℕ → Client → List ℕ
 base_words c op x = base_text c op.base x.list
@@ -34,7 +34,7 @@ base_words c op x = base_text c op.base x.list
 -- a client that has inserted too much
 abbrev pub full_text : ℕ → ℕ → ℕ → List ℕ
 full_text c count more =
-    codes "client " ++ (decimal c ++ (codes " has inserted " ++ (decimal count ++ (codes " characters and would insert " ++ (decimal more ++ codes " more, at most 15000 in a run")))))
+    codes "client " ++ (decimal c ++ (codes " has inserted " ++ (decimal count ++ (codes " of at most 15000 characters and would insert " ++ (decimal more ++ codes " more")))))
 
 abbrev pub full_words : ℕ → Operation ℕ → Client → List ℕ
 full_words c op x = full_text c x.count (inserted op)

@@ -54,7 +54,7 @@ fn base_words(
     let base = op.base_len();
     let count = list.len();
     format!(in alloc;
-        "the edit takes documents of {base} characters, client {client}'s has {count}{words}"
+        "the edit takes documents of length {base}, client {client}'s has length {count}{words}"
     )
 }
 
@@ -71,7 +71,7 @@ fn full_words(
     let count = machine.inserted(client);
     let more = op.inserted();
     format!(in alloc;
-        "client {client} has inserted {count} characters and would insert {more} more, at most 15000 in a run"
+        "client {client} has inserted {count} of at most 15000 characters and would insert {more} more"
     )
 }
 

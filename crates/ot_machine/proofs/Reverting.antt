@@ -5,6 +5,7 @@ use Rattle.std.proofs.lemmas.Option.{slice_get-map, slice_get_read, same_Some, s
 use Rattle.std.specs.Prelude.{slice_get, if◌then◌else◌}
 use Rattle.std.specs.Option.{option_map}
 use Rattle.ot_isa.specs.declared.elements.Tagged.{Tagged}
+use Rattle.ot_text.specs.Operation.{Operation}
 use Rattle.ot_client.specs.declared.sent.Sent.{Sent}
 use Rattle.ot_client.specs.Client.{message_of}
 use Rattle.ot_server.specs.History.{History}
@@ -12,10 +13,12 @@ use Rattle.ot_model.specs.Table.{Client, Message, State, absent, is_joined, with
 use Rattle.ot_model.specs.Sound.{IsSound}
 use Rattle.ot_machine.specs.declared.seat.Seat.{Seat}
 use Rattle.ot_machine.specs.declared.kept.Before.{Before}
-use Rattle.ot_machine.specs.Seats.{View, view_of, client_of, revision_of, numbers, incoming, queued, swept, idle, AreQueues, state_from, IsKept}
-use Rattle.ot_machine.specs.Undoing.{message_at, message_in, queue_before, reverted, FitsBack, Restores, IsRecord}
+use Rattle.ot_machine.specs.declared.past.Past.{Past}
+use Rattle.ot_machine.specs.declared.past.Past.TheVariants as kept
+use Rattle.ot_machine.specs.Seats.{View, view_of, client_of, phase_of, numbers, incoming, queued, swept, idle, AreQueues, state_from, IsKept}
+use Rattle.ot_machine.specs.Undoing.{first_of, last_of, message_at, message_in, phase_over, queue_before, reverted, FitsBack, FitsPhase, Restores, IsRecord}
 use Rattle.ot_machine.specs.declared.undo.Record.TheVariants.{ClientStep, Joined, Read}
-use Rattle.ot_machine.proofs.RowLaws.{client_at, joined_of, queue_at}
+use Rattle.ot_machine.proofs.RowLaws.{client_at, queue_at}
 
 -- a loop over all seats
 swept_next : {X : Type 0} (f : X → X) (i : ℕ) (xs : List X) (y : X) → slice_get (swept f i xs) i ≡ Some y → set (swept f i xs) i (f y) ≡ swept f (suc i) xs
@@ -136,7 +139,7 @@ step_counted server seats steps c is earlier led =
     omega (arith, counted)
 
 revision_right :
-    (before : Before) (was x : Client) (n : ℕ) (queue : List ℕ) (b : Bool) → before.received ≡ b → was.revision ≡ revision_of (Some before.client) → is_joined was.phase ≡ true
+    (before : Before) (was x : Client) (n : ℕ) (queue : List ℕ) (b : Bool) → before.received ≡ b → was.revision ≡ before.revision → is_joined was.phase ≡ true
     → x.revision ≡ (if b then suc was.revision else was.revision) → x.revision ≤ n → queue ≡ numbers x.revision (n - x.revision)
     → queue_before before queue ≡ incoming was n
 revision_right before was x n queue true is from joined after inside right =
@@ -145,9 +148,14 @@ revision_right before was x n queue true is from joined after inside right =
 revision_right before was x n queue false is from joined after inside right =
     rw (is, joined) (right ∙ ap (λ k. numbers k (n - k)) after)
 
+kept_joined : (past : Past) (first last : Operation Tagged) → is_joined (phase_over past first last) ≡ true
+kept_joined kept.Synchronized first last = refl
+kept_joined (kept.AwaitingConfirm o) first last = refl
+kept_joined (kept.AwaitingWithBuffer o b) first last = refl
+
 queue_right : (before : Before) (was x : Client) (n : ℕ) (queue : List ℕ) → Restores before was x → x.revision ≤ n → queue ≡ incoming x n → queue_before before queue ≡ incoming was n
 queue_right before was x n queue is inside right =
-    let joined : is_joined was.phase ≡ true = ap (λ (y : Client). is_joined y.phase) (sym is.back) ∙ joined_of (Some before.client) refl in
+    let joined : is_joined was.phase ≡ true = ap (λ (y : Client). is_joined y.phase) (sym is.back) ∙ kept_joined before.past (first_of x.phase) (last_of x.phase) in
     revision_right before was x n queue before.received refl (ap (λ (y : Client). y.revision) (sym is.back)) joined is.revision inside (right ∙ rw is.joined refl)
 
 -- a step at a client taken back
@@ -181,6 +189,13 @@ pub client_fits :
 client_fits server seats steps c seat before earlier s here value is =
     let now : client_of seat ≡ is.step.is = step_client server seats steps c seat is.step.was is.step.is earlier here is.step.at (value ∙ is.step.led) in
     subst (λ (x : Client). FitsBack before.inverse x.list) (sym now) is.step.restores.fits
+
+pub client_waited :
+    (server : History Tagged) (seats : List Seat) (steps c : ℕ) (seat : Seat) (before : Before) (earlier s : State)
+    → slice_get seats c ≡ Some seat → state_from server seats steps ≡ s → IsRecord earlier s (ClientStep c before) → FitsPhase before.past (phase_of seat.client)
+client_waited server seats steps c seat before earlier s here value is =
+    let now : client_of seat ≡ is.step.is = step_client server seats steps c seat is.step.was is.step.is earlier here is.step.at (value ∙ is.step.led) in
+    subst (λ (x : Client). FitsPhase before.past x.phase) (sym now) is.step.restores.phase
 
 -- a seat of which callers see no change
 pub seats_same : (seats : List Seat) (c : ℕ) (seat new : Seat) → slice_get seats c ≡ Some seat → view_of new ≡ view_of seat → map view_of (set seats c new) ≡ map view_of seats

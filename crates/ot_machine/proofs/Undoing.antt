@@ -16,7 +16,7 @@ use Rattle.ot_machine.specs.declared.seat.Seat.{Seat}
 use Rattle.ot_machine.specs.declared.kept.Before.{Before}
 use Rattle.ot_machine.specs.Seats.{client_of, phase_of, revision_of, under_way, MaySend}
 use Rattle.ot_machine.proofs.RowLaws.{none_up}
-use Rattle.ot_machine.specs.Undoing.{list_before, FitsBack, GivesBack, IsBefore, Restores}
+use Rattle.ot_machine.specs.Undoing.{phase_acknowledged, IsBefore, Restores}
 
 -- it fits what the operation makes of the list
 pub inverse_base : (op inverse : Operation Tagged) (list : List Tagged) → IsOperation op → op.base ≡ length list → inverse ≡ invert op list → inverse.base ≡ length (apply op list)
@@ -30,30 +30,29 @@ message_back :
 message_back true up m is same = sym (ap (option_map message_of) (is.0 refl))
 message_back false up m is same = same (λ none. let no = is.1 none in cc)
 
--- the client after a step, and what takes its list back
-pub record Led (was : Seat) (now : Client) (inverse : Option (Operation Tagged)) (received : Bool) : Type 0 where
-  pub list : GivesBack inverse was.list now.list
+-- the client after a step
+pub record Led (was : Seat) (now : Client) (received : Bool) : Type 0 where
   pub message : (was.up ≡ None → ⊥) → now.message ≡ option_map message_of was.up
   pub joined : is_joined now.phase ≡ true
   pub revision : now.revision ≡ (if received then suc (revision_of was.client) else revision_of was.client)
 
 -- what was kept of the client before is a record of the step
-restored : (before : Before) (was : Seat) (now : Client) (inverse : Option (Operation Tagged)) (received : Bool) → Led was now inverse received → IsBefore before was inverse received → Restores before (client_of was) now
-restored before was now inverse received led is =
-    let list : list_before before.inverse now.list ≡ was.list = ap (λ o. list_before o now.list) is.3 ∙ led.list.1 in
-    let message : (if before.unsent then None else now.message) ≡ option_map message_of was.up = message_back before.unsent was.up now.message is.4 led.message in
+restored : (before : Before) (was : Seat) (now : Client) (received : Bool) → Led was now received → IsBefore before was now.phase now.list received → Restores before (client_of was) now
+restored before was now received led is =
+    let message : (if before.unsent then None else now.message) ≡ option_map message_of was.up = message_back before.unsent was.up now.message is.unsent led.message in
     record {
-      back = λ i. record { revision = is.1 i; phase = is.0 i; list = list i; count = is.2 i; message = message i };
-      fits = subst (λ o. FitsBack o now.list) (sym is.3) led.list.0;
+      back = λ i. record { revision = is.revision i; phase = is.waited i; list = is.applied.1 i; count = is.count i; message = message i };
+      fits = is.applied.0;
+      phase = is.fits;
       joined = led.joined;
-      revision = led.revision ∙ ap (λ (b : Bool). if b then suc (revision_of was.client) else revision_of was.client) (sym is.5);
+      revision = led.revision ∙ ap (λ (b : Bool). if b then suc (revision_of was.client) else revision_of was.client) (sym is.took);
     }
 
 pub kept_restored :
-    (kept : Option Before) (was : Seat) (now : Client) (inverse : Option (Operation Tagged)) (received : Bool)
-    → Led was now inverse received → IsSomeAnd kept (λ before. IsBefore before was inverse received) → IsSomeAnd kept (λ before. Restores before (client_of was) now)
-kept_restored None was now inverse received led is = is
-kept_restored (Some before) was now inverse received led is = restored before was now inverse received led is
+    (kept : Option Before) (was : Seat) (now : Client) (list : List Tagged) (received : Bool)
+    → Led was now received → now.list ≡ list → IsSomeAnd kept (λ before. IsBefore before was now.phase list received) → IsSomeAnd kept (λ before. Restores before (client_of was) now)
+kept_restored None was now list received led lists is = is
+kept_restored (Some before) was now list received led lists is = restored before was now received led (subst (λ xs. IsBefore before was now.phase xs received) (sym lists) is)
 
 -- an edit sends only where nothing was under way
 pub sends_alone :
@@ -65,15 +64,17 @@ sends_alone (client.AwaitingConfirm here) op up sent may is some = ap (λ s. und
 sends_alone (client.AwaitingWithBuffer here) op up sent may is some = ap (λ s. under_way s up) (none_up sent is)
 
 acknowledged_led :
-    (was : Seat) (now : Client) (phase : Phase) → acknowledged (client_of was) phase ≡ Some now → was.up ≡ None → Led was now None true
+    (was : Seat) (now : Client) (phase : Phase) → acknowledged (client_of was) phase ≡ Some now → was.up ≡ None → Led was now true × (now.phase ≡ phase_acknowledged phase) × (now.list ≡ was.list)
 acknowledged_led was now NotJoined is none = absurd (cc)
 acknowledged_led was now Synchronized is none = absurd (cc)
 acknowledged_led was now (AwaitingConfirm o) is none =
-    subst (λ x. Led was x None true) (same_Some _ now is) (record { list = (tt, refl); message = λ some. absurd (some none); joined = refl; revision = refl })
+    subst (λ x. Led was x true × (x.phase ≡ Synchronized) × (x.list ≡ was.list)) (same_Some _ now is) (record { message = λ some. absurd (some none); joined = refl; revision = refl }, refl, refl)
 acknowledged_led was now (AwaitingWithBuffer o b) is none =
-    subst (λ x. Led was x None true) (same_Some _ now is) (record { list = (tt, refl); message = λ some. absurd (some none); joined = refl; revision = refl })
+    subst (λ x. Led was x true × (x.phase ≡ AwaitingConfirm b) × (x.list ≡ was.list)) (same_Some _ now is) (record { message = λ some. absurd (some none); joined = refl; revision = refl }, refl, refl)
 
 pub acknowledge_restored :
     (kept : Option Before) (was : Seat) (now : Client) → acknowledged (client_of was) (phase_of was.client) ≡ Some now → was.up ≡ None
-    → IsSomeAnd kept (λ before. IsBefore before was None true) → IsSomeAnd kept (λ before. Restores before (client_of was) now)
-acknowledge_restored kept was now is none = kept_restored kept was now None true (acknowledged_led was now (phase_of was.client) is none)
+    → IsSomeAnd kept (λ before. IsBefore before was (phase_acknowledged (phase_of was.client)) was.list true) → IsSomeAnd kept (λ before. Restores before (client_of was) now)
+acknowledge_restored kept was now is none of_seat =
+    let led = acknowledged_led was now (phase_of was.client) is none in
+    kept_restored kept was now was.list true led.0 led.2 (subst (λ phase. IsSomeAnd kept (λ before. IsBefore before was phase was.list true)) (sym led.1) of_seat)

@@ -1,14 +1,17 @@
 -- What a step keeps so that it can be taken back.
 use Rattle.std.specs.Prelude.{◌≡◌, ◌↔◌, ℕ, suc, ◌-◌, Bool, true, IsTrue, List, ◌∷◌, Option, Some, None, length, slice_get, take, if◌then◌else◌}
 use Rattle.ot_isa.specs.declared.elements.Tagged.{Tagged}
-use Rattle.ot_text.specs.Operation.{Operation, apply}
+use Rattle.ot_text.specs.Operation.{Operation, apply, empty}
+use Rattle.ot_text.specs.Patch.{put_back, FitsOn}
 use Rattle.ot_client.specs.declared.sent.Sent.{Sent}
 use Rattle.ot_client.specs.Client.{message_of}
 use Rattle.ot_server.specs.History.{IsUndo}
-use Rattle.ot_model.specs.Table.{Client, Message, State, is_joined, absent, taken, with_client}
+use Rattle.ot_model.specs.Table.{Client, Message, State, Phase, NotJoined, Synchronized, AwaitingConfirm, AwaitingWithBuffer, is_joined, absent, taken, with_client}
 use Rattle.ot_model.specs.Sound.{IsSound}
 use Rattle.ot_machine.specs.declared.seat.Seat.{Seat}
 use Rattle.ot_machine.specs.declared.kept.Before.{Before}
+use Rattle.ot_machine.specs.declared.past.Past.{Past}
+use Rattle.ot_machine.specs.declared.past.Past.TheVariants as kept
 use Rattle.ot_machine.specs.declared.undo.Record.{Record}
 use Rattle.ot_machine.specs.declared.undo.Record.TheVariants.{ClientStep, Taken, Joined, Read}
 use Rattle.ot_machine.specs.declared.undo.Undo.{Undo}
@@ -19,12 +22,51 @@ abbrev pub list_before : Option (Operation Tagged) → List Tagged → List Tagg
 list_before None list = list
 list_before (Some inverse) list = apply inverse list
 
+-- the operations of a phase over which those of an earlier one are kept: what is outstanding, and what waits last; the empty one where nothing does
+abbrev pub first_of : Phase → Operation Tagged
+first_of NotJoined = empty
+first_of Synchronized = empty
+first_of (AwaitingConfirm o) = o
+first_of (AwaitingWithBuffer o b) = o
+
+abbrev pub last_of : Phase → Operation Tagged
+last_of NotJoined = empty
+last_of Synchronized = empty
+last_of (AwaitingConfirm o) = o
+last_of (AwaitingWithBuffer o b) = b
+
+-- the earlier phase over two operations
+abbrev pub phase_over : Past → Operation Tagged → Operation Tagged → Phase
+phase_over kept.Synchronized first last = Synchronized
+phase_over (kept.AwaitingConfirm o) first last = AwaitingConfirm (put_back o first)
+phase_over (kept.AwaitingWithBuffer o b) first last = AwaitingWithBuffer (put_back o first) (put_back b last)
+
+-- what is kept fits on them, and the buffer is over what the outstanding operation makes
+abbrev pub FitsOver : Past → Operation Tagged → Operation Tagged → Type 0
+FitsOver kept.Synchronized first last = Unit {0}
+FitsOver (kept.AwaitingConfirm o) first last = FitsOn o first
+FitsOver (kept.AwaitingWithBuffer o b) first last = FitsOn o first × FitsOn b last × ((put_back b last).base ≡ length (put_back o first).image)
+
+-- the phase before a step, from the phase after it
+abbrev pub phase_before : Past → Phase → Phase
+phase_before past phase = phase_over past (first_of phase) (last_of phase)
+
+abbrev pub FitsPhase : Past → Phase → Type 0
+FitsPhase past phase = FitsOver past (first_of phase) (last_of phase)
+
+-- the phase after an acknowledgement
+abbrev pub phase_acknowledged : Phase → Phase
+phase_acknowledged NotJoined = NotJoined
+phase_acknowledged Synchronized = Synchronized
+phase_acknowledged (AwaitingConfirm o) = Synchronized
+phase_acknowledged (AwaitingWithBuffer o b) = AwaitingConfirm b
+
 -- the client as the record says
 abbrev pub reverted : Before → Client → Client
 reverted before x =
     record {
-      revision = revision_of (Some before.client);
-      phase = phase_of (Some before.client);
+      revision = before.revision;
+      phase = phase_before before.past x.phase;
       list = list_before before.inverse x.list;
       count = before.count;
       message = if before.unsent then None else x.message;
@@ -32,7 +74,7 @@ reverted before x =
 
 -- what was on the way to the client
 abbrev pub queue_before : Before → List ℕ → List ℕ
-queue_before before queue = if before.received then revision_of (Some before.client) ∷ queue else queue
+queue_before before queue = if before.received then before.revision ∷ queue else queue
 
 -- the inverse, if there is one, can be applied to the list
 abbrev pub FitsBack : Option (Operation Tagged) → List Tagged → Type 0
@@ -43,20 +85,21 @@ FitsBack (Some inverse) list = inverse.base ≡ length list
 abbrev pub GivesBack : Option (Operation Tagged) → List Tagged → List Tagged → Type 0
 GivesBack inverse before after = FitsBack inverse after × (list_before inverse after ≡ before)
 
--- what is kept of the seat's client: its revision and phase, its count, whether nothing is under way from it, and these two of the step
-abbrev pub IsBefore : Before → Seat → Option (Operation Tagged) → Bool → Type 0
-IsBefore before seat inverse received =
-    (phase_of (Some before.client) ≡ phase_of seat.client)
-    × (revision_of (Some before.client) ≡ revision_of seat.client)
-    × (before.count ≡ seat.count)
-    × (before.inverse ≡ inverse)
-    × (IsTrue before.unsent ↔ (seat.up ≡ None))
-    × (before.received ≡ received)
+-- what is kept of the seat's client before a step after which it has this phase and this list, and which takes a message off its downlink, or not
+pub record IsBefore (before : Before) (seat : Seat) (phase : Phase) (list : List Tagged) (received : Bool) : Type 0 where
+  pub waited : phase_before before.past phase ≡ phase_of seat.client
+  pub fits : FitsPhase before.past phase
+  pub revision : before.revision ≡ revision_of seat.client
+  pub applied : GivesBack before.inverse seat.list list
+  pub count : before.count ≡ seat.count
+  pub unsent : IsTrue before.unsent ↔ (seat.up ≡ None)
+  pub took : before.received ≡ received
 
 -- the record leads from the client x after a step back to the client y before it
 pub record Restores (before : Before) (y x : Client) : Type 0 where
   pub back : reverted before x ≡ y
   pub fits : FitsBack before.inverse x.list
+  pub phase : FitsPhase before.past x.phase
   pub joined : is_joined x.phase ≡ true
   pub revision : x.revision ≡ (if before.received then suc y.revision else y.revision)
 

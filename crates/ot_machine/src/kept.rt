@@ -1,79 +1,29 @@
 //! What is kept of a client before a step of its own, and how it comes back. `KEPT` says whether a step is to be taken back; where it is not,
 //! nothing is made and nothing is kept.
 
-ghost use Rattle.std.specs.Prelude.{◌≡◌, length, map, true, IfErr, IfOk, IsSomeAnd, IsTrue, None, OnErr, OnOk, Some};
+ghost use Rattle.std.specs.Prelude.{◌≡◌, length, map, true, IfErr, IfOk, IsSomeAnd, IsTrue, OnErr, OnOk, Some};
 ghost use Rattle.ot_text.specs.Operation.{apply};
 ghost use Rattle.ot_model.specs.Table.{is_joined};
-ghost use Rattle.ot_machine.specs.Seats.{client_of, phase_of, view_of, IsAwaiting};
-ghost use Rattle.ot_machine.specs.Undoing.{queue_before, reverted, unsent, FitsBack, GivesBack, IsBefore};
+ghost use Rattle.ot_machine.specs.Seats.{client_of, phase_of, revision_of, view_of, IsAwaiting};
+ghost use Rattle.ot_machine.specs.Undoing.{phase_acknowledged, phase_before, queue_before, reverted, unsent, FitsBack, FitsPhase, IsBefore};
 
+use crate::past::{Past, first_waiting, last_waiting};
 use crate::seat::Seat;
 use ot_client::Client;
 use ot_isa::Tagged;
 use ot_text::{Doc, TextOp};
 use std::alloc::AllocError;
 
-/// A client as it was before a step of its own: its state, how much it had inserted, the inverse of what the step applied to its list, whether
-/// nothing was under way from it, and whether the step took a message off its downlink.
+/// A client as it was before a step of its own, kept over the client after it: what it waited for, its revision, the inverse of what the step applied
+/// to its list, how much it had inserted, whether nothing was under way from it, and whether the step took a message off its downlink.
 #[derive(Drop)]
 pub(crate) struct Before {
-    pub client: Client<Tagged>,
+    pub past: Past,
+    pub revision: u32,
     pub inverse: Option<TextOp<Tagged>>,
     pub count: u32,
     pub unsent: bool,
     pub received: bool,
-}
-
-// Puts a joined client's next state into its place, and gives what is kept of the one before. Where nothing is kept, it is an assignment.
-#[inline(always)]
-pub(crate) fn exchange<const KEPT: bool>(
-    seat: &mut Seat,
-    next: Client<Tagged>,
-    inverse: Option<TextOp<Tagged>>,
-    received: bool,
-) -> Option<Before>
-    requires { is_joined (phase_of seat.old.client) ≡ true }
-    ensures next { seat.new.client ≡ Some next }
-    ensures list { seat.new.list ≡ seat.old.list }
-    ensures inserted { seat.new.count ≡ seat.old.count }
-    ensures up { seat.new.up ≡ seat.old.up }
-    ensures down { seat.new.down ≡ seat.old.down }
-    ensures kept { IsTrue KEPT → IsSomeAnd result (λ before. IsBefore before seat.old inverse received) }
-{
-    if !KEPT {
-        seat.client = Some(next);
-        return None;
-    }
-    let Some(client) = seat.client.replace(next) else {
-        unreachable!()
-    };
-    Some(Before {
-        client,
-        inverse,
-        count: seat.count,
-        unsent: seat.up.is_empty(),
-        received,
-    })
-}
-
-// What is kept of a client before an acknowledgement: a copy, since its operations move on.
-pub(crate) fn copied<const KEPT: bool>(seat: &Seat) -> Result<Option<Before>, AllocError>
-    requires { IsAwaiting (phase_of seat.now.client) }
-    ensures { IsTrue KEPT → IfOk result (λ kept. IsSomeAnd kept (λ before. IsBefore before seat.now None true)) }
-{
-    if !KEPT {
-        return Ok(None);
-    }
-    let Some(client) = &seat.client else {
-        unreachable!()
-    };
-    Ok(Some(Before {
-        client: client.copy()?,
-        inverse: None,
-        count: seat.count,
-        unsent: seat.up.is_empty(),
-        received: true,
-    }))
 }
 
 // What takes the operation back from the list that it makes of this one.
@@ -89,18 +39,67 @@ fn inverse_of(op: &TextOp<Tagged>, list: &Doc<Tagged>) -> Result<TextOp<Tagged>,
     Ok(inverse)
 }
 
-// So where it is kept.
-pub(crate) fn inverse_if<const KEPT: bool>(
-    op: &TextOp<Tagged>,
-    list: &Doc<Tagged>,
-) -> Result<Option<TextOp<Tagged>>, AllocError>
-    requires { op.now.base ≡ length list.now }
-    ensures { IsTrue KEPT → IfOk result (λ inverse. GivesBack inverse list.now (apply op.now list.now)) }
+// What is kept of the client before a step that makes `next` of it and applies an operation to its list.
+pub(crate) fn before_change<const KEPT: bool>(
+    seat: &Seat,
+    next: &Option<Client<Tagged>>,
+    applied: &TextOp<Tagged>,
+    received: bool,
+) -> Result<Option<Before>, AllocError>
+    requires joined { is_joined (phase_of seat.now.client) ≡ true }
+    requires fits { applied.now.base ≡ length seat.now.list }
+    ensures { IsTrue KEPT → IfOk result (λ kept. IsSomeAnd kept (λ before. IsBefore before seat.now (phase_of next.now) (apply applied.now seat.now.list) received)) }
 {
     if !KEPT {
         return Ok(None);
     }
-    Ok(Some(inverse_of(op, list)?))
+    let Some(client) = &seat.client else {
+        unreachable!()
+    };
+    let none = TextOp::new(seat.list.allocator());
+    let past = Past::over(
+        client,
+        first_waiting(next, &none),
+        last_waiting(next, &none),
+    )?;
+    let inverse = inverse_of(applied, &seat.list)?;
+    Ok(Some(Before {
+        past,
+        revision: client.revision(),
+        inverse: Some(inverse),
+        count: seat.count,
+        unsent: seat.up.is_empty(),
+        received,
+    }))
+}
+
+// What is kept of the client before an acknowledgement: its buffer, if there is one, is outstanding after it, and its list stays.
+pub(crate) fn before_acknowledgement<const KEPT: bool>(
+    seat: &Seat,
+) -> Result<Option<Before>, AllocError>
+    requires { IsAwaiting (phase_of seat.now.client) }
+    ensures { IsTrue KEPT → IfOk result (λ kept. IsSomeAnd kept (λ before. IsBefore before seat.now (phase_acknowledged (phase_of seat.now.client)) seat.now.list true)) }
+{
+    if !KEPT {
+        return Ok(None);
+    }
+    let Some(client) = &seat.client else {
+        unreachable!()
+    };
+    let none = TextOp::new(seat.list.allocator());
+    let left = match client {
+        Client::AwaitingWithBuffer(client) => client.buffer(),
+        _ => &none,
+    };
+    let past = Past::over(client, left, left)?;
+    Ok(Some(Before {
+        past,
+        revision: client.revision(),
+        inverse: None,
+        count: seat.count,
+        unsent: seat.up.is_empty(),
+        received: true,
+    }))
 }
 
 // The last message on the way to the client taken back.
@@ -119,14 +118,30 @@ pub(crate) fn unsend_all(seats: &mut Vec<Seat>)
     }
 }
 
+// The client's state as it was before the step.
+fn client_before(seat: &Seat, before: &Before) -> Result<Client<Tagged>, AllocError>
+    requires { FitsPhase before.now.past (phase_of seat.now.client) }
+    ensures phase { IfOk result (λ client. phase_of (Some client) ≡ phase_before before.now.past (phase_of seat.now.client)) }
+    ensures revision { IfOk result (λ client. revision_of (Some client) ≡ before.now.revision) }
+{
+    let none = TextOp::new(seat.list.allocator());
+    let first = first_waiting(&seat.client, &none);
+    let last = last_waiting(&seat.client, &none);
+    before.past.client(before.revision, first, last)
+}
+
 // The client as it was before the step. Where memory is wanting what was kept comes back.
 pub(crate) fn revert(seat: &mut Seat, before: Before) -> Result<(), (AllocError, Before)>
-    requires { FitsBack before.inverse seat.old.list }
+    requires list { FitsBack before.inverse seat.old.list }
+    requires phase { FitsPhase before.past (phase_of seat.old.client) }
     ensures ok { OnOk result (client_of seat.new ≡ reverted before (client_of seat.old)) }
     ensures down { OnOk result (seat.new.down.items ≡ queue_before before seat.old.down.items) }
     ensures err { OnErr result (view_of seat.new ≡ view_of seat.old) }
     ensures back { IfErr result (λ e. e.1 ≡ before) }
 {
+    let Ok(client) = client_before(seat, &before) else {
+        return Err((AllocError, before));
+    };
     if before.received
         && let Err(e) = seat.down.reserve_one()
     {
@@ -138,12 +153,12 @@ pub(crate) fn revert(seat: &mut Seat, before: Before) -> Result<(), (AllocError,
         return Err((e, before));
     }
     if before.received {
-        seat.down.put_back(before.client.revision());
+        seat.down.put_back(before.revision);
     }
     if before.unsent {
         let _ = seat.up.pop();
     }
-    seat.client = Some(before.client);
+    seat.client = Some(client);
     seat.count = before.count;
     Ok(())
 }

@@ -42,6 +42,7 @@ mod machine;
 mod order_laws;
 mod outcome;
 mod part;
+mod past;
 mod readers;
 mod running;
 mod seat;

@@ -140,9 +140,10 @@ pub(crate) fn edit<const KEPT: bool>(
         unreachable!()
     };
     let (next, sent) = edited_client(client, op)?;
-    let inverse = kept::inverse_if::<KEPT>(op, &seat.list)?;
+    let next = Some(next);
+    let before = kept::before_change::<KEPT>(seat, &next, op, false)?;
     seat.list.change(op)?;
-    let before = kept::exchange::<KEPT>(seat, next, inverse, false);
+    seat.client = next;
     put_up(&mut seat.up, sent);
     seat.count += op.inserted() as u32;
     Ok(before)
@@ -238,9 +239,10 @@ pub(crate) fn deliver<const KEPT: bool>(
     };
     let (next, carried) = client.deliver(op)?;
     let applied = carried.as_ref().unwrap_or(op);
-    let inverse = kept::inverse_if::<KEPT>(applied, &seat.list)?;
+    let next = Some(next);
+    let before = kept::before_change::<KEPT>(seat, &next, applied, true)?;
     seat.list.change(applied)?;
-    let before = kept::exchange::<KEPT>(seat, next, inverse, true);
+    seat.client = next;
     let _ = seat.down.pop();
     Ok(before)
 }
@@ -254,7 +256,7 @@ pub(crate) fn acknowledge<const KEPT: bool>(seat: &mut Seat) -> Result<Option<Be
     ensures err { OnErr result (seat.new ≡ seat.old) }
     ensures kept { IsTrue KEPT → IfOk result (λ kept. IsSomeAnd kept (λ before. Restores before (client_of seat.old) (client_of seat.new))) }
 {
-    let before = kept::copied::<KEPT>(seat)?;
+    let before = kept::before_acknowledgement::<KEPT>(seat)?;
     match seat.client.take() {
         Some(Client::AwaitingConfirm(client)) => {
             seat.client = Some(Client::Synchronized(client.acknowledge()));

@@ -16,7 +16,7 @@ use ot_model::{Refusal, Shown};
 use ot_text::TextOp;
 use std::alloc::AllocError;
 
-/// What takes one step of a machine back: the client's state before it, inverse operations and the message taken, but no list.
+/// What takes one step of a machine back: of the client's state what the step changed, inverse operations and the message taken, but no list.
 /// `Machine::step_kept` gives it, `Machine::undo` takes it.
 #[derive(Drop)]
 pub struct Undo {

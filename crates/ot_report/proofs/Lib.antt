@@ -1,1 +1,4 @@
 pub mod Listing
+pub mod Progress
+pub mod Quiet
+pub mod Reported

@@ -1,3 +1,4 @@
 pub mod Printed
 pub mod Verdicts
 pub mod Findings
+pub mod Written

@@ -3,11 +3,13 @@
 //! ```text
 //!   Replay ── print_run ──▶ its reads, its stop, and its end (print_end: the state of any machine)
 //!    └──── find ───────▶ its stop, whether all is quiet with one list, and the verdict of the schedule's trace
+//!   Schedule ── write_report ──▶ the same lines as print_run's, written while the run goes
 //! ```
 //!
-//! Every line ends with LF; a text is printed as a JSON string. Each call answers an error only for want of memory, and its contract
-//! says every byte: `specs/Printed.antt` has the lines of a run, `specs/Verdicts.antt` those of verdicts, `specs/Findings.antt` what is
-//! found of a schedule. Begin with [`print_run`] and [`find`].
+//! Every line ends with LF; a text is printed as a JSON string. Each call that prints answers an error only for want of memory, and its
+//! contract says every byte: `specs/Printed.antt` has the lines of a run, `specs/Verdicts.antt` those of verdicts, `specs/Findings.antt` what
+//! is found of a schedule; `specs/Written.antt` has what stands on the output after a fault. Begin with [`print_run`], [`write_report`] and
+//! [`find`].
 #![tactic(auto)]
 
 mod ending;
@@ -15,9 +17,11 @@ mod findings;
 mod lines;
 mod running;
 mod verdicts;
+mod writing;
 
 pub use ending::print_end;
 pub use findings::{Findings, find};
 pub use lines::{print_client, print_read, print_server, print_stop, quiet_text, refusal_name};
 pub use running::print_run;
 pub use verdicts::{print_convergence, print_verdict};
+pub use writing::{ReportFault, write_report};

@@ -1,7 +1,7 @@
 //! A whole run.
 
 ghost use Rattle.std.specs.Prelude.{◌≡◌, ◌++◌, IfOk, OnOk, string_bytes};
-ghost use Rattle.ot_report.specs.Printed.{read_lines, stop_text, IsReport};
+ghost use Rattle.ot_report.specs.Printed.{read_line, read_lines, stop_text, IsReport};
 
 use crate::ending::print_end;
 use crate::lines::{print_read, print_stop};
@@ -9,14 +9,21 @@ use ot_machine::Replay;
 use ot_model::{Refusal, Shown};
 use std::alloc::{AllocError, Global};
 
+// The line of one more read.
+pub(crate) fn push_read(alloc: Global, text: &mut String, shown: &Shown) -> Result<(), AllocError>
+    ensures { OnOk result (string_bytes text.new ≡ string_bytes text.old ++ read_line shown.now) }
+{
+    let line = print_read(alloc, shown)?;
+    text.push_str(line.as_str())
+}
+
 // The lines of the reads, in order.
 fn reads_text(alloc: Global, shown: &[Shown]) -> Result<String, AllocError>
     ensures { IfOk result (λ s. string_bytes s ≡ read_lines shown.now) }
 {
     let mut text = String::new(alloc);
     for read in shown {
-        let line = print_read(alloc, read)?;
-        text.push_str(line.as_str())?;
+        push_read(alloc, &mut text, read)?;
     }
     Ok(text)
 }

@@ -15,7 +15,6 @@ use Rattle.ot_model.specs.Table as table
 use Rattle.ot_model.proofs.Fitting.{deliverable}
 use Rattle.ot_machine.specs.Readers.{ClientHas, head_at, head_of, meant}
 use Rattle.ot_machine.specs.Seats.{MayDeliverState}
-use Rattle.ot_machine.specs.declared.state.Head.{Head}
 use Rattle.ot_machine.specs.declared.state.Head.TheVariants.{Ack, Op}
 use Rattle.ot_steps.specs.Lines.{plain_operation}
 use Rattle.ot_steps.specs.Steps.{carried_head, client_in, delivers}

@@ -1,10 +1,10 @@
 -- Lines of a worked run, by evaluation. A character is its number: 97 is 'a', 99 'c', 120 'x', 122 'z'.
-use Rattle.std.proofs.Common.{◌≡◌, ℕ, List, [], ◌∷◌, length, map, Option, Some, None, refl}
-use Rattle.std.specs.Prelude.{Bool, true, false, slice_get}
+use Rattle.std.proofs.Common.{◌≡◌, ℕ, List, [], ◌∷◌, Option, Some, refl}
+use Rattle.std.specs.Prelude.{true, false, slice_get}
 use Rattle.std.specs.Option.{option_map}
 use Rattle.ot_text.specs.Run.{Run, Keep, Add, Skip, operation_of}
 use Rattle.ot_isa.specs.Program.{Program}
-use Rattle.ot_isa.specs.declared.instruction.Instr.TheVariants.{Edit, Take, Deliver, Acknowledge, Join, Read, ReadServer}
+use Rattle.ot_isa.specs.declared.instruction.Instr.TheVariants.{Edit, Take, Deliver, Acknowledge, Read, ReadServer}
 use Rattle.ot_model.specs.Operation.{Operation}
 use Rattle.ot_text.specs.Operation.{apply}
 use Rattle.ot_algebra.specs.Compose.{compose}
@@ -15,7 +15,7 @@ use Rattle.ot_machine.specs.declared.state.Phase.TheVariants as phase
 use Rattle.ot_steps.specs.Lines.{Line, bare}
 use Rattle.ot_steps.specs.Lines as word
 use Rattle.ot_steps.specs.Steps.{first_lines, is_quiet}
-use Rattle.ot_steps.specs.Fold.{Session, session_in, session_of}
+use Rattle.ot_steps.specs.Fold.{session_in, session_of}
 
 abbrev op : List (Run ℕ) → Operation ℕ
 op runs = operation_of runs

@@ -1,10 +1,10 @@
 -- The fold of the lines is the run: one instruction.
-use Rattle.std.proofs.Common.{◌≡◌, ◌≢◌, ℕ, zero, suc, ◌+◌, ◌-◌, ◌<◌, ◌≤◌, List, [], ◌∷◌, ◌++◌, length, map, set, drop, take, replicate, get_or, refl, sym, ap, ◌∙◌, arith, length-append, Option, Some, None, Bool, true, false}
+use Rattle.std.proofs.Common.{◌≡◌, ◌≢◌, ℕ, suc, ◌-◌, List, [], ◌∷◌, ◌++◌, length, map, set, drop, get_or, refl, sym, ap, ◌∙◌, arith, length-append, Option, Some, None, Bool, true, false}
 use Rattle.std.specs.Prelude.{slice_get, ◌==◌, if◌then◌else◌, filter_map}
 use Rattle.std.specs.Option.{option_map}
 use Rattle.std.specs.List.{cons_option}
 use Rattle.std.proofs.lemmas.List.{map-set, map-append}
-use Rattle.std.proofs.lemmas.Option.{slice_get-map, get_or_from_slice_get, same_Some}
+use Rattle.std.proofs.lemmas.Option.{slice_get-map, get_or_from_slice_get}
 use Rattle.std.proofs.lemmas.Bool.{eqb-true}
 use Rattle.ot_text.specs.Operation.{value_in, apply}
 use Rattle.ot_isa.specs.declared.elements.Tagged.{Tagged}
@@ -19,7 +19,7 @@ use Rattle.ot_model.proofs.States.{slice_get-set_same, drop_entry}
 use Rattle.ot_server.specs.History.{transform_over}
 use Rattle.ot_steps.specs.Lines.{Line, plain_item, plain_message, plain_operation}
 use Rattle.ot_steps.specs.Lines as lines
-use Rattle.ot_steps.specs.Steps.{carried_head, client_in, is_synchronized, last_of, step_line}
+use Rattle.ot_steps.specs.Steps.{client_in, is_synchronized, last_of, step_line}
 use Rattle.ot_steps.specs.Fold.{ClientText, EntryText, Session, client_text, entry_text, folded, session_in, under_way, with_client}
 use Rattle.ot_steps.specs.Fold as fold
 

@@ -1,5 +1,8 @@
+mod Arrays
+mod Escaping
 mod Examples
 mod Folding
+mod Gathering
 pub mod Running
 mod Untagging
 pub mod Delivering

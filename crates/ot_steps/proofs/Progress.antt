@@ -1,14 +1,13 @@
 -- The lines that are written while a run goes.
-use Rattle.std.proofs.Common.{◌≡◌, ℕ, zero, suc, ◌+◌, ◌<◌, ◌≤◌, List, [], ◌∷◌, ◌++◌, length, set, take, refl, sym, ap, ◌∙◌, subst, arith, inl, inr, Option, Some, None, Bool}
+use Rattle.std.proofs.Common.{◌≡◌, ℕ, suc, ◌+◌, ◌<◌, ◌≤◌, List, [], ◌∷◌, ◌++◌, length, set, take, refl, sym, ap, ◌∙◌, subst, arith, inl, inr, Option, Some, None, Bool}
 use Rattle.std.specs.Prelude.{◌↔◌, slice_get, Result, Ok, Err, IfErr, IfOk, IsErrAnd, IsTrue, String, is_some, string_bytes}
 use Rattle.std.specs.declared.alloc.AllocError.{AllocError}
 use Rattle.std.specs.declared.alloc.Global.{Global}
-use Rattle.std.specs.Io.KnownBytes.{Appends}
-use Rattle.std.proofs.KnownBytes.{Appends-nil, Appends-trans}
+use Rattle.std.specs.Io.KnownBytes.{Appends, Keeps}
 use Rattle.std.proofs.lemmas.List.{append_assoc, append-nil, length-set, length-take-le}
 use Rattle.std.proofs.lemmas.Option.{same_Some, slice_get_past, slice_get_within}
 use Rattle.streams.specs.Streams.{WritesPart}
-use Rattle.streams.proofs.Parts.{part_after, whole_part}
+use Rattle.streams.proofs.Parts.{part_of_front}
 use Rattle.ot_isa.specs.Program.{Program, IsForClients}
 use Rattle.ot_isa.specs.declared.instruction.Instr.{Instr}
 use Rattle.ot_isa.specs.declared.instruction.Instr.TheVariants.{Edit, Take, Deliver, Acknowledge, Join, Read, ReadServer}
@@ -25,7 +24,9 @@ use Rattle.ot_machine.proofs.Stopping.{stopped_at, whole}
 use Rattle.ot_steps.specs.Lines.{Line}
 use Rattle.ot_steps.specs.Steps.{end_line, first_lines, is_quiet, last_lines, lines_from, opening_line, run_lines, step_line, stop_at, stop_line}
 use Rattle.ot_steps.specs.Text.{line_text, lines_text}
-use Rattle.ot_steps.specs.Written.{AreRunLines, IsMove, MovesUpTo, WritesFirstLines, WritesMoves, WritesPartOfRun, WritesRun, WritesUpTo, moves_text}
+use Rattle.ot_steps.specs.Gathered.{Gathers, GathersUpTo, GathersMoves, GathersRun, MovesUpTo, RunUpTo}
+use Rattle.ot_steps.specs.Written.{AreRunLines, IsMove, WritesRun, WritesUpTo, moves_text}
+use Rattle.ot_steps.proofs.Gathering.{cut_after, flush_cut, flushed, gathers_none, gathers_then}
 use Rattle.ot_steps.proofs.Running.{reached_within}
 use Rattle.ot_steps.proofs.Quiet.{quiet_is}
 use Rattle.ot_steps.specs.declared.writing.StepsFault.{StepsFault}
@@ -103,20 +104,20 @@ moves_more documents s p q i t shown here at e =
 
 -- ---- a run under way
 
--- p instructions are performed, and their lines written
-pub record IsAt (documents : Bool) (s : Program) (p : ℕ) (state : State) (old new : Option (List ℕ)) : Type 0 where
+-- p instructions are performed, and their lines gathered
+pub record IsAt (documents : Bool) (s : Program) (p : ℕ) (state : State) (old new : Option (List ℕ)) (held held' : List ℕ) : Type 0 where
   pub shown : List Shown
   pub at : place_at s p ≡ Some (record { state = state; shown = shown })
-  pub written : Appends old new (moves_text documents s p)
+  pub gathered : Gathers old new held held' (moves_text documents s p)
 
-pub is_begun : (documents : Bool) (s : Program) (state : State) (old : Option (List ℕ)) → state ≡ opening_of s → IsAt documents s 0 state old old
-is_begun documents s state old is = record { shown = []; at = rw is refl; written = Appends-nil old }
+pub is_begun : (documents : Bool) (s : Program) (state : State) (old : Option (List ℕ)) (held : List ℕ) → state ≡ opening_of s → IsAt documents s 0 state old old held held
+is_begun documents s state old held is = record { shown = []; at = rw is refl; gathered = gathers_none old held }
 
-reached_done : (documents : Bool) (s : Program) (p : ℕ) (state : State) (old new : Option (List ℕ)) → p ≤ length s.instrs → IsAt documents s p state old new → p ≤ done s
-reached_done documents s p state old new le is = (reaches s p le).1 (rw is.at refl)
+reached_done : (documents : Bool) (s : Program) (p : ℕ) (state : State) (old new : Option (List ℕ)) (held held' : List ℕ) → p ≤ length s.instrs → IsAt documents s p state old new held held' → p ≤ done s
+reached_done documents s p state old new held held' le is = (reaches s p le).1 (rw is.at refl)
 
-module _ (documents : Bool) (s : Program) (p : ℕ) (i : Instr) (state t : State) (old mid : Option (List ℕ)) (text : List ℕ)
-    (is : IsAt documents s p state old mid) (at : slice_get s.instrs p ≡ Some i) (move : IsMove documents (p + 1) i state t text) where
+module _ (documents : Bool) (s : Program) (p : ℕ) (i : Instr) (state t : State) (old mid : Option (List ℕ)) (held before : List ℕ) (text : List ℕ)
+    (is : IsAt documents s p state old mid held before) (at : slice_get s.instrs p ≡ Some i) (move : IsMove documents (p + 1) i state t text) where
   next_place : place_at s (suc p) ≡ Some (record { state = t; shown = with_shown is.shown move.shown })
   next_place = place_at-next s p (record { state = state; shown = is.shown }) i t move.shown is.at at move.performed
 
@@ -126,44 +127,58 @@ module _ (documents : Bool) (s : Program) (p : ℕ) (i : Instr) (state t : State
       ap (λ (bytes : List ℕ). moves_text documents s p ++ bytes) (move.is ∙ ap (λ (n : ℕ). line_text (step_line documents n i state t)) next)
       ∙ sym (moves_more documents s p (record { state = state; shown = is.shown }) i t move.shown is.at at move.performed)
 
-  -- its line is written
-  pub is_next : (new : Option (List ℕ)) → Appends mid new text → IsAt documents s (p + 1) t old new
-  is_next new written =
+  -- its line is gathered
+  pub is_next : (new : Option (List ℕ)) (after : List ℕ) → Gathers mid new before after text → IsAt documents s (p + 1) t old new held after
+  is_next new after gathered =
       let next : suc p ≡ p + 1 = omega arith in
-      subst (λ (n : ℕ). IsAt documents s n t old new) next
+      subst (λ (n : ℕ). IsAt documents s n t old new held after) next
       (record {
         shown = with_shown is.shown move.shown;
         at = next_place;
-        written = subst (Appends old new) next_text (Appends-trans old mid new (moves_text documents s p) text is.written written);
+        gathered = subst (Gathers old new held after) next_text (gathers_then old mid new held before after (moves_text documents s p) text is.gathered gathered);
       })
 
-  -- a first part of it is
-  pub part_of_next : (new : Option (List ℕ)) → WritesPart mid new text → MovesUpTo WriteFault documents s old new
-  part_of_next new written =
+  -- no memory was found to hold it
+  pub none_held : (new : Option (List ℕ)) (after : List ℕ) → Gathers mid new before after [] → MovesUpTo Memory documents s old new held after
+  none_held new after gathered =
+      let inside = slice_get_within s.instrs p i at in (
+        p,
+        reached_done documents s p state old mid held before (omega arith) is,
+        subst (Gathers old new held after) (append-nil (moves_text documents s p)) (gathers_then old mid new held before after (moves_text documents s p) [] is.gathered gathered),
+      )
+
+  -- a first part of it is written
+  pub part_of_next : (new : Option (List ℕ)) (after : List ℕ) → WritesPart mid new (before ++ text) → MovesUpTo WriteFault documents s old new held after
+  part_of_next new after written =
       let inside = slice_get_within s.instrs p i at in (
         suc p,
         (reaches s (suc p) (omega arith)).1 (rw next_place refl),
-        subst (WritesPart old new) next_text (part_after old mid new (moves_text documents s p) text is.written written),
+        subst (λ (bytes : List ℕ). WritesPart old new (held ++ bytes)) next_text (cut_after old mid new held before (moves_text documents s p) text is.gathered written),
       )
 
-pub no_memory : (documents : Bool) (s : Program) (p : ℕ) (i : Instr) (state : State) (old new : Option (List ℕ)) → IsAt documents s p state old new → slice_get s.instrs p ≡ Some i → MovesUpTo Memory documents s old new
-no_memory documents s p i state old new is at =
-    let inside = slice_get_within s.instrs p i at in
-    (p, reached_done documents s p state old new (omega arith) is, is.written)
+  -- either
+  pub not_next : (f : StepsFault) (new : Option (List ℕ)) (after : List ℕ) → GathersUpTo f mid new before after text → MovesUpTo f documents s old new held after
+  not_next Memory new after gathered = none_held new after gathered
+  not_next WriteFault new after written = part_of_next new after written
 
-pub is_stopped : (documents : Bool) (s : Program) (p : ℕ) (i : Instr) (r : Refusal) (state after : State) (old new : Option (List ℕ)) → IsAt documents s p state old new → slice_get s.instrs p ≡ Some i
-    → IsRefusal (step state i) r → after ≡ state → WritesMoves documents s (Some (p, r)) after old new
-is_stopped documents s p i r state after old new is at refused same =
+pub no_memory : (documents : Bool) (s : Program) (p : ℕ) (i : Instr) (state : State) (old new : Option (List ℕ)) (held held' : List ℕ) → IsAt documents s p state old new held held' → slice_get s.instrs p ≡ Some i → MovesUpTo Memory documents s old new held held'
+no_memory documents s p i state old new held held' is at =
+    let inside = slice_get_within s.instrs p i at in
+    (p, reached_done documents s p state old new held held' (omega arith) is, is.gathered)
+
+pub is_stopped : (documents : Bool) (s : Program) (p : ℕ) (i : Instr) (r : Refusal) (state after : State) (old new : Option (List ℕ)) (held held' : List ℕ) → IsAt documents s p state old new held held' → slice_get s.instrs p ≡ Some i
+    → IsRefusal (step state i) r → after ≡ state → GathersMoves documents s (Some (p, r)) after old new held held'
+is_stopped documents s p i r state after old new held held' is at refused same =
     rw same (record {
       place = record { state = state; shown = is.shown };
       at = is.at;
       state_is = refl;
       stop = stopped_at s p (record { state = state; shown = is.shown }) i r is.at at refused;
-      written = is.written;
+      gathered = is.gathered;
     })
 
-pub is_whole : (documents : Bool) (s : Program) (p : ℕ) (state : State) (old new : Option (List ℕ)) → length s.instrs ≤ p → p ≤ length s.instrs → IsAt documents s p state old new → WritesMoves documents s None state old new
-is_whole documents s p state old new le ge is =
+pub is_whole : (documents : Bool) (s : Program) (p : ℕ) (state : State) (old new : Option (List ℕ)) (held held' : List ℕ) → length s.instrs ≤ p → p ≤ length s.instrs → IsAt documents s p state old new held held' → GathersMoves documents s None state old new held held'
+is_whole documents s p state old new held held' le ge is =
     let same : p ≡ length s.instrs = omega arith in
     let fact = whole s p (record { state = state; shown = is.shown }) le ge is.at in
     record {
@@ -171,66 +186,102 @@ is_whole documents s p state old new le ge is =
       at = fact.0;
       state_is = refl;
       stop = fact.1;
-      written = subst (λ (n : ℕ). Appends old new (moves_text documents s n)) same is.written;
+      gathered = subst (λ (n : ℕ). Gathers old new held held' (moves_text documents s n)) same is.gathered;
     }
 
--- ---- the opening before them, and the end behind
+-- ---- the whole run
 
--- the opening's line is the first of the lines
-opening_text : (documents : Bool) (s : Program) → lines_text (first_lines documents s 0) ≡ line_text (opening_line s)
-opening_text documents s = append-nil (line_text (opening_line s))
+opening_text : (documents : Bool) (s : Program) → line_text (opening_line s) ≡ lines_text (first_lines documents s 0)
+opening_text documents s = sym (append-nil (line_text (opening_line s)))
 
-pub opening_cut : (documents : Bool) (s : Program) (old new : Option (List ℕ)) (bytes : List ℕ) → bytes ≡ line_text (opening_line s) → WritesPart old new bytes → WritesUpTo WriteFault documents s old new
-opening_cut documents s old new bytes is written =
-    record { lines = first_lines documents s 0; are = inl (0, omega arith, refl); written = subst (WritesPart old new) (is ∙ sym (opening_text documents s)) written }
+module _ (documents : Bool) (s : Program) (old mid : Option (List ℕ)) (held before opening : List ℕ) (is : opening ≡ line_text (opening_line s)) where
+  -- the opening's line is not gathered
+  pub opening_cut : (f : StepsFault) → GathersUpTo f old mid held before opening → RunUpTo f documents s old mid held before
+  opening_cut Memory gathered = inl gathered
+  opening_cut WriteFault written =
+      record { lines = first_lines documents s 0; are = inl (0, omega arith, refl); written = subst (λ (bytes : List ℕ). WritesPart old mid (held ++ bytes)) (is ∙ opening_text documents s) written }
 
-pub moves_cut : (f : StepsFault) (documents : Bool) (s : Program) (old mid new : Option (List ℕ)) (bytes : List ℕ) → bytes ≡ line_text (opening_line s) → Appends old mid bytes → MovesUpTo f documents s mid new → WritesUpTo f documents s old new
-moves_cut Memory documents s old mid new bytes is opened moves =
-    inr (moves.0, moves.1, subst (λ (front : List ℕ). Appends old new (front ++ moves_text documents s moves.0)) is (Appends-trans old mid new bytes (moves_text documents s moves.0) opened moves.2))
-moves_cut WriteFault documents s old mid new bytes is opened moves =
-    record {
-      lines = first_lines documents s moves.0;
-      are = inl (moves.0, moves.1, refl);
-      written = subst (λ (front : List ℕ). WritesPart old new (front ++ moves_text documents s moves.0)) is (part_after old mid new bytes (moves_text documents s moves.0) opened moves.2);
-    }
+  module _ (opened : Gathers old mid held before opening) where
+    -- the first lines
+    front : (p : ℕ) (new : Option (List ℕ)) (after : List ℕ) → Gathers mid new before after (moves_text documents s p) → Gathers old new held after (lines_text (first_lines documents s p))
+    front p new after moves =
+        subst (λ (bytes : List ℕ). Gathers old new held after (bytes ++ moves_text documents s p)) is (gathers_then old mid new held before after opening (moves_text documents s p) opened moves)
 
-module _ (documents : Bool) (s : Program) (stopped : Option (ℕ × Refusal)) (state : State) (old mid later : Option (List ℕ)) (bytes last : List ℕ)
-    (is : bytes ≡ line_text (opening_line s)) (opened : Appends old mid bytes) (moves : WritesMoves documents s stopped state mid later) where
-  first_written : Appends old later (lines_text (first_lines documents s (reached s stopped)))
-  first_written = subst (λ (front : List ℕ). Appends old later (front ++ moves_text documents s (reached s stopped))) is (Appends-trans old mid later bytes (moves_text documents s (reached s stopped)) opened moves.written)
+    pub moves_cut : (f : StepsFault) (new : Option (List ℕ)) (after : List ℕ) → MovesUpTo f documents s mid new before after → RunUpTo f documents s old new held after
+    moves_cut Memory new after moves = inr (moves.0, moves.1, front moves.0 new after moves.2)
+    moves_cut WriteFault new after moves =
+        record {
+          lines = first_lines documents s moves.0;
+          are = inl (moves.0, moves.1, refl);
+          written = subst (λ (bytes : List ℕ). WritesPart old new (held ++ (bytes ++ moves_text documents s moves.0))) is (cut_after old mid new held before opening (moves_text documents s moves.0) opened moves.2);
+        }
 
-  are_lines : AreRunLines documents s stopped (run_lines documents s state stopped)
-  are_lines =
-      record {
-        place = moves.place;
-        at = moves.at;
-        stop = subst (λ (t : State). IsStop s t stopped) (sym moves.state_is) moves.stop;
-        are = ap (λ (t : State). run_lines documents s t stopped) (sym moves.state_is);
-      }
+    module _ (stopped : Option (ℕ × Refusal)) (state : State) (later : Option (List ℕ)) (after : List ℕ) (moves : GathersMoves documents s stopped state mid later before after) where
+      are_lines : AreRunLines documents s stopped (run_lines documents s state stopped)
+      are_lines =
+          record {
+            place = moves.place;
+            at = moves.at;
+            stop = subst (λ (t : State). IsStop s t stopped) (sym moves.state_is) moves.stop;
+            are = ap (λ (t : State). run_lines documents s t stopped) (sym moves.state_is);
+          }
 
-  all_text : last ≡ lines_text (last_lines s state stopped) → lines_text (first_lines documents s (reached s stopped)) ++ last ≡ lines_text (run_lines documents s state stopped)
-  all_text ends = ap (λ (t : List ℕ). lines_text (first_lines documents s (reached s stopped)) ++ t) ends ∙ sym (lines_text-append (first_lines documents s (reached s stopped)) (last_lines s state stopped))
+      all_text : (last : List ℕ) → last ≡ lines_text (last_lines s state stopped) → lines_text (first_lines documents s (reached s stopped)) ++ last ≡ lines_text (run_lines documents s state stopped)
+      all_text last ends = ap (λ (t : List ℕ). lines_text (first_lines documents s (reached s stopped)) ++ t) ends ∙ sym (lines_text-append (first_lines documents s (reached s stopped)) (last_lines s state stopped))
 
-  pub last_missing : WritesUpTo Memory documents s old later
-  last_missing = inr (reached s stopped, (reaches s (reached s stopped) (reached_within s state stopped moves.stop)).1 (rw moves.at refl), first_written)
+      first_gathered : Gathers old later held after (lines_text (first_lines documents s (reached s stopped)))
+      first_gathered = front (reached s stopped) later after moves.gathered
 
-  pub last_cut : (new : Option (List ℕ)) → last ≡ lines_text (last_lines s state stopped) → WritesPart later new last → WritesUpTo WriteFault documents s old new
-  last_cut new ends written =
-      record {
-        lines = run_lines documents s state stopped;
-        are = inr (stopped, are_lines);
-        written = subst (WritesPart old new) (all_text ends) (part_after old later new _ last first_written written);
-      }
+      pub last_missing : RunUpTo Memory documents s old later held after
+      last_missing = inr (reached s stopped, (reaches s (reached s stopped) (reached_within s state stopped moves.stop)).1 (rw moves.at refl), first_gathered)
 
-  pub all_written : (refused : Bool) (new : Option (List ℕ)) → refused ≡ is_some stopped → last ≡ lines_text (last_lines s state stopped) → Appends later new last → WritesRun documents s refused old new
-  all_written refused new refused_is ends written =
-      record {
-        stopped = stopped;
-        lines = run_lines documents s state stopped;
-        are = are_lines;
-        refused_is = refused_is;
-        written = subst (Appends old new) (all_text ends) (Appends-trans old later new _ last first_written written);
-      }
+      pub last_cut : (f : StepsFault) (new : Option (List ℕ)) (over last : List ℕ) → last ≡ lines_text (last_lines s state stopped) → GathersUpTo f later new after over last → RunUpTo f documents s old new held over
+      last_cut Memory new over last ends gathered =
+          inr (
+            reached s stopped,
+            (reaches s (reached s stopped) (reached_within s state stopped moves.stop)).1 (rw moves.at refl),
+            subst (Gathers old new held over) (append-nil (lines_text (first_lines documents s (reached s stopped)))) (gathers_then old later new held after over _ [] first_gathered gathered),
+          )
+      last_cut WriteFault new over last ends written =
+          record {
+            lines = run_lines documents s state stopped;
+            are = inr (stopped, are_lines);
+            written = subst (λ (bytes : List ℕ). WritesPart old new (held ++ bytes)) (all_text last ends) (cut_after old later new held after _ last first_gathered written);
+          }
+
+      pub all_gathered : (refused : Bool) (new : Option (List ℕ)) (over last : List ℕ) → refused ≡ is_some stopped → last ≡ lines_text (last_lines s state stopped) → Gathers later new after over last → GathersRun documents s refused old new held over
+      all_gathered refused new over last refused_is ends gathered =
+          record {
+            stopped = stopped;
+            lines = run_lines documents s state stopped;
+            are = are_lines;
+            refused_is = refused_is;
+            gathered = subst (Gathers old new held over) (all_text last ends) (gathers_then old later new held after over _ last first_gathered gathered);
+          }
+
+-- ---- what is held at last is written
+
+keeps : (old new : Option (List ℕ)) → Appends old new [] → Keeps old new
+keeps None new written = tt
+keeps (Some xs) None written = written
+keeps (Some xs) (Some ys) written = written ∙ append-nil xs
+
+module _ (documents : Bool) (s : Program) (old mid new : Option (List ℕ)) (none held : List ℕ) (is : none ≡ []) where
+  pub all_written : (refused : Bool) → GathersRun documents s refused old mid none held → Appends mid new held → WritesRun documents s refused old new
+  all_written refused run written =
+      record { stopped = run.stopped; lines = run.lines; are = run.are; refused_is = run.refused_is; written = flushed old mid new none held (lines_text run.lines) is run.gathered written }
+
+  pub all_cut : (refused : Bool) → GathersRun documents s refused old mid none held → WritesPart mid new held → WritesUpTo WriteFault documents s old new
+  all_cut refused run written =
+      record { lines = run.lines; are = inr (run.stopped, run.are); written = flush_cut old mid new none held (lines_text run.lines) is run.gathered written }
+
+  pub first_written : RunUpTo Memory documents s old mid none held → Appends mid new held → WritesUpTo Memory documents s old new
+  first_written (inl gathered) written = inl (keeps old new (flushed old mid new none held [] is gathered written))
+  first_written (inr lines) written = inr (lines.0, lines.1, flushed old mid new none held _ is lines.2 written)
+
+  pub first_cut : RunUpTo Memory documents s old mid none held → WritesPart mid new held → WritesUpTo WriteFault documents s old new
+  first_cut (inl gathered) written = record { lines = first_lines documents s 0; are = inl (0, omega arith, refl); written = part_of_front old new [] _ (flush_cut old mid new none held [] is gathered written) }
+  first_cut (inr lines) written = record { lines = first_lines documents s lines.0; are = inl (lines.0, lines.1, refl); written = flush_cut old mid new none held _ is lines.2 written }
 
 -- ---- the stop and the end
 

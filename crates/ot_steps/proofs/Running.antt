@@ -1,24 +1,21 @@
 -- The fold of the lines is the run: whole runs.
-use Rattle.std.proofs.Common.{◌≡◌, ℕ, zero, suc, ◌+◌, ◌-◌, ◌<◌, ◌≤◌, List, [], ◌∷◌, ◌++◌, length, map, drop, take, replicate, refl, sym, ap, ◌∙◌, arith, Option, Some, None, Bool, true, false}
+use Rattle.std.proofs.Common.{◌≡◌, ℕ, zero, suc, ◌-◌, ◌≤◌, List, [], ◌∷◌, ◌++◌, length, map, drop, take, replicate, refl, sym, ap, ◌∙◌, arith, Option, Some, None, Bool, true, false}
 use Rattle.std.specs.Prelude.{slice_get, ◌==◌, if◌then◌else◌}
 use Rattle.std.proofs.lemmas.List.{map-append, drop-map, take-append-le, length-take-le}
-use Rattle.std.proofs.lemmas.Option.{same_Some, slice_get_within}
+use Rattle.std.proofs.lemmas.Option.{same_Some}
 use Rattle.ot_isa.specs.Program.{Program}
-use Rattle.ot_isa.specs.Tagging.{chars_of}
 use Rattle.ot_isa.specs.declared.instruction.Instr.{Instr}
-use Rattle.ot_isa.specs.declared.elements.Tagged.{Tagged}
 use Rattle.ot_model.specs.declared.shown.Refusal.{Refusal}
 use Rattle.ot_model.specs.declared.shown.Refusal.TheVariants as refusal
 use Rattle.ot_model.specs.declared.shown.Refusal.TheVariants.{NoSuchClient, StepsFull, AlreadyJoined, BadBase, ClientFull, LinkEmpty, WrongHead, Memory}
-use Rattle.ot_model.specs.declared.shown.Shown.{Shown}
 use Rattle.ot_model.specs.Table.{Phase, NotJoined, Synchronized, AwaitingConfirm, AwaitingWithBuffer, Client, Entry, State, Place, Outcome, Performed, Refused, NoRow, begin, is_joined, run, start_list, step, with_shown}
 use Rattle.ot_model.specs.Table as table
-use Rattle.ot_model.specs.Runs.{done, opening_of, place_at}
+use Rattle.ot_model.specs.Runs.{done, opening_of}
 use Rattle.ot_model.proofs.Runs.{performed-length}
 use Rattle.ot_machine.specs.Ended.{reached, IsStop, IsStopAt}
 use Rattle.ot_machine.specs.Readers.{phase_name}
 use Rattle.ot_steps.specs.Lines.{Line, plain_operation}
-use Rattle.ot_steps.specs.Steps.{end_line, first_lines, is_quiet, last_lines, lines_from, opening_line, run_lines, step_line, stop_at}
+use Rattle.ot_steps.specs.Steps.{end_line, is_quiet, last_lines, lines_from, opening_line, step_line, stop_at}
 use Rattle.ot_steps.specs.Fold.{ClientText, EntryText, Session, client_text, downlink, entry_text, folded, folded_all, head_for, head_text, opened, opened_by, session_in, session_of}
 use Rattle.ot_steps.specs.Fold as fold
 use Rattle.ot_steps.specs.Laws.{FoldIsRun, LinesFold, AllLinesFold, DownlinksFollow}

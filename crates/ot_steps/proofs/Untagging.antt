@@ -6,12 +6,16 @@ use Rattle.std.proofs.lemmas.List.{append-nil, length-map, map-append, take-appe
 use Rattle.ot_text.specs.declared.Component.{Component}
 use Rattle.ot_text.specs.declared.Component.TheVariants.{Retain, Insert, Delete}
 use Rattle.ot_text.specs.Operation.{Item, Old, New, olds, Operation, IsTooLong, empty, with_retain, with_insert, with_delete}
-use Rattle.ot_text.specs.Run.{Run, Keep, Add, Skip, base_of, image_from, operation_of}
+use Rattle.ot_text.specs.Run.{Run, Keep, Add, Skip, base_of, image_from, operation_of, IsFilled, IsNormal, MayFollow, MayLead}
 use Rattle.ot_text.specs.Components.{runs}
 use Rattle.ot_text.proofs.RunLemmas.{base_of-append, image_from-append, one_more_keep, one_more_drop, one_more_add, same_operation}
 use Rattle.ot_text.proofs.Compared.{runs_more, runs_all}
 use Rattle.ot_isa.specs.declared.elements.Tagged.{Tagged}
 use Rattle.ot_isa.specs.Tagging.{chars_of}
+use Rattle.ot_text.proofs.Normal.{runs_are}
+use Rattle.ot_json.specs.Writing.{array_of, text_of_operation}
+use Rattle.serde_json.specs.Written.{compact_text}
+use Rattle.ot_steps.specs.Lettered.{lettered}
 use Rattle.ot_steps.specs.Lines.{plain_item, plain_operation}
 
 olds_plain : (from n : ℕ) → map plain_item (olds from n) ≡ olds from n
@@ -94,3 +98,67 @@ module _ {cs : List (Component Tagged)} {i : ℕ} {op : Operation ℕ} {c : Comp
 
   pub room_to_insert : (text : Vec Tagged Global) → c ≡ Insert text → IsTooLong (with_insert op (chars_of text.items)) → ⊥
   room_to_insert text is = front_fits cs (i + 1) _ base target (next_insert here at_i so_far text is).made
+
+-- ---- the components themselves, without tags
+
+base_same : (rs : List (Run Tagged)) → base_of (map (lettered (λ (x : Tagged). x.ch)) rs) ≡ base_of rs
+base_same [] = refl
+base_same (Keep n ∷ rs) = ap (λ (m : ℕ). n + m) (base_same rs)
+base_same (Add text ∷ rs) = base_same rs
+base_same (Skip n ∷ rs) = ap (λ (m : ℕ). n + m) (base_same rs)
+
+image_same : (from : ℕ) (rs : List (Run Tagged)) → map plain_item (image_from from rs) ≡ image_from from (map (lettered (λ (x : Tagged). x.ch)) rs)
+image_same from [] = refl
+image_same from (Keep n ∷ rs) = map-append plain_item (olds from n) (image_from (from + n) rs) ∙ (λ i. olds_plain from n i ++ image_same (from + n) rs i)
+image_same from (Add text ∷ rs) = map-append plain_item (map New text) (image_from from rs) ∙ (λ i. news_plain text i ++ image_same from rs i)
+image_same from (Skip n ∷ rs) = image_same (from + n) rs
+
+plain_runs : (rs : List (Run Tagged)) → operation_of (map (lettered (λ (x : Tagged). x.ch)) rs) ≡ plain_operation (operation_of rs)
+plain_runs rs = same_operation _ _ _ _ (base_same rs) (sym (image_same 0 rs))
+
+filled_still : {A : Type 0} (code : A → ℕ) (r : Run A) → IsFilled r → IsFilled (lettered code r)
+filled_still code (Keep n) filled = filled
+filled_still code (Add text) filled = omega (arith, filled, length-map text code)
+filled_still code (Skip n) filled = filled
+
+follow_still : {A : Type 0} (code : A → ℕ) (r s : Run A) → MayFollow r s → MayFollow (lettered code r) (lettered code s)
+follow_still code (Keep n) (Keep m) may = may
+follow_still code (Keep n) (Add t) may = may
+follow_still code (Keep n) (Skip m) may = may
+follow_still code (Add s) (Keep m) may = may
+follow_still code (Add s) (Add t) may = may
+follow_still code (Add s) (Skip m) may = may
+follow_still code (Skip n) (Keep m) may = may
+follow_still code (Skip n) (Add t) may = may
+follow_still code (Skip n) (Skip m) may = may
+
+lead_still : {A : Type 0} (code : A → ℕ) (r : Run A) (rs : List (Run A)) → MayLead r rs → MayLead (lettered code r) (map (lettered code) rs)
+lead_still code r [] may = tt
+lead_still code r (s ∷ rs) may = follow_still code r s may
+
+normal_still : {A : Type 0} (code : A → ℕ) (rs : List (Run A)) → IsNormal rs → IsNormal (map (lettered code) rs)
+normal_still code [] normal = tt
+normal_still code (r ∷ rs) normal = (filled_still code r normal.0, lead_still code r rs normal.1, normal_still code rs normal.2)
+
+-- the text of tagged components is that of the operation without tags
+pub tagged_text : (cs : List (Component Tagged)) (op : Operation Tagged) → IsNormal (runs cs) → operation_of (runs cs) ≡ op
+    → compact_text (array_of (map (lettered (λ (x : Tagged). x.ch)) (runs cs))) ≡ text_of_operation (plain_operation op)
+tagged_text cs op normal spells =
+    let rs = map (lettered (λ (x : Tagged). x.ch)) (runs cs) in
+    ap (λ (ss : List (Run ℕ)). compact_text (array_of ss))
+    (runs_are rs (plain_operation op) (normal_still (λ (x : Tagged). x.ch) (runs cs) normal) (plain_runs (runs cs) ∙ ap plain_operation spells))
+
+pub letters_same : (text : List ℕ) → map (λ (c : ℕ). c) text ≡ text
+letters_same [] = refl
+letters_same (c ∷ text) = ap (λ (t : List ℕ). c ∷ t) (letters_same text)
+
+runs_same : (rs : List (Run ℕ)) → map (lettered (λ (c : ℕ). c)) rs ≡ rs
+runs_same [] = refl
+runs_same (Keep n ∷ rs) = ap (λ (ss : List (Run ℕ)). Keep n ∷ ss) (runs_same rs)
+runs_same (Add text ∷ rs) = λ i. Add (letters_same text i) ∷ runs_same rs i
+runs_same (Skip n ∷ rs) = ap (λ (ss : List (Run ℕ)). Skip n ∷ ss) (runs_same rs)
+
+-- and that of components of characters is the operation's
+pub char_text : (cs : List (Component ℕ)) (op : Operation ℕ) → IsNormal (runs cs) → operation_of (runs cs) ≡ op
+    → compact_text (array_of (map (lettered (λ (c : ℕ). c)) (runs cs))) ≡ text_of_operation op
+char_text cs op normal spells = ap (λ (ss : List (Run ℕ)). compact_text (array_of ss)) (runs_same (runs cs) ∙ runs_are (runs cs) op normal spells)

@@ -1,5 +1,5 @@
 -- What the lines give, without the algebra: each state of a session.
-use Rattle.std.specs.Prelude.{ℕ, List, [], ◌∷◌, ◌++◌, ◌-◌, length, map, set, drop, replicate, get_or, unwrap_or, ◌==◌, if◌then◌else◌, Bool, true, false, Option, Some, None}
+use Rattle.std.specs.Prelude.{ℕ, List, [], ◌∷◌, ◌++◌, ◌-◌, map, set, drop, replicate, get_or, unwrap_or, ◌==◌, if◌then◌else◌, Bool, true, false, Option, Some, None}
 use Rattle.std.specs.Option.{option_map}
 use Rattle.ot_isa.specs.Tagging.{chars_of}
 use Rattle.ot_model.specs.declared.shown.Refusal.{Refusal}

@@ -1,5 +1,5 @@
 -- The lines of a run, as values.
-use Rattle.std.specs.Prelude.{ℕ, List, map, Bool, Option, Some, None}
+use Rattle.std.specs.Prelude.{ℕ, List, map, Bool, Option, None}
 use Rattle.ot_isa.specs.declared.elements.Tagged.{Tagged}
 use Rattle.ot_isa.specs.declared.instruction.Instr.{Instr}
 use Rattle.ot_isa.specs.declared.instruction.Instr.TheVariants as instr

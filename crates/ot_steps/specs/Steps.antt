@@ -1,5 +1,5 @@
 -- The lines of a schedule's run.
-use Rattle.std.specs.Prelude.{ℕ, suc, List, [], ◌∷◌, ◌++◌, ◌-◌, ◌||◌, ◌&&◌, length, drop, take, get_or, slice_get, not, is_none, if◌then◌else◌, Bool, true, false, Option, Some, None}
+use Rattle.std.specs.Prelude.{ℕ, suc, List, [], ◌∷◌, ◌++◌, ◌-◌, ◌||◌, ◌&&◌, length, drop, take, get_or, slice_get, is_none, if◌then◌else◌, Bool, true, false, Option, Some, None}
 use Rattle.std.specs.Option.{option_map}
 use Rattle.ot_isa.specs.Program.{Program, client_of}
 use Rattle.ot_isa.specs.Tagging.{chars_of}

@@ -63,16 +63,3 @@ pub record IsMove (documents : Bool) (at : ℕ) (i : Instr) (s t : State) (text 
 -- the lines of the first p instructions
 abbrev pub moves_text : Bool → Program → ℕ → List ℕ
 moves_text documents s p = lines_text (lines_from documents 0 (opening_of s) (take p s.instrs))
-
--- all instructions up to the stop are performed, and their lines written
-pub record WritesMoves (documents : Bool) (s : Program) (stopped : Option (ℕ × Refusal)) (state : State) (old new : Option (List ℕ)) : Type 0 where
-  pub place : Place
-  pub at : place_at s (reached s stopped) ≡ Some place
-  pub state_is : place.state ≡ state
-  pub stop : IsStop s state stopped
-  pub written : Appends old new (moves_text documents s (reached s stopped))
-
--- what stands there after a fault among them
-abbrev pub MovesUpTo : StepsFault → Bool → Program → Option (List ℕ) → Option (List ℕ) → Type 0
-MovesUpTo Memory documents s old new = (p : ℕ) × (p ≤ done s) × Appends old new (moves_text documents s p)
-MovesUpTo WriteFault documents s old new = (p : ℕ) × (p ≤ done s) × WritesPart old new (moves_text documents s p)

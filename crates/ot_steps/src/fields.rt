@@ -1,52 +1,43 @@
 //! Keys with their values, as text.
 
-ghost use Rattle.std.specs.Prelude.{◌≡◌, ◌++◌, ◌∷◌, IfOk, OnOk, string_bytes};
+ghost use Rattle.std.specs.Prelude.{◌≡◌, ◌++◌, ◌∷◌, [], OnOk, string_bytes};
 ghost use Rattle.ot_client.specs.Client.{message_of};
 ghost use Rattle.ot_isa.specs.Tagging.{chars_of};
 ghost use Rattle.ot_steps.specs.Lines.{plain_message, plain_operation};
 ghost use Rattle.ot_steps.specs.Text.{field_text, message_text, Name, Number, Op, Sent as SentValue, Text};
+ghost use Rattle.ot_json.specs.Writing.{text_of_operation};
 
-use crate::plain::plain_operation;
+use crate::letters::push_letters;
+use crate::operations::{push_components, push_decimal};
 use ot_client::Sent;
-use ot_isa::{Tagged, plain};
-use ot_json::write_op;
+use ot_isa::Tagged;
 use ot_text::{Doc, TextOp};
-use serde_json::Value;
 use std::alloc::{AllocError, Global};
 
-// A key with the text of its value.
-fn push_field(text: &mut String, key: &str, value: &str) -> Result<(), AllocError>
-    ensures { OnOk result (string_bytes text.new ≡ string_bytes text.old ++ (44 ∷ 34 ∷ (key.now ++ 34 ∷ 58 ∷ value.now))) }
+// A key, behind which its value comes.
+fn push_key(text: &mut String, key: &str) -> Result<(), AllocError>
+    ensures { OnOk result (string_bytes text.new ≡ string_bytes text.old ++ (44 ∷ 34 ∷ (key.now ++ 34 ∷ 58 ∷ []))) }
 {
     text.push_str(",\"")?;
     text.push_str(key)?;
-    text.push_str("\":")?;
-    text.push_str(value)
+    text.push_str("\":")
 }
 
-pub(crate) fn push_number(
-    alloc: Global,
-    text: &mut String,
-    key: &str,
-    number: u64,
-) -> Result<(), AllocError>
+pub(crate) fn push_number(text: &mut String, key: &str, number: u64) -> Result<(), AllocError>
     ensures { OnOk result (string_bytes text.new ≡ string_bytes text.old ++ field_text (record { key = key.now; value = Number number })) }
 {
-    let value = format!(in alloc; "{number}")?;
-    push_field(text, key, value.as_str())
+    push_key(text, key)?;
+    push_decimal(text, number)
 }
 
 /// A name, which JSON writes as it is.
-pub(crate) fn push_name(
-    alloc: Global,
-    text: &mut String,
-    key: &str,
-    name: &str,
-) -> Result<(), AllocError>
+pub(crate) fn push_name(text: &mut String, key: &str, name: &str) -> Result<(), AllocError>
     ensures { OnOk result (string_bytes text.new ≡ string_bytes text.old ++ field_text (record { key = key.now; value = Name name.now })) }
 {
-    let value = format!(in alloc; "\"{name}\"")?;
-    push_field(text, key, value.as_str())
+    push_key(text, key)?;
+    text.push_str("\"")?;
+    text.push_str(name)?;
+    text.push_str("\"")
 }
 
 /// The text of a list.
@@ -58,11 +49,12 @@ pub(crate) fn push_list(
 ) -> Result<(), AllocError>
     ensures { OnOk result (string_bytes text.new ≡ string_bytes text.old ++ field_text (record { key = key.now; value = Text (chars_of list.now) })) }
 {
-    let value = Value::String(plain(alloc, list)?).to_string(alloc)?;
-    push_field(text, key, value.as_str())
+    let letters = list.to_vec()?;
+    push_key(text, key)?;
+    push_letters(alloc, text, letters.as_slice())
 }
 
-pub(crate) fn push_letters(
+pub(crate) fn push_text(
     alloc: Global,
     text: &mut String,
     key: &str,
@@ -70,9 +62,15 @@ pub(crate) fn push_letters(
 ) -> Result<(), AllocError>
     ensures { OnOk result (string_bytes text.new ≡ string_bytes text.old ++ field_text (record { key = key.now; value = Text letters.now })) }
 {
-    let letters: String = letters.iter().copied().collect(alloc)?;
-    let value = Value::String(letters).to_string(alloc)?;
-    push_field(text, key, value.as_str())
+    push_key(text, key)?;
+    push_letters(alloc, text, letters)
+}
+
+// The array of an operation.
+fn push_array(alloc: Global, text: &mut String, op: &TextOp<char>) -> Result<(), AllocError>
+    ensures { OnOk result (string_bytes text.new ≡ string_bytes text.old ++ text_of_operation op.now) }
+{
+    push_components(alloc, text, op.components())
 }
 
 pub(crate) fn push_edit(
@@ -83,8 +81,15 @@ pub(crate) fn push_edit(
 ) -> Result<(), AllocError>
     ensures { OnOk result (string_bytes text.new ≡ string_bytes text.old ++ field_text (record { key = key.now; value = Op op.now })) }
 {
-    let value = write_op(alloc, op)?;
-    push_field(text, key, value.as_str())
+    push_key(text, key)?;
+    push_array(alloc, text, op)
+}
+
+// The array of an operation without its tags.
+fn push_plain_array(alloc: Global, text: &mut String, op: &TextOp<Tagged>) -> Result<(), AllocError>
+    ensures { OnOk result (string_bytes text.new ≡ string_bytes text.old ++ text_of_operation (plain_operation op.now)) }
+{
+    push_components(alloc, text, op.components())
 }
 
 pub(crate) fn push_operation(
@@ -95,18 +100,23 @@ pub(crate) fn push_operation(
 ) -> Result<(), AllocError>
     ensures { OnOk result (string_bytes text.new ≡ string_bytes text.old ++ field_text (record { key = key.now; value = Op (plain_operation op.now) })) }
 {
-    let plain = plain_operation(alloc, op)?;
-    push_edit(alloc, text, key, &plain)
+    push_key(text, key)?;
+    push_plain_array(alloc, text, op)
 }
 
-// The text of a message: `{"revision":R,"operation":[..]}`.
-fn message_text(alloc: Global, message: &Sent<Tagged>) -> Result<String, AllocError>
-    ensures { IfOk result (λ s. string_bytes s ≡ message_text (plain_message (message_of message.now))) }
+// A message: `{"revision":R,"operation":[..]}`.
+fn push_sent_message(
+    alloc: Global,
+    text: &mut String,
+    message: &Sent<Tagged>,
+) -> Result<(), AllocError>
+    ensures { OnOk result (string_bytes text.new ≡ string_bytes text.old ++ message_text (plain_message (message_of message.now))) }
 {
-    let plain = plain_operation(alloc, &message.op)?;
-    let operation = write_op(alloc, &plain)?;
-    let revision = message.revision;
-    format!(in alloc; "{{\"revision\":{revision},\"operation\":{operation}}}")
+    text.push_str("{\"revision\":")?;
+    push_decimal(text, message.revision as u64)?;
+    text.push_str(",\"operation\":")?;
+    push_plain_array(alloc, text, &message.op)?;
+    text.push_str("}")
 }
 
 pub(crate) fn push_message(
@@ -117,6 +127,6 @@ pub(crate) fn push_message(
 ) -> Result<(), AllocError>
     ensures { OnOk result (string_bytes text.new ≡ string_bytes text.old ++ field_text (record { key = key.now; value = SentValue (plain_message (message_of message.now)) })) }
 {
-    let value = message_text(alloc, message)?;
-    push_field(text, key, value.as_str())
+    push_key(text, key)?;
+    push_sent_message(alloc, text, message)
 }

@@ -11,7 +11,8 @@
 //! - *The fold* (`specs/Fold.antt`): from the lines alone, by applying operations to texts and nothing else of the algebra, come every
 //!   client's revision, state, what it waits for, text and links, the server's text and the log. [`fold_is_run`] and [`lines_fold`] are the
 //!   laws (`specs/Laws.antt`) that this is the run.
-//! - *Writing* (`specs/Written.antt`): [`print_steps`] writes the lines while the run goes, and after a fault a first part of them stands.
+//! - *Writing* (`specs/Written.antt`): [`print_steps`] writes the lines while the run goes, 64 KiB of them at a time (`specs/Gathered.antt`), and after a
+//!   fault a first part of them stands.
 //!
 //! What a delivery applies is not kept by a machine: a copy of the client takes the operation first ([`applies`]), so a delivery is
 //! transformed twice. Begin reading at `step_line` in specs/Steps.antt, then at [`print_steps`].
@@ -19,8 +20,10 @@
 
 mod fields;
 mod laws;
+mod letters;
 mod lines;
 mod moving;
+mod operations;
 mod plain;
 mod writing;
 

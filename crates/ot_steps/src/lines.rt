@@ -11,8 +11,9 @@ ghost use Rattle.ot_steps.specs.Steps.{appended_by, buffer_of, client_in, docume
 ghost use Rattle.ot_steps.specs.Text.{appended_fields, applied_fields, document_fields, end_text, fields_text, line_text, named_fields, placed_fields, sent_fields, waiting_fields, word_text};
 
 use crate::fields::{
-    push_edit, push_letters, push_list, push_message, push_name, push_number, push_operation,
+    push_edit, push_list, push_message, push_name, push_number, push_operation, push_text,
 };
+use crate::operations::push_decimal;
 use ot_client::Client;
 use ot_isa::{Instr, Schedule, Tagged};
 use ot_machine::{Machine, Phase, Refusal};
@@ -47,20 +48,22 @@ pub fn state_name(phase: Phase) -> &'static str
     }
 }
 
-// The beginning of a line: its place.
-fn start_line(alloc: Global, at: usize) -> Result<String, AllocError>
-    ensures { IfOk result (λ s. string_bytes s ≡ codes "{\"at\":" ++ decimal at) }
+// The beginning of a line, its place, instead of what the text held.
+fn start_line(text: &mut String, at: usize) -> Result<(), AllocError>
+    ensures { OnOk result (string_bytes text.new ≡ codes "{\"at\":" ++ decimal at) }
 {
-    format!(in alloc; "{{\"at\":{at}")
+    text.clear();
+    text.push_str("{\"at\":")?;
+    push_decimal(text, at as u64)
 }
 
 // Which instruction it is.
 fn push_named(alloc: Global, text: &mut String, instr: &Instr) -> Result<(), AllocError>
     ensures { OnOk result (string_bytes text.new ≡ string_bytes text.old ++ fields_text (named_fields (named 0 instr.now))) }
 {
-    push_name(alloc, text, "do", word(instr))?;
+    push_name(text, "do", word(instr))?;
     if let Some(client) = instr.client() {
-        push_number(alloc, text, "client", client as u64)?;
+        push_number(text, "client", client as u64)?;
     }
     if let Instr::Edit(_, op) = instr {
         push_edit(alloc, text, "edit", op)?;
@@ -103,8 +106,8 @@ fn push_client(
     requires { client < length machine.now.clients }
     ensures { OnOk result (string_bytes text.new ≡ string_bytes text.old ++ fields_text (placed_fields (with_client (client_in machine.now client) (bare 0)))) }
 {
-    push_number(alloc, text, "revision", machine.revision(client) as u64)?;
-    push_name(alloc, text, "state", state_name(machine.phase(client)))?;
+    push_number(text, "revision", machine.revision(client) as u64)?;
+    push_name(text, "state", state_name(machine.phase(client)))?;
     push_waiting(alloc, text, machine, client)
 }
 
@@ -123,7 +126,7 @@ fn push_placed(
         Instr::Deliver(client) => push_client(alloc, text, machine, *client),
         Instr::Acknowledge(client) => push_client(alloc, text, machine, *client),
         Instr::Join(client) => push_client(alloc, text, machine, *client),
-        Instr::Take(_) => push_number(alloc, text, "revision", machine.server_revision() as u64),
+        Instr::Take(_) => push_number(text, "revision", machine.server_revision() as u64),
         Instr::Read(_) | Instr::ReadServer => Ok(()),
     }
 }
@@ -227,6 +230,32 @@ fn push_document(
     push_list(alloc, text, "document", list(machine, instr))
 }
 
+/// Writes the line of an instruction that the machine has performed into the text, instead of what that held, as [`print_step`] makes it.
+/// After want of memory the text holds a part of the line.
+pub(crate) fn write_step(
+    alloc: Global,
+    text: &mut String,
+    machine: &Machine,
+    at: usize,
+    instr: &Instr,
+    sent: bool,
+    applied: Option<&TextOp<Tagged>>,
+    documents: bool,
+) -> Result<(), AllocError>
+    requires { IsForClients (length machine.now.clients) instr.now }
+    ensures { OnOk result (string_bytes text.new ≡ line_text (line_after documents at instr.now sent (option_map plain_operation (option_copied applied.entry)) machine.now)) }
+{
+    start_line(text, at)?;
+    push_named(alloc, text, instr)?;
+    push_placed(alloc, text, machine, instr)?;
+    push_sent(alloc, text, machine, instr, sent)?;
+    push_applied(alloc, text, applied)?;
+    push_appended(alloc, text, machine, instr)?;
+    push_document(alloc, text, machine, instr, documents)?;
+    text.push_str("}\n")?;
+    Ok(())
+}
+
 /// The line of an instruction that the machine has performed, `at` being the place after it: `sent` says whether it sent a message, and
 /// `applied` what it applied by a delivery, as [`sends`](crate::sends) and [`applies`](crate::applies) of the machine before it.
 pub fn print_step(
@@ -241,14 +270,10 @@ pub fn print_step(
     requires { IsForClients (length machine.now.clients) instr.now }
     ensures { IfOk result (λ s. string_bytes s ≡ line_text (line_after documents at instr.now sent (option_map plain_operation (option_copied applied.entry)) machine.now)) }
 {
-    let mut text = start_line(alloc, at)?;
-    push_named(alloc, &mut text, instr)?;
-    push_placed(alloc, &mut text, machine, instr)?;
-    push_sent(alloc, &mut text, machine, instr, sent)?;
-    push_applied(alloc, &mut text, applied)?;
-    push_appended(alloc, &mut text, machine, instr)?;
-    push_document(alloc, &mut text, machine, instr, documents)?;
-    text.push_str("}\n")?;
+    let mut text = String::new(alloc);
+    write_step(
+        alloc, &mut text, machine, at, instr, sent, applied, documents,
+    )?;
     Ok(text)
 }
 
@@ -256,10 +281,11 @@ pub fn print_step(
 pub fn print_opening(alloc: Global, schedule: &Schedule) -> Result<String, AllocError>
     ensures { IfOk result (λ s. string_bytes s ≡ line_text (opening_line schedule.now)) }
 {
-    let mut text = start_line(alloc, 0)?;
-    push_number(alloc, &mut text, "clients", schedule.clients() as u64)?;
-    push_number(alloc, &mut text, "present", schedule.present() as u64)?;
-    push_letters(alloc, &mut text, "start", schedule.start())?;
+    let mut text = String::new(alloc);
+    start_line(&mut text, 0)?;
+    push_number(&mut text, "clients", schedule.clients() as u64)?;
+    push_number(&mut text, "present", schedule.present() as u64)?;
+    push_text(alloc, &mut text, "start", schedule.start())?;
     text.push_str("}\n")?;
     Ok(text)
 }
@@ -273,9 +299,10 @@ pub fn print_stop(
 ) -> Result<String, AllocError>
     ensures { IfOk result (λ s. string_bytes s ≡ line_text (stop_line at instr.now refusal)) }
 {
-    let mut text = start_line(alloc, at)?;
+    let mut text = String::new(alloc);
+    start_line(&mut text, at)?;
     push_named(alloc, &mut text, instr)?;
-    push_name(alloc, &mut text, "stopped", refusal_name(refusal))?;
+    push_name(&mut text, "stopped", refusal_name(refusal))?;
     text.push_str("}\n")?;
     Ok(text)
 }
@@ -291,8 +318,9 @@ fn end_name(quiet: bool) -> &'static str
 pub fn print_end(alloc: Global, at: usize, quiet: bool) -> Result<String, AllocError>
     ensures { IfOk result (λ s. string_bytes s ≡ line_text (end_line at quiet)) }
 {
-    let mut text = start_line(alloc, at)?;
-    push_name(alloc, &mut text, "end", end_name(quiet))?;
+    let mut text = String::new(alloc);
+    start_line(&mut text, at)?;
+    push_name(&mut text, "end", end_name(quiet))?;
     text.push_str("}\n")?;
     Ok(text)
 }

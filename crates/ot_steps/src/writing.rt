@@ -1,14 +1,15 @@
 //! The lines of a whole run.
 
-ghost use Rattle.std.specs.Prelude.{◌≡◌, IfErr, IfOk, OnErr, string_bytes};
+ghost use Rattle.std.specs.Prelude.{◌≡◌, IfErr, IfOk, OnErr, OnOk, string_bytes};
 ghost use Rattle.ot_model.specs.Runs.{opening_of};
 ghost use Rattle.ot_model.specs.Table as table;
 ghost use Rattle.ot_machine.specs.Answers.{IsRefusal};
 ghost use Rattle.ot_steps.specs.Steps.{last_lines};
 ghost use Rattle.ot_steps.specs.Text.{lines_text};
-ghost use Rattle.ot_steps.specs.Written.{IsMove, MovesUpTo, WritesMoves, WritesRun, WritesUpTo};
+ghost use Rattle.ot_steps.specs.Gathered.{Gathers, GathersMoves, GathersRun, GathersUpTo, MovesUpTo, RunUpTo};
+ghost use Rattle.ot_steps.specs.Written.{IsMove, WritesRun, WritesUpTo};
 
-use crate::lines::{print_end, print_opening, print_step, print_stop};
+use crate::lines::{print_end, print_opening, print_stop, write_step};
 use crate::moving::{applies, sends};
 use ot_isa::{Instr, Schedule};
 use ot_machine::{Machine, Refusal};
@@ -16,10 +17,13 @@ use std::alloc::{AllocError, Global};
 use std::io::Write;
 use streams::put;
 
+/// As many bytes of lines are held before they are written: 64 KiB.
+const HELD: usize = 65_536;
+
 /// Why the lines of a run are not all written.
 #[derive(Clone, Copy, Debug, PartialEq, Eq)]
 pub enum StepsFault {
-    /// No memory was found for the opening, or for a line.
+    /// No memory was found for the opening, for a line, or to hold it.
     Memory,
     /// A write failed, or took no byte.
     WriteFault,
@@ -47,15 +51,16 @@ impl From<streams::WriteFault> for StepsFault {
     }
 }
 
-// Performs the instruction and gives its line, or why it was not performed.
+// Performs the instruction and writes its line into the text, instead of what that held, or says why it was not performed.
 fn perform(
     alloc: Global,
     machine: &mut Machine,
     at: usize,
     instr: &Instr,
     documents: bool,
-) -> Result<Result<String, Refusal>, AllocError>
-    ensures line { IfOk result (λ answer. IfOk answer (λ s. IsMove documents at instr.now machine.old machine.new (string_bytes s))) }
+    line: &mut String,
+) -> Result<Result<(), Refusal>, AllocError>
+    ensures line { IfOk result (λ answer. OnOk answer (IsMove documents at instr.now machine.old machine.new (string_bytes line.new))) }
     ensures refused { IfOk result (λ answer. IfErr answer (λ r. IsRefusal (table.step machine.old instr.now) r)) }
     ensures unchanged { IfOk result (λ answer. OnErr answer (machine.new ≡ machine.old)) }
 {
@@ -64,28 +69,45 @@ fn perform(
     if let Err(refusal) = machine.step(instr) {
         return Ok(Err(refusal));
     }
-    let line = print_step(alloc, machine, at, instr, sent, applied.as_ref(), documents)?;
-    Ok(Ok(line))
+    let applied = applied.as_ref();
+    write_step(alloc, line, machine, at, instr, sent, applied, documents)?;
+    Ok(Ok(()))
 }
 
-// Performs the instructions up to the first that is not performed, and writes the line of each.
-fn write_moves<W: Write>(
+// Holds a text, and writes all that is held where it is much.
+fn gather<W: Write>(held: &mut Vec<u8>, text: &str, output: &mut W) -> Result<(), StepsFault>
+    ensures ok { OnOk result (Gathers (W.contents output.old) (W.contents output.new) held.old.items held.new.items text.now) }
+    ensures err { IfErr result (λ f. GathersUpTo f (W.contents output.old) (W.contents output.new) held.old.items held.new.items text.now) }
+{
+    held.extend_from_slice(text.as_bytes())?;
+    if held.len() < HELD {
+        return Ok(());
+    }
+    put(output, held.as_slice())?;
+    held.clear();
+    Ok(())
+}
+
+// Performs the instructions up to the first that is not performed, and gathers the line of each.
+fn gather_moves<W: Write>(
     alloc: Global,
     machine: &mut Machine,
     schedule: &Schedule,
     documents: bool,
+    held: &mut Vec<u8>,
     output: &mut W,
 ) -> Result<Option<(usize, Refusal)>, StepsFault>
     requires { machine.old ≡ opening_of schedule.now }
-    ensures ok { IfOk result (λ stopped. WritesMoves documents schedule.now stopped machine.new (W.contents output.old) (W.contents output.new)) }
-    ensures err { IfErr result (λ f. MovesUpTo f documents schedule.now (W.contents output.old) (W.contents output.new)) }
+    ensures ok { IfOk result (λ stopped. GathersMoves documents schedule.now stopped machine.new (W.contents output.old) (W.contents output.new) held.old.items held.new.items) }
+    ensures err { IfErr result (λ f. MovesUpTo f documents schedule.now (W.contents output.old) (W.contents output.new) held.old.items held.new.items) }
 {
+    let mut line = String::new(alloc);
     for place in 0..schedule.len() {
         let Some(instr) = schedule.get(place) else {
             unreachable!()
         };
-        match perform(alloc, machine, place + 1, instr, documents)? {
-            Ok(line) => put(output, line.as_bytes())?,
+        match perform(alloc, machine, place + 1, instr, documents, &mut line)? {
+            Ok(()) => gather(held, line.as_str(), output)?,
             Err(refusal) => return Ok(Some((place, refusal))),
         }
     }
@@ -113,12 +135,33 @@ fn print_last(
     Ok(text)
 }
 
+// Runs the schedule and gathers the lines of its run. Says whether an instruction was not performed.
+fn gather_run<W: Write>(
+    alloc: Global,
+    schedule: &Schedule,
+    documents: bool,
+    held: &mut Vec<u8>,
+    output: &mut W,
+) -> Result<bool, StepsFault>
+    ensures ok { IfOk result (λ refused. GathersRun documents schedule.now refused (W.contents output.old) (W.contents output.new) held.old.items held.new.items) }
+    ensures err { IfErr result (λ f. RunUpTo f documents schedule.now (W.contents output.old) (W.contents output.new) held.old.items held.new.items) }
+{
+    let clients = schedule.clients();
+    let mut machine = Machine::with_present(alloc, clients, schedule.present(), schedule.start())?;
+    let opening = print_opening(alloc, schedule)?;
+    gather(held, opening.as_str(), output)?;
+    let stopped = gather_moves(alloc, &mut machine, schedule, documents, held, output)?;
+    let last = print_last(alloc, &machine, schedule, stopped)?;
+    gather(held, last.as_str(), output)?;
+    Ok(stopped.is_some())
+}
+
 /// Runs the schedule and writes the lines of its run while it goes: the opening, a line for each performed instruction, the stop if an
 /// instruction was not performed (refused, or for want of memory), and the end. Says whether one was not performed. With `documents` each
 /// performed instruction's line has the document of the one that moved.
 ///
-/// After a fault a first part of the lines is written; for want of memory for a line these are whole lines. Memory does not grow with the
-/// lines: each is written before the next instruction is performed.
+/// After a fault a first part of the lines is written; for want of memory for a line these are whole lines, all that were made before it. Memory does
+/// not grow with the lines: they are written wherever 64 KiB of them are held.
 pub fn print_steps<W: Write>(
     alloc: Global,
     schedule: &Schedule,
@@ -128,12 +171,16 @@ pub fn print_steps<W: Write>(
     ensures ok { IfOk result (λ refused. WritesRun documents schedule.now refused (W.contents output.old) (W.contents output.new)) }
     ensures err { IfErr result (λ f. WritesUpTo f documents schedule.now (W.contents output.old) (W.contents output.new)) }
 {
-    let clients = schedule.clients();
-    let mut machine = Machine::with_present(alloc, clients, schedule.present(), schedule.start())?;
-    let opening = print_opening(alloc, schedule)?;
-    put(output, opening.as_bytes())?;
-    let stopped = write_moves(alloc, &mut machine, schedule, documents, output)?;
-    let last = print_last(alloc, &machine, schedule, stopped)?;
-    put(output, last.as_bytes())?;
-    Ok(stopped.is_some())
+    let mut held = Vec::new(alloc);
+    match gather_run(alloc, schedule, documents, &mut held, output) {
+        Ok(refused) => {
+            put(output, held.as_slice())?;
+            Ok(refused)
+        }
+        Err(StepsFault::Memory) => {
+            put(output, held.as_slice())?;
+            Err(StepsFault::Memory)
+        }
+        Err(StepsFault::WriteFault) => Err(StepsFault::WriteFault),
+    }
 }

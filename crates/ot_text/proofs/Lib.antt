@@ -18,3 +18,5 @@ pub mod Placed
 pub mod Surveyed
 pub mod Surveying
 pub mod Touched
+pub mod Patched
+pub mod Replaced

@@ -33,9 +33,11 @@
 //! - `specs/Run.antt`, `specs/Components.antt`: the components as runs, their normal form, what they spell.
 //! - `specs/Chunks.antt`, `specs/Draft.antt`, `specs/Spots.antt`: the rule on chunks, a place in them, the draft of a change, the change
 //!   where they lie.
+//! - `specs/Patch.antt`: what is kept of an operation beside a later one that resembles it.
 //!
 //! Begin with `TextOp` below, then `build.rt` (normal form), `document.rt` (`Doc`), `survey.rt` and `edit.rt` (the change
-//! where chunks lie), `cursor.rt` and `draft.rt` (the draft), and `change.rt` (what components make of chunks).
+//! where chunks lie), `cursor.rt` and `draft.rt` (the draft), and `change.rt` (what components make of chunks). `patch.rt` leads from an operation
+//! back to an older one.
 #![tactic(auto)]
 
 ghost use Rattle.std.specs.Prelude.{◌≡◌, ◌+◌, ◌<◌, ◌≤◌, ◌↔◌, List, length, max, OnOk, OnErr, IfOk, IsErrOf, IsTrue};
@@ -52,7 +54,9 @@ mod document;
 mod draft;
 mod edit;
 mod element;
+mod patch;
 mod refusal;
+mod replace;
 mod survey;
 
 use build::{add_delete, add_insert, add_retain, add_text};
@@ -61,6 +65,7 @@ use compare::same_components;
 use copy::copy_components;
 pub use document::Doc;
 pub use element::Element;
+pub use patch::Patch;
 pub use refusal::{OpRefusal, only_memory};
 use std::alloc::{AllocError, Global};
 use std::marker::Model;

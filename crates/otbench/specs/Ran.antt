@@ -1,11 +1,13 @@
 -- What `run` writes and answers.
-use Rattle.std.specs.Prelude.{◌⊎◌, ℕ, List, Option, Some, None}
+use Rattle.std.specs.Prelude.{◌≡◌, ◌⊎◌, ℕ, List, Option, Some, None}
+use Rattle.streams.specs.Streams.{WritesPart}
 use Rattle.ot_isa.specs.Program.{Program}
 use Rattle.ot_model.specs.declared.shown.Refusal.{Refusal}
 use Rattle.ot_machine.specs.declared.outcome.Replay.{Replay}
 use Rattle.ot_machine.specs.Ended.{IsRun}
 use Rattle.ot_report.specs.Printed.{IsReport}
-use Rattle.outcomes.specs.Outcomes.{Streams, Gives, WantsMemory}
+use Rattle.ot_report.specs.Written.{WritesFirstReads}
+use Rattle.outcomes.specs.Outcomes.{Streams, Gives, memory_fault}
 
 -- 0 where all instructions were performed, 1 where one was not
 abbrev pub stop_status : Option (ℕ × Refusal) → ℕ
@@ -20,6 +22,11 @@ pub record Reports (schedule : Program) (status : ℕ) (streams : Streams) : Typ
   pub is_report : IsReport run text
   pub gives : Gives (stop_status run.stopped) text status streams
 
+-- memory was wanting: status 1, the lines of the first reads, which were written by then, and on the faults that it was
+abbrev pub StopsAmongReads : Program → ℕ → Streams → Type 0
+StopsAmongReads schedule status streams =
+    (status ≡ 1) × WritesFirstReads schedule streams.output streams.output' × WritesPart streams.faults streams.faults' memory_fault
+
 -- a run, or want of memory for it
 abbrev pub MayReport : Program → ℕ → Streams → Type 0
-MayReport schedule status streams = Reports schedule status streams ⊎ WantsMemory status streams
+MayReport schedule status streams = Reports schedule status streams ⊎ StopsAmongReads schedule status streams

@@ -18,7 +18,7 @@ use std::io::{Read, Write};
 fn check_status(run: &Replay, full: bool) -> u8
     ensures { result ≡ check_status full run.now.stopped }
 {
-    if full { 1 } else { status_of(run) }
+    if full { 1 } else { status_of(run.stopped) }
 }
 
 // Runs the schedule and prints what is found.

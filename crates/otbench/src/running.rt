@@ -8,24 +8,24 @@ use ot_asm::assemble_from;
 use ot_image::load;
 use ot_input::{complain_of_byte, complain_of_line};
 use ot_isa::Schedule;
-use ot_machine::{Replay, run};
-use ot_report::print_run;
-use outcomes::{complain_of_input, complain_of_memory, give};
+use ot_model::Refusal;
+use ot_report::{ReportFault, write_report};
+use outcomes::{complain_of_input, complain_of_memory};
 use std::alloc::Global;
 use std::io::{Read, Write};
 use streams::read_whole;
 
-/// The status of a run: 0 where all instructions were performed, else 1.
-pub fn status_of(run: &Replay) -> u8
-    ensures { result ≡ stop_status run.now.stopped }
+/// The status of a run that stopped in this way: 0 where all instructions were performed, else 1.
+pub fn status_of(stopped: Option<(usize, Refusal)>) -> u8
+    ensures { result ≡ stop_status stopped }
 {
-    match run.stopped {
+    match stopped {
         None => 0,
         Some(_) => 1,
     }
 }
 
-// Runs the schedule and prints it.
+// Runs the schedule and writes its report.
 fn report<O: Write, F: Write>(
     alloc: Global,
     schedule: &Schedule,
@@ -34,15 +34,14 @@ fn report<O: Write, F: Write>(
 ) -> u8
     ensures { MayReport schedule.now result (record { output = O.contents output.old; output' = O.contents output.new; faults = F.contents faults.old; faults' = F.contents faults.new }) }
 {
-    let Ok(run) = run(alloc, schedule) else {
-        complain_of_memory(faults);
-        return 1;
-    };
-    let Ok(text) = print_run(alloc, &run) else {
-        complain_of_memory(faults);
-        return 1;
-    };
-    give(text.as_bytes(), status_of(&run), output)
+    match write_report(alloc, schedule, output) {
+        Ok(stopped) => status_of(stopped),
+        Err(ReportFault::WriteFault) => 1,
+        Err(ReportFault::Memory) => {
+            complain_of_memory(faults);
+            1
+        }
+    }
 }
 
 /// Runs the schedule whose text is the input.

@@ -10,7 +10,7 @@ use Rattle.ot_explain.proofs.reasons.base_words.Goals as goal
 
 abbrev edit_text : ℕ → ℕ → ℕ → List ℕ → List ℕ
 edit_text c base count words =
-    codes "the edit takes documents of " ++ (decimal base ++ (codes " characters, client " ++ (decimal c ++ (codes "'s has " ++ (decimal count ++ words)))))
+    codes "the edit takes documents of length " ++ (decimal base ++ (codes ", client " ++ (decimal c ++ (codes "'s has length " ++ (decimal count ++ words)))))
 
 pub returns : goal.returns
 returns c =

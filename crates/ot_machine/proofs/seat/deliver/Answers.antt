@@ -1,9 +1,11 @@
-use Rattle.std.proofs.Common.{◌≡◌, suc, rules, ap, sym, subst}
+use Rattle.std.proofs.Common.{suc, ◌∙◌, ap, refl, rules, sym, Some}
 use Rattle.std.specs.Option.{option_map}
 use Rattle.ot_text.specs.Operation.{apply}
 use Rattle.ot_client.specs.Client.{message_of}
-use Rattle.ot_machine.specs.Seats.{client_of, revision_of}
-use Rattle.ot_machine.specs.Undoing.{GivesBack}
+use Rattle.ot_client.specs.State as state
+use Rattle.ot_isa.specs.declared.elements.Tagged.{Tagged}
+use Rattle.ot_model.specs.Table.{Client}
+use Rattle.ot_machine.specs.Seats.{phase_of, revision_of}
 use Rattle.ot_machine.proofs.RowLaws.{joined_of}
 use Rattle.ot_machine.proofs.Undoing.{kept_restored}
 use Rattle.ot_machine.proofs.seat.deliver.Goals as goal
@@ -11,16 +13,12 @@ use Rattle.ot_machine.proofs.seat.deliver.Goals as goal
 pub returns-clause-kept : goal.returns-clause-kept
 returns-clause-kept g c = λ yes.
     let was = c.args.seat.now in
-    let now = c.exchange-before.new.seat in
-    let inverse = c.in_ok-inverse.inverse in
-    let list : now.list ≡ apply c.unwrap_or-applied.result.now was.list = search rules in
-    let up : now.up ≡ was.up = search rules in
-    let risen : revision_of now.client ≡ suc (revision_of was.client) = search rules in
-    kept_restored c.exchange-before.result was (client_of now) inverse _
+    let next = Some c.in_ok-next.next in
+    let now : Client = record { revision = revision_of next; phase = phase_of next; list = c.change.new.self; count = was.count; message = option_map message_of was.up } in
+    kept_restored c.in_ok-before.before was now (apply c.unwrap_or-applied.result.now was.list) _
     (record {
-      list = subst (GivesBack inverse was.list) (sym list) (c.in_ok-inverse.ensures yes);
-      message = λ some. ap (option_map message_of) up;
-      joined = joined_of now.client (search rules);
-      revision = risen;
+      message = λ some. refl;
+      joined = joined_of next refl;
+      revision = ap (λ (s : state.State Tagged). s.revision) c.in_ok-next.ensures.state ∙ ap (λ o. suc (revision_of o)) (sym c.in-Some.is);
     })
-    (c.exchange-before.ensures.kept yes)
+    (search rules) (c.in_ok-before.ensures yes)

@@ -1,10 +1,11 @@
-use Rattle.std.proofs.Common.{◌≡◌, ◌+◌, ◌∙◌, rules, ap, subst, sym}
+use Rattle.std.proofs.Common.{◌+◌, ◌∙◌, ap, refl, rules, subst, sym, Some}
 use Rattle.std.specs.Option.{option_map}
 use Rattle.ot_text.specs.Operation.{apply}
 use Rattle.ot_client.specs.Client.{message_of}
-use Rattle.ot_machine.specs.declared.seat.Seat.{Seat}
-use Rattle.ot_machine.specs.Seats.{client_of, phase_of, revision_of, under_way, MaySend}
-use Rattle.ot_machine.specs.Undoing.{GivesBack}
+use Rattle.ot_client.specs.State as state
+use Rattle.ot_isa.specs.declared.elements.Tagged.{Tagged}
+use Rattle.ot_model.specs.Table.{Client}
+use Rattle.ot_machine.specs.Seats.{phase_of, revision_of, MaySend}
 use Rattle.ot_machine.proofs.RowLaws.{joined_of}
 use Rattle.ot_machine.proofs.Undoing.{kept_restored, sends_alone}
 use Rattle.ot_machine.proofs.seat.edit.Goals as goal
@@ -12,16 +13,12 @@ use Rattle.ot_machine.proofs.seat.edit.Goals as goal
 pub returns-clause-kept : goal.returns-clause-kept
 returns-clause-kept g c = λ yes.
     let was = c.args.seat.now in
-    let mid = c.exchange-before.new.seat in
-    let now : Seat = record { client = mid.client; list = mid.list; count = mid.count + c.inserted.result; up = c.put_up.new.up; down = mid.down } in
-    let inverse = c.in_ok-inverse.inverse in
-    let list : mid.list ≡ apply c.args.op.now was.list = search rules in
-    let same : revision_of mid.client ≡ revision_of was.client = search rules in
-    kept_restored c.exchange-before.result was (client_of now) inverse _
+    let next = Some c.in_ok-next.next in
+    let now : Client = record { revision = revision_of next; phase = phase_of next; list = c.change.new.self; count = was.count + c.inserted.result; message = option_map message_of c.put_up.new.up } in
+    kept_restored c.in_ok-before.before was now (apply c.args.op.now was.list) _
     (record {
-      list = subst (GivesBack inverse was.list) (sym list) (c.in_ok-inverse.ensures yes);
-      message = λ some. ap (option_map message_of) (c.put_up.ensures ∙ ap (under_way c.in_ok-next.sent) c.exchange-before.ensures.up ∙ sends_alone c.in-Some.client c.args.op.now was.up c.in_ok-next.sent (subst (λ o. MaySend (phase_of o) was.up) c.in-Some.is c.requires.sends) c.in_ok-next.ensures.sent some);
-      joined = joined_of mid.client (search rules);
-      revision = same;
+      message = λ some. ap (option_map message_of) (c.put_up.ensures ∙ sends_alone c.in-Some.client c.args.op.now was.up c.in_ok-next.sent (subst (λ o. MaySend (phase_of o) was.up) c.in-Some.is c.requires.sends) c.in_ok-next.ensures.sent some);
+      joined = joined_of next refl;
+      revision = ap (λ (s : state.State Tagged). s.revision) c.in_ok-next.ensures.state ∙ ap revision_of (sym c.in-Some.is);
     })
-    (c.exchange-before.ensures.kept yes)
+    (search rules) (c.in_ok-before.ensures yes)

@@ -1,4 +1,4 @@
-use Rattle.std.proofs.Common.{◌≡◌, ◌+◌, ◌++◌, List, ℕ, suc, take, sym, ap, ◌∙◌, add-one, string_bytes}
+use Rattle.std.proofs.Common.{◌≡◌, ◌+◌, ◌++◌, List, ℕ, suc, take, sym, ap, ◌∙◌, add-one}
 use Rattle.ot_report.specs.Printed.{read_line, read_lines}
 use Rattle.ot_report.proofs.Listing.{reads_more}
 use Rattle.ot_report.proofs.running.reads_text.Goals as goal
@@ -8,8 +8,7 @@ loop-read-preserved c =
     let i = c.loop-read.read-index in
     let shown = c.args.shown.now in
     let more : read_lines (take (i + 1) shown) ≡ read_lines (take (suc i) shown) = ap (λ (n : ℕ). read_lines (take n shown)) (add-one i) in
-    c.in_ok-push_str.ensures.bytes
-    ∙ ap (λ (t : List ℕ). string_bytes c.loop-read.text ++ t) (c.as_str.ensures.value ∙ c.in_ok-line.ensures)
+    c.in_ok-push_read.ensures
     ∙ ap (λ (t : List ℕ). t ++ read_line c.read-item.result) c.loop-read.invariant
     ∙ sym (reads_more i shown _ c.loop-read-test.true c.read-item.is)
     ∙ sym more

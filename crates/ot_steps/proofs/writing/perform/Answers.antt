@@ -1,5 +1,5 @@
 use Rattle.ot_steps.proofs.Progress.{performed_within}
 use Rattle.ot_steps.proofs.writing.perform.Goals as goal
 
-pub print_step-requires : goal.print_step-requires
-print_step-requires c = performed_within c.args.machine.now c.step.new.self c.args.instr.now c.step.result c.in_default.not-Err c.step.ensures.done
+pub write_step-requires : goal.write_step-requires
+write_step-requires c = performed_within c.args.machine.now c.step.new.self c.args.instr.now c.step.result c.in_default.not-Err c.step.ensures.done

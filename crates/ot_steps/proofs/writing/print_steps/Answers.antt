@@ -1,57 +1,47 @@
-use Rattle.std.proofs.Common.{◌≡◌, ◌∙◌, subst, string_bytes, List, ℕ}
+use Rattle.std.proofs.Common.{subst, List, ℕ}
 use Rattle.std.specs.Io.KnownBytes.{Appends}
 use Rattle.streams.specs.Streams.{WritesPart}
+use Rattle.ot_steps.specs.Gathered.{RunUpTo}
 use Rattle.ot_steps.specs.Written.{WritesUpTo}
 use Rattle.ot_steps.specs.declared.writing.StepsFault.{StepsFault}
-use Rattle.ot_steps.specs.declared.writing.StepsFault.TheVariants.{Memory, WriteFault}
-use Rattle.ot_steps.proofs.Progress.{all_written, err_is, last_cut, last_missing, moves_cut, opening_cut}
+use Rattle.ot_steps.specs.declared.writing.StepsFault.TheVariants.{WriteFault}
+use Rattle.ot_steps.proofs.Progress.{all_cut, err_is, first_cut, first_written}
 use Rattle.ot_steps.proofs.writing.print_steps.Goals as goal
 
-pub returns-in_err-put-clause-err : goal.returns-in_err-put-clause-err
-returns-in_err-put-clause-err g c =
+pub returns-in_err-put-in-Ok-clause-err : goal.returns-in_err-put-in-Ok-clause-err
+returns-in_err-put-in-Ok-clause-err g c =
+    let d = c.args.documents in
     let s = c.args.schedule.now in
     let old = g.W.Write.contents c.args.output.now in
+    let mid = g.W.Write.contents c.gather_run.new.output in
     let new = g.W.Write.contents c.put.new.writer in
-    err_is c.from_residual-in_err-put.result WriteFault (λ (f : StepsFault). WritesUpTo f c.args.documents s old new) c.from_residual-in_err-put.ensures.1
-    (opening_cut c.args.documents s old new c.as_bytes.result.now (c.as_bytes.ensures.value ∙ c.in_ok-opening.ensures) c.in_err-put.ensures.err)
+    let written = subst (λ (bytes : List ℕ). WritesPart mid new bytes) c.as_slice.ensures.value c.in_err-put-in-Ok.ensures.err in
+    err_is c.from_residual.result WriteFault (λ (f : StepsFault). WritesUpTo f d s old new) c.from_residual.ensures.1
+    (all_cut d s old mid new c.new-held.result.items c.gather_run.new.held.items c.new-held.ensures.items c.in-Ok.refused c.in-Ok.ensures.ok written)
 
-pub returns-in_err-stopped-clause-err : goal.returns-in_err-stopped-clause-err
-returns-in_err-stopped-clause-err g c =
+pub returns-in_err-put-in-Err-Memory-clause-err : goal.returns-in_err-put-in-Err-Memory-clause-err
+returns-in_err-put-in-Err-Memory-clause-err g c =
+    let d = c.args.documents in
     let s = c.args.schedule.now in
     let old = g.W.Write.contents c.args.output.now in
-    let mid = g.W.Write.contents c.put.new.writer in
-    let new = g.W.Write.contents c.write_moves.new.output in
-    let f = c.in_err-stopped.field-0.0 in
-    err_is c.from_residual-in_err-stopped.result f (λ (e : StepsFault). WritesUpTo e c.args.documents s old new) c.from_residual-in_err-stopped.ensures.1
-    (moves_cut f c.args.documents s old mid new c.as_bytes.result.now (c.as_bytes.ensures.value ∙ c.in_ok-opening.ensures) c.in_ok-put.ensures.ok c.in_err-stopped.ensures.err)
+    let mid = g.W.Write.contents c.gather_run.new.output in
+    let new = g.W.Write.contents c.put-in-Err-Memory.new.writer in
+    let none = c.new-held.result.items in
+    let held = c.gather_run.new.held.items in
+    let run = subst (λ (f : StepsFault). RunUpTo f d s old mid none held) c.in-Err-Memory.field-0-is c.in-Err-Memory.ensures.err in
+    let written = subst (λ (bytes : List ℕ). WritesPart mid new bytes) c.as_slice-in-Err-Memory.ensures.value c.in_err-put-in-Err-Memory.ensures.err in
+    err_is c.from_residual-in_err-put-in-Err-Memory.result WriteFault (λ (f : StepsFault). WritesUpTo f d s old new) c.from_residual-in_err-put-in-Err-Memory.ensures.1
+    (first_cut d s old mid new none held c.new-held.ensures.items run written)
 
-pub returns-in_err-last-clause-err : goal.returns-in_err-last-clause-err
-returns-in_err-last-clause-err g c =
+pub returns-in-Err-Memory-clause-err : goal.returns-in-Err-Memory-clause-err
+returns-in-Err-Memory-clause-err g c =
+    let d = c.args.documents in
     let s = c.args.schedule.now in
     let old = g.W.Write.contents c.args.output.now in
-    let mid = g.W.Write.contents c.put.new.writer in
-    let new = g.W.Write.contents c.write_moves.new.output in
-    err_is c.from_residual-in_err-last.result Memory (λ (f : StepsFault). WritesUpTo f c.args.documents s old new) c.from_residual-in_err-last.ensures.1
-    (last_missing c.args.documents s c.in_ok-stopped.stopped c.write_moves.new.machine old mid new c.as_bytes.result.now c.as_bytes.result.now
-    (c.as_bytes.ensures.value ∙ c.in_ok-opening.ensures) c.in_ok-put.ensures.ok c.in_ok-stopped.ensures.ok)
-
-pub returns-in_err-put-2-clause-err : goal.returns-in_err-put-2-clause-err
-returns-in_err-put-2-clause-err g c =
-    let s = c.args.schedule.now in
-    let old = g.W.Write.contents c.args.output.now in
-    let mid = g.W.Write.contents c.put.new.writer in
-    let later = g.W.Write.contents c.write_moves.new.output in
-    let new = g.W.Write.contents c.put-2.new.writer in
-    err_is c.from_residual-in_err-put-2.result WriteFault (λ (f : StepsFault). WritesUpTo f c.args.documents s old new) c.from_residual-in_err-put-2.ensures.1
-    (last_cut c.args.documents s c.in_ok-stopped.stopped c.write_moves.new.machine old mid later c.as_bytes.result.now c.as_bytes-2.result.now
-    (c.as_bytes.ensures.value ∙ c.in_ok-opening.ensures) c.in_ok-put.ensures.ok c.in_ok-stopped.ensures.ok new (c.as_bytes-2.ensures.value ∙ c.in_ok-last.ensures) c.in_err-put-2.ensures.err)
-
-pub returns-clause-ok : goal.returns-clause-ok
-returns-clause-ok g c =
-    let s = c.args.schedule.now in
-    let old = g.W.Write.contents c.args.output.now in
-    let mid = g.W.Write.contents c.put.new.writer in
-    let later = g.W.Write.contents c.write_moves.new.output in
-    let new = g.W.Write.contents c.put-2.new.writer in
-    all_written c.args.documents s c.in_ok-stopped.stopped c.write_moves.new.machine old mid later c.as_bytes.result.now c.as_bytes-2.result.now
-    (c.as_bytes.ensures.value ∙ c.in_ok-opening.ensures) c.in_ok-put.ensures.ok c.in_ok-stopped.ensures.ok c.is_some.result new c.is_some.ensures (c.as_bytes-2.ensures.value ∙ c.in_ok-last.ensures) c.in_ok-put-2.ensures.ok
+    let mid = g.W.Write.contents c.gather_run.new.output in
+    let new = g.W.Write.contents c.put-in-Err-Memory.new.writer in
+    let none = c.new-held.result.items in
+    let held = c.gather_run.new.held.items in
+    let run = subst (λ (f : StepsFault). RunUpTo f d s old mid none held) c.in-Err-Memory.field-0-is c.in-Err-Memory.ensures.err in
+    let written = subst (λ (bytes : List ℕ). Appends mid new bytes) c.as_slice-in-Err-Memory.ensures.value c.in_ok-put-in-Err-Memory.ensures.ok in
+    first_written d s old mid new none held c.new-held.ensures.items run written

@@ -1,18 +1,17 @@
-use Rattle.std.proofs.Common.{List, ℕ, subst, inl, string_bytes}
-use Rattle.std.proofs.KnownBytes.{Keeps-refl}
-use Rattle.outcomes.specs.Outcomes.{Puts}
+use Rattle.std.proofs.Common.{subst}
+use Rattle.ot_report.specs.Written.{WritesReportUpTo}
+use Rattle.ot_report.specs.declared.writing.ReportFault.{ReportFault}
+use Rattle.otbench.proofs.Ran.{broken_off, reported}
 use Rattle.otbench.proofs.running.report.Goals as goal
 
-pub returns : goal.returns
-returns g c =
-    let contents = g.O.Write.contents in
-    let text = string_bytes c.in-Ok-print_run.text in
-    let written = subst (λ (bytes : List ℕ). Puts c.status_of.result bytes c.give.result (contents c.args.output.now) (contents c.give.new.output)) c.as_bytes.ensures.value c.give.ensures in
-    let given = subst (λ (right : ℕ). Puts right text c.give.result (contents c.args.output.now) (contents c.give.new.output)) c.status_of.ensures written in
-    inl (record {
-      run = c.in-Ok.run';
-      is_run = c.in-Ok.ensures;
-      text = text;
-      is_report = c.in-Ok-print_run.ensures;
-      gives = (given, Keeps-refl (g.F.Write.contents c.args.faults.now));
-    })
+pub returns-in-Ok : goal.returns-in-Ok
+returns-in-Ok g c =
+    reported c.args.schedule.now c.in-Ok.stopped c.status_of.result (g.O.Write.contents c.args.output.now) (g.O.Write.contents c.write_report.new.output) (g.F.Write.contents c.args.faults.now)
+    c.status_of.ensures c.in-Ok.ensures.ok
+
+pub returns-in-Err-WriteFault : goal.returns-in-Err-WriteFault
+returns-in-Err-WriteFault g c =
+    let old = g.O.Write.contents c.args.output.now in
+    let new = g.O.Write.contents c.write_report.new.output in
+    broken_off c.args.schedule.now old new (g.F.Write.contents c.args.faults.now)
+    (subst (λ (f : ReportFault). WritesReportUpTo f c.args.schedule.now old new) c.in-Err-WriteFault.field-0-is c.in-Err-WriteFault.ensures.err)

@@ -1,4 +1,5 @@
-use Rattle.std.proofs.Common.{◌∙◌, ap, length, subst, sym}
+use Rattle.std.proofs.Common.{ℕ, ◌∙◌, ap, length, subst, sym}
+use Rattle.std.specs.Prelude.{slice_get}
 use Rattle.std.specs.List.{All}
 use Rattle.ot_debug.specs.Session.{Session, IsOfClients, IsSession}
 use Rattle.ot_debug.proofs.WatchedSteps.{first_watch, watched_there}
@@ -14,7 +15,10 @@ first_other-requires-clause-clients c =
 
 pub returns-clause-watch : goal.returns-clause-watch
 returns-clause-watch c =
-    first_watch c.args.self.now c.forward.new.self c.self.inside.machine c.self-2.inside.machine c.as_slice.result.now c.as_slice-2.result.now c.as_slice-3.result.now c.first_other.result
+    let place = c.position-place.result in
+    first_watch c.args.self.now c.forward.new.self c.in-Some.instr.now c.in-Some-get.instr.now c.self.inside.machine c.self-2.inside.machine c.as_slice.result.now c.as_slice-2.result.now c.as_slice-3.result.now c.first_other.result
+    (ap (λ (n : ℕ). slice_get c.args.self.now.schedule.instrs n) (sym c.position-place.ensures) ∙ ap (λ (x : Session). slice_get x.schedule.instrs place) (sym c.self.view_is) ∙ c.in-Some.ensures.some)
+    (ap (λ (n : ℕ). slice_get c.forward.new.self.schedule.instrs n) (sym c.position-place.ensures) ∙ ap (λ (x : Session). slice_get x.schedule.instrs place) (sym c.self-2.view_is) ∙ c.in-Some-get.ensures.some)
     (subst IsSession c.self.view_is c.self.invariant.session) (subst IsSession c.self-2.view_is c.self-2.invariant.session) c.in_ok-forward.ensures.done
     (ap (λ (x : Session). x.place.state) c.self.view_is) (ap (λ (x : Session). x.place.state) c.self-2.view_is)
     (c.as_slice.ensures.value ∙ ap (λ (x : Session). x.watches) c.self.view_is) (c.as_slice-2.ensures.value ∙ ap (λ (x : Session). x.watches) c.self-2.view_is)

@@ -1,0 +1,129 @@
+//! The report of a schedule's run, written while it goes.
+
+ghost use Rattle.std.specs.Prelude.{◌≡◌, [], ◌++◌, IfErr, IfOk, OnErr, OnOk, string_bytes};
+ghost use Rattle.streams.specs.Streams.{WritesPart};
+ghost use Rattle.ot_model.specs.Runs.{opening_of};
+ghost use Rattle.ot_report.specs.Written.{Flushes, Gathers, GathersReads, GathersUpTo, ReadsUpTo, WritesReport, WritesReportUpTo};
+
+use crate::ending::print_end;
+use crate::running::{push_read, push_stop};
+use ot_isa::Schedule;
+use ot_machine::Machine;
+use ot_model::{Refusal, Shown};
+use std::alloc::{AllocError, Global};
+use std::io::Write;
+use streams::put;
+
+/// Lines are gathered until they have so many bytes, and then written in one go: 64 KiB.
+const GATHERED: usize = 1 << 16;
+
+/// Why a report is not all written.
+#[derive(Clone, Copy, Debug, PartialEq, Eq)]
+pub enum ReportFault {
+    /// No memory was found for the opening, for the line of a read, or for the end.
+    Memory,
+    /// A write failed, or took no byte.
+    WriteFault,
+}
+
+impl From<AllocError> for ReportFault {
+    ghost use Rattle.std.specs.Prelude.{◌≡◌};
+    ghost use Rattle.ot_report.specs.declared.writing.ReportFault.TheVariants.{Memory};
+
+    ghost from_gives = { λ _ e. e ≡ Memory };
+
+    fn from(_e: AllocError) -> ReportFault {
+        ReportFault::Memory
+    }
+}
+
+impl From<streams::WriteFault> for ReportFault {
+    ghost use Rattle.std.specs.Prelude.{◌≡◌};
+    ghost use Rattle.ot_report.specs.declared.writing.ReportFault.TheVariants.{WriteFault};
+
+    ghost from_gives = { λ _ e. e ≡ WriteFault };
+
+    fn from(_e: streams::WriteFault) -> ReportFault {
+        ReportFault::WriteFault
+    }
+}
+
+// Writes what is gathered, where that is enough.
+fn flush_full<W: Write>(text: &mut String, output: &mut W) -> Result<(), streams::WriteFault>
+    ensures ok { OnOk result (Flushes (string_bytes text.old) (string_bytes text.new) (W.contents output.old) (W.contents output.new)) }
+    ensures err { OnErr result (WritesPart (W.contents output.old) (W.contents output.new) (string_bytes text.old)) }
+{
+    if text.len() < GATHERED {
+        return Ok(());
+    }
+    put(output, text.as_bytes())?;
+    text.clear();
+    Ok(())
+}
+
+// Gathers the line of a read, where there is one.
+fn gather<W: Write>(
+    alloc: Global,
+    shown: Option<Shown>,
+    text: &mut String,
+    output: &mut W,
+) -> Result<(), ReportFault>
+    ensures ok { OnOk result (Gathers shown (string_bytes text.old) (string_bytes text.new) (W.contents output.old) (W.contents output.new)) }
+    ensures err { IfErr result (λ f. GathersUpTo f (string_bytes text.old) (W.contents output.old) (W.contents output.new)) }
+{
+    let Some(shown) = shown else { return Ok(()) };
+    flush_full(text, output)?;
+    push_read(alloc, text, &shown)?;
+    Ok(())
+}
+
+// Performs the instructions up to the first that is not performed, and gathers and writes the lines of the reads.
+fn write_reads<W: Write>(
+    alloc: Global,
+    machine: &mut Machine,
+    schedule: &Schedule,
+    text: &mut String,
+    output: &mut W,
+) -> Result<Option<(usize, Refusal)>, ReportFault>
+    requires opening { machine.old ≡ opening_of schedule.now }
+    requires empty { string_bytes text.old ≡ [] }
+    ensures ok { IfOk result (λ stopped. GathersReads schedule.now stopped machine.new (string_bytes text.new) (W.contents output.old) (W.contents output.new)) }
+    ensures err { IfErr result (λ f. ReadsUpTo f schedule.now (W.contents output.old) (W.contents output.new)) }
+{
+    for place in 0..schedule.len() {
+        let Some(instr) = schedule.get(place) else {
+            unreachable!()
+        };
+        match machine.step(instr) {
+            Ok(shown) => gather(alloc, shown, text, output)?,
+            Err(refusal) => return Ok(Some((place, refusal))),
+        }
+    }
+    Ok(None)
+}
+
+/// Runs the schedule and writes its report while it goes: the line of each read, the stop if an instruction was not performed (refused, or
+/// for want of memory), and the state where the run ended. What is written is what [`print_run`](crate::print_run) makes of the run. Says
+/// which instruction was not performed, and why.
+///
+/// After a failed write a first part of the report is written; for want of memory the lines of the first reads, and these are whole; lines
+/// that were gathered and not yet written are lost. Memory does not grow with the reads: their lines are gathered in one buffer, which is
+/// written once it has 64 KiB, and beside it there is room for the machine, for one list and its line, and for the lines of the end.
+pub fn write_report<W: Write>(
+    alloc: Global,
+    schedule: &Schedule,
+    output: &mut W,
+) -> Result<Option<(usize, Refusal)>, ReportFault>
+    ensures ok { IfOk result (λ stopped. WritesReport schedule.now stopped (W.contents output.old) (W.contents output.new)) }
+    ensures err { IfErr result (λ f. WritesReportUpTo f schedule.now (W.contents output.old) (W.contents output.new)) }
+{
+    let clients = schedule.clients();
+    let mut machine = Machine::with_present(alloc, clients, schedule.present(), schedule.start())?;
+    let mut text = String::new(alloc);
+    let stopped = write_reads(alloc, &mut machine, schedule, &mut text, output)?;
+    push_stop(alloc, &mut text, stopped)?;
+    let end = print_end(alloc, &machine)?;
+    put(output, text.as_bytes())?;
+    put(output, end.as_bytes())?;
+    Ok(stopped)
+}
