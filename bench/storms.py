@@ -193,6 +193,17 @@ def one_place(s, c, at, gone, ins):
     s.edit(c, [at, ins, -gone, n - at - gone])
 
 
+def take_or_receive(s, r, c, takes, most):
+    """The server takes the client's message, if there is one; or the client receives up to so many."""
+    if takes:
+        if s.msg[c]:
+            s.take(c)
+        return
+    for _ in range(r.randint(1, most)):
+        if s.backlog(c):
+            s.down(c)
+
+
 def bench_a(r):
     s = Sim(1, '')
     cur = 0
@@ -254,13 +265,8 @@ def bench_c(r):
             else:
                 one_place(s, c, at, r.choice([0, 0, 1]),
                           ''.join(r.choice(LETTERS) for _ in range(r.randint(1, 3))))
-        elif k < .55:
-            if s.msg[c]:
-                s.take(c)
         else:
-            for _ in range(r.randint(1, 4)):
-                if s.backlog(c):
-                    s.down(c)
+            take_or_receive(s, r, c, k < .55, 4)
     return s
 
 
@@ -317,13 +323,8 @@ def bench_e(r):
             at = r.randint(0, s.len[c] - 4)
             one_place(s, c, at, r.choice([0, 0, 0, 1, 3]),
                       ''.join(r.choice(LETTERS) for _ in range(r.randint(1, 4))))
-        elif k < .12:
-            if s.msg[c]:
-                s.take(c)
         else:
-            for _ in range(r.randint(1, 9)):
-                if s.backlog(c):
-                    s.down(c)
+            take_or_receive(s, r, c, k < .12, 9)
     return s
 
 
