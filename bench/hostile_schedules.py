@@ -57,12 +57,24 @@ def pending(parts=7000, deliveries=33000):
     return [*lines, *["deliver 0"] * min(deliveries, room), "%%", "run", "back 1"]
 
 
+def both_ends(parts=7000, entries=14900):
+    """The same client without the debugger, where each of 14,900 operations changes the document near both ends."""
+    length = 30000
+    whole = ",".join('1,"b"' for _ in range(parts))
+    again = ",".join('2,"c"' for _ in range(parts))
+    lines = [*opening(2, length), f"edit 0 [{whole},{length - parts}]", f"edit 0 [{again},{length - parts}]"]
+    for k in range(entries):
+        changes = [7, '"x"', length - 14, '"y"', 7] if k % 2 == 0 else [7, -1, length - 14, -1, 7]
+        lines += ["edit 1 [" + ",".join(str(it) for it in changes) + "]", "take 1", "ack 1"]
+    return [*lines, *["deliver 0"] * entries]
+
+
 def idle_watch(edits=20000, length=40000):
     """A watch on the list of a client that does nothing while another one types."""
     return [*opening(2, length), *typed(1, edits, length), "%%", "watch doc 0", "run"]
 
 
-SHAPES = {"long-message": long_message, "buffers": buffers, "pending": pending, "idle-watch": idle_watch}
+SHAPES = {"long-message": long_message, "buffers": buffers, "pending": pending, "both-ends": both_ends, "idle-watch": idle_watch}
 
 
 def write(lines, path):

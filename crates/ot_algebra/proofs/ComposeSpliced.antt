@@ -24,7 +24,7 @@ target_of-append (Skip n ∷ rs) ss = target_of-append rs ss
 
 -- the same items, so many places further
 
-later : {A : Type 0} → ℕ → Item A → Item A
+pub later : {A : Type 0} → ℕ → Item A → Item A
 later places (Old i) = Old (places + i)
 later places (New x) = New x
 
@@ -40,7 +40,7 @@ unfolding later
 news-later places [] = refl
 news-later {A} places (x ∷ text) = ap (λ (rest : List (Item A)). New x ∷ rest) (news-later places text)
 
-image-later : {A : Type 0} (places from : ℕ) (rs : List (Run A)) → map (later places) (image_from from rs) ≡ image_from (places + from) rs
+pub image-later : {A : Type 0} (places from : ℕ) (rs : List (Run A)) → map (later places) (image_from from rs) ≡ image_from (places + from) rs
 image-later places from [] = refl
 image-later places from (Keep n ∷ rs) =
     let next : places + (from + n) ≡ places + from + n = omega arith in
@@ -162,7 +162,7 @@ keeps_first (suc count) (Add text ∷ ys) normal within = absurd (omega (arith, 
 keeps_first (suc count) (Skip n ∷ ys) normal within = absurd (omega (arith, within))
 keeps_first (suc count) (Keep n ∷ ys) normal within = rw (ne_eqb (suc count) 0 (omega arith)) (some_first (suc count) n ys normal within)
 
-end_left : {A : Type 0} (count : ℕ) (ys : List (Run A)) → count ≤ first_keep ys → end_keep ys ≤ last_keep (after_kept count ys)
+pub end_left : {A : Type 0} (count : ℕ) (ys : List (Run A)) → count ≤ first_keep ys → end_keep ys ≤ last_keep (after_kept count ys)
 end_left zero [] within = omega arith
 end_left zero (y ∷ []) within = omega arith
 end_left zero (y ∷ z ∷ ys) within = omega arith
@@ -176,7 +176,7 @@ end_left {A} (suc count) (Keep n ∷ z ∷ ys) within = rw (ne_eqb (suc count) 0
     by zero e = rw (skipped_retain-whole (suc count) n (z ∷ ys) e) (omega arith)
     by (suc m) e = rw (skipped_retain-part (suc count) n m (z ∷ ys) e) (omega arith)
 
-front_image : {A : Type 0} (front rest : List (Run A)) → image_from 0 (front ++ rest) ≡ image_from 0 front ++ image_from (base_of front) rest
+pub front_image : {A : Type 0} (front rest : List (Run A)) → image_from 0 (front ++ rest) ≡ image_from 0 front ++ image_from (base_of front) rest
 front_image front rest =
     image_from-append 0 front rest ∙ ap (λ k. image_from 0 front ++ image_from k rest) (let here : 0 + base_of front ≡ base_of front = omega arith in here)
 

@@ -18,4 +18,8 @@ pub mod PartLeft
 pub mod ComposeProgress
 pub mod ComposeSpliced
 pub mod Walked
+pub mod Places
+pub mod KeptRuns
+pub mod OverlapArms
+pub mod OverlapPart
 pub mod Examples

@@ -55,7 +55,7 @@ pub record Walked {T : Type 0} (cs : List (Component T)) (from place at before :
   pub order : from ≤ at
   pub short : before ≤ place
 
-drop_past : {X : Type 0} (xs : List X) (k : ℕ) → length xs ≤ k → drop k xs ≡ []
+pub drop_past : {X : Type 0} (xs : List X) (k : ℕ) → length xs ≤ k → drop k xs ≡ []
 drop_past [] zero past = refl
 drop_past [] (suc k) past = refl
 drop_past (x ∷ xs) zero past = absurd (omega (arith, past))

@@ -1,14 +1,16 @@
 //! Two operations, one after the other, as one.
 
-ghost use Rattle.std.specs.Prelude.{◌≡◌, ◌+◌, ◌≤◌, IfOk, OnOk, OnErr, Bool, length, drop, slice_range};
+ghost use Rattle.std.specs.Prelude.{◌≡◌, ◌+◌, ◌≤◌, IfOk, IfSome, OnOk, OnErr, Bool, length, drop, slice_range};
 ghost use Rattle.ot_text.specs.Operation.{IsTooLong};
 ghost use Rattle.ot_text.specs.Components.{runs};
 ghost use Rattle.ot_text.specs.Run.{base_of, image_from, operation_of, IsNormal};
 ghost use Rattle.ot_algebra.specs.Compose.{compose as composition};
 ghost use Rattle.ot_algebra.specs.Cursor.{after_kept, composed_part, end_keep, first_keep, made_of, runs_left, target_of, Covers};
+ghost use Rattle.ot_algebra.specs.Splice.{Makes};
 ghost use Rattle.ot_text.specs.declared.TheConstants.{LIMIT};
 
 use crate::cursor::{self, Cursor, Front};
+use crate::splice::Splice;
 use crate::touched::{Spot, end_touched, first_touched};
 use crate::transformation::SPLIT;
 use ot_text::{Component, Element, TextOp, only_memory};
@@ -82,20 +84,38 @@ pub fn compose_into<T: Element>(a: &mut TextOp<T>, b: &TextOp<T>) -> Result<(), 
     ensures ok { OnOk result (a.new ≡ composition a.old b.now) }
     ensures err { OnErr result (a.new ≡ a.old) }
 {
-    let alloc = a.allocator();
+    if let Some(change) = composed_splice(a, b)? {
+        return a.replace(change.start, change.end, change.part);
+    }
+    *a = compose(a.allocator(), a, b)?;
+    Ok(())
+}
+
+/// What makes the composition of `a` and `b` where `a` lies: the components of `a` that `b` touches, composed with it. None where it touches
+/// half of them or more.
+pub(crate) fn composed_splice<T: Element>(
+    a: &TextOp<T>,
+    b: &TextOp<T>,
+) -> Result<Option<Splice<T>>, AllocError>
+    requires { length a.now.image ≡ b.now.base }
+    ensures { IfOk result (λ found. IfSome found (λ change. Makes a.now change (composition a.now b.now))) }
+{
     let ours = a.components();
     let others = b.components();
     let first = first_touched(ours, others);
     let end = end_touched(ours, others, first, b.base_len());
-    // Where half of it is touched or more, all of it is made anew.
-    if end - first.at < ours.len() / 2 {
-        let part = compose_part(alloc, ours, others, first, end)?;
-        if a.may_replace(first.at, end, &part) {
-            return a.replace(first.at, end, part);
-        }
+    if end - first.at >= ours.len() / 2 {
+        return Ok(None);
     }
-    *a = compose(alloc, a, b)?;
-    Ok(())
+    let part = compose_part(a.allocator(), ours, others, first, end)?;
+    if a.may_replace(first.at, end, &part) {
+        return Ok(Some(Splice {
+            start: first.at,
+            end,
+            part,
+        }));
+    }
+    Ok(None)
 }
 
 // The components `from` up to `end` of the first, which make what the second changes, composed with it.
@@ -120,19 +140,7 @@ fn compose_part<T: Element>(
 {
     let room = (end - from.at).saturating_add(SPLIT);
     let part = cursor::start(&ours[from.at..end]);
-    compose_left(alloc, room, part, past_kept(others, from.before))
-}
-
-// The cursor past so many elements, which the first component keeps.
-fn past_kept<T: Copy>(components: &[Component<T>], count: usize) -> Cursor<'_, T>
-    requires { count ≤ first_keep (runs components.now) }
-    ensures { runs_left result ≡ after_kept count (runs components.now) }
-{
-    let all = cursor::start(components);
-    if count == 0 {
-        return all;
-    }
-    cursor::skip(all, count)
+    compose_left(alloc, room, part, cursor::past_kept(others, from.before))
 }
 
 // Adds `count` elements of what the first operation makes, which the second keeps or deletes.

@@ -22,21 +22,28 @@
 //! ```
 //!
 //! Each turn of a loop ends a component of `a` or `b`, so the cost is that of the components of both and of the text
-//! that is inserted: nothing is paid for each character that is kept or deleted. Where `b` changes one place of a long `a`, `compose_into`
-//! goes over the components at that place alone, and puts what comes of them in their place.
+//! that is inserted: nothing is paid for each character that is kept or deleted.
+//!
+//! Where `b` changes one place of an `a` of many components, only the components of `a` at that place are made anew, and take their place
+//! (`splice::Splice`): `compose_into` and `prepare_compose` do so, which measure places by what components make (`touched`), and
+//! `transform_first` and `prepare_transform`, which measure them by what components take (`overlap`).
 //!
 //! Contracts: `specs/Compose.antt` has `compose`, `specs/Merge.antt` has `merge`, `first_after` and `second_after`, and
 //! `specs/Laws.antt` the laws, each of which is the contract of a function in [`laws`]. `specs/Cursor.antt` serves the
-//! loops alone. To read: `composition::compose`, then `transformation::transform`, then `laws`.
+//! loops alone, `specs/Overlap.antt` and `specs/Splice.antt` what is made anew in its place. To read: `composition::compose`, then `transformation::transform`, then `laws`.
 #![tactic(auto)]
 
 mod composition;
 mod cursor;
 pub mod laws;
 mod one_sided;
+mod overlap;
+mod prepared;
+mod splice;
 mod touched;
 mod transformation;
 
 pub use composition::{compose, compose_into};
-pub use one_sided::transform_first;
+pub use one_sided::{transform_first, transform_second};
+pub use prepared::{prepare_compose, prepare_transform};
 pub use transformation::transform;

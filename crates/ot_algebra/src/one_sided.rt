@@ -1,21 +1,37 @@
-//! One operation after another, where what the other becomes is not wanted.
+//! One operation after another, where what becomes of one of the two is not wanted.
 
 ghost use Rattle.std.specs.Prelude.{◌≡◌, ◌+◌, ◌≤◌, length, IfOk};
 ghost use Rattle.ot_text.specs.Operation.{news};
-ghost use Rattle.ot_algebra.specs.Merge.{first_after};
+ghost use Rattle.ot_algebra.specs.Merge.{first_after, second_after};
 ghost use Rattle.ot_text.specs.declared.TheConstants.{LIMIT};
 
 use crate::cursor::{self, Front};
-use crate::transformation::{SPLIT, add_part};
+use crate::transformation::{SPLIT, add_part, transform, transformed_splice};
 use ot_text::{Component, Element, TextOp, only_memory};
 use std::alloc::AllocError;
 
 /// What `a` becomes after `b`: the first result of `transform`, under its conditions, for an `a` that is no longer wanted, as a
 /// server needs it that carries an operation over its log. The texts of `a` move; no text is copied but one that is joined with
-/// another, and each component of both costs a step.
+/// another, and each component of both costs a step. Where `b` touches few of many components of `a`, these alone are made anew, their
+/// texts are copied, and the others stay where they are: it costs these, a look at those before them, and a move of those behind where
+/// their number changes.
 ///
 /// `Err` comes only where memory was refused, and `a` is gone then; `b` is only read.
 pub fn transform_first<T: Element>(a: TextOp<T>, b: &TextOp<T>) -> Result<TextOp<T>, AllocError>
+    requires same_base { a.base ≡ b.now.base }
+    requires fits { a.base + length (news a.image) + length (news b.now.image) ≤ LIMIT }
+    ensures { IfOk result (λ op. op ≡ first_after a b.now) }
+{
+    if let Some((change, _)) = transformed_splice(&a, b)? {
+        let mut carried = a;
+        carried.replace(change.start, change.end, change.part)?;
+        return Ok(carried);
+    }
+    carry(a, b)
+}
+
+// The first result of `transform`, where all components are gone over.
+fn carry<T: Element>(a: TextOp<T>, b: &TextOp<T>) -> Result<TextOp<T>, AllocError>
     requires same_base { a.base ≡ b.now.base }
     requires fits { a.base + length (news a.image) + length (news b.now.image) ≤ LIMIT }
     ensures { IfOk result (λ op. op ≡ first_after a b.now) }
@@ -58,4 +74,20 @@ pub fn transform_first<T: Element>(a: TextOp<T>, b: &TextOp<T>) -> Result<TextOp
         at_b = cursor::skip(at_b, count);
         ahead -= count;
     }
+}
+
+/// What `b` becomes after `a`: the second result of `transform`, under its conditions. Where `b` touches few of many components of `a`, it
+/// costs these, a look at those before them, and `b`.
+///
+/// `Err` comes only where memory was refused; `a` and `b` are only read.
+pub fn transform_second<T: Element>(a: &TextOp<T>, b: &TextOp<T>) -> Result<TextOp<T>, AllocError>
+    requires same_base { a.now.base ≡ b.now.base }
+    requires fits { a.now.base + length (news a.now.image) + length (news b.now.image) ≤ LIMIT }
+    ensures { IfOk result (λ op. op ≡ second_after a.now b.now) }
+{
+    if let Some((_, second)) = transformed_splice(a, b)? {
+        return Ok(second);
+    }
+    let (_, second) = transform(a.allocator(), a, b)?;
+    Ok(second)
 }

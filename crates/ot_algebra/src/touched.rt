@@ -35,8 +35,8 @@ fn kept_by<T>(component: &Component<T>) -> usize
     }
 }
 
-// How many elements the first component keeps.
-fn kept_first<T>(components: &[Component<T>]) -> usize
+/// How many elements the first component keeps.
+pub(crate) fn kept_first<T>(components: &[Component<T>]) -> usize
     ensures { result ≡ first_keep (runs components.now) }
 {
     let count = components.len();
@@ -46,8 +46,8 @@ fn kept_first<T>(components: &[Component<T>]) -> usize
     kept_by(&components[0])
 }
 
-// How many elements the last component keeps, where it is not the first too.
-fn kept_last<T>(components: &[Component<T>]) -> usize
+/// How many elements the last component keeps, where it is not the first too.
+pub(crate) fn kept_last<T>(components: &[Component<T>]) -> usize
     ensures { result ≡ end_keep (runs components.now) }
 {
     let count = components.len();

@@ -36,8 +36,8 @@ fn perform(machine: &mut Machine, instr: &Instr) -> Result<bool, TraceStop>
     ensures stuck { result ≡ Ok false → IsStuck (step machine.old instr.now) }
     ensures memory { IfErr result (λ e. e ≡ TraceStop.Memory) }
 {
-    match machine.step(instr) {
-        Ok(_shown) => Ok(true),
+    match machine.perform(instr) {
+        Ok(_who) => Ok(true),
         Err(Refusal::Memory) => Err(TraceStop::Memory),
         Err(_) => Ok(false),
     }

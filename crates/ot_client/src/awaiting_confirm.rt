@@ -1,13 +1,14 @@
 //! A client of which one operation is under way.
 
-ghost use Rattle.std.specs.Prelude.{◌≡◌, ◌+◌, ◌<◌, ◌≤◌, length, IfOk};
+ghost use Rattle.std.specs.Prelude.{◌≡◌, ◌+◌, ◌<◌, ◌≤◌, length, IfErr, IfOk, None};
 ghost use Rattle.ot_text.specs.Operation.{news};
 ghost use Rattle.ot_client.specs.State.{buffering, carried, confirming, delivered, edited};
 ghost use Rattle.ot_text.specs.declared.TheConstants.{LIMIT};
 ghost use Rattle.ot_client.specs.declared.TheConstants.{REVISION_LIMIT};
 
+use crate::prepared::{PreparedStep, Waiting};
 use crate::{AwaitingWithBuffer, Synchronized};
-use ot_algebra::transform;
+use ot_algebra::{prepare_transform, transform, transform_second};
 use ot_text::{Element, TextOp};
 use std::alloc::AllocError;
 use std::marker::Model;
@@ -89,11 +90,65 @@ impl<T: Element> AwaitingConfirm<T> {
         Ok((next, applied))
     }
 
+    /// What the document is to be changed by at that entry, the second of what `deliver` gives, under its conditions but for the revision. Costs
+    /// what the entry touches and a look at the outstanding operation. `Err` comes where memory was refused.
+    pub fn carry(&self, op: &TextOp<T>) -> Result<TextOp<T>, AllocError>
+        requires base { op.now.base ≡ self.now.outstanding.base }
+        requires fits { op.now.base + length (news self.now.outstanding.image) + length (news op.now.image) ≤ LIMIT }
+        ensures { IfOk result (λ applied. applied ≡ carried (confirming self.now).phase op.now) }
+    {
+        transform_second(&self.outstanding, op)
+    }
+
     /// Takes the confirmation of the operation that was sent: nothing is under way. The revision, below 1,000,000, rises by 1. It takes no memory.
     pub fn acknowledge(self) -> Synchronized
         requires { self.revision < REVISION_LIMIT }
         ensures { result ≡ self.revision + 1 }
     {
         Synchronized::new(self.revision + 1)
+    }
+
+    // The step of `edit`, over an edit that is only read. For want of memory the client comes back.
+    pub(crate) fn prepare_edit(self, op: &TextOp<T>) -> Result<PreparedStep<T>, AwaitingConfirm<T>>
+        requires { op.now.base ≡ length self.outstanding.image }
+        ensures step { IfOk result (λ step. step ≡ record { before = confirming self; after = edited (confirming self) op.now; sent = None }) }
+        ensures back { IfErr result (λ client. client ≡ self) }
+    {
+        let Ok(copy) = op.copy() else {
+            return Err(self);
+        };
+        Ok(PreparedStep {
+            from: self.revision,
+            to: self.revision,
+            waiting: Waiting::Second(self.outstanding, copy),
+            sent: None,
+        })
+    }
+
+    // The step of `deliver`, with what the document is to be changed by. For want of memory the client comes back.
+    pub(crate) fn prepare_deliver(
+        self,
+        op: &TextOp<T>,
+    ) -> Result<(PreparedStep<T>, TextOp<T>), AwaitingConfirm<T>>
+        requires revision { self.revision < REVISION_LIMIT }
+        requires base { op.now.base ≡ self.outstanding.base }
+        requires fits { op.now.base + length (news self.outstanding.image) + length (news op.now.image) ≤ LIMIT }
+        ensures step { IfOk result (λ given. given.0 ≡ record { before = confirming self; after = delivered (confirming self) op.now; sent = None }) }
+        ensures applied { IfOk result (λ given. given.1 ≡ carried (confirming self).phase op.now) }
+        ensures back { IfErr result (λ client. client ≡ self) }
+    {
+        let revision = self.revision;
+        match prepare_transform(self.outstanding, op) {
+            Ok((outstanding, applied)) => {
+                let step = PreparedStep {
+                    from: revision,
+                    to: revision + 1,
+                    waiting: Waiting::Outstanding(outstanding),
+                    sent: None,
+                };
+                Ok((step, applied))
+            }
+            Err(outstanding) => Err(AwaitingConfirm::new(revision, outstanding)),
+        }
     }
 }

@@ -1,14 +1,15 @@
 //! A client of which one operation is under way, with later edits.
 
-ghost use Rattle.std.specs.Prelude.{◌≡◌, ◌+◌, ◌<◌, ◌≤◌, length, IfOk, IfErr};
+ghost use Rattle.std.specs.Prelude.{◌≡◌, ◌+◌, ◌<◌, ◌≤◌, length, IfOk, IfErr, None};
 ghost use Rattle.ot_text.specs.Operation.{news};
 ghost use Rattle.ot_client.specs.Client.{message_of};
 ghost use Rattle.ot_client.specs.State.{buffering, carried, confirming, delivered, edited, IsJoined};
 ghost use Rattle.ot_text.specs.declared.TheConstants.{LIMIT};
 ghost use Rattle.ot_client.specs.declared.TheConstants.{REVISION_LIMIT};
 
+use crate::prepared::{PreparedStep, Waiting};
 use crate::{AwaitingConfirm, Sent};
-use ot_algebra::{compose_into, transform};
+use ot_algebra::{compose_into, prepare_compose, prepare_transform, transform, transform_second};
 use ot_text::{Element, TextOp};
 use std::alloc::AllocError;
 use std::marker::Model;
@@ -134,6 +135,20 @@ impl<T: Element> AwaitingWithBuffer<T> {
         Ok((next, applied))
     }
 
+    /// What the document is to be changed by at that entry, the second of what `deliver` gives, under its conditions but for the revision. Costs
+    /// what the entry touches and a look at both operations. `Err` comes where memory was refused.
+    pub fn carry(&self, op: &TextOp<T>) -> Result<TextOp<T>, AllocError>
+        requires base { op.now.base ≡ self.now.outstanding.base }
+        requires fits { op.now.base + length (news self.now.outstanding.image) + length (news self.now.buffer.image) + length (news op.now.image) ≤ LIMIT }
+        ensures { IfOk result (λ applied. applied ≡ carried (buffering self.now).phase op.now) }
+    {
+        // For the proof: what every operation keeps.
+        let _operation = self.outstanding.base_len();
+        let _operation = op.base_len();
+        let passed = transform_second(&self.outstanding, op)?;
+        transform_second(&self.buffer, &passed)
+    }
+
     /// Takes the confirmation of the operation that was sent: the revision, below 1,000,000, rises by 1, and the buffer is sent with the risen
     /// revision and outstanding from now on. For want of memory the client comes back.
     pub fn acknowledge(self) -> Result<(AwaitingConfirm<T>, Sent<T>), AwaitingWithBuffer<T>>
@@ -148,5 +163,64 @@ impl<T: Element> AwaitingWithBuffer<T> {
         let revision = self.revision + 1;
         let sent = Sent { revision, op: copy };
         Ok((AwaitingConfirm::new(revision, self.buffer), sent))
+    }
+
+    // The step of `edit`, over an edit that is only read. For want of memory the client comes back.
+    pub(crate) fn prepare_edit(
+        self,
+        op: &TextOp<T>,
+    ) -> Result<PreparedStep<T>, AwaitingWithBuffer<T>>
+        requires { op.now.base ≡ length self.buffer.image }
+        ensures step { IfOk result (λ step. step ≡ record { before = buffering self; after = edited (buffering self) op.now; sent = None }) }
+        ensures back { IfErr result (λ client. client ≡ self) }
+    {
+        let revision = self.revision;
+        let outstanding = self.outstanding;
+        match prepare_compose(self.buffer, op) {
+            Ok(buffer) => Ok(PreparedStep {
+                from: revision,
+                to: revision,
+                waiting: Waiting::Buffer(outstanding, buffer),
+                sent: None,
+            }),
+            Err(buffer) => Err(AwaitingWithBuffer::new(revision, outstanding, buffer)),
+        }
+    }
+
+    // The step of `deliver`, with what the document is to be changed by. For want of memory the client comes back.
+    pub(crate) fn prepare_deliver(
+        self,
+        op: &TextOp<T>,
+    ) -> Result<(PreparedStep<T>, TextOp<T>), AwaitingWithBuffer<T>>
+        requires revision { self.revision < REVISION_LIMIT }
+        requires base { op.now.base ≡ self.outstanding.base }
+        requires fits { op.now.base + length (news self.outstanding.image) + length (news self.buffer.image) + length (news op.now.image) ≤ LIMIT }
+        ensures step { IfOk result (λ given. given.0 ≡ record { before = buffering self; after = delivered (buffering self) op.now; sent = None }) }
+        ensures applied { IfOk result (λ given. given.1 ≡ carried (buffering self).phase op.now) }
+        ensures back { IfErr result (λ client. client ≡ self) }
+    {
+        // For the proof: what every operation keeps.
+        let _operation = self.outstanding.base_len();
+        let _operation = op.base_len();
+        let revision = self.revision;
+        let buffer = self.buffer;
+        let (outstanding, passed) = match prepare_transform(self.outstanding, op) {
+            Ok(given) => given,
+            Err(outstanding) => {
+                return Err(AwaitingWithBuffer::new(revision, outstanding, buffer));
+            }
+        };
+        match prepare_transform(buffer, &passed) {
+            Ok((buffer, applied)) => {
+                let step = PreparedStep {
+                    from: revision,
+                    to: revision + 1,
+                    waiting: Waiting::Both(outstanding, buffer),
+                    sent: None,
+                };
+                Ok((step, applied))
+            }
+            Err(buffer) => Err(AwaitingWithBuffer::new(revision, outstanding.roll_back(), buffer)),
+        }
     }
 }

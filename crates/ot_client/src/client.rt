@@ -1,12 +1,12 @@
 //! A client in any of the three states.
 
-ghost use Rattle.std.specs.Prelude.{◌≡◌, ◌<◌, IfOk};
+ghost use Rattle.std.specs.Prelude.{◌≡◌, ◌<◌, IfErr, IfOk, None};
 ghost use Rattle.std.specs.Option.{unwrap_or};
 ghost use Rattle.ot_client.specs.Client.{state_of};
-ghost use Rattle.ot_client.specs.State.{carried, delivered, MayDeliver};
+ghost use Rattle.ot_client.specs.State.{carried, delivered, edited, message_edited, MayDeliver, MayEdit};
 ghost use Rattle.ot_client.specs.declared.TheConstants.{REVISION_LIMIT};
 
-use crate::{AwaitingConfirm, AwaitingWithBuffer, Synchronized};
+use crate::{AwaitingConfirm, AwaitingWithBuffer, PreparedStep, Synchronized};
 use ot_text::{Element, TextOp};
 use std::alloc::AllocError;
 
@@ -52,6 +52,69 @@ impl<T: Element> Client<T> {
                 let (client, applied) = client.deliver(op)?;
                 Ok((Client::AwaitingWithBuffer(client), Some(applied)))
             }
+        }
+    }
+
+    /// Prepares the client to take the user's edit, which is in the user's document already; the edit is only read. Of what waits only the buffer
+    /// changes, at the components that the edit touches; beyond that it costs a copy of the edit where that waits from now on, and a second one
+    /// where it is sent. For want of memory the client comes back.
+    pub fn prepare_edit(self, op: &TextOp<T>) -> Result<PreparedStep<T>, Client<T>>
+        requires { MayEdit (state_of self).phase op.now }
+        ensures step { IfOk result (λ step. step ≡ record { before = state_of self; after = edited (state_of self) op.now; sent = message_edited (state_of self).revision (state_of self).phase op.now }) }
+        ensures back { IfErr result (λ client. client ≡ self) }
+    {
+        match self {
+            Client::Synchronized(client) => match client.prepare_edit(op) {
+                Ok(step) => Ok(step),
+                Err(client) => Err(Client::Synchronized(client)),
+            },
+            Client::AwaitingConfirm(client) => match client.prepare_edit(op) {
+                Ok(step) => Ok(step),
+                Err(client) => Err(Client::AwaitingConfirm(client)),
+            },
+            Client::AwaitingWithBuffer(client) => match client.prepare_edit(op) {
+                Ok(step) => Ok(step),
+                Err(client) => Err(Client::AwaitingWithBuffer(client)),
+            },
+        }
+    }
+
+    /// Prepares the client to take the next entry of the server's log, an operation of another client, under the conditions of `deliver`, with what
+    /// the document is to be changed by; `None` there where that is the operation as it came, as for a synchronized client. The operation is only
+    /// read, and what waits changes at the components that it touches. For want of memory the client comes back.
+    pub fn prepare_deliver(
+        self,
+        op: &TextOp<T>,
+    ) -> Result<(PreparedStep<T>, Option<TextOp<T>>), Client<T>>
+        requires revision { (state_of self).revision < REVISION_LIMIT }
+        requires operations { MayDeliver (state_of self).phase op.now }
+        ensures step { IfOk result (λ given. given.0 ≡ record { before = state_of self; after = delivered (state_of self) op.now; sent = None }) }
+        ensures applied { IfOk result (λ given. unwrap_or given.1 op.now ≡ carried (state_of self).phase op.now) }
+        ensures back { IfErr result (λ client. client ≡ self) }
+    {
+        match self {
+            Client::Synchronized(client) => Ok((client.prepare_deliver(op), None)),
+            Client::AwaitingConfirm(client) => match client.prepare_deliver(op) {
+                Ok((step, applied)) => Ok((step, Some(applied))),
+                Err(client) => Err(Client::AwaitingConfirm(client)),
+            },
+            Client::AwaitingWithBuffer(client) => match client.prepare_deliver(op) {
+                Ok((step, applied)) => Ok((step, Some(applied))),
+                Err(client) => Err(Client::AwaitingWithBuffer(client)),
+            },
+        }
+    }
+
+    /// What the document is to be changed by at the next entry of the server's log, an operation of another client, as `deliver` gives it, and no
+    /// client after it; `None` where that is the operation as it came. `Err` comes where memory was refused.
+    pub fn carry(&self, op: &TextOp<T>) -> Result<Option<TextOp<T>>, AllocError>
+        requires { MayDeliver (state_of self.now).phase op.now }
+        ensures { IfOk result (λ applied. unwrap_or applied op.now ≡ carried (state_of self.now).phase op.now) }
+    {
+        match self {
+            Client::Synchronized(_) => Ok(None),
+            Client::AwaitingConfirm(client) => Ok(Some(client.carry(op)?)),
+            Client::AwaitingWithBuffer(client) => Ok(Some(client.carry(op)?)),
         }
     }
 

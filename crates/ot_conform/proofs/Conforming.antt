@@ -129,7 +129,7 @@ agrees_with_itself key.End line = optional key.End (λ q. Name (end_text q)) lin
 -- ---- a line that shows less than the run has
 
 -- a line of values that another has, and both stop or none does
-record Shows (shown line : Line) : Type 0 where
+pub record Shows (shown line : Line) : Type 0 where
   pub values : (k : Key) → (value_at k shown ≡ None) ⊎ (value_at k shown ≡ value_at k line)
   pub stopped : shown.stopped ≡ line.stopped
 
@@ -151,7 +151,7 @@ same_stop : (b : Bool) → is_same b b ≡ true
 same_stop true = refl
 same_stop false = refl
 
-line_agrees : (line shown : Line) (d : Data) → Shows shown line → Says shown d → field_of line (Told d) ≡ None
+pub line_agrees : (line shown : Line) (d : Data) → Shows shown line → Says shown d → field_of line (Told d) ≡ None
 line_agrees line shown d shows says =
     let stop : is_told (get (codes "stopped") d) ≡ is_some line.stopped = ap is_told says.stopped ∙ stop_agrees shown.stopped ∙ ap is_some shows.stopped in
     let keys : first_key all_keys line d ≡ None = all_agree all_keys line d (key_agrees line shown d shows says) in
@@ -228,7 +228,7 @@ less_shown moved document applied line = record { values = at; stopped = refl }
     at key.Document = unless Text document line.document
     at key.End = inr refl
 
-step_shown : (documents : Bool) (at : ℕ) (i : Instr) (s t : State) → Shows (step_line documents at i s t) (whole at i s t)
+pub step_shown : (documents : Bool) (at : ℕ) (i : Instr) (s t : State) → Shows (step_line documents at i s t) (whole at i s t)
 step_shown documents at i s t =
     subst (λ (shown : Line). Shows shown (whole at i s t)) (sym (step_is_less documents at i s t))
     (less_shown (moves i) (has_document i || documents) (tells_applied i) (whole at i s t))

@@ -274,7 +274,7 @@ applies_form (Join c) s sound_s scalars_s = tt
 applies_form (Read c) s sound_s scalars_s = tt
 applies_form ReadServer s sound_s scalars_s = tt
 
-step_formed : (documents : Bool) (clients at : ℕ) (i : Instr) (s t : State) → clients ≤ 64 → at < 2 ^ 64 → InstrForm clients i → IsSound s → StateScalars s → IsSound t → StateScalars t → IsLineFormed (step_line documents at i s t)
+pub step_formed : (documents : Bool) (clients at : ℕ) (i : Instr) (s t : State) → clients ≤ 64 → at < 2 ^ 64 → InstrForm clients i → IsSound s → StateScalars s → IsSound t → StateScalars t → IsLineFormed (step_line documents at i s t)
 step_formed documents clients at i s t few small h sound_s scalars_s sound_t scalars_t =
     line_formed (step_line documents at i s t)
     (rest_form t sound_t scalars_t documents i (sends i s) (applies i s) (placed i t (named at i)) (applies_form i s sound_s scalars_s)
@@ -287,7 +287,7 @@ pub record InstrsForm (clients : ℕ) (is : List Instr) : Type 0 where
   pub are : All (isa.IsInstr clients) is
   pub scalars : All isa.HasScalars is
 
-first_form : (clients : ℕ) (i : Instr) (is : List Instr) → InstrsForm clients (i ∷ is) → InstrForm clients i
+pub first_form : (clients : ℕ) (i : Instr) (is : List Instr) → InstrsForm clients (i ∷ is) → InstrForm clients i
 first_form clients i is h = record { is = All-head (isa.IsInstr clients) i is h.are; scalars = All-head isa.HasScalars i is h.scalars }
 
 lines_formed : (documents : Bool) (clients : ℕ) (is : List Instr) (at : ℕ) (s : State) → clients ≤ 64 → at + length is < 2 ^ 64 → InstrsForm clients is → IsSound s → StateScalars s → AllByRecursion IsLineFormed (lines_from documents at s is)
@@ -363,7 +363,7 @@ end_line_formed at quiet small =
       document = tt;
     })
 
-instr_at : (clients : ℕ) (is : List Instr) (place : ℕ) (i : Instr) → InstrsForm clients is → slice_get is place ≡ Some i → InstrForm clients i
+pub instr_at : (clients : ℕ) (is : List Instr) (place : ℕ) (i : Instr) → InstrsForm clients is → slice_get is place ≡ Some i → InstrForm clients i
 instr_at clients is place i h e =
     let within = slice_get_within is place i e in
     let same = get_or_from_slice_get is place i i e in

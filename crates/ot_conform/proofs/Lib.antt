@@ -14,4 +14,6 @@ pub mod LineMembers
 pub mod LineSays
 pub mod PrintedLines
 pub mod Printed
+pub mod DueLines
+pub mod Alike
 mod Examples

@@ -1,8 +1,9 @@
 -- The printed lines as a port's: each stands on a line of its own, with nothing to drop, and is told.
-use Rattle.std.proofs.Common.{◌≡◌, ◌<◌, ◌^◌, ◌==◌, ◌&&◌, not, ℕ, List, [], ◌∷◌, ◌++◌, true, nat_lt, Some, decimal, refl, ap, ◌∙◌, arith, append_assoc}
+use Rattle.std.proofs.Common.{◌≡◌, ◌<◌, ◌^◌, ◌==◌, ◌&&◌, not, ℕ, List, [], ◌∷◌, ◌++◌, true, nat_lt, Some, decimal, refl, sym, ap, ◌∙◌, arith, append_assoc}
 use Rattle.std.specs.Prelude.{codes}
 use Rattle.std.specs.Str.{IsUtf8, encode_utf8_all, is_utf8}
 use Rattle.std.proofs.lemmas.Bool.{and_parts, and_from, ltb-true, lt-ltb}
+use Rattle.std.proofs.lemmas.List.{append-nil, append_cancel_right}
 use Rattle.std.proofs.lemmas.Str.{IsUtf8-append, is_utf8-from_IsUtf8}
 use Rattle.json.specs.Print.{quoted}
 use Rattle.json.proofs.Printed.Utf8.{are_ascii, IsUtf8-are_ascii}
@@ -17,7 +18,7 @@ use Rattle.ot_asm.specs.Words.{cut_blanks, skip_blanks, trimmed}
 use Rattle.ot_asm.proofs.Printing.{array_solid, array_text, quoted_solid, quoted_text}
 use Rattle.ot_asm.proofs.Visible.{decimal_text, decimal_visible, kept_blanks, kept_return, no_end, solid, solid_end, visible, visible_both}
 use Rattle.ot_steps.specs.Lines.{Line}
-use Rattle.ot_steps.specs.Text.{Field, Value, Number, Name, Text, Op, Sent, field_text, fields, fields_text, lines_text, value_text}
+use Rattle.ot_steps.specs.Text.{Field, Value, Number, Name, Text, Op, Sent, field_text, fields, fields_text, line_text, lines_text, value_text}
 use Rattle.ot_conform.specs.Ports.{PortLine, Told, counted_lines, port_line}
 use Rattle.ot_conform.proofs.LineTrees.{AreFormed, IsFormed, IsLineFormed, are_letters, body_text, is_letter, line_data, line_reads}
 
@@ -112,6 +113,13 @@ line_first line others h =
 -- it is told, where the object has a place
 told : (bytes : List ℕ) (d : Data) (n : ℕ) → is_utf8 bytes ≡ true → read bytes ≡ Some d → get (codes "at") d ≡ Some (number (unsigned n)) → port_line bytes ≡ Told d
 told bytes d n text reads place = rw (text, reads, place) refl
+
+-- so are its bytes
+pub line_told : (line : Line) (bytes : List ℕ) → IsLineFormed line → get (codes "at") (line_data line) ≡ Some (number (unsigned line.at)) → bytes ++ 10 ∷ [] ≡ line_text line → port_line bytes ≡ Told (line_data line)
+line_told line bytes h place is =
+    let body : bytes ≡ body_text line =
+    append_cancel_right bytes (body_text line) (10 ∷ []) (is ∙ sym (append-nil (line_text line)) ∙ ends_line (fields_text (fields line)) [] (decimal line.at)) in
+    ap port_line body ∙ told (body_text line) (line_data line) line.at (body_utf8 line h) (line_reads line h) place
 
 pub line_counted : (line : Line) (others : List Line) → IsLineFormed line → get (codes "at") (line_data line) ≡ Some (number (unsigned line.at))
     → counted_lines (lines_of (lines_text (line ∷ others))) ≡ Told (line_data line) ∷ counted_lines (lines_of (lines_text others))

@@ -9,7 +9,7 @@ use Rattle.ot_model.specs.declared.shown.Shown.{Shown}
 use Rattle.ot_model.specs.Table.{Performed, Refused, State, step}
 use Rattle.ot_machine.specs.Answers.{IsRefusal}
 use Rattle.ot_steps.specs.Steps.{applies, is_quiet, sends}
-use Rattle.ot_conform.specs.Answers.{IsCompared}
+use Rattle.ot_conform.specs.Alike.{IsJudged}
 use Rattle.ot_conform.specs.Counted.{with_port_line}
 use Rattle.ot_conform.specs.Differences.{Ahead, Wanted, Outcome, ahead_from, ending, field_of, is_limit, over, stopping}
 use Rattle.ot_conform.specs.Differences as differences
@@ -20,6 +20,7 @@ use Rattle.ot_conform.specs.Standing.{AgreesAt, Goes, IsStanding, IsVerdict, res
 use Rattle.ot_conform.proofs.Outcomes.{IsNeeded, IsThere, ahead_performed, ahead_refused, for_memory, goes_on, is_difference, stops, table_or_memory}
 use Rattle.ot_conform.proofs.Going.{ahead_of, goes_stop, running}
 use Rattle.ot_conform.specs.declared.answers.Difference.{Difference}
+use Rattle.ot_conform.specs.declared.counts.Counts.{Counts}
 use Rattle.ot_conform.specs.declared.comparison.Comparison.{Comparison}
 use Rattle.ot_conform.specs.declared.comparison.Stage.{Stage}
 use Rattle.ot_conform.specs.declared.comparison.Stage.TheVariants.{Ending, Over}
@@ -45,45 +46,54 @@ is_there port.Nothing other = absurd (other refl)
 
 -- ---- one line
 
-pub settled : (c : Comparison) (last : ℕ) (due : DueLine) (ahead : List Ahead) (line : PortLine) (difference : Option Difference) (result : Option Verdict)
-    → IsNeeded due.what ⊎ IsThere line → IsCompared due line difference → IfSome result (λ v. (d : Difference) × (difference ≡ Some d) × (v ≡ Differs d))
+pub settled : (c : Comparison) (last : ℕ) (due : DueLine) (ahead : List Ahead) (line : PortLine) (judged : Result Counts Difference) (result : Option Verdict)
+    → IsNeeded due.what ⊎ IsThere line → IsJudged c.counts due line judged → IfSome result (λ v. (d : Difference) × (judged ≡ Err d) × (v ≡ Differs d))
     → IfSome result (λ v. (lines : List PortLine) → IsVerdict c line (over last (Wanted due ∷ ahead) (front line lines)) v)
-settled c last due ahead line difference None which compared found = tt
-settled c last due ahead line difference (Some v) which compared found =
-    λ (lines : List PortLine). is_difference c last due ahead line lines found.0 v which (subst (IsCompared due line) found.1 compared) found.2
+settled c last due ahead line judged None which compared found = tt
+settled c last due ahead line judged (Some v) which compared found =
+    λ (lines : List PortLine). is_difference c last due ahead line lines found.0 v which (subst (IsJudged c.counts due line) found.1 compared) found.2
 
-pub agreed : (due : DueLine) (line : PortLine) (difference : Option Difference) → IsCompared due line difference → difference ≡ None → field_of due.line line ≡ None
-agreed due line difference compared none = subst (IsCompared due line) none compared
+-- these are the counts, and so a comparison is this one
+abbrev pub Keeps : Result Counts Difference → (Counts → Comparison) → Comparison → Type 0
+Keeps judged at c' = (counts : Counts) × (judged ≡ Ok counts) × (c' ≡ at counts)
+
+pub agreed : (due : DueLine) (line : PortLine) (counts : Counts) (judged : Result Counts Difference) (at : Counts → Comparison) (c' : Comparison) → IsJudged counts due line judged → Keeps judged at c'
+    → (field_of due.line line ≡ None) × (c' ≡ at (with_port_line counts line))
+agreed due line counts judged at c' compared kept = let is = subst (IsJudged counts due line) kept.1 compared in (is.0, kept.2 ∙ ap at is.1)
 
 -- ---- the end's line
 
-pub end_agrees : (c c' : Comparison) (line : PortLine) (quiet : Bool) (difference : Option Difference) → quiet ≡ is_quiet c.machine → IsCompared (end_due c.place quiet) line difference
-    → (difference ≡ None) × (c' ≡ record c { stage = Over; counts = with_port_line c.counts line }) → AgreesAt (end_due c.place (is_quiet c.machine)) Over c line c'
-end_agrees c c' line quiet difference is compared none =
-    record {
-      agrees = subst (λ (q : Bool). field_of (end_due c.place q).line line ≡ None) is (agreed (end_due c.place quiet) line difference compared none.0);
-      is = none.1;
-    }
+pub end_agrees : (c c' : Comparison) (line : PortLine) (quiet : Bool) (judged : Result Counts Difference) → quiet ≡ is_quiet c.machine → IsJudged c.counts (end_due c.place quiet) line judged
+    → Keeps judged (λ counts. record c { stage = Over; counts = counts }) c' → AgreesAt (end_due c.place (is_quiet c.machine)) Over c line c'
+end_agrees c c' line quiet judged is compared kept =
+    let both = agreed (end_due c.place quiet) line c.counts judged (λ counts. record c { stage = Over; counts = counts }) c' compared kept in
+    record { agrees = subst (λ (q : Bool). field_of (end_due c.place q).line line ≡ None) is both.0; is = both.1 }
 
-pub end_decides : (c : Comparison) (line : PortLine) (quiet : Bool) (difference : Option Difference) (result : Option Verdict) → IsThere line → quiet ≡ is_quiet c.machine → IsCompared (end_due c.place quiet) line difference
-    → IfSome result (λ v. (d : Difference) × (difference ≡ Some d) × (v ≡ Differs d))
+pub end_decides : (c : Comparison) (line : PortLine) (quiet : Bool) (judged : Result Counts Difference) (result : Option Verdict) → IsThere line → quiet ≡ is_quiet c.machine → IsJudged c.counts (end_due c.place quiet) line judged
+    → IfSome result (λ v. (d : Difference) × (judged ≡ Err d) × (v ≡ Differs d))
     → IfSome result (λ v. (lines : List PortLine) → IsVerdict c line (over c.place (ending c.place c.machine) (front line lines)) v)
-end_decides c line quiet difference result there is compared found =
-    settled c c.place (end_due c.place (is_quiet c.machine)) [] line difference result (inr there)
-    (subst (λ (q : Bool). IsCompared (end_due c.place q) line difference) is compared) found
+end_decides c line quiet judged result there is compared found =
+    settled c c.place (end_due c.place (is_quiet c.machine)) [] line judged result (inr there)
+    (subst (λ (q : Bool). IsJudged c.counts (end_due c.place q) line judged) is compared) found
 
 pub not_nothing : (line : PortLine) (result : Option Verdict) → IsThere line → line ≡ Nothing → IsSome result
 not_nothing line result there none = absurd (subst IsThere none there)
 
 -- ---- the line of an instruction that is refused
 
-pub stop_decides : (c : Comparison) (i : Instr) (r : Refusal) (line : PortLine) (difference : Option Difference) (result : Option Verdict) → is_limit r ≡ false → IsCompared (stop_due c.place i r) line difference
-    → IfSome result (λ v. (d : Difference) × (difference ≡ Some d) × (v ≡ Differs d))
+pub stop_agrees : (c c' : Comparison) (i : Instr) (r : Refusal) (line : PortLine) (judged : Result Counts Difference) → IsJudged c.counts (stop_due c.place i r) line judged
+    → Keeps judged (λ counts. record c { stage = Ending; counts = counts }) c' → AgreesAt (stop_due c.place i r) Ending c line c'
+stop_agrees c c' i r line judged compared kept =
+    let both = agreed (stop_due c.place i r) line c.counts judged (λ counts. record c { stage = Ending; counts = counts }) c' compared kept in
+    record { agrees = both.0; is = both.1 }
+
+pub stop_decides : (c : Comparison) (i : Instr) (r : Refusal) (line : PortLine) (judged : Result Counts Difference) (result : Option Verdict) → is_limit r ≡ false → IsJudged c.counts (stop_due c.place i r) line judged
+    → IfSome result (λ v. (d : Difference) × (judged ≡ Err d) × (v ≡ Differs d))
     → IfSome result (λ v. (lines : List PortLine) → IsVerdict c line (over c.place (stopping c.place c.machine i r) (front line lines)) v)
-stop_decides c i r line difference result none compared found =
+stop_decides c i r line judged result none compared found =
     let P : List Ahead → Type 0 = λ ahead. IfSome result (λ v. (lines : List PortLine) → IsVerdict c line (over c.place ahead (front line lines)) v) in
     subst P (sym (goes_on c.place c.machine i r none))
-    (settled c c.place (stop_due c.place i r) (ending c.place c.machine) line difference result (inl tt) compared found)
+    (settled c c.place (stop_due c.place i r) (ending c.place c.machine) line judged result (inl tt) compared found)
 
 no_memory : (r : Refusal) → r ≡ Memory → is_limit r ≡ false → ⊥
 no_memory r is none = let e : true ≡ false = sym (ap is_limit is) ∙ none in cc
@@ -121,15 +131,15 @@ pub performed_is : (s t : State) (i : Instr) (r : Result (Option Shown) Refusal)
 performed_is s t i (Ok shown) some done = (shown, done)
 performed_is s t i (Err x) some done = absurd (some x refl)
 
-pub step_decides : (s : Program) (c : Comparison) (line : PortLine) (i : Instr) (t : State) (shown : Option Shown) (due : DueLine) (difference : Option Difference) (result : Option Verdict)
-    → slice_get s.instrs c.place ≡ Some i → step c.machine i ≡ Performed t shown → due ≡ step_due (suc c.place) i (sends i c.machine) (applies i c.machine) t → IsCompared due line difference
-    → IfSome result (λ v. (d : Difference) × (difference ≡ Some d) × (v ≡ Differs d))
+pub step_decides : (s : Program) (c : Comparison) (line : PortLine) (i : Instr) (t : State) (shown : Option Shown) (due : DueLine) (judged : Result Counts Difference) (result : Option Verdict)
+    → slice_get s.instrs c.place ≡ Some i → step c.machine i ≡ Performed t shown → due ≡ step_due (suc c.place) i (sends i c.machine) (applies i c.machine) t → IsJudged c.counts due line judged
+    → IfSome result (λ v. (d : Difference) × (judged ≡ Err d) × (v ≡ Differs d))
     → IfSome result (λ v. (lines : List PortLine) → IsVerdict c line (over c.place (ahead_of s c) (front line lines)) v)
-step_decides s c line i t shown due difference result here performed is compared found =
+step_decides s c line i t shown due judged result here performed is compared found =
     let P : List Ahead → Type 0 = λ ahead. IfSome result (λ v. (lines : List PortLine) → IsVerdict c line (over c.place ahead (front line lines)) v) in
     subst P (sym (ahead_performed c.place c.machine t i s.instrs shown here performed))
-    (settled c c.place (step_due (suc c.place) i (sends i c.machine) (applies i c.machine) t) (ahead_from (suc c.place) t (drop (suc c.place) s.instrs)) line difference result (inl tt)
-    (subst (λ (d : DueLine). IsCompared d line difference) is compared) found)
+    (settled c c.place (step_due (suc c.place) i (sends i c.machine) (applies i c.machine) t) (ahead_from (suc c.place) t (drop (suc c.place) s.instrs)) line judged result (inl tt)
+    (subst (λ (d : DueLine). IsJudged c.counts d line judged) is compared) found)
 
 -- ---- behind the end
 

@@ -1,8 +1,10 @@
 -- How much of a port's lines was compared.
-use Rattle.std.specs.Prelude.{ℕ, ◌+◌, ◌-◌, ◌^◌, min, List, [], ◌∷◌, Bool, if◌then◌else◌}
+use Rattle.std.specs.Prelude.{ℕ, ◌+◌, ◌-◌, ◌^◌, min, List, [], ◌∷◌, Bool, is_some, if◌then◌else◌}
 use Rattle.serde_json.specs.Data.{Data}
+use Rattle.ot_steps.specs.Lines.{Line}
 use Rattle.ot_conform.specs.Keys.{found_at, is_told}
 use Rattle.ot_conform.specs.Ports.{PortLine, Told, OtherForm, NoText, Nothing}
+use Rattle.ot_conform.specs.Values.{value_at}
 use Rattle.ot_conform.specs.declared.counts.Counts.{Counts}
 use Rattle.ot_conform.specs.declared.keys.Key.{Key}
 use Rattle.ot_conform.specs.declared.keys.Key.TheVariants as key
@@ -31,29 +33,40 @@ no_counts =
 abbrev pub one_more : Bool → ℕ → ℕ
 one_more told n = if told then min (n + 1) (2 ^ 64 - 1) else n
 
+-- each value that is told counts; of a message, its operation
+abbrev pub with_values : (Key → Bool) → Counts → Counts
+with_values told c =
+    record {
+      clients = one_more (told key.Clients) c.clients;
+      present = one_more (told key.Present) c.present;
+      start = one_more (told key.Start) c.start;
+      word = one_more (told key.Do) c.word;
+      client = one_more (told key.Client) c.client;
+      edit = one_more (told key.Edit) c.edit;
+      revision = one_more (told key.Revision) c.revision;
+      state = one_more (told key.State) c.state;
+      outstanding = one_more (told key.Outstanding) c.outstanding;
+      buffer = one_more (told key.Buffer) c.buffer;
+      sent = one_more (told key.SentOperation) c.sent;
+      applied = one_more (told key.Applied) c.applied;
+      appended = one_more (told key.Appended) c.appended;
+      document = one_more (told key.Document) c.document;
+      end = one_more (told key.End) c.end;
+    }
+
+-- a port's line tells values
 abbrev pub tells : Key → Data → Bool
 tells k d = is_told (found_at k d)
 
--- each value that a line tells counts; of a message, its operation
 abbrev pub with_line : Counts → Data → Counts
-with_line c d =
-    record {
-      clients = one_more (tells key.Clients d) c.clients;
-      present = one_more (tells key.Present d) c.present;
-      start = one_more (tells key.Start d) c.start;
-      word = one_more (tells key.Do d) c.word;
-      client = one_more (tells key.Client d) c.client;
-      edit = one_more (tells key.Edit d) c.edit;
-      revision = one_more (tells key.Revision d) c.revision;
-      state = one_more (tells key.State d) c.state;
-      outstanding = one_more (tells key.Outstanding d) c.outstanding;
-      buffer = one_more (tells key.Buffer d) c.buffer;
-      sent = one_more (tells key.SentOperation d) c.sent;
-      applied = one_more (tells key.Applied d) c.applied;
-      appended = one_more (tells key.Appended d) c.appended;
-      document = one_more (tells key.Document d) c.document;
-      end = one_more (tells key.End d) c.end;
-    }
+with_line c d = with_values (λ k. tells k d) c
+
+-- a line of `steps` has values
+abbrev pub has : Key → Line → Bool
+has k line = is_some (value_at k line)
+
+abbrev pub with_printed : Counts → Line → Counts
+with_printed c line = with_values (λ k. has k line) c
 
 abbrev pub with_port_line : Counts → PortLine → Counts
 with_port_line c (Told d) = with_line c d

@@ -1,5 +1,5 @@
 -- What the run of a schedule has for the lines that are due.
-use Rattle.std.specs.Prelude.{ℕ, length, Bool, false, Option, Some, None, option_map, if◌then◌else◌}
+use Rattle.std.specs.Prelude.{ℕ, length, Bool, true, false, Option, Some, None, option_map, if◌then◌else◌}
 use Rattle.std.specs.Borrow.{Bor}
 use Rattle.std.specs.Option.{option_copied}
 use Rattle.ot_client.specs.Client.{message_of}
@@ -15,6 +15,7 @@ use Rattle.ot_machine.specs.declared.state.Phase.{Phase}
 use Rattle.ot_machine.specs.Readers.{phase_name}
 use Rattle.ot_steps.specs.Lines.{Line, Message, plain_message, plain_operation, word_of}
 use Rattle.ot_steps.specs.Steps.{appended_by, buffer_of, client_in, document_in, edit_of, end_line, line_after, message_in, opening_line, outstanding_of, stop_line}
+use Rattle.ot_conform.specs.declared.due.Step.{Step}
 use Rattle.ot_conform.specs.declared.due.Due.{Due}
 use Rattle.ot_conform.specs.declared.due.Due.TheVariants as due
 
@@ -121,6 +122,29 @@ due_of (due.Opening schedule) = opening_due schedule.now
 due_of (due.Step step) = step_due step.at step.instr.now step.sent (option_map plain_operation (option_copied step.delivered)) step.machine.now
 due_of (due.Stop stop) = stop_due stop.at stop.instr.now stop.refusal
 due_of (due.End at quiet) = end_due at quiet
+
+-- the line that `steps` prints of an instruction at hand, with its document or without
+abbrev pub printed_line : Bool → Step → Line
+printed_line documents step = line_after documents step.at step.instr.now step.sent (option_map plain_operation (option_copied step.delivered)) step.machine.now
+
+-- the client whose state and operations that line tells; reads move nobody
+abbrev pub moved_client : Instr → Option ℕ
+moved_client (Edit c op) = Some c
+moved_client (Take c) = None
+moved_client (Deliver c) = Some c
+moved_client (Acknowledge c) = Some c
+moved_client (Join c) = Some c
+moved_client (Read c) = None
+moved_client ReadServer = None
+
+abbrev pub is_read : Instr → Bool
+is_read (Edit c op) = false
+is_read (Take c) = false
+is_read (Deliver c) = false
+is_read (Acknowledge c) = false
+is_read (Join c) = false
+is_read (Read c) = true
+is_read ReadServer = true
 
 -- an instruction that was performed is of a client that is there
 abbrev pub IsOfMachine : Due → Type 0

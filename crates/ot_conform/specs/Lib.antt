@@ -6,6 +6,7 @@ pub mod Due
 pub mod Values
 pub mod Differences
 pub mod Answers
+pub mod Alike
 pub mod Standing
 pub mod Compared
 pub mod Ruled

@@ -1,6 +1,8 @@
 -- A port's line as it was read.
 use Rattle.serde_json.specs.View.{view}
 use Rattle.ot_conform.specs.Ports as ports
+use Rattle.ot_conform.specs.declared.lines.Given.{Given}
+use Rattle.ot_conform.specs.declared.lines.Given.TheVariants.{Bytes, Read}
 use Rattle.ot_conform.specs.declared.lines.PortLine.{PortLine}
 use Rattle.ot_conform.specs.declared.lines.PortLine.TheVariants.{Told, OtherForm, NoText, Nothing}
 
@@ -9,3 +11,8 @@ read_as (Told value) = ports.Told (view value)
 read_as (OtherForm text) = ports.OtherForm text.now
 read_as NoText = ports.NoText
 read_as Nothing = ports.Nothing
+
+-- a line to compare
+abbrev pub given_as : Given → ports.PortLine
+given_as (Bytes bytes) = ports.port_line bytes.now
+given_as (Read line) = read_as line.now

@@ -1,20 +1,22 @@
 //! A port's lines against a run, one line after the other.
 
-ghost use Rattle.std.specs.Prelude.{◌≡◌, length, IfOk, option_map};
+ghost use Rattle.std.specs.Prelude.{◌≡◌, Bool, length, IfOk, option_map};
 ghost use Rattle.std.specs.Option.{option_copied};
 ghost use Rattle.ot_isa.specs.Program.{IsForClients};
 ghost use Rattle.ot_steps.specs.Lines.{plain_operation};
-ghost use Rattle.ot_conform.specs.Answers.{IsCompared};
+ghost use Rattle.ot_steps.specs.Steps.{line_after};
+ghost use Rattle.ot_conform.specs.Alike.{IsJudged, StandsFor};
 ghost use Rattle.ot_conform.specs.Counted.{with_port_line};
 ghost use Rattle.ot_conform.specs.Differences.{is_limit};
 ghost use Rattle.ot_conform.specs.Due.{IsOfMachine, due_of, step_due};
-ghost use Rattle.ot_conform.specs.Read.{read_as};
+ghost use Rattle.ot_conform.specs.Read.{given_as, read_as};
 
 use crate::answers::{Difference, differs, left_over};
 use crate::counts::Counts;
 use crate::due::{Due, Step, Stop};
-use crate::lines::{PortLine, is_opening_line};
+use crate::lines::{Given, PortLine, is_opening_line, read_line};
 use crate::meeting::meet;
+use crate::same_bytes::printed_form;
 use ot_isa::{Instr, Schedule, Tagged};
 use ot_machine::{Machine, Refusal};
 use ot_steps::{applies, sends};
@@ -54,33 +56,65 @@ pub struct Comparison {
     counts: Counts,
 }
 
-// Where a line differs from the one that is due, in words.
-fn compare(
-    alloc: Global,
-    line: &PortLine<'_>,
-    due: &Due<'_>,
-) -> Result<Option<Difference>, AllocError>
-    requires { IsOfMachine due.now }
-    ensures { IfOk result (λ o. IsCompared (due_of due.now) (read_as line.now) o) }
+// With what the line says, which agrees.
+fn counted(counts: Counts, line: &PortLine<'_>) -> Counts
+    ensures { result ≡ with_port_line counts (read_as line.now) }
 {
-    match meet(alloc, line, due)? {
-        Some(field) => Ok(Some(differs(alloc, line, due, field)?)),
-        None => Ok(None),
+    match line {
+        PortLine::Told(value) => counts.with_line(value),
+        _ => counts,
     }
 }
 
-// Where a line differs from that of an instruction that led to this machine.
+// The counts with what a line says, where it agrees with the one that is due; else where it differs, in words.
+fn compare(
+    alloc: Global,
+    counts: Counts,
+    line: &PortLine<'_>,
+    due: &Due<'_>,
+) -> Result<Result<Counts, Difference>, AllocError>
+    requires { IsOfMachine due.now }
+    ensures { IfOk result (λ judged. IsJudged counts (due_of due.now) (read_as line.now) judged) }
+{
+    match meet(alloc, line, due)? {
+        Some(field) => Ok(Err(differs(alloc, line, due, field)?)),
+        None => Ok(Ok(counted(counts, line))),
+    }
+}
+
+// The same of a line that may not have been read yet.
+fn compare_given(
+    alloc: Global,
+    counts: Counts,
+    line: Given<'_, '_>,
+    due: &Due<'_>,
+) -> Result<Result<Counts, Difference>, AllocError>
+    requires { IsOfMachine due.now }
+    ensures { IfOk result (λ judged. IsJudged counts (due_of due.now) (given_as line.entry) judged) }
+{
+    match line {
+        Given::Bytes(bytes) => {
+            let line = read_line(alloc, bytes)?;
+            compare(alloc, counts, &line, due)
+        }
+        Given::Read(line) => compare(alloc, counts, line, due),
+    }
+}
+
+// The same against the line of an instruction that led to this machine. Bytes that `steps` prints are not read.
 fn compare_step<'a>(
     alloc: Global,
-    line: &PortLine<'_>,
+    counts: Counts,
+    line: Given<'_, '_>,
     machine: &'a Machine,
     at: usize,
     instr: &'a Instr,
     sent: bool,
     delivered: Option<&'a TextOp<Tagged>>,
-) -> Result<Option<Difference>, AllocError>
-    requires { IsForClients (length machine.now.clients) instr.now }
-    ensures { IfOk result (λ o. IsCompared (step_due at instr.now sent (option_map plain_operation (option_copied delivered.entry)) machine.now) (read_as line.now) o) }
+) -> Result<Result<Counts, Difference>, AllocError>
+    requires there { IsForClients (length machine.now.clients) instr.now }
+    requires printed { (documents : Bool) → StandsFor (step_due at instr.now sent (option_map plain_operation (option_copied delivered)) machine.now) (line_after documents at instr.now sent (option_map plain_operation (option_copied delivered)) machine.now) }
+    ensures { IfOk result (λ judged. IsJudged counts (step_due at instr.now sent (option_map plain_operation (option_copied delivered.entry)) machine.now) (given_as line.entry) judged) }
 {
     let step = Step {
         machine,
@@ -89,7 +123,12 @@ fn compare_step<'a>(
         sent,
         delivered,
     };
-    compare(alloc, line, &Due::Step(step))
+    if let Given::Bytes(bytes) = line {
+        if let Some(documents) = printed_form(alloc, &step, bytes) {
+            return Ok(Ok(counts.with_step(&step, documents)));
+        }
+    }
+    compare_given(alloc, counts, line, &Due::Step(step))
 }
 
 // Whether the bench alone has the limit.
@@ -104,24 +143,13 @@ fn is_limit(refusal: Refusal) -> bool
     }
 }
 
-// With what the line says, which agrees.
-fn counted(counts: Counts, line: &PortLine<'_>) -> Counts
-    ensures { result ≡ with_port_line counts (read_as line.now) }
-{
-    match line {
-        PortLine::Told(value) => counts.with_line(value),
-        _ => counts,
-    }
-}
-
 impl Comparison {
-    ghost use Rattle.std.specs.Prelude.{◌≡◌, [], List, IfOk, IfSome, IsSome, None, Some, true, false};
-    ghost use Rattle.ot_conform.specs.Counted.{with_port_line};
+    ghost use Rattle.std.specs.Prelude.{◌≡◌, [], List, Err, IfOk, IfSome, IsSome, None, Ok, Some, true, false, slice_get};
     ghost use Rattle.ot_conform.specs.Differences.{ending, is_limit, over, stopping};
     ghost use Rattle.ot_steps.specs.Steps.{is_quiet};
     ghost use Rattle.ot_conform.specs.Due.{end_due, stop_due};
-    ghost use Rattle.ot_conform.specs.Ports.{PortLine as Printed, Nothing, front, is_opening_line};
-    ghost use Rattle.ot_conform.specs.Read.{read_as};
+    ghost use Rattle.ot_conform.specs.Ports.{PortLine as Printed, Nothing, front, is_opening_line, port_line};
+    ghost use Rattle.ot_conform.specs.Read.{given_as, read_as};
     ghost use Rattle.ot_conform.specs.Standing.{AgreesAt, Goes, IsStanding, IsVerdict, begun, rest};
 
     /// A comparison with the schedule's run that stands at its opening; want of memory for the machine.
@@ -138,15 +166,15 @@ impl Comparison {
         })
     }
 
-    // Counts the line where it agrees.
-    fn settle(&mut self, line: &PortLine<'_>, difference: Option<Difference>) -> Option<Verdict>
-        ensures none { result ≡ None → (difference ≡ None) × (self.new ≡ record self.old { counts = with_port_line self.old.counts (read_as line.now) }) }
-        ensures some { IfSome result (λ v. (d : Difference) × (difference ≡ Some d) × (v ≡ Verdict.Differs d)) }
+    // Keeps the counts of a line that agrees.
+    fn settle(&mut self, judged: Result<Counts, Difference>) -> Option<Verdict>
+        ensures none { result ≡ None → (counts : Counts) × (judged ≡ Ok counts) × (self.new ≡ record self.old { counts = counts }) }
+        ensures some { IfSome result (λ v. (d : Difference) × (judged ≡ Err d) × (v ≡ Verdict.Differs d)) }
     {
-        match difference {
-            Some(difference) => Some(Verdict::Differs(difference)),
-            None => {
-                self.counts = counted(self.counts, line);
+        match judged {
+            Err(difference) => Some(Verdict::Differs(difference)),
+            Ok(counts) => {
+                self.counts = counts;
                 None
             }
         }
@@ -166,8 +194,8 @@ impl Comparison {
         ensures decided { IfOk result (λ v. IfSome v (λ verdict. (lines : List Printed) → IsVerdict self.old (read_as line.now) (rest schedule.now self.old (front (read_as line.now) lines)) verdict)) }
     {
         self.stage = Stage::Running;
-        let difference = compare(alloc, line, &Due::Opening(schedule))?;
-        Ok(self.settle(line, difference))
+        let judged = compare(alloc, self.counts, line, &Due::Opening(schedule))?;
+        Ok(self.settle(judged))
     }
 
     // The line against the end's.
@@ -188,8 +216,8 @@ impl Comparison {
             at: self.place,
             quiet: self.machine.is_quiet(),
         };
-        let difference = compare(alloc, line, &end)?;
-        Ok(self.settle(line, difference))
+        let judged = compare(alloc, self.counts, line, &end)?;
+        Ok(self.settle(judged))
     }
 
     // The line against that of an instruction that was not performed.
@@ -198,11 +226,11 @@ impl Comparison {
         alloc: Global,
         instr: &Instr,
         refusal: Refusal,
-        line: &PortLine<'_>,
+        line: Given<'_, '_>,
     ) -> Result<Option<Verdict>, AllocError>
-        ensures goes { IfOk result (λ v. v ≡ None → (is_limit refusal ≡ false) × AgreesAt (stop_due self.old.place instr.now refusal) Stage.Ending self.old (read_as line.now) self.new) }
-        ensures decided { IfOk result (λ v. IfSome v (λ verdict. (lines : List Printed) → IsVerdict self.old (read_as line.now) (over self.old.place (stopping self.old.place self.old.machine instr.now refusal) (front (read_as line.now) lines)) verdict)) }
-        ensures nothing { IfOk result (λ v. read_as line.now ≡ Nothing → IsSome v) }
+        ensures goes { IfOk result (λ v. v ≡ None → (is_limit refusal ≡ false) × AgreesAt (stop_due self.old.place instr.now refusal) Stage.Ending self.old (given_as line.entry) self.new) }
+        ensures decided { IfOk result (λ v. IfSome v (λ verdict. (lines : List Printed) → IsVerdict self.old (given_as line.entry) (over self.old.place (stopping self.old.place self.old.machine instr.now refusal) (front (given_as line.entry) lines)) verdict)) }
+        ensures nothing { IfOk result (λ v. given_as line.entry ≡ Nothing → IsSome v) }
     {
         if is_limit(refusal) {
             return Ok(Some(Verdict::Stopped {
@@ -216,8 +244,45 @@ impl Comparison {
             instr,
             refusal,
         };
-        let difference = compare(alloc, line, &Due::Stop(stop))?;
-        Ok(self.settle(line, difference))
+        let judged = compare_given(alloc, self.counts, line, &Due::Stop(stop))?;
+        Ok(self.settle(judged))
+    }
+
+    // The line against that of the instruction at the place.
+    fn take_step(
+        &mut self,
+        alloc: Global,
+        schedule: &Schedule,
+        instr: &Instr,
+        line: Given<'_, '_>,
+    ) -> Result<Option<Verdict>, AllocError>
+        requires standing { IsStanding schedule.now (record self.old { stage = Stage.Running }) }
+        requires here { slice_get schedule.now.instrs self.old.place ≡ Some instr.now }
+        ensures goes { IfOk result (λ v. v ≡ None → Goes schedule.now (record self.old { stage = Stage.Running }) (given_as line.entry) self.new) }
+        ensures decided { IfOk result (λ v. IfSome v (λ verdict. (lines : List Printed) → IsVerdict self.old (given_as line.entry) (rest schedule.now (record self.old { stage = Stage.Running }) (front (given_as line.entry) lines)) verdict)) }
+        ensures nothing { IfOk result (λ v. given_as line.entry ≡ Nothing → IsSome v) }
+    {
+        // For the proof: what every schedule keeps.
+        let _clients = schedule.clients();
+        let sent = sends(&self.machine, instr);
+        let delivered = applies(&self.machine, instr)?;
+        if let Err(refusal) = self.machine.step(instr) {
+            return self.take_stop(alloc, instr, refusal, line);
+        }
+        self.stage = Stage::Running;
+        self.place += 1;
+        let delivered = delivered.as_ref();
+        let judged = compare_step(
+            alloc,
+            self.counts,
+            line,
+            &self.machine,
+            self.place,
+            instr,
+            sent,
+            delivered,
+        )?;
+        Ok(self.settle(judged))
     }
 
     // The line against that of the instruction at the place, or the end's.
@@ -238,24 +303,7 @@ impl Comparison {
         let Some(instr) = schedule.get(self.place) else {
             unreachable!()
         };
-        let sent = sends(&self.machine, instr);
-        let delivered = applies(&self.machine, instr)?;
-        if let Err(refusal) = self.machine.step(instr) {
-            return self.take_stop(alloc, instr, refusal, line);
-        }
-        self.stage = Stage::Running;
-        self.place += 1;
-        let delivered = delivered.as_ref();
-        let difference = compare_step(
-            alloc,
-            line,
-            &self.machine,
-            self.place,
-            instr,
-            sent,
-            delivered,
-        )?;
-        Ok(self.settle(line, difference))
+        self.take_step(alloc, schedule, instr, Given::Read(line))
     }
 
     // Behind the end no line is due.
@@ -291,6 +339,29 @@ impl Comparison {
             Stage::Running => self.take_running(alloc, schedule, line),
             Stage::Ending => self.take_end(alloc, line),
             Stage::Over => Ok(Some(self.take_behind(alloc, line)?)),
+        }
+    }
+
+    /// The same of the bytes of the port's next counted line, which are read only where they are not those of the line that `steps` prints
+    /// of the instruction at the place.
+    pub fn take_bytes(
+        &mut self,
+        alloc: Global,
+        schedule: &Schedule,
+        bytes: &[u8],
+    ) -> Result<Option<Verdict>, AllocError>
+        requires { IsStanding schedule.now self.old }
+        ensures goes { IfOk result (λ v. v ≡ None → Goes schedule.now self.old (port_line bytes.now) self.new) }
+        ensures decided { IfOk result (λ v. IfSome v (λ verdict. (lines : List Printed) → IsVerdict self.old (port_line bytes.now) (rest schedule.now self.old (front (port_line bytes.now) lines)) verdict)) }
+    {
+        match (self.stage, schedule.get(self.place)) {
+            (Stage::Running, Some(instr)) => {
+                self.take_step(alloc, schedule, instr, Given::Bytes(bytes))
+            }
+            _ => {
+                let line = read_line(alloc, bytes)?;
+                self.take(alloc, schedule, &line)
+            }
         }
     }
 

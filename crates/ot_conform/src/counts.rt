@@ -4,6 +4,7 @@ ghost use Rattle.std.specs.Prelude.{◌≡◌, ◌++◌, ◌∷◌, IfOk, [], co
 ghost use Rattle.serde_json.specs.View.{view};
 ghost use Rattle.ot_conform.specs.Counted.{no_counts, one_more, tells, with_line};
 
+use crate::due::Step;
 use crate::keys::{Key, tells};
 use serde_json::Value;
 
@@ -28,21 +29,19 @@ pub struct Counts {
     pub end: u64,
 }
 
-// One more where the line says something under the key.
-fn one_more(line: &Value, key: Key, count: u64) -> u64
-    ensures { result ≡ one_more (tells key (view line.now)) count }
+// One more where a value is told.
+fn one_more(told: bool, count: u64) -> u64
+    ensures { result ≡ one_more told count }
 {
-    if tells(line, key) {
-        count.saturating_add(1)
-    } else {
-        count
-    }
+    if told { count.saturating_add(1) } else { count }
 }
 
 impl Counts {
-    ghost use Rattle.std.specs.Prelude.{◌≡◌};
+    ghost use Rattle.std.specs.Prelude.{◌≡◌, length};
     ghost use Rattle.serde_json.specs.View.{view};
-    ghost use Rattle.ot_conform.specs.Counted.{no_counts, with_line};
+    ghost use Rattle.ot_isa.specs.Program.{IsForClients};
+    ghost use Rattle.ot_conform.specs.Counted.{no_counts, with_line, with_printed};
+    ghost use Rattle.ot_conform.specs.Due.{printed_line};
 
     /// Nothing was compared yet.
     pub fn none() -> Counts
@@ -72,21 +71,45 @@ impl Counts {
         ensures { result ≡ with_line self (view line.now) }
     {
         Counts {
-            clients: one_more(line, Key::Clients, self.clients),
-            present: one_more(line, Key::Present, self.present),
-            start: one_more(line, Key::Start, self.start),
-            word: one_more(line, Key::Do, self.word),
-            client: one_more(line, Key::Client, self.client),
-            edit: one_more(line, Key::Edit, self.edit),
-            revision: one_more(line, Key::Revision, self.revision),
-            state: one_more(line, Key::State, self.state),
-            outstanding: one_more(line, Key::Outstanding, self.outstanding),
-            buffer: one_more(line, Key::Buffer, self.buffer),
-            sent: one_more(line, Key::SentOperation, self.sent),
-            applied: one_more(line, Key::Applied, self.applied),
-            appended: one_more(line, Key::Appended, self.appended),
-            document: one_more(line, Key::Document, self.document),
-            end: one_more(line, Key::End, self.end),
+            clients: one_more(tells(line, Key::Clients), self.clients),
+            present: one_more(tells(line, Key::Present), self.present),
+            start: one_more(tells(line, Key::Start), self.start),
+            word: one_more(tells(line, Key::Do), self.word),
+            client: one_more(tells(line, Key::Client), self.client),
+            edit: one_more(tells(line, Key::Edit), self.edit),
+            revision: one_more(tells(line, Key::Revision), self.revision),
+            state: one_more(tells(line, Key::State), self.state),
+            outstanding: one_more(tells(line, Key::Outstanding), self.outstanding),
+            buffer: one_more(tells(line, Key::Buffer), self.buffer),
+            sent: one_more(tells(line, Key::SentOperation), self.sent),
+            applied: one_more(tells(line, Key::Applied), self.applied),
+            appended: one_more(tells(line, Key::Appended), self.appended),
+            document: one_more(tells(line, Key::Document), self.document),
+            end: one_more(tells(line, Key::End), self.end),
+        }
+    }
+
+    /// With what the line that `steps` prints of an instruction has, with its document or without.
+    pub(crate) fn with_step(self, step: &Step<'_>, documents: bool) -> Counts
+        requires { IsForClients (length step.now.machine.now.clients) step.now.instr.now }
+        ensures { result ≡ with_printed self (printed_line documents step.now) }
+    {
+        Counts {
+            clients: one_more(step.prints(Key::Clients, documents), self.clients),
+            present: one_more(step.prints(Key::Present, documents), self.present),
+            start: one_more(step.prints(Key::Start, documents), self.start),
+            word: one_more(step.prints(Key::Do, documents), self.word),
+            client: one_more(step.prints(Key::Client, documents), self.client),
+            edit: one_more(step.prints(Key::Edit, documents), self.edit),
+            revision: one_more(step.prints(Key::Revision, documents), self.revision),
+            state: one_more(step.prints(Key::State, documents), self.state),
+            outstanding: one_more(step.prints(Key::Outstanding, documents), self.outstanding),
+            buffer: one_more(step.prints(Key::Buffer, documents), self.buffer),
+            sent: one_more(step.prints(Key::SentOperation, documents), self.sent),
+            applied: one_more(step.prints(Key::Applied, documents), self.applied),
+            appended: one_more(step.prints(Key::Appended, documents), self.appended),
+            document: one_more(step.prints(Key::Document, documents), self.document),
+            end: one_more(step.prints(Key::End, documents), self.end),
         }
     }
 }

@@ -1,16 +1,17 @@
 //! The lines that are due, and what the run has for them.
 
-ghost use Rattle.std.specs.Prelude.{◌≡◌, ◌<◌, ℕ, length, decimal, IfOk, IfSome, option_map, string_bytes};
+ghost use Rattle.std.specs.Prelude.{◌≡◌, ◌<◌, ℕ, length, decimal, IfOk, IfSome, is_some, option_map, string_bytes};
 ghost use Rattle.std.specs.Option.{option_copied};
 ghost use Rattle.ot_isa.specs.Program.{client_of, IsForClients};
 ghost use Rattle.ot_isa.specs.Tagging.{chars_of};
 ghost use Rattle.ot_json.specs.Writing.{text_of_operation};
 ghost use Rattle.ot_steps.specs.Lines.{plain_operation};
-ghost use Rattle.ot_steps.specs.Steps.{appended_by, buffer_of, client_in, document_in, edit_of, end_line, opening_line, outstanding_of, stop_line};
+ghost use Rattle.ot_steps.specs.Steps.{appended_by, buffer_of, client_in, document_in, edit_of, end_line, has_document, opening_line, outstanding_of, stop_line};
 ghost use Rattle.ot_report.specs.Printed.{phase_word};
 ghost use Rattle.ot_steps.specs.Text.{Name, end_text, line_text, message_text, value_text};
 ghost use Rattle.ot_conform.specs.Answers.{letters_at, number_before, number_of};
-ghost use Rattle.ot_conform.specs.Due.{IsOfMachine, applied_by, buffer_at, due_of, instr_of, message_if, messages, outstanding_at, placed_client, revision_at, state_at};
+ghost use Rattle.ot_conform.specs.Counted.{has};
+ghost use Rattle.ot_conform.specs.Due.{IsOfMachine, applied_by, buffer_at, due_of, instr_of, is_read, message_if, messages, moved_client, outstanding_at, placed_client, printed_line, revision_at, state_at};
 ghost use Rattle.ot_conform.specs.Values.{text_at};
 
 use crate::keys::Key;
@@ -72,6 +73,20 @@ pub(crate) fn placed_client(instr: &Instr) -> Option<u16>
     }
 }
 
+// The client that an instruction moves; none at a read and where the server moves.
+fn moved_client(instr: &Instr) -> Option<u16>
+    ensures value { result ≡ moved_client instr.now }
+    ensures there { (clients : ℕ) → IsForClients clients instr.now → IfSome result (λ c. c < clients) }
+{
+    match instr {
+        Instr::Edit(client, _) => Some(*client),
+        Instr::Deliver(client) => Some(*client),
+        Instr::Acknowledge(client) => Some(*client),
+        Instr::Join(client) => Some(*client),
+        Instr::Take(_) | Instr::Read(_) | Instr::ReadServer => None,
+    }
+}
+
 fn revision(machine: &Machine, client: Option<u16>) -> u64
     requires { IfSome client (λ c. c < length machine.now.clients) }
     ensures { result ≡ revision_at machine.now client }
@@ -95,6 +110,38 @@ fn state_text(
     };
     let name = name_text(alloc, state_name(machine.phase(client)))?;
     Ok(Some(name))
+}
+
+fn is_edit(instr: &Instr) -> bool
+    ensures { result ≡ is_some (edit_of instr.now) }
+{
+    match instr {
+        Instr::Edit(..) => true,
+        _ => false,
+    }
+}
+
+// A read and a join have a document always.
+fn has_document(instr: &Instr) -> bool
+    ensures { result ≡ has_document instr.now }
+{
+    match instr {
+        Instr::Join(_) => true,
+        Instr::Read(_) => true,
+        Instr::ReadServer => true,
+        _ => false,
+    }
+}
+
+// Whether it is a read, which moves nobody.
+fn is_read(instr: &Instr) -> bool
+    ensures { result ≡ is_read instr.now }
+{
+    match instr {
+        Instr::Read(_) => true,
+        Instr::ReadServer => true,
+        _ => false,
+    }
 }
 
 // The text of an operation, if there is one.
@@ -295,6 +342,65 @@ impl<'a> Step<'a> {
         }
     }
 
+    /// The line that `steps` prints of it, with its document or without, and LF.
+    pub(crate) fn line(&self, alloc: Global, documents: bool) -> Result<String, AllocError>
+        requires { IsForClients (length self.now.machine.now.clients) self.now.instr.now }
+        ensures { IfOk result (λ s. string_bytes s ≡ line_text (printed_line documents self.now)) }
+    {
+        print_step(
+            alloc,
+            self.machine,
+            self.at,
+            self.instr,
+            self.sent,
+            self.delivered,
+            documents,
+        )
+    }
+
+    // Whether that line has what the client waits for.
+    fn prints_outstanding(&self) -> bool
+        requires { IsForClients (length self.now.machine.now.clients) self.now.instr.now }
+        ensures { result ≡ is_some (outstanding_at self.now.machine.now (moved_client self.now.instr.now)) }
+    {
+        match moved_client(self.instr) {
+            Some(client) => outstanding(self.machine, client).is_some(),
+            None => false,
+        }
+    }
+
+    // Whether it has what the client has done since.
+    fn prints_buffer(&self) -> bool
+        requires { IsForClients (length self.now.machine.now.clients) self.now.instr.now }
+        ensures { result ≡ is_some (buffer_at self.now.machine.now (moved_client self.now.instr.now)) }
+    {
+        match moved_client(self.instr) {
+            Some(client) => buffer(self.machine, client).is_some(),
+            None => false,
+        }
+    }
+
+    /// Whether that line has something under a key.
+    pub(crate) fn prints(&self, key: Key, documents: bool) -> bool
+        requires { IsForClients (length self.now.machine.now.clients) self.now.instr.now }
+        ensures { result ≡ has key (printed_line documents self.now) }
+    {
+        match key {
+            Key::At | Key::Do => true,
+            Key::Client => self.instr.client().is_some(),
+            Key::Edit => is_edit(self.instr),
+            Key::Revision => !is_read(self.instr),
+            Key::State => moved_client(self.instr).is_some(),
+            Key::Outstanding => self.prints_outstanding(),
+            Key::Buffer => self.prints_buffer(),
+            Key::Sent | Key::SentRevision | Key::SentOperation => self.message().is_some(),
+            Key::Applied => self.delivered.is_some(),
+            Key::Appended => self.appended().is_some(),
+            Key::Document => has_document(self.instr) || documents,
+            Key::Clients | Key::Present | Key::Start | Key::End => false,
+        }
+    }
+
     // The text of what it has under a key.
     fn text(&self, alloc: Global, key: Key) -> Result<Option<String>, AllocError>
         requires { IsForClients (length self.now.machine.now.clients) self.now.instr.now }
@@ -406,15 +512,7 @@ impl Due<'_> {
     {
         match self {
             Due::Opening(schedule) => print_opening(alloc, schedule),
-            Due::Step(step) => print_step(
-                alloc,
-                step.machine,
-                step.at,
-                step.instr,
-                step.sent,
-                step.delivered,
-                false,
-            ),
+            Due::Step(step) => step.line(alloc, false),
             Due::Stop(stop) => print_stop(alloc, stop.at, stop.instr, stop.refusal),
             Due::End { at, quiet } => print_end(alloc, *at, *quiet),
         }

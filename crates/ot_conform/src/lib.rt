@@ -1,15 +1,19 @@
 //! What a port printed against the run of its schedule, up to the first difference.
 //!
 //! ```text
-//!    a port's line ── read_line ──▶ PortLine ─┐
-//!                                             ├── meet ──▶ it agrees, or the Field where it differs ──▶ Difference
-//!    Machine::step ───────────────▶ Due ──────┘
+//!    a port's line ── is it, byte for byte, the line of `steps`? ── yes ──▶ it agrees, and its values count
+//!                          │ no
+//!                          └── read_line ──▶ PortLine ─┐
+//!                                                      ├── meet ──▶ it agrees, or the Field where it differs ──▶ Difference
+//!    Machine::step ────────────────────────▶ Due ──────┘
 //! ```
 //!
 //! - *The port's lines* (`specs/Ports.antt`): an object with a place, a text of another form, bytes that are no text, or none. What is not
 //!   printed is not compared, and `null` says that there is none (`specs/Keys.antt`).
 //! - *What is due* (`specs/Due.antt`, `specs/Values.antt`): all values that the run has for a line, from the written table's states before and
 //!   after the instruction (`ot_model`'s specs/Table.antt), in the form of `ot_steps`.
+//! - *Lines of `steps`* (`specs/Alike.antt`): where the port's bytes are those of the line that `steps` prints of an instruction, nothing is read
+//!   as JSON. That the answer is the same then is proved of each such line (`step_stands` in proofs/Alike.antt).
 //! - *The first difference* (`specs/Differences.antt`): `field_of` of one line, `outcome` of all.
 //! - *The answer* (`specs/Answers.antt`, `specs/Counted.antt`): every byte of it, but the digits of a port's floats.
 //! - *The rule of ot.js* (`specs/Ruled.antt`): behind a difference at an instruction stands what `ot_rules` says of it: the method of ot.js that
@@ -34,6 +38,7 @@ mod meeting;
 mod printing;
 mod reading;
 mod ruling;
+mod same_bytes;
 mod texts;
 
 pub use answers::{Difference, differs, left_over};

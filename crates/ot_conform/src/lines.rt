@@ -24,6 +24,13 @@ pub enum PortLine<'a> {
     Nothing,
 }
 
+/// A port's line to compare: its bytes, which are read only where they are not those that `steps` prints, or a line that was read.
+#[derive(Clone, Copy)]
+pub(crate) enum Given<'a, 'b> {
+    Bytes(&'a [u8]),
+    Read(&'a PortLine<'b>),
+}
+
 /// The line that the bytes of a counted line are; want of memory only for its JSON value.
 pub fn read_line<'a>(alloc: Global, bytes: &'a [u8]) -> Result<PortLine<'a>, AllocError>
     ensures { IfOk result (λ line. read_as line ≡ port_line bytes.now) }

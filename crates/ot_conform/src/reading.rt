@@ -9,7 +9,6 @@ ghost use Rattle.ot_conform.specs.Ports.{Nothing, counted_lines, port_line};
 ghost use Rattle.ot_conform.specs.Standing.{IsStanding, IsVerdict, rest};
 
 use crate::comparison::{Comparison, Verdict};
-use crate::lines::read_line;
 use line_reader::{LineFault, ReadAhead};
 use ot_asm::trimmed;
 use ot_isa::Schedule;
@@ -40,8 +39,7 @@ fn take_bytes(
     if text.is_empty() {
         return Ok(None);
     }
-    let line = read_line(alloc, text)?;
-    comparison.take(alloc, schedule, &line)
+    comparison.take_bytes(alloc, schedule, text)
 }
 
 // What comes of it where no line is left; this would be the next line's number.

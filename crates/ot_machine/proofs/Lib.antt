@@ -9,6 +9,7 @@ pub mod Joining
 pub mod Opening
 pub mod Reading
 pub mod Stopping
+pub mod Ended
 pub mod RunLaws
 pub mod Undoing
 pub mod Reverting

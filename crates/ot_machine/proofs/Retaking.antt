@@ -12,7 +12,7 @@ use Rattle.ot_server.specs.History.{History, IsUndo}
 use Rattle.ot_model.specs.Table.{Client, Message, State, is_joined}
 use Rattle.ot_model.specs.Sound.{IsSound}
 use Rattle.ot_machine.specs.declared.seat.Seat.{Seat}
-use Rattle.ot_machine.specs.Seats.{View, view_of, client_of, phase_of, revision_of, numbers, incoming, queued, AreQueues, state_from, IsKept}
+use Rattle.ot_machine.specs.Seats.{View, view_of, client_of, phase_of, revision_of, numbers, incoming, AreQueues, state_from, IsKept}
 use Rattle.ot_machine.specs.Undoing.{unsent, IsRecord, Undoes}
 use Rattle.ot_machine.specs.declared.undo.Undo.{Undo}
 use Rattle.ot_machine.specs.declared.undo.Record.TheVariants.{Taken}

@@ -9,14 +9,15 @@ use Rattle.ot_text.specs.Operation.{Operation}
 use Rattle.ot_client.specs.declared.sent.Sent.{Sent}
 use Rattle.ot_client.specs.Client.{message_of}
 use Rattle.ot_server.specs.History.{History}
-use Rattle.ot_model.specs.Table.{Client, Message, State, absent, is_joined, with_client}
+use Rattle.ot_model.specs.Table.{Client, Message, State, absent, is_joined, phase_in, with_client}
 use Rattle.ot_model.specs.Sound.{IsSound}
 use Rattle.ot_machine.specs.declared.seat.Seat.{Seat}
 use Rattle.ot_machine.specs.declared.kept.Before.{Before}
-use Rattle.ot_machine.specs.declared.past.Past.{Past}
-use Rattle.ot_machine.specs.declared.past.Past.TheVariants as kept
+use Rattle.ot_client.specs.Past.{phase_over}
+use Rattle.ot_client.specs.declared.past.Past.{Past}
+use Rattle.ot_client.specs.declared.past.Past.TheVariants as kept
 use Rattle.ot_machine.specs.Seats.{View, view_of, client_of, phase_of, numbers, incoming, queued, swept, idle, AreQueues, state_from, IsKept}
-use Rattle.ot_machine.specs.Undoing.{first_of, last_of, message_at, message_in, phase_over, queue_before, reverted, FitsBack, FitsPhase, Restores, IsRecord}
+use Rattle.ot_machine.specs.Undoing.{first_of, last_of, message_at, message_in, queue_before, reverted, FitsBack, FitsPhase, Restores, IsRecord}
 use Rattle.ot_machine.specs.declared.undo.Record.TheVariants.{ClientStep, Joined, Read}
 use Rattle.ot_machine.proofs.RowLaws.{client_at, queue_at}
 
@@ -148,7 +149,7 @@ revision_right before was x n queue true is from joined after inside right =
 revision_right before was x n queue false is from joined after inside right =
     rw (is, joined) (right ∙ ap (λ k. numbers k (n - k)) after)
 
-kept_joined : (past : Past) (first last : Operation Tagged) → is_joined (phase_over past first last) ≡ true
+kept_joined : (past : Past Tagged) (first last : Operation Tagged) → is_joined (phase_in (phase_over past first last)) ≡ true
 kept_joined kept.Synchronized first last = refl
 kept_joined (kept.AwaitingConfirm o) first last = refl
 kept_joined (kept.AwaitingWithBuffer o b) first last = refl

@@ -14,7 +14,7 @@ use Rattle.ot_model.proofs.Algebra.{laws}
 use Rattle.std.proofs.lemmas.Option.{same_Some}
 use Rattle.ot_machine.specs.declared.seat.Seat.{Seat}
 use Rattle.ot_machine.specs.declared.kept.Before.{Before}
-use Rattle.ot_machine.specs.Seats.{client_of, phase_of, revision_of, under_way, MaySend}
+use Rattle.ot_machine.specs.Seats.{client_of, phase_of, under_way, MaySend}
 use Rattle.ot_machine.proofs.RowLaws.{none_up}
 use Rattle.ot_machine.specs.Undoing.{phase_acknowledged, IsBefore, Restores}
 
@@ -25,46 +25,51 @@ inverse_base op inverse list rises fits is = ap (λ (o : Operation Tagged). o.ba
 
 -- what was under way is under way again: nothing was, or nothing was sent meanwhile
 message_back :
-    (b : Bool) (up : Option (Sent Tagged)) (m : Option Message)
-    → (IsTrue b ↔ (up ≡ None)) → ((up ≡ None → ⊥) → m ≡ option_map message_of up) → (if b then None else m) ≡ option_map message_of up
-message_back true up m is same = sym (ap (option_map message_of) (is.0 refl))
-message_back false up m is same = same (λ none. let no = is.1 none in cc)
+    (b : Bool) (was m : Option Message)
+    → (IsTrue b ↔ (was ≡ None)) → ((was ≡ None → ⊥) → m ≡ was) → (if b then None else m) ≡ was
+message_back true was m is same = sym (is.0 refl)
+message_back false was m is same = same (λ none. let no = is.1 none in cc)
 
 -- the client after a step
-pub record Led (was : Seat) (now : Client) (received : Bool) : Type 0 where
-  pub message : (was.up ≡ None → ⊥) → now.message ≡ option_map message_of was.up
+pub record Led (was now : Client) (received : Bool) : Type 0 where
+  pub message : (was.message ≡ None → ⊥) → now.message ≡ was.message
   pub joined : is_joined now.phase ≡ true
-  pub revision : now.revision ≡ (if received then suc (revision_of was.client) else revision_of was.client)
+  pub revision : now.revision ≡ (if received then suc was.revision else was.revision)
 
 -- what was kept of the client before is a record of the step
-restored : (before : Before) (was : Seat) (now : Client) (received : Bool) → Led was now received → IsBefore before was now.phase now.list received → Restores before (client_of was) now
+restored : (before : Before) (was now : Client) (received : Bool) → Led was now received → IsBefore before was now.phase now.list received → Restores before was now
 restored before was now received led is =
-    let message : (if before.unsent then None else now.message) ≡ option_map message_of was.up = message_back before.unsent was.up now.message is.unsent led.message in
+    let message : (if before.unsent then None else now.message) ≡ was.message = message_back before.unsent was.message now.message is.unsent led.message in
     record {
       back = λ i. record { revision = is.revision i; phase = is.waited i; list = is.applied.1 i; count = is.count i; message = message i };
       fits = is.applied.0;
       phase = is.fits;
       joined = led.joined;
-      revision = led.revision ∙ ap (λ (b : Bool). if b then suc (revision_of was.client) else revision_of was.client) (sym is.took);
+      revision = led.revision ∙ ap (λ (b : Bool). if b then suc was.revision else was.revision) (sym is.took);
     }
 
 pub kept_restored :
-    (kept : Option Before) (was : Seat) (now : Client) (list : List Tagged) (received : Bool)
-    → Led was now received → now.list ≡ list → IsSomeAnd kept (λ before. IsBefore before was now.phase list received) → IsSomeAnd kept (λ before. Restores before (client_of was) now)
-kept_restored None was now list received led lists is = is
-kept_restored (Some before) was now list received led lists is = restored before was now received led (subst (λ xs. IsBefore before was now.phase xs received) (sym lists) is)
+    (kept : Option Before) (was now x : Client) (phase : Phase) (list : List Tagged) (received : Bool)
+    → Led was now received → x ≡ was → phase ≡ now.phase → list ≡ now.list
+    → IsSomeAnd kept (λ before. IsBefore before x phase list received) → IsSomeAnd kept (λ before. Restores before was now)
+kept_restored None was now x phase list received led from to lists is = is
+kept_restored (Some before) was now x phase list received led from to lists is =
+    restored before was now received led
+    (subst (λ y. IsBefore before y now.phase now.list received) from
+    (subst (λ p. IsBefore before x p now.list received) to
+    (subst (λ xs. IsBefore before x phase xs received) lists is)))
 
 -- an edit sends only where nothing was under way
 pub sends_alone :
     (client : program.Client Tagged) (op : Operation Tagged) (up sent : Option (Sent Tagged))
     → MaySend (phase_of (Some client)) up → option_map message_of sent ≡ state.message_edited (state_of client).revision (state_of client).phase op
-    → (up ≡ None → ⊥) → under_way sent up ≡ up
-sends_alone (client.Synchronized here) op up sent may is some = absurd (some may)
+    → (option_map message_of up ≡ None → ⊥) → under_way sent up ≡ up
+sends_alone (client.Synchronized here) op up sent may is some = absurd (some (ap (option_map message_of) may))
 sends_alone (client.AwaitingConfirm here) op up sent may is some = ap (λ s. under_way s up) (none_up sent is)
 sends_alone (client.AwaitingWithBuffer here) op up sent may is some = ap (λ s. under_way s up) (none_up sent is)
 
 acknowledged_led :
-    (was : Seat) (now : Client) (phase : Phase) → acknowledged (client_of was) phase ≡ Some now → was.up ≡ None → Led was now true × (now.phase ≡ phase_acknowledged phase) × (now.list ≡ was.list)
+    (was now : Client) (phase : Phase) → acknowledged was phase ≡ Some now → was.message ≡ None → Led was now true × (now.phase ≡ phase_acknowledged phase) × (now.list ≡ was.list)
 acknowledged_led was now NotJoined is none = absurd (cc)
 acknowledged_led was now Synchronized is none = absurd (cc)
 acknowledged_led was now (AwaitingConfirm o) is none =
@@ -74,7 +79,7 @@ acknowledged_led was now (AwaitingWithBuffer o b) is none =
 
 pub acknowledge_restored :
     (kept : Option Before) (was : Seat) (now : Client) → acknowledged (client_of was) (phase_of was.client) ≡ Some now → was.up ≡ None
-    → IsSomeAnd kept (λ before. IsBefore before was (phase_acknowledged (phase_of was.client)) was.list true) → IsSomeAnd kept (λ before. Restores before (client_of was) now)
+    → IsSomeAnd kept (λ before. IsBefore before (client_of was) (phase_acknowledged (phase_of was.client)) was.list true) → IsSomeAnd kept (λ before. Restores before (client_of was) now)
 acknowledge_restored kept was now is none of_seat =
-    let led = acknowledged_led was now (phase_of was.client) is none in
-    kept_restored kept was now was.list true led.0 led.2 (subst (λ phase. IsSomeAnd kept (λ before. IsBefore before was phase was.list true)) (sym led.1) of_seat)
+    let led = acknowledged_led (client_of was) now (phase_of was.client) is (ap (option_map message_of) none) in
+    kept_restored kept (client_of was) now (client_of was) (phase_acknowledged (phase_of was.client)) was.list true led.0 refl (sym led.1) (sym led.2) of_seat

@@ -1,10 +1,12 @@
 -- What a run of a schedule ends with.
-use Rattle.std.specs.Prelude.{◌≡◌, ℕ, ◌<◌, Option, Some, None, length, slice_get}
+use Rattle.std.specs.Prelude.{◌≡◌, ℕ, ◌<◌, List, Option, Some, None, length, slice_get}
 use Rattle.ot_isa.specs.Program.{Program}
 use Rattle.ot_isa.specs.declared.instruction.Instr.{Instr}
 use Rattle.ot_model.specs.declared.shown.Refusal.{Refusal}
 use Rattle.ot_model.specs.declared.shown.Refusal.TheVariants.{Memory}
+use Rattle.ot_model.specs.declared.shown.Shown.{Shown}
 use Rattle.ot_model.specs.Table.{State, step, Refused}
+use Rattle.ot_machine.specs.declared.outcome.Ending.{Ending}
 use Rattle.ot_machine.specs.declared.outcome.Replay.{Replay}
 use Rattle.ot_model.specs.Runs.{done, place_at}
 
@@ -31,3 +33,9 @@ IsStop s state (Some stop) = IsStopAt s state stop.0 stop.1
 pub record IsRun (s : Program) (run : Replay) : Type 0 where
   pub at : place_at s (reached s run.stopped) ≡ Some (record { state = run.machine; shown = run.shown.items })
   pub stop : IsStop s run.machine run.stopped
+
+-- where the run of the schedule ended; what it showed is not told
+pub record IsEnding (s : Program) (ending : Ending) : Type 0 where
+  pub shown : List Shown
+  pub at : place_at s (reached s ending.stopped) ≡ Some (record { state = ending.machine; shown = shown })
+  pub stop : IsStop s ending.machine ending.stopped

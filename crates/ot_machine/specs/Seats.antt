@@ -36,6 +36,17 @@ client_of seat =
       message = option_map message_of seat.up;
     }
 
+-- the client of a seat, in a state that is not put there yet
+abbrev pub client_in : state.State Tagged → Seat → Client
+client_in client seat =
+    record {
+      revision = client.revision;
+      phase = phase_in client.phase;
+      list = seat.list;
+      count = seat.count;
+      message = option_map message_of seat.up;
+    }
+
 -- an edit of this base follows what the client has made
 abbrev pub Follows : Phase → ℕ → Type 0
 Follows NotJoined base = ⊥

@@ -2,20 +2,18 @@
 use Rattle.std.specs.Prelude.{◌≡◌, ◌↔◌, ℕ, suc, ◌-◌, Bool, true, IsTrue, List, ◌∷◌, Option, Some, None, length, slice_get, take, if◌then◌else◌}
 use Rattle.ot_isa.specs.declared.elements.Tagged.{Tagged}
 use Rattle.ot_text.specs.Operation.{Operation, apply, empty}
-use Rattle.ot_text.specs.Patch.{put_back, FitsOn}
+use Rattle.ot_client.specs.Past.{phase_over, FitsOver}
+use Rattle.ot_client.specs.declared.past.Past.{Past}
 use Rattle.ot_client.specs.declared.sent.Sent.{Sent}
 use Rattle.ot_client.specs.Client.{message_of}
 use Rattle.ot_server.specs.History.{IsUndo}
-use Rattle.ot_model.specs.Table.{Client, Message, State, Phase, NotJoined, Synchronized, AwaitingConfirm, AwaitingWithBuffer, is_joined, absent, taken, with_client}
+use Rattle.ot_model.specs.Table.{Client, Message, State, Phase, NotJoined, Synchronized, AwaitingConfirm, AwaitingWithBuffer, is_joined, phase_in, absent, taken, with_client}
 use Rattle.ot_model.specs.Sound.{IsSound}
-use Rattle.ot_machine.specs.declared.seat.Seat.{Seat}
 use Rattle.ot_machine.specs.declared.kept.Before.{Before}
-use Rattle.ot_machine.specs.declared.past.Past.{Past}
-use Rattle.ot_machine.specs.declared.past.Past.TheVariants as kept
 use Rattle.ot_machine.specs.declared.undo.Record.{Record}
 use Rattle.ot_machine.specs.declared.undo.Record.TheVariants.{ClientStep, Taken, Joined, Read}
 use Rattle.ot_machine.specs.declared.undo.Undo.{Undo}
-use Rattle.ot_machine.specs.Seats.{View, phase_of, revision_of}
+use Rattle.ot_machine.specs.Seats.{View}
 
 -- the list before, from the list after
 abbrev pub list_before : Option (Operation Tagged) → List Tagged → List Tagged
@@ -35,23 +33,12 @@ last_of Synchronized = empty
 last_of (AwaitingConfirm o) = o
 last_of (AwaitingWithBuffer o b) = b
 
--- the earlier phase over two operations
-abbrev pub phase_over : Past → Operation Tagged → Operation Tagged → Phase
-phase_over kept.Synchronized first last = Synchronized
-phase_over (kept.AwaitingConfirm o) first last = AwaitingConfirm (put_back o first)
-phase_over (kept.AwaitingWithBuffer o b) first last = AwaitingWithBuffer (put_back o first) (put_back b last)
-
--- what is kept fits on them, and the buffer is over what the outstanding operation makes
-abbrev pub FitsOver : Past → Operation Tagged → Operation Tagged → Type 0
-FitsOver kept.Synchronized first last = Unit {0}
-FitsOver (kept.AwaitingConfirm o) first last = FitsOn o first
-FitsOver (kept.AwaitingWithBuffer o b) first last = FitsOn o first × FitsOn b last × ((put_back b last).base ≡ length (put_back o first).image)
-
 -- the phase before a step, from the phase after it
-abbrev pub phase_before : Past → Phase → Phase
-phase_before past phase = phase_over past (first_of phase) (last_of phase)
+abbrev pub phase_before : Past Tagged → Phase → Phase
+phase_before past phase = phase_in (phase_over past (first_of phase) (last_of phase))
 
-abbrev pub FitsPhase : Past → Phase → Type 0
+-- what is kept fits on the phase after it
+abbrev pub FitsPhase : Past Tagged → Phase → Type 0
 FitsPhase past phase = FitsOver past (first_of phase) (last_of phase)
 
 -- the phase after an acknowledgement
@@ -85,14 +72,14 @@ FitsBack (Some inverse) list = inverse.base ≡ length list
 abbrev pub GivesBack : Option (Operation Tagged) → List Tagged → List Tagged → Type 0
 GivesBack inverse before after = FitsBack inverse after × (list_before inverse after ≡ before)
 
--- what is kept of the seat's client before a step after which it has this phase and this list, and which takes a message off its downlink, or not
-pub record IsBefore (before : Before) (seat : Seat) (phase : Phase) (list : List Tagged) (received : Bool) : Type 0 where
-  pub waited : phase_before before.past phase ≡ phase_of seat.client
+-- what is kept of the client x before a step after which it has this phase and this list, and which takes a message off its downlink, or not
+pub record IsBefore (before : Before) (x : Client) (phase : Phase) (list : List Tagged) (received : Bool) : Type 0 where
+  pub waited : phase_before before.past phase ≡ x.phase
   pub fits : FitsPhase before.past phase
-  pub revision : before.revision ≡ revision_of seat.client
-  pub applied : GivesBack before.inverse seat.list list
-  pub count : before.count ≡ seat.count
-  pub unsent : IsTrue before.unsent ↔ (seat.up ≡ None)
+  pub revision : before.revision ≡ x.revision
+  pub applied : GivesBack before.inverse x.list list
+  pub count : before.count ≡ x.count
+  pub unsent : IsTrue before.unsent ↔ (x.message ≡ None)
   pub took : before.received ≡ received
 
 -- the record leads from the client x after a step back to the client y before it

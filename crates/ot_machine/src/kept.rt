@@ -3,13 +3,13 @@
 
 ghost use Rattle.std.specs.Prelude.{◌≡◌, length, map, true, IfErr, IfOk, IsSomeAnd, IsTrue, OnErr, OnOk, Some};
 ghost use Rattle.ot_text.specs.Operation.{apply};
-ghost use Rattle.ot_model.specs.Table.{is_joined};
-ghost use Rattle.ot_machine.specs.Seats.{client_of, phase_of, revision_of, view_of, IsAwaiting};
+ghost use Rattle.ot_model.specs.Table.{phase_in};
+ghost use Rattle.ot_machine.specs.Seats.{client_in, client_of, phase_of, revision_of, view_of, IsAwaiting};
 ghost use Rattle.ot_machine.specs.Undoing.{phase_acknowledged, phase_before, queue_before, reverted, unsent, FitsBack, FitsPhase, IsBefore};
 
-use crate::past::{Past, first_waiting, last_waiting};
 use crate::seat::Seat;
-use ot_client::Client;
+use crate::waiting::{first_waiting, last_waiting};
+use ot_client::{Client, Past, PreparedStep};
 use ot_isa::Tagged;
 use ot_text::{Doc, TextOp};
 use std::alloc::AllocError;
@@ -18,7 +18,7 @@ use std::alloc::AllocError;
 /// to its list, how much it had inserted, whether nothing was under way from it, and whether the step took a message off its downlink.
 #[derive(Drop)]
 pub(crate) struct Before {
-    pub past: Past,
+    pub past: Past<Tagged>,
     pub revision: u32,
     pub inverse: Option<TextOp<Tagged>>,
     pub count: u32,
@@ -39,33 +39,24 @@ fn inverse_of(op: &TextOp<Tagged>, list: &Doc<Tagged>) -> Result<TextOp<Tagged>,
     Ok(inverse)
 }
 
-// What is kept of the client before a step that makes `next` of it and applies an operation to its list.
+// What is kept of the client, which is taken out of its seat, before a prepared step that applies an operation to its list.
 pub(crate) fn before_change<const KEPT: bool>(
     seat: &Seat,
-    next: &Option<Client<Tagged>>,
+    step: &PreparedStep<Tagged>,
     applied: &TextOp<Tagged>,
     received: bool,
 ) -> Result<Option<Before>, AllocError>
-    requires joined { is_joined (phase_of seat.now.client) ≡ true }
-    requires fits { applied.now.base ≡ length seat.now.list }
-    ensures { IsTrue KEPT → IfOk result (λ kept. IsSomeAnd kept (λ before. IsBefore before seat.now (phase_of next.now) (apply applied.now seat.now.list) received)) }
+    requires { applied.now.base ≡ length seat.now.list }
+    ensures { IsTrue KEPT → IfOk result (λ kept. IsSomeAnd kept (λ before. IsBefore before (client_in step.now.before seat.now) (phase_in step.now.after.phase) (apply applied.now seat.now.list) received)) }
 {
     if !KEPT {
         return Ok(None);
     }
-    let Some(client) = &seat.client else {
-        unreachable!()
-    };
-    let none = TextOp::new(seat.list.allocator());
-    let past = Past::over(
-        client,
-        first_waiting(next, &none),
-        last_waiting(next, &none),
-    )?;
+    let past = step.past()?;
     let inverse = inverse_of(applied, &seat.list)?;
     Ok(Some(Before {
         past,
-        revision: client.revision(),
+        revision: step.revision(),
         inverse: Some(inverse),
         count: seat.count,
         unsent: seat.up.is_empty(),
@@ -78,7 +69,7 @@ pub(crate) fn before_acknowledgement<const KEPT: bool>(
     seat: &Seat,
 ) -> Result<Option<Before>, AllocError>
     requires { IsAwaiting (phase_of seat.now.client) }
-    ensures { IsTrue KEPT → IfOk result (λ kept. IsSomeAnd kept (λ before. IsBefore before seat.now (phase_acknowledged (phase_of seat.now.client)) seat.now.list true)) }
+    ensures { IsTrue KEPT → IfOk result (λ kept. IsSomeAnd kept (λ before. IsBefore before (client_of seat.now) (phase_acknowledged (phase_of seat.now.client)) seat.now.list true)) }
 {
     if !KEPT {
         return Ok(None);

@@ -15,11 +15,15 @@
 //!   client's list is the server's.
 //! - [`Machine::step`] performs one instruction, or refuses it as the table does and changes
 //!   nothing (specs/Answers.antt). `Memory` comes only where the table performs the instruction:
-//!   what grows does so before anything is changed.
+//!   what grows does so before anything is changed. An Edit and a Deliver take the client out of its
+//!   seat, have its step prepared at the cost of what changes, change the list, and put back the client
+//!   after the step, or on an error the one before it.
 //! - A downlink holds numbers of log entries; the log tells whether an entry is an acknowledgement
 //!   (its maker's) or another's operation. A client that has not joined has no client state at all.
 //! - [`Machine::clients`] and the calls beside it read the fields of the state
 //!   (specs/Readers.antt); [`Machine::state`] copies what a user looks at.
+//! - [`Machine::perform`] performs an instruction too and says who is read by it; [`Machine::document_of`] shows that
+//!   list, where `step` copies it, and [`end_of_run`] runs a schedule so (specs/Reads.antt).
 //! - [`Machine::part`] copies a joined client with its downlink, [`Machine::begins`] says whether such a
 //!   part still begins the client that is here, and [`Machine::install`] puts a client back that made
 //!   steps off the machine (specs/Parts.antt, over specs/Part.antt and specs/Session.antt of `ot_model`).
@@ -42,17 +46,19 @@ mod machine;
 mod order_laws;
 mod outcome;
 mod part;
-mod past;
+mod performing;
 mod readers;
 mod running;
 mod seat;
 mod state;
 mod undo;
+mod waiting;
 
 pub use machine::{INSERTED_LIMIT, Machine, STEP_LIMIT};
 pub use ot_model::{Reader, Refusal, Shown};
-pub use outcome::Replay;
+pub use outcome::{Ending, Replay};
 pub use part::{Message, Part};
+pub use performing::end_of_run;
 pub use running::run;
 pub use state::{ClientView, Head, Phase, Snapshot};
 pub use undo::Undo;

@@ -281,28 +281,12 @@ impl Machine {
         ensures unchanged { OnErr result (self.new ≡ self.old) }
     {
         match instr {
-            Instr::Edit(client, op) => {
-                self.edit::<false>(*client, op)?;
-                Ok(None)
-            }
-            Instr::Take(client) => {
-                self.take::<false>(*client)?;
-                Ok(None)
-            }
-            Instr::Deliver(client) => {
-                self.deliver::<false>(*client)?;
-                Ok(None)
-            }
-            Instr::Acknowledge(client) => {
-                self.acknowledge::<false>(*client)?;
-                Ok(None)
-            }
-            Instr::Join(client) => {
-                self.join(*client)?;
-                Ok(None)
-            }
             Instr::Read(client) => Ok(Some(self.read(*client)?)),
             Instr::ReadServer => Ok(Some(self.read_server()?)),
+            _ => {
+                self.perform(instr)?;
+                Ok(None)
+            }
         }
     }
 }

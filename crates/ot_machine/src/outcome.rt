@@ -13,3 +13,12 @@ pub struct Replay {
     /// The place of the instruction that was not performed, and why; none where all were performed.
     pub stopped: Option<(usize, Refusal)>,
 }
+
+/// Where a schedule's run ended.
+#[derive(Drop)]
+pub struct Ending {
+    /// The machine after the performed instructions.
+    pub machine: Machine,
+    /// The place of the instruction that was not performed, and why; none where all were performed.
+    pub stopped: Option<(usize, Refusal)>,
+}

@@ -6,6 +6,7 @@ ghost use Rattle.ot_client.specs.Client.{message_of, state_of};
 ghost use Rattle.ot_model.specs.Table.{downlink, is_joined, phase_in, IsQuiet};
 ghost use Rattle.ot_model.specs.Sound.{IsSound};
 ghost use Rattle.ot_machine.specs.Readers.{client_view, head_at, meant, phase_name, AreOne, ClientHas, IsShownState};
+ghost use Rattle.ot_machine.specs.Reads.{list_of, IsThere};
 ghost use Rattle.ot_machine.specs.Seats.{client_of, incoming};
 
 use crate::machine::Machine;
@@ -13,6 +14,7 @@ use crate::seat::{self, Seat};
 use crate::state::{ClientView, Head, Phase, Snapshot};
 use ot_client::{Client, Sent};
 use ot_isa::Tagged;
+use ot_model::Reader;
 use ot_server::Entry;
 use ot_text::Doc;
 use std::alloc::{AllocError, Global};
@@ -82,6 +84,17 @@ impl Machine {
         ensures { ClientHas self.now client (λ x. x.list) result.now }
     {
         &self.seat(client).list
+    }
+
+    /// The list of the one who is read.
+    pub fn document_of(&self, who: Reader) -> &Doc<Tagged>
+        requires { IsThere self.now who }
+        ensures { result.now ≡ list_of self.now who }
+    {
+        match who {
+            Reader::Client(client) => self.document(client),
+            Reader::Server => self.server_document(),
+        }
     }
 
     /// How many entries of the log the client has; 0 where it has not joined.

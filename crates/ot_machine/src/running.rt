@@ -15,7 +15,7 @@ use std::alloc::{AllocError, Global};
 
 impl Machine {
     // Why a read at the client is refused, if it is.
-    fn read_refusal(&self, client: u16) -> Option<Refusal>
+    pub(crate) fn read_refusal(&self, client: u16) -> Option<Refusal>
         ensures { MatchOption result (IsPerformed (step self.now (Read client))) (λ r. step self.now (Read client) ≡ Refused r) }
     {
         let place = client as usize;
@@ -63,7 +63,7 @@ impl Machine {
     }
 
     // Performs the instruction, if the table does and what it shows can be kept.
-    fn perform(&mut self, instr: &Instr, shown: &mut Vec<Shown>) -> Result<(), Refusal>
+    fn keep(&mut self, instr: &Instr, shown: &mut Vec<Shown>) -> Result<(), Refusal>
         ensures done { OnOk result (table.run (instr.now ∷ []) (record { state = self.old; shown = shown.old.items }) ≡ Some (record { state = self.new; shown = shown.new.items })) }
         ensures refused { IfErr result (λ r. IsRefusal (step self.old instr.now) r) }
         ensures unchanged { OnErr result (self.new ≡ self.old) }
@@ -105,7 +105,7 @@ pub fn run(alloc: Global, schedule: &Schedule) -> Result<Replay, AllocError>
         let Some(instr) = schedule.get(place) else {
             unreachable!()
         };
-        if let Err(refusal) = machine.perform(instr, &mut shown) {
+        if let Err(refusal) = machine.keep(instr, &mut shown) {
             return Ok(Replay {
                 machine,
                 shown,

@@ -3,17 +3,17 @@
 
 ghost use Rattle.std.specs.Prelude.{◌≡◌, ◌+◌, ◌≤◌, ◌<◌, ◌↔◌, ◌++◌, drop, length, map, replicate, slice_get, OnOk, OnErr, IfOk, IsSomeAnd, IsTrue, None, Some};
 ghost use Rattle.std.specs.Option.{option_copied, option_map};
-ghost use Rattle.ot_text.specs.Operation.{news};
+ghost use Rattle.ot_text.specs.Operation.{apply, news};
 ghost use Rattle.ot_client.specs.State as state;
 ghost use Rattle.ot_client.specs.Client.{message_of, state_of};
 ghost use Rattle.ot_server.specs.History.{fault_of, received, IsUndo};
-ghost use Rattle.ot_model.specs.Table.{absent, acknowledged, delivered, edited, present_with};
-ghost use Rattle.ot_machine.specs.Seats.{client_of, phase_of, revision_of, view_of, AreSettled, idle, queued, joined_at, under_way, Follows, MayPush, MaySend, HasRoom, HaveRoomFrom, MayDeliverState, MaySeatAcknowledge, MaySeatDeliver, IsMemory, IsReceivable, IsSettled, IsWaiting, emptied, outstanding_at, outstanding_of, received_from};
-ghost use Rattle.ot_machine.specs.Undoing.{message_at, Restores};
+ghost use Rattle.ot_model.specs.Table.{absent, acknowledged, delivered, edited, phase_in, present_with};
+ghost use Rattle.ot_machine.specs.Seats.{client_in, client_of, phase_of, revision_of, view_of, AreSettled, idle, queued, joined_at, under_way, Follows, MayPush, MaySend, HasRoom, HaveRoomFrom, MayDeliverState, MaySeatAcknowledge, MaySeatDeliver, IsMemory, IsReceivable, IsSettled, IsWaiting, emptied, outstanding_at, outstanding_of, received_from};
+ghost use Rattle.ot_machine.specs.Undoing.{message_at, IsBefore, Restores};
 ghost use Rattle.ot_isa.specs.declared.tagging.TheConstants.{INSERTED_LIMIT};
 
 use crate::kept::{self, Before};
-use ot_client::{Client, Sent, Synchronized};
+use ot_client::{Client, PreparedStep, Sent, Synchronized};
 use ot_isa::Tagged;
 use ot_links::{Downlink, Uplink};
 use ot_server::{Entry, Server, ServerFault};
@@ -85,32 +85,6 @@ pub(crate) fn add_vacant(alloc: Global, seats: &mut Vec<Seat>, count: u16) -> Re
     Ok(())
 }
 
-// The client after the user's edit, and what it sends.
-fn edited_client(
-    client: &Client<Tagged>,
-    op: &TextOp<Tagged>,
-) -> Result<(Client<Tagged>, Option<Sent<Tagged>>), AllocError>
-    requires { state.MayEdit (state_of client.now).phase op.now }
-    ensures state { IfOk result (λ given. state_of given.0 ≡ state.edited (state_of client.now) op.now) }
-    ensures sent { IfOk result (λ given. option_map message_of given.1 ≡ state.message_edited (state_of client.now).revision (state_of client.now).phase op.now) }
-{
-    let op = op.copy()?;
-    match client {
-        Client::Synchronized(client) => match client.copy().edit(op) {
-            Ok((client, sent)) => Ok((Client::AwaitingConfirm(client), Some(sent))),
-            Err((_client, _op)) => Err(AllocError),
-        },
-        Client::AwaitingConfirm(client) => {
-            let client = client.copy()?.edit(op);
-            Ok((Client::AwaitingWithBuffer(client), None))
-        }
-        Client::AwaitingWithBuffer(client) => match client.copy()?.edit(op) {
-            Ok(client) => Ok((Client::AwaitingWithBuffer(client), None)),
-            Err((_client, _op)) => Err(AllocError),
-        },
-    }
-}
-
 // Puts what the client sends, if anything, on its link.
 pub(crate) fn put_up(up: &mut Uplink<Sent<Tagged>>, sent: Option<Sent<Tagged>>)
     requires { MayPush sent up.old }
@@ -119,6 +93,24 @@ pub(crate) fn put_up(up: &mut Uplink<Sent<Tagged>>, sent: Option<Sent<Tagged>>)
     if let Some(sent) = sent {
         up.push(sent);
     }
+}
+
+// The list of the client, which is taken out of its seat, after what its prepared step applies, and what takes the step back where it is `KEPT`.
+#[inline(always)]
+fn change_list<const KEPT: bool>(
+    seat: &mut Seat,
+    step: &PreparedStep<Tagged>,
+    applied: &TextOp<Tagged>,
+    received: bool,
+) -> Result<Option<Before>, AllocError>
+    requires { applied.now.base ≡ length seat.old.list }
+    ensures ok { OnOk result (seat.new ≡ record { client = seat.old.client; list = apply applied.now seat.old.list; count = seat.old.count; up = seat.old.up; down = seat.old.down }) }
+    ensures err { OnErr result (seat.new ≡ seat.old) }
+    ensures kept { IsTrue KEPT → IfOk result (λ kept. IsSomeAnd kept (λ before. IsBefore before (client_in step.now.before seat.old) (phase_in step.now.after.phase) (apply applied.now seat.old.list) received)) }
+{
+    let before = kept::before_change::<KEPT>(seat, step, applied, received)?;
+    seat.list.change(applied)?;
+    Ok(before)
 }
 
 // The user's edit at a client that has joined.
@@ -136,17 +128,29 @@ pub(crate) fn edit<const KEPT: bool>(
     ensures err { OnErr result (seat.new ≡ seat.old) }
     ensures kept { IsTrue KEPT → IfOk result (λ kept. IsSomeAnd kept (λ before. Restores before (client_of seat.old) (client_of seat.new))) }
 {
-    let Some(client) = &seat.client else {
+    let Some(client) = seat.client.take() else {
         unreachable!()
     };
-    let (next, sent) = edited_client(client, op)?;
-    let next = Some(next);
-    let before = kept::before_change::<KEPT>(seat, &next, op, false)?;
-    seat.list.change(op)?;
-    seat.client = next;
-    put_up(&mut seat.up, sent);
-    seat.count += op.inserted() as u32;
-    Ok(before)
+    let step = match client.prepare_edit(op) {
+        Ok(step) => step,
+        Err(client) => {
+            seat.client = Some(client);
+            return Err(AllocError);
+        }
+    };
+    match change_list::<KEPT>(seat, &step, op, false) {
+        Ok(before) => {
+            let (client, sent) = step.commit();
+            seat.client = Some(client);
+            put_up(&mut seat.up, sent);
+            seat.count += op.inserted() as u32;
+            Ok(before)
+        }
+        Err(e) => {
+            seat.client = Some(step.roll_back());
+            Err(e)
+        }
+    }
 }
 
 // Memory for one more message to the client.
@@ -234,17 +238,29 @@ pub(crate) fn deliver<const KEPT: bool>(
     ensures err { OnErr result (seat.new ≡ seat.old) }
     ensures kept { IsTrue KEPT → IfOk result (λ kept. IsSomeAnd kept (λ before. Restores before (client_of seat.old) (client_of seat.new))) }
 {
-    let Some(client) = &seat.client else {
+    let Some(client) = seat.client.take() else {
         unreachable!()
     };
-    let (next, carried) = client.deliver(op)?;
+    let (step, carried) = match client.prepare_deliver(op) {
+        Ok(prepared) => prepared,
+        Err(client) => {
+            seat.client = Some(client);
+            return Err(AllocError);
+        }
+    };
     let applied = carried.as_ref().unwrap_or(op);
-    let next = Some(next);
-    let before = kept::before_change::<KEPT>(seat, &next, applied, true)?;
-    seat.list.change(applied)?;
-    seat.client = next;
-    let _ = seat.down.pop();
-    Ok(before)
+    match change_list::<KEPT>(seat, &step, applied, true) {
+        Ok(before) => {
+            let (client, _sent) = step.commit();
+            seat.client = Some(client);
+            let _ = seat.down.pop();
+            Ok(before)
+        }
+        Err(e) => {
+            seat.client = Some(step.roll_back());
+            Err(e)
+        }
+    }
 }
 
 // Takes the first message, the acknowledgement of the client's own operation.

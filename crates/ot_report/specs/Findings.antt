@@ -4,7 +4,7 @@ use Rattle.ot_isa.specs.Program.{Program}
 use Rattle.ot_model.specs.Events.{trace_of}
 use Rattle.ot_judge.specs.declared.verdict.Verdict.{Verdict}
 use Rattle.ot_judge.specs.declared.verdict.Verdict.TheVariants.{Holds}
-use Rattle.ot_machine.specs.declared.outcome.Replay.{Replay}
+use Rattle.ot_machine.specs.declared.outcome.Ending.{Ending}
 use Rattle.ot_check.specs.Convergence.{convergence_of}
 use Rattle.ot_judge.specs.Making.{is_full}
 use Rattle.ot_report.specs.Printed.{line, stop_text}
@@ -20,5 +20,5 @@ trace_text None = line (codes "trace full")
 trace_text (Some verdict) = verdict_line verdict
 
 -- the stop, if there was one; whether all is quiet, with one list, where the run ended; and the verdict of the trace
-abbrev pub findings : Program → Replay → List ℕ
-findings schedule run = stop_text run.stopped ++ convergence_line (convergence_of run.machine) ++ trace_text (verdict_of schedule)
+abbrev pub findings : Program → Ending → List ℕ
+findings schedule ending = stop_text ending.stopped ++ convergence_line (convergence_of ending.machine) ++ trace_text (verdict_of schedule)

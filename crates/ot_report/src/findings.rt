@@ -10,7 +10,7 @@ use crate::verdicts::{print_convergence, print_verdict};
 use ot_check::{TraceStop, convergence, trace_of};
 use ot_isa::Schedule;
 use ot_judge::{Verdict, judge};
-use ot_machine::Replay;
+use ot_machine::Ending;
 use std::alloc::{AllocError, Global};
 
 /// What is found of a schedule's run.
@@ -46,18 +46,18 @@ fn print_trace(alloc: Global, verdict: Option<Verdict>) -> Result<String, AllocE
     }
 }
 
-/// What is found of a schedule and its run: the stop if an instruction was not performed, whether all is quiet with one list where the
+/// What is found of a schedule and of where its run ended: the stop if an instruction was not performed, whether all is quiet with one list where the
 /// run ended, and the verdict of the schedule's trace, which is `holds`, or `trace full` where it has more than 4,000 events or 4,000,000
 /// list entries.
-pub fn find(alloc: Global, schedule: &Schedule, run: &Replay) -> Result<Findings, AllocError>
-    ensures text { IfOk result (λ f. string_bytes f.text ≡ findings schedule.now run.now) }
+pub fn find(alloc: Global, schedule: &Schedule, ending: &Ending) -> Result<Findings, AllocError>
+    ensures text { IfOk result (λ f. string_bytes f.text ≡ findings schedule.now ending.now) }
     ensures full { IfOk result (λ f. f.full ≡ is_full (trace_of schedule.now)) }
 {
     let verdict = verdict_of(alloc, schedule)?;
-    let first = print_convergence(alloc, convergence(&run.machine))?;
+    let first = print_convergence(alloc, convergence(&ending.machine))?;
     let second = print_trace(alloc, verdict)?;
     let mut text = String::new(alloc);
-    push_stop(alloc, &mut text, run.stopped)?;
+    push_stop(alloc, &mut text, ending.stopped)?;
     text.push_str(first.as_str())?;
     text.push_str(second.as_str())?;
     Ok(Findings {

@@ -2,7 +2,7 @@
 //!
 //! ```text
 //!   Replay ── print_run ──▶ its reads, its stop, and its end (print_end: the state of any machine)
-//!    └──── find ───────▶ its stop, whether all is quiet with one list, and the verdict of the schedule's trace
+//!   Ending ── find ───────▶ its stop, whether all is quiet with one list, and the verdict of the schedule's trace
 //!   Schedule ── write_report ──▶ the same lines as print_run's, written while the run goes
 //! ```
 //!
@@ -14,6 +14,7 @@
 
 mod ending;
 mod findings;
+mod letters;
 mod lines;
 mod running;
 mod verdicts;
@@ -21,7 +22,10 @@ mod writing;
 
 pub use ending::print_end;
 pub use findings::{Findings, find};
-pub use lines::{print_client, print_read, print_server, print_stop, quiet_text, refusal_name};
+pub use letters::{Letter, push_letters, push_quoted};
+pub use lines::{
+    print_client, print_read, print_server, print_stop, push_read, quiet_text, refusal_name,
+};
 pub use running::print_run;
 pub use verdicts::{print_convergence, print_verdict};
 pub use writing::{ReportFault, write_report};

@@ -1,21 +1,13 @@
 //! The lines of reads and of a stop.
 
-ghost use Rattle.std.specs.Prelude.{◌≡◌, IfOk, string_bytes};
-ghost use Rattle.ot_report.specs.Printed.{client_text, quiet_line, read_line, reader_text, refusal_text, server_text, stop_line, text_of};
+ghost use Rattle.std.specs.Prelude.{◌≡◌, ◌++◌, IfOk, OnOk, string_bytes};
+ghost use Rattle.ot_report.specs.Printed.{client_text, quiet_line, read_line, reader_text, refusal_text, server_text, stop_line};
 
-use ot_isa::{Tagged, plain};
+use crate::letters::push_quoted;
+use ot_isa::Tagged;
 use ot_model::{Reader, Refusal, Shown};
 use ot_text::Doc;
-use serde_json::Value;
 use std::alloc::{AllocError, Global};
-
-/// The document's text as a JSON string.
-pub(crate) fn quote(alloc: Global, list: &Doc<Tagged>) -> Result<String, AllocError>
-    ensures { IfOk result (λ s. string_bytes s ≡ text_of list.now) }
-{
-    let text = plain(alloc, list)?;
-    Value::String(text).to_string(alloc)
-}
 
 // Who reads.
 fn reader_name(alloc: Global, who: Reader) -> Result<String, AllocError>
@@ -27,13 +19,29 @@ fn reader_name(alloc: Global, who: Reader) -> Result<String, AllocError>
     }
 }
 
+/// Adds the line of a read of this list: `read C "text"` or `read-server "text"`. For want of memory the text holds a part of the line.
+pub fn push_read(
+    alloc: Global,
+    text: &mut String,
+    who: Reader,
+    list: &Doc<Tagged>,
+) -> Result<(), AllocError>
+    ensures { OnOk result (string_bytes text.new ≡ string_bytes text.old ++ read_line (record { who = who; list = list.now })) }
+{
+    let name = reader_name(alloc, who)?;
+    text.push_str(name.as_str())?;
+    text.push(' ')?;
+    push_quoted(alloc, text, list)?;
+    text.push('\n')
+}
+
 /// The line of a read: `read C "text"` or `read-server "text"`.
 pub fn print_read(alloc: Global, shown: &Shown) -> Result<String, AllocError>
     ensures { IfOk result (λ s. string_bytes s ≡ read_line shown.now) }
 {
-    let name = reader_name(alloc, shown.who)?;
-    let text = quote(alloc, &shown.list)?;
-    format!(in alloc; "{name} {text}\n")
+    let mut text = String::new(alloc);
+    push_read(alloc, &mut text, shown.who, &shown.list)?;
+    Ok(text)
 }
 
 /// A refusal as it is printed.
@@ -71,8 +79,10 @@ pub fn print_client(
 ) -> Result<String, AllocError>
     ensures { IfOk result (λ s. string_bytes s ≡ client_text client revision phase.now list.now) }
 {
-    let text = quote(alloc, list)?;
-    format!(in alloc; "client {client} rev {revision} {phase} {text}\n")
+    let mut text = format!(in alloc; "client {client} rev {revision} {phase} ")?;
+    push_quoted(alloc, &mut text, list)?;
+    text.push('\n')?;
+    Ok(text)
 }
 
 /// The line of the server: `server rev R "text"`.
@@ -83,8 +93,10 @@ pub fn print_server(
 ) -> Result<String, AllocError>
     ensures { IfOk result (λ s. string_bytes s ≡ server_text revision list.now) }
 {
-    let text = quote(alloc, list)?;
-    format!(in alloc; "server rev {revision} {text}\n")
+    let mut text = format!(in alloc; "server rev {revision} ")?;
+    push_quoted(alloc, &mut text, list)?;
+    text.push('\n')?;
+    Ok(text)
 }
 
 /// The last line: `quiet` or `not quiet`.

@@ -1,21 +1,13 @@
 //! A whole run.
 
 ghost use Rattle.std.specs.Prelude.{◌≡◌, ◌++◌, IfOk, OnOk, string_bytes};
-ghost use Rattle.ot_report.specs.Printed.{read_line, read_lines, stop_text, IsReport};
+ghost use Rattle.ot_report.specs.Printed.{read_lines, stop_text, IsReport};
 
 use crate::ending::print_end;
-use crate::lines::{print_read, print_stop};
+use crate::lines::{print_stop, push_read};
 use ot_machine::Replay;
 use ot_model::{Refusal, Shown};
 use std::alloc::{AllocError, Global};
-
-// The line of one more read.
-pub(crate) fn push_read(alloc: Global, text: &mut String, shown: &Shown) -> Result<(), AllocError>
-    ensures { OnOk result (string_bytes text.new ≡ string_bytes text.old ++ read_line shown.now) }
-{
-    let line = print_read(alloc, shown)?;
-    text.push_str(line.as_str())
-}
 
 // The lines of the reads, in order.
 fn reads_text(alloc: Global, shown: &[Shown]) -> Result<String, AllocError>
@@ -23,7 +15,7 @@ fn reads_text(alloc: Global, shown: &[Shown]) -> Result<String, AllocError>
 {
     let mut text = String::new(alloc);
     for read in shown {
-        push_read(alloc, &mut text, read)?;
+        push_read(alloc, &mut text, read.who, &read.list)?;
     }
     Ok(text)
 }

@@ -1,15 +1,18 @@
 //! The report of a schedule's run, written while it goes.
 
-ghost use Rattle.std.specs.Prelude.{◌≡◌, [], ◌++◌, IfErr, IfOk, OnErr, OnOk, string_bytes};
+ghost use Rattle.std.specs.Prelude.{◌≡◌, [], ◌++◌, IfErr, IfOk, IfSome, OnErr, OnOk, string_bytes};
+ghost use Rattle.std.specs.Option.{option_map};
 ghost use Rattle.streams.specs.Streams.{WritesPart};
 ghost use Rattle.ot_model.specs.Runs.{opening_of};
+ghost use Rattle.ot_machine.specs.Reads.{shown_by, IsThere};
 ghost use Rattle.ot_report.specs.Written.{Flushes, Gathers, GathersReads, GathersUpTo, ReadsUpTo, WritesReport, WritesReportUpTo};
 
 use crate::ending::print_end;
-use crate::running::{push_read, push_stop};
+use crate::lines::push_read;
+use crate::running::push_stop;
 use ot_isa::Schedule;
 use ot_machine::Machine;
-use ot_model::{Refusal, Shown};
+use ot_model::{Reader, Refusal};
 use std::alloc::{AllocError, Global};
 use std::io::Write;
 use streams::put;
@@ -61,19 +64,21 @@ fn flush_full<W: Write>(text: &mut String, output: &mut W) -> Result<(), streams
     Ok(())
 }
 
-// Gathers the line of a read, where there is one.
+// Gathers the line of a read, where there is one: it shows the machine's own list.
 fn gather<W: Write>(
     alloc: Global,
-    shown: Option<Shown>,
+    machine: &Machine,
+    who: Option<Reader>,
     text: &mut String,
     output: &mut W,
 ) -> Result<(), ReportFault>
-    ensures ok { OnOk result (Gathers shown (string_bytes text.old) (string_bytes text.new) (W.contents output.old) (W.contents output.new)) }
+    requires { IfSome who (IsThere machine.now) }
+    ensures ok { OnOk result (Gathers (option_map (shown_by machine.now) who) (string_bytes text.old) (string_bytes text.new) (W.contents output.old) (W.contents output.new)) }
     ensures err { IfErr result (λ f. GathersUpTo f (string_bytes text.old) (W.contents output.old) (W.contents output.new)) }
 {
-    let Some(shown) = shown else { return Ok(()) };
+    let Some(who) = who else { return Ok(()) };
     flush_full(text, output)?;
-    push_read(alloc, text, &shown)?;
+    push_read(alloc, text, who, machine.document_of(who))?;
     Ok(())
 }
 
@@ -94,8 +99,8 @@ fn write_reads<W: Write>(
         let Some(instr) = schedule.get(place) else {
             unreachable!()
         };
-        match machine.step(instr) {
-            Ok(shown) => gather(alloc, shown, text, output)?,
+        match machine.perform(instr) {
+            Ok(who) => gather(alloc, machine, who, text, output)?,
             Err(refusal) => return Ok(Some((place, refusal))),
         }
     }
@@ -108,7 +113,7 @@ fn write_reads<W: Write>(
 ///
 /// After a failed write a first part of the report is written; for want of memory the lines of the first reads, and these are whole; lines
 /// that were gathered and not yet written are lost. Memory does not grow with the reads: their lines are gathered in one buffer, which is
-/// written once it has 64 KiB, and beside it there is room for the machine, for one list and its line, and for the lines of the end.
+/// written once it has 64 KiB, and beside it there is room for the machine, for the line of one read, and for the lines of the end.
 pub fn write_report<W: Write>(
     alloc: Global,
     schedule: &Schedule,

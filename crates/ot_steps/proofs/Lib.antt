@@ -1,5 +1,4 @@
 mod Arrays
-mod Escaping
 mod Examples
 mod Folding
 mod Gathering

@@ -57,9 +57,9 @@ within s (Join c) = by_join (IsWithin (Join c)) (λ r. tt) s c (λ x at below of
 within s (Read c) = by_read (IsWithin (Read c)) (λ r. tt) s c (λ x at below on. slice_get_within s.clients c x at)
 within s ReadServer = by_read_server (IsWithin ReadServer) (λ r. tt) s (λ below. tt)
 
-pub performed_within : (s t : State) (i : Instr) (r : Result (Option Shown) Refusal) → ((x : Refusal) → r ≡ Err x → ⊥) → IfOk r (λ shown. step s i ≡ Performed t shown) → IsForClients (length t.clients) i
-performed_within s t i (Ok shown) some done = subst (IsWithin i) done (within s i)
-performed_within s t i (Err x) some done = absurd (some x refl)
+pub performed_within : {A : Type 0} (s t : State) (i : Instr) (shown : A → Option Shown) (r : Result A Refusal) → ((x : Refusal) → r ≡ Err x → ⊥) → IfOk r (λ a. step s i ≡ Performed t (shown a)) → IsForClients (length t.clients) i
+performed_within s t i shown (Ok a) some done = subst (IsWithin i) done (within s i)
+performed_within s t i shown (Err x) some done = absurd (some x refl)
 
 -- ---- lines as text
 

@@ -7,10 +7,10 @@ ghost use Rattle.ot_steps.specs.Lines.{plain_message, plain_operation};
 ghost use Rattle.ot_steps.specs.Text.{field_text, message_text, Name, Number, Op, Sent as SentValue, Text};
 ghost use Rattle.ot_json.specs.Writing.{text_of_operation};
 
-use crate::letters::push_letters;
 use crate::operations::{push_components, push_decimal};
 use ot_client::Sent;
 use ot_isa::Tagged;
+use ot_report::{push_letters, push_quoted};
 use ot_text::{Doc, TextOp};
 use std::alloc::{AllocError, Global};
 
@@ -49,9 +49,8 @@ pub(crate) fn push_list(
 ) -> Result<(), AllocError>
     ensures { OnOk result (string_bytes text.new ≡ string_bytes text.old ++ field_text (record { key = key.now; value = Text (chars_of list.now) })) }
 {
-    let letters = list.to_vec()?;
     push_key(text, key)?;
-    push_letters(alloc, text, letters.as_slice())
+    push_quoted(alloc, text, list)
 }
 
 pub(crate) fn push_text(

@@ -1,8 +1,8 @@
 //! A schedule's run as lines of JSON: the opening, a line for each performed instruction with what it changed, a stop, and the end.
 //!
 //! ```text
-//!    instruction ── sends, applies ──▶ Machine::step ── print_step ──▶ {"at":7,"do":"deliver","client":0,"revision":1, ..}
-//!                  (of the state before)                (of the state after)
+//!    instruction ── sends, applies ──▶ Machine::perform ── print_step ──▶ {"at":7,"do":"deliver","client":0,"revision":1, ..}
+//!                  (of the state before)                   (of the state after)
 //! ```
 //!
 //! - *The lines as values* (`specs/Lines.antt`, `specs/Steps.antt`): a [`print_step`] is the text of `step_line`, a function of the written
@@ -20,7 +20,6 @@
 
 mod fields;
 mod laws;
-mod letters;
 mod lines;
 mod moving;
 mod operations;

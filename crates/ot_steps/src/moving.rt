@@ -35,8 +35,7 @@ fn carried(client: &Client<Tagged>, op: &TextOp<Tagged>) -> Result<TextOp<Tagged
     requires { MayDeliverState (state_of client.now) op.now }
     ensures { IfOk result (λ applied. applied ≡ state.carried (state_of client.now).phase op.now) }
 {
-    let (_next, carried) = client.deliver(op)?;
-    match carried {
+    match client.carry(op)? {
         Some(applied) => Ok(applied),
         None => op.copy(),
     }

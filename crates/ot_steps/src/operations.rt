@@ -7,8 +7,8 @@ ghost use Rattle.ot_text.specs.Components.{run_of, runs};
 ghost use Rattle.ot_text.specs.Run.{IsFilled, IsNormal};
 ghost use Rattle.ot_steps.specs.Lettered.{lettered};
 
-use crate::letters::{Letter, push_letters};
 use itoa::Buffer;
+use ot_report::{Letter, push_letters};
 use ot_text::Component;
 use std::alloc::{AllocError, Global};
 

@@ -66,7 +66,7 @@ fn perform(
 {
     let sent = sends(machine, instr);
     let applied = applies(machine, instr)?;
-    if let Err(refusal) = machine.step(instr) {
+    if let Err(refusal) = machine.perform(instr) {
         return Ok(Err(refusal));
     }
     let applied = applied.as_ref();

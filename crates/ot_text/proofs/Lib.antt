@@ -20,3 +20,8 @@ pub mod Surveying
 pub mod Touched
 pub mod Patched
 pub mod Replaced
+pub mod Put
+pub mod Replacing
+pub mod Behind
+pub mod Unchanged
+pub mod Readied

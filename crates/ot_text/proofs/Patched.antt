@@ -1,12 +1,13 @@
 -- What an operation and an older one share, at the front and at the back.
 use Rattle.std.proofs.Common.{◌≡◌, ◌≢◌, ℕ, zero, suc, ◌+◌, ◌-◌, ◌<◌, ◌≤◌, List, [], ◌∷◌, ◌++◌, length, take, drop, get_or, refl, sym, ap, ◌∙◌, subst, arith, append_assoc, length-drop}
 use Rattle.std.specs.Prelude.{slice_get}
+use Rattle.std.specs.List.{splice}
 use Rattle.std.proofs.lemmas.List.{drop-drop, drop-map, length-map, length-take, take-append-drop, take-map}
 use Rattle.ot_text.specs.declared.Component.{Component}
 use Rattle.ot_text.specs.Operation.{Operation}
 use Rattle.ot_text.specs.Run.{Run, IsSound, normal_runs, operation_of}
 use Rattle.ot_text.specs.Components.{run_of, runs}
-use Rattle.ot_text.specs.Patch.{Difference, older_runs, put_back, FitsOn, IsFitting, IsLeast, ShareFront, ShareBack}
+use Rattle.ot_text.specs.Patch.{Difference, older_runs, put_back, FitsOn, IsFitting, LeadsBack, ShareFront, ShareBack}
 use Rattle.ot_text.proofs.Compared.{run_at}
 
 run_behind : {T : Type 0} (cs : List (Component T)) (j : ℕ) (c : Component T) → j < length cs → c ≡ get_or cs j c → drop j (runs cs) ≡ run_of c ∷ drop (suc j) (runs cs)
@@ -127,60 +128,38 @@ module _ {T : Type 0} (a b rest_a rest_b between kept : List (Component T)) (fro
   found_runs : take front (runs b) ++ runs kept ++ drop (front + (length rest_b - back)) (runs b) ≡ runs a
   found_runs = is_older (runs a) (runs b) (runs kept) front back (length rest_b - back) found.fronts backs_are kept_are many_newer
 
-  -- the difference that was found fits, gives the older operation, and is as small as can be
-  pub found_fits :
-      (base target inserted : ℕ) (op : Operation T) → runs b ≡ normal_runs op → IsSound (runs a) base target inserted
-      → FitsOn (record { front = front; older = runs kept; newer = length rest_b - back; base = base; target = target; inserted = inserted }) op
-  unfolding FitsOn
-  found_fits base target inserted op form sound =
-      subst (λ vs. IsFitting (record { front = front; older = runs kept; newer = length rest_b - back; base = base; target = target; inserted = inserted }) vs) form
-      (record {
-        within = is_within (runs a) (runs b) (runs kept) front back (length rest_b - back) found.fronts backs_are kept_are many_newer;
-        sound = subst (λ rs. IsSound rs base target inserted) (sym found_runs) sound;
-      })
+  -- the difference that was found leads back, and is as small as can be
+  pub found_leads :
+      (base target inserted : ℕ)
+      → LeadsBack (record { front = front; older = runs kept; newer = length rest_b - back; base = base; target = target; inserted = inserted }) (runs b) (runs a)
+  found_leads base target inserted = record {
+    within = is_within (runs a) (runs b) (runs kept) front back (length rest_b - back) found.fronts backs_are kept_are many_newer;
+    older_is = found_runs;
+    least = record {
+      first = is_first (runs a) (runs b) (runs kept) front back (length rest_b - back) found.fronts backs_are kept_are many_newer;
+      last = is_last (runs a) (runs b) (runs kept) front back (length rest_b - back) found.fronts backs_are kept_are many_newer;
+    };
+  }
 
-  pub found_back :
-      (base target inserted : ℕ) (older op : Operation T) → runs b ≡ normal_runs op → operation_of (runs a) ≡ older
-      → put_back (record { front = front; older = runs kept; newer = length rest_b - back; base = base; target = target; inserted = inserted }) op ≡ older
-  unfolding put_back
-  found_back base target inserted older op form spells =
-      ap (λ vs. operation_of (take front vs ++ runs kept ++ drop (front + (length rest_b - back)) vs)) (sym form) ∙ ap operation_of found_runs ∙ spells
-
-  pub found_least :
-      (base target inserted : ℕ) (op : Operation T) → runs b ≡ normal_runs op
-      → IsLeast (record { front = front; older = runs kept; newer = length rest_b - back; base = base; target = target; inserted = inserted }) (normal_runs op)
-  found_least base target inserted op form =
-      subst (λ vs. IsLeast (record { front = front; older = runs kept; newer = length rest_b - back; base = base; target = target; inserted = inserted }) vs) form
-      (record {
-        first = is_first (runs a) (runs b) (runs kept) front back (length rest_b - back) found.fronts backs_are kept_are many_newer;
-        last = is_last (runs a) (runs b) (runs kept) front back (length rest_b - back) found.fronts backs_are kept_are many_newer;
-      })
-
--- the places of a difference that fits are there
-pub places : {T : Type 0} (d e : Difference T) (op : Operation T) (cs : List (Component T)) → d ≡ e → FitsOn e op → runs cs ≡ normal_runs op → d.front + d.newer ≤ length cs
-unfolding FitsOn
-places {T} d e op cs same fits form =
-    let fitting : IsFitting d (normal_runs op) = subst (λ f. IsFitting f (normal_runs op)) (sym same) fits in
-    omega (arith, fitting.within, length-map cs (run_of {T = T}), ap length form)
-
--- what is made of a difference that fits
+-- the older runs as the ones that the patch keeps in the place of others
 module _
-    {T : Type 0} (d e : Difference T) (op : Operation T) (shared front between back made : List (Component T))
-    (same : d ≡ e) (form : runs shared ≡ normal_runs op) (front_is : front ≡ take d.front shared) (between_is : runs between ≡ d.older)
-    (back_is : back ≡ drop (d.front + d.newer) shared) (made_is : runs made ≡ runs front ++ runs between ++ runs back)
+    {T : Type 0} (d e : Difference T) (op : Operation T) (copied : List (Component T)) (same : d ≡ e) (copied_is : runs copied ≡ d.older)
   where
-    made_runs : runs made ≡ older_runs d (normal_runs op)
-    made_runs =
-        made_is ∙ ap (λ us. us ++ runs between ++ runs back) (ap runs front_is ∙ sym (take-map (run_of {T = T}) d.front shared) ∙ ap (take d.front) form)
-        ∙ ap (λ us. take d.front (normal_runs op) ++ us ++ runs back) between_is
-        ∙ ap (λ us. take d.front (normal_runs op) ++ d.older ++ us) (ap runs back_is ∙ sym (drop-map (run_of {T = T}) (d.front + d.newer) shared) ∙ ap (drop (d.front + d.newer)) form)
+    in_place : older_runs d (normal_runs op) ≡ splice (normal_runs op) d.front (d.front + d.newer) (runs copied)
+    in_place = append_assoc (take d.front (normal_runs op)) d.older (drop (d.front + d.newer) (normal_runs op)) ∙ rw copied_is refl
 
-    pub made_sound : FitsOn e op → IsSound (runs made) d.base d.target d.inserted
+    pub kept_within : FitsOn e op → d.front + d.newer ≤ length (normal_runs op)
     unfolding FitsOn
-    made_sound fits =
+    kept_within fits =
         let fitting : IsFitting d (normal_runs op) = subst (λ f. IsFitting f (normal_runs op)) (sym same) fits in
-        subst (λ rs. IsSound rs d.base d.target d.inserted) (sym made_runs) fitting.sound
+        fitting.within
 
-    pub made_back : operation_of (runs made) ≡ put_back e op
+    pub kept_sound : FitsOn e op → IsSound (splice (normal_runs op) d.front (d.front + d.newer) (runs copied)) d.base d.target d.inserted
+    unfolding FitsOn
+    kept_sound fits =
+        let fitting : IsFitting d (normal_runs op) = subst (λ f. IsFitting f (normal_runs op)) (sym same) fits in
+        subst (λ rs. IsSound rs d.base d.target d.inserted) in_place fitting.sound
+
+    pub kept_back : operation_of (splice (normal_runs op) d.front (d.front + d.newer) (runs copied)) ≡ put_back e op
     unfolding put_back
-    made_back = ap operation_of made_runs ∙ ap (λ f. operation_of (older_runs f (normal_runs op))) same
+    kept_back = ap operation_of (sym in_place) ∙ ap (λ f. operation_of (older_runs f (normal_runs op))) same

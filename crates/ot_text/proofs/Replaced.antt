@@ -1,5 +1,5 @@
 -- Runs in the place of others: the normal form at the two joints, and the three lengths.
-use Rattle.std.proofs.Common.{◌≡◌, ◌↔◌, ℕ, zero, suc, ◌+◌, ◌-◌, ◌<◌, ◌≤◌, List, [], ◌∷◌, ◌++◌, length, take, drop, map, get_or, refl, sym, ap, subst, ◌∙◌, arith, length-append, length-drop, append_assoc}
+use Rattle.std.proofs.Common.{◌≡◌, ◌↔◌, ℕ, zero, suc, ◌+◌, ◌-◌, ◌<◌, ◌≤◌, List, [], ◌∷◌, ◌++◌, length, take, drop, map, get_or, refl, sym, ap, subst, ◌∙◌, arith, length-append, length-drop}
 use Rattle.std.proofs.lemmas.List.{take-append-drop, length-map, map-append, take-map, drop-map}
 use Rattle.std.specs.List.{splice, slice_range}
 use Rattle.ot_text.specs.Operation.{Item, New, olds, news, IsTooLong}
@@ -139,24 +139,6 @@ runs_splice own others start end =
     map-append run_of (take start own) (others ++ drop end own)
     ∙ rw (take-map run_of start own, drop-map run_of end own) (ap (λ rest. runs (take start own) ++ rest) (map-append run_of others (drop end own)))
 
--- put in, and then the old ones out
-pub put_both :
-    {X : Type 0} (xs ys zs : List X) (start end : ℕ) → start ≤ end → end ≤ length xs → zs ≡ take end xs ++ ys ++ drop end xs
-    → take start zs ++ drop (start + (end - start)) zs ≡ splice xs start end ys
-put_both xs ys zs start end order within is =
-    let there : start + (end - start) ≡ end = omega (arith, order) in
-    rw (there, is, append_assoc (take end xs) ys (drop end xs)) (by ys (drop end xs) xs start end order within)
-  where
-    by : {X : Type 0} (ys rest xs : List X) (start end : ℕ) → start ≤ end → end ≤ length xs
-        → take start (take end xs ++ (ys ++ rest)) ++ drop end (take end xs ++ (ys ++ rest)) ≡ take start xs ++ (ys ++ rest)
-    by ys rest [] zero zero order within = refl
-    by ys rest (x ∷ xs) zero zero order within = refl
-    by ys rest [] (suc start) end order within = absurd (omega (arith, order, within))
-    by ys rest [] zero (suc end) order within = absurd (omega (arith, within))
-    by ys rest (x ∷ xs) zero (suc end) order within = by ys rest xs zero end (omega arith) (omega (arith, within))
-    by ys rest (x ∷ xs) (suc start) zero order within = absurd (omega (arith, order))
-    by ys rest (x ∷ xs) (suc start) (suc end) order within = ap (λ more. x ∷ more) (by ys rest xs start end (omega (arith, order)) (omega (arith, within)))
-
 -- the part that goes
 pub parts_of : {A : Type 0} (rs : List (Run A)) (start end : ℕ) → start ≤ end → end ≤ length rs → rs ≡ take start rs ++ (take (end - start) (drop start rs) ++ drop end rs)
 parts_of rs zero zero order within = refl
@@ -294,26 +276,27 @@ module _ {A : Type 0} (front gone back : List (Run A)) where
       }
 
 -- the same of an operation's components
-module _ {T : Type 0} (cs ds : List (Component T)) (start end : ℕ) (order : start ≤ end) (within : end ≤ length cs) {base target inserted : ℕ} (sound : IsSound (runs cs) base target inserted) where
+module _ {T : Type 0} (cs ds : List (Component T)) (start end : ℕ) (order : start ≤ end) (within : end ≤ length cs) where
   gone_is : runs (slice_range cs start end) ≡ take (end - start) (drop start (runs cs))
   gone_is = sym (take-map run_of (end - start) (drop start cs)) ∙ ap (take (end - start)) (sym (drop-map run_of start cs))
 
-  parted : runs cs ≡ take start (runs cs) ++ (runs (slice_range cs start end) ++ drop end (runs cs))
+  pub parted : runs cs ≡ take start (runs cs) ++ (runs (slice_range cs start end) ++ drop end (runs cs))
   parted = parts_of (runs cs) start end order (omega (arith, within, length-map cs run_of)) ∙ rw gone_is refl
 
-  sound_parts : IsSound (take start (runs cs) ++ (runs (slice_range cs start end) ++ drop end (runs cs))) base target inserted
-  sound_parts = subst (λ rs. IsSound rs base target inserted) parted sound
+  sound_parts : {base target inserted : ℕ} → IsSound (runs cs) base target inserted → IsSound (take start (runs cs) ++ (runs (slice_range cs start end) ++ drop end (runs cs))) base target inserted
+  sound_parts {base} {target} {inserted} sound = subst (λ rs. IsSound rs base target inserted) parted sound
 
   pub gone_small :
-      (base_of (runs (slice_range cs start end)) ≤ base) × (length (image_from 0 (runs (slice_range cs start end))) ≤ target)
+      {base target inserted : ℕ} → IsSound (runs cs) base target inserted
+      → (base_of (runs (slice_range cs start end)) ≤ base) × (length (image_from 0 (runs (slice_range cs start end))) ≤ target)
       × (length (news (image_from 0 (runs (slice_range cs start end)))) ≤ inserted)
-  gone_small = small_part (take start (runs cs)) (runs (slice_range cs start end)) (drop end (runs cs)) sound_parts
+  gone_small sound = small_part (take start (runs cs)) (runs (slice_range cs start end)) (drop end (runs cs)) (sound_parts sound)
 
   pub replaced_sound :
-      IsNormal (splice (runs cs) start end (runs ds)) → (IsTooLong (operation_of (splice (runs cs) start end (runs ds))) → ⊥)
-      → IsSound (runs (splice cs start end ds)) (base - base_of (runs (slice_range cs start end)) + base_of (runs ds))
+      {base target inserted : ℕ} → IsSound (runs cs) base target inserted
+      → IsNormal (splice (runs cs) start end (runs ds)) → (IsTooLong (operation_of (splice (runs cs) start end (runs ds))) → ⊥)
+      → IsSound (splice (runs cs) start end (runs ds)) (base - base_of (runs (slice_range cs start end)) + base_of (runs ds))
       (target - length (image_from 0 (runs (slice_range cs start end))) + length (image_from 0 (runs ds)))
       (inserted - length (news (image_from 0 (runs (slice_range cs start end)))) + length (news (image_from 0 (runs ds))))
-  replaced_sound normal fits =
-      rw (runs_splice cs ds start end)
-      (sound_replaced (take start (runs cs)) (runs (slice_range cs start end)) (drop end (runs cs)) (runs ds) sound_parts normal fits)
+  replaced_sound sound normal fits =
+      sound_replaced (take start (runs cs)) (runs (slice_range cs start end)) (drop end (runs cs)) (runs ds) (sound_parts sound) normal fits

@@ -1,5 +1,6 @@
 -- What is kept of an operation beside a later one that resembles it.
 use Rattle.std.specs.Prelude.{◌≡◌, ◌≢◌, ℕ, suc, ◌+◌, ◌-◌, ◌<◌, ◌≤◌, List, ◌++◌, length, take, drop, slice_get}
+use Rattle.ot_text.specs.declared.lengths.Lengths.{Lengths}
 use Rattle.ot_text.specs.Operation.{Operation}
 use Rattle.ot_text.specs.Run.{Run, IsSound, normal_runs, operation_of}
 
@@ -33,6 +34,18 @@ FitsOn d op = IsFitting d (normal_runs op)
 pub record IsLeast {A : Type 0} (d : Difference A) (runs : List (Run A)) : Type 0 where
   pub first : 0 < length d.older → 0 < d.newer → slice_get d.older 0 ≢ slice_get runs d.front
   pub last : 0 < length d.older → 0 < d.newer → slice_get d.older (length d.older - 1) ≢ slice_get runs (d.front + d.newer - 1)
+
+-- the lengths of the difference
+pub record HasLengths {A : Type 0} (d : Difference A) (lengths : Lengths) : Type 0 where
+  pub base_is : d.base ≡ lengths.base
+  pub target_is : d.target ≡ lengths.target
+  pub inserted_is : d.inserted ≡ lengths.inserted
+
+-- the difference leads from newer runs back to older ones, and shares all that it can
+pub record LeadsBack {A : Type 0} (d : Difference A) (newer older : List (Run A)) : Type 0 where
+  pub within : d.front + d.newer ≤ length newer
+  pub older_is : older_runs d newer ≡ older
+  pub least : IsLeast d newer
 
 -- two lists of runs begin with n equal ones, and with no more
 pub record ShareFront {A : Type 0} (a b : List (Run A)) (n : ℕ) : Type 0 where

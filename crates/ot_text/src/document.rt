@@ -10,6 +10,7 @@ use crate::compare::same_items;
 use crate::cursor::Cursor;
 use crate::draft::{CHUNK, Draft, FILL, assemble, copy_pieces};
 use crate::edit::edit_components;
+use crate::pieces::Pieces;
 use crate::survey::survey_components;
 use crate::{Element, TextOp};
 use std::alloc::{AllocError, Global};
@@ -107,6 +108,15 @@ impl<T: Element> Doc<T> {
         let mut cursor = Cursor::start();
         cursor.skip(chunks, place);
         cursor.rest(chunks).first().copied()
+    }
+
+    /// The elements in order, to be looked at piece by piece: nothing is copied.
+    pub fn pieces(&self) -> Pieces<'_, T>
+        ensures { result ≡ self.now }
+    {
+        Pieces {
+            chunks: self.chunks.as_slice(),
+        }
     }
 
     /// The two documents are one list; how it lies in chunks does not count.

@@ -14,7 +14,7 @@
 //! its image, which says for each element of the result whether it stood at a place of the document before (`Old i`) or
 //! is new (`New x`): here `Old 0, New c, New d, Old 3` on base 4. The three lengths are kept beside the components.
 //!
-//! A document is a list of elements, in chunks. A contract sees the list alone.
+//! A document is a list of elements, in chunks. A contract sees the list alone, and so does who looks at it piece by piece (`Pieces`).
 //!
 //! ```text
 //!     chunks  [ 512 elements ] [ 512 ] [ 130 ] [ 400 ] ..      1 to 512 elements each; two neighbours have more than 512
@@ -29,15 +29,26 @@
 //! be edited as they lie, a survey counts what they will have and makes room in them, and the edit takes no memory. Else a draft is
 //! made over the old chunks as they are, and then the old chunks move into their new places, which takes no memory either.
 //!
+//! A change of an operation is prepared (`Prepared`), which makes its growths, and then made or taken back, neither of which takes memory:
+//!
+//! ```text
+//!     op       [ retain 7 | insert "ab" | retain 5 | .. | retain 2 ]      as it is, with room for two more
+//!     part                              [ retain 2 | insert "c" | retain 3 ]    in the place of `retain 5`
+//!
+//!     commit   [ retain 7 | insert "ab" | retain 2 | insert "c" | retain 3 | .. | retain 2 ]    moved in; what comes behind moves on
+//!     patch    behind 2 components `retain 5` stood where 3 stand now (`Patch`): leads back, in place again
+//! ```
+//!
 //! - `specs/Operation.antt`: base and image, the builder's three calls, `apply`, `invert`.
 //! - `specs/Run.antt`, `specs/Components.antt`: the components as runs, their normal form, what they spell.
 //! - `specs/Chunks.antt`, `specs/Draft.antt`, `specs/Spots.antt`: the rule on chunks, a place in them, the draft of a change, the change
 //!   where they lie.
 //! - `specs/Patch.antt`: what is kept of an operation beside a later one that resembles it.
+//! - `specs/Prepared.antt`: an operation and what is about to become of it.
 //!
 //! Begin with `TextOp` below, then `build.rt` (normal form), `document.rt` (`Doc`), `survey.rt` and `edit.rt` (the change
-//! where chunks lie), `cursor.rt` and `draft.rt` (the draft), and `change.rt` (what components make of chunks). `patch.rt` leads from an operation
-//! back to an older one.
+//! where chunks lie), `cursor.rt` and `draft.rt` (the draft), and `change.rt` (what components make of chunks). `prepared.rt` and
+//! `replace.rt` change an operation where its components lie, and `patch.rt` leads from an operation back to an older one.
 #![tactic(auto)]
 
 ghost use Rattle.std.specs.Prelude.{◌≡◌, ◌+◌, ◌<◌, ◌≤◌, ◌↔◌, List, length, max, OnOk, OnErr, IfOk, IsErrOf, IsTrue};
@@ -54,7 +65,10 @@ mod document;
 mod draft;
 mod edit;
 mod element;
+mod lengths;
 mod patch;
+mod pieces;
+mod prepared;
 mod refusal;
 mod replace;
 mod survey;
@@ -66,6 +80,8 @@ use copy::copy_components;
 pub use document::Doc;
 pub use element::Element;
 pub use patch::Patch;
+pub use pieces::Pieces;
+pub use prepared::Prepared;
 pub use refusal::{OpRefusal, only_memory};
 use std::alloc::{AllocError, Global};
 use std::marker::Model;
@@ -237,6 +253,7 @@ impl<T: Element> TextOp<T> {
     pub fn into_components(self) -> Vec<Component<T>>
         ensures normal { IsNormal (runs result.items) }
         ensures spells { operation_of (runs result.items) ≡ self }
+        ensures form { runs result.items ≡ normal_runs self }
     {
         self.components
     }

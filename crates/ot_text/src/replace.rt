@@ -1,66 +1,15 @@
 //! Other components in the place of some of an operation's own, where these lie.
 
-ghost use Rattle.std.specs.Prelude.{◌≡◌, ◌+◌, ◌≤◌, ◌↔◌, ◌++◌, List, length, take, drop, OnOk, OnErr, IsTrue, vec_len, slice_range};
+ghost use Rattle.std.specs.Prelude.{◌≡◌, ◌+◌, ◌-◌, ◌≤◌, ◌↔◌, ◌++◌, List, length, take, drop, OnOk, OnErr, IsTrue, vec_len, vec_capacity};
 ghost use Rattle.std.specs.List.{splice};
-ghost use Rattle.ot_text.specs.Operation.{news, IsTooLong};
-ghost use Rattle.ot_text.specs.Run.{base_of, image_from, operation_of, normal_runs, MayFollow, IsNormal};
+ghost use Rattle.ot_text.specs.Operation.{IsTooLong};
+ghost use Rattle.ot_text.specs.Run.{operation_of, normal_runs, MayFollow, IsNormal};
 ghost use Rattle.ot_text.specs.Components.{run_of, runs};
 ghost use Rattle.ot_text.specs.Joint.{Joins};
-ghost use Rattle.ot_text.specs.declared.TheConstants.{LIMIT};
 
 use crate::{Component, Element, TextOp};
 use std::alloc::AllocError;
-
-// How many elements components take, make and add.
-#[derive(Clone, Copy)]
-struct Lengths {
-    base: usize,
-    target: usize,
-    inserted: usize,
-}
-
-fn measure<T>(components: &[Component<T>]) -> Lengths
-    requires base { base_of (runs components.now) ≤ LIMIT }
-    requires target { length (image_from 0 (runs components.now)) ≤ LIMIT }
-    ensures base { result.base ≡ base_of (runs components.now) }
-    ensures target { result.target ≡ length (image_from 0 (runs components.now)) }
-    ensures inserted { result.inserted ≡ length (news (image_from 0 (runs components.now))) }
-{
-    let mut base = 0;
-    let mut target = 0;
-    let mut inserted = 0;
-    for component in components {
-        match component {
-            Component::Retain(count) => {
-                base += *count;
-                target += *count;
-            }
-            Component::Insert(text) => {
-                let count = text.len();
-                target += count;
-                inserted += count;
-            }
-            Component::Delete(count) => base += *count,
-        }
-    }
-    Lengths {
-        base,
-        target,
-        inserted,
-    }
-}
-
-fn measure_part<T>(components: &[Component<T>], start: usize, end: usize) -> Lengths
-    requires order { start ≤ end }
-    requires within { end ≤ length components.now }
-    requires base { base_of (runs (slice_range components.now start end)) ≤ LIMIT }
-    requires target { length (image_from 0 (runs (slice_range components.now start end))) ≤ LIMIT }
-    ensures base { result.base ≡ base_of (runs (slice_range components.now start end)) }
-    ensures target { result.target ≡ length (image_from 0 (runs (slice_range components.now start end))) }
-    ensures inserted { result.inserted ≡ length (news (image_from 0 (runs (slice_range components.now start end)))) }
-{
-    measure(&components[start..end])
-}
+use std::mem;
 
 // The second component may stand directly after the first.
 fn may_follow<T>(first: &Component<T>, second: &Component<T>) -> bool
@@ -112,49 +61,102 @@ fn keeps_normal<T>(own: &[Component<T>], start: usize, end: usize, others: &[Com
 fn insert_components<T: Drop>(
     components: &mut Vec<Component<T>>,
     at: usize,
-    added: &mut Vec<Component<T>>,
-) -> Result<(), AllocError>
-    requires { at ≤ vec_len components.old }
-    ensures ok { OnOk result (components.new.items ≡ take at components.old.items ++ added.old.items ++ drop at components.old.items) }
-    ensures err { OnErr result (components.new.items ≡ components.old.items) }
+    mut added: Vec<Component<T>>,
+)
+    requires inside { at ≤ vec_len components.old }
+    requires room { vec_len components.old + vec_len added ≤ vec_capacity components.old }
+    ensures { components.new.items ≡ splice components.old.items at at added.items }
 {
     let count = added.len();
-    components.append(added)?;
+    if components.append(&mut added).is_err() {
+        unreachable!();
+    }
     components.slice_mut(at..).rotate_right(count);
-    Ok(())
 }
 
 // Takes components out.
 fn remove_components<T: Drop>(components: &mut Vec<Component<T>>, at: usize, count: usize)
     requires { at + count ≤ vec_len components.old }
-    ensures { components.new.items ≡ take at components.old.items ++ drop (at + count) components.old.items }
+    ensures items { components.new.items ≡ take at components.old.items ++ drop (at + count) components.old.items }
+    ensures room { vec_capacity components.new ≡ vec_capacity components.old }
 {
     let length = components.len();
     components.slice_mut(at..).rotate_left(count);
     components.truncate(length - count);
 }
 
-// Moves components into the place of those from `start` up to `end`. As many as went need no room, and move no other.
-fn put<T: Drop>(
+// Swaps components from `start` on with as many others.
+fn swap_in<T: Drop>(
+    components: &mut Vec<Component<T>>,
+    start: usize,
+    others: &mut Vec<Component<T>>,
+    count: usize,
+)
+    requires within { start + count ≤ vec_len components.old }
+    requires enough { count ≤ vec_len others.old }
+    ensures items { components.new.items ≡ splice components.old.items start (start + count) (take count others.old.items) }
+    ensures room { vec_capacity components.new ≡ vec_capacity components.old }
+    ensures rest { drop count others.new.items ≡ drop count others.old.items }
+    ensures many { vec_len others.new ≡ vec_len others.old }
+{
+    components
+        .slice_mut(start..start + count)
+        .swap_with_slice(others.slice_mut(..count));
+}
+
+// Moves no more components in than the ones that go.
+fn put_fewer<T: Drop>(
     components: &mut Vec<Component<T>>,
     start: usize,
     end: usize,
     mut added: Vec<Component<T>>,
-) -> Result<(), AllocError>
+)
+    requires fewer { start + vec_len added ≤ end }
+    requires within { end ≤ vec_len components.old }
+    ensures { components.new.items ≡ splice components.old.items start end added.items }
+{
+    let count = added.len();
+    swap_in(components, start, &mut added, count);
+    remove_components(components, start + count, end - (start + count));
+}
+
+// Moves no fewer components in than the ones that go.
+fn put_more<T: Drop>(
+    components: &mut Vec<Component<T>>,
+    start: usize,
+    end: usize,
+    mut added: Vec<Component<T>>,
+)
     requires order { start ≤ end }
     requires within { end ≤ vec_len components.old }
-    ensures ok { OnOk result (components.new.items ≡ splice components.old.items start end added.items) }
-    ensures err { OnErr result (components.new.items ≡ components.old.items) }
+    requires more { end ≤ start + vec_len added }
+    requires room { vec_len components.old + vec_len added ≤ vec_capacity components.old + (end - start) }
+    ensures { components.new.items ≡ splice components.old.items start end added.items }
 {
-    if added.len() == end - start {
-        components
-            .slice_mut(start..end)
-            .swap_with_slice(added.as_mut_slice());
-        return Ok(());
+    let gone = end - start;
+    swap_in(components, start, &mut added, gone);
+    remove_components(&mut added, 0, gone);
+    insert_components(components, end, added);
+}
+
+// Moves components into the place of those from `start` up to `end`, with the room that is there. As many as went move no other; else those
+// behind them move once.
+pub fn put<T: Drop>(
+    components: &mut Vec<Component<T>>,
+    start: usize,
+    end: usize,
+    added: Vec<Component<T>>,
+)
+    requires order { start ≤ end }
+    requires within { end ≤ vec_len components.old }
+    requires room { vec_len components.old + vec_len added ≤ vec_capacity components.old + (end - start) }
+    ensures { components.new.items ≡ splice components.old.items start end added.items }
+{
+    if added.len() <= end - start {
+        put_fewer(components, start, end, added);
+    } else {
+        put_more(components, start, end, added);
     }
-    insert_components(components, end, &mut added)?;
-    remove_components(components, start, end - start);
-    Ok(())
 }
 
 impl<T: Element> TextOp<T> {
@@ -179,11 +181,16 @@ impl<T: Element> TextOp<T> {
         ensures ok { OnOk result (self.new ≡ operation_of (splice (normal_runs self.old) start end (normal_runs part))) }
         ensures err { OnErr result (self.new ≡ self.old) }
     {
-        let gone = measure_part(self.components.as_slice(), start, end);
-        put(&mut self.components, start, end, part.components)?;
-        self.base = self.base - gone.base + part.base;
-        self.target = self.target - gone.target + part.target;
-        self.inserted = self.inserted - gone.inserted + part.inserted;
-        Ok(())
+        let op = mem::replace(self, TextOp::new(self.allocator()));
+        match op.prepare_replace(start, end, part) {
+            Ok(change) => {
+                *self = change.commit();
+                Ok(())
+            }
+            Err(op) => {
+                *self = op;
+                Err(AllocError)
+            }
+        }
     }
 }

@@ -4,8 +4,8 @@ use Rattle.ot_isa.specs.Program.{Program}
 use Rattle.ot_judge.specs.Making.{is_full}
 use Rattle.ot_model.specs.Events.{trace_of}
 use Rattle.ot_model.specs.declared.shown.Refusal.{Refusal}
-use Rattle.ot_machine.specs.declared.outcome.Replay.{Replay}
-use Rattle.ot_machine.specs.Ended.{IsRun}
+use Rattle.ot_machine.specs.declared.outcome.Ending.{Ending}
+use Rattle.ot_machine.specs.Ended.{IsEnding}
 use Rattle.ot_report.specs.Findings.{findings}
 use Rattle.outcomes.specs.Outcomes.{Streams, Gives, WantsMemory}
 use Rattle.otbench.specs.Ran.{stop_status}
@@ -16,9 +16,9 @@ check_status full stopped = if full then 1 else stop_status stopped
 
 -- what is found of the schedule's run, as it is printed
 pub record Finds (schedule : Program) (status : ℕ) (streams : Streams) : Type 0 where
-  pub run : Replay
-  pub is_run : IsRun schedule run
-  pub gives : Gives (check_status (is_full (trace_of schedule)) run.stopped) (findings schedule run) status streams
+  pub ending : Ending
+  pub is_ending : IsEnding schedule ending
+  pub gives : Gives (check_status (is_full (trace_of schedule)) ending.stopped) (findings schedule ending) status streams
 
 -- what is found, or want of memory for it
 abbrev pub MayFind : Program → ℕ → Streams → Type 0

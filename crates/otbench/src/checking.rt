@@ -8,17 +8,17 @@ use crate::running::status_of;
 use ot_asm::assemble_from;
 use ot_input::complain_of_line;
 use ot_isa::Schedule;
-use ot_machine::{Replay, run};
+use ot_machine::{Ending, end_of_run};
 use ot_report::find;
 use outcomes::{complain_of_memory, give};
 use std::alloc::Global;
 use std::io::{Read, Write};
 
-// The status of a run and of its trace.
-fn check_status(run: &Replay, full: bool) -> u8
-    ensures { result ≡ check_status full run.now.stopped }
+// The status of a run that ended so, and of its trace.
+fn check_status(ending: &Ending, full: bool) -> u8
+    ensures { result ≡ check_status full ending.now.stopped }
 {
-    if full { 1 } else { status_of(run.stopped) }
+    if full { 1 } else { status_of(ending.stopped) }
 }
 
 // Runs the schedule and prints what is found.
@@ -30,17 +30,17 @@ fn report_findings<O: Write, F: Write>(
 ) -> u8
     ensures { MayFind schedule.now result (record { output = O.contents output.old; output' = O.contents output.new; faults = F.contents faults.old; faults' = F.contents faults.new }) }
 {
-    let Ok(run) = run(alloc, schedule) else {
+    let Ok(ending) = end_of_run(alloc, schedule) else {
         complain_of_memory(faults);
         return 1;
     };
-    let Ok(found) = find(alloc, schedule, &run) else {
+    let Ok(found) = find(alloc, schedule, &ending) else {
         complain_of_memory(faults);
         return 1;
     };
     give(
         found.text.as_bytes(),
-        check_status(&run, found.full),
+        check_status(&ending, found.full),
         output,
     )
 }

@@ -5,7 +5,7 @@ use Rattle.ot_explain.proofs.Progress.{is_move, paragraph_made}
 use Rattle.ot_explain.proofs.paragraphs.perform.Goals as goal
 
 pub after-requires : goal.after-requires
-after-requires c = performed_within c.args.machine.now c.step.new.self c.args.instr.now c.step.result c.in_default.not-Err c.step.ensures.done
+after-requires c = performed_within c.args.machine.now c.step.new.self c.args.instr.now (λ shown. shown) c.step.result c.in_default.not-Err c.step.ensures.done
 
 pub returns-clause-paragraph : goal.returns-clause-paragraph
 returns-clause-paragraph c =

@@ -9,7 +9,7 @@ returns-in-Err c =
 
 pub loop-place-preserved : goal.loop-place-preserved
 loop-place-preserved c =
-    place_next c.args.schedule.now c.loop-place.place _ (record { state = c.loop-place.machine; shown = c.loop-place.shown.items }) (record { state = c.perform.new.self; shown = c.perform.new.shown.items }) c.in-Some.instr.now
+    place_next c.args.schedule.now c.loop-place.place _ (record { state = c.loop-place.machine; shown = c.loop-place.shown.items }) (record { state = c.keep.new.self; shown = c.keep.new.shown.items }) c.in-Some.instr.now
     refl c.loop-place.invariant c.in-Some.ensures.some (search rules)
 
 pub returns : goal.returns

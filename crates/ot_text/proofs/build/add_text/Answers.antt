@@ -3,7 +3,7 @@ use Rattle.std.specs.Vec.{vec_items}
 use Rattle.ot_text.specs.Run.{Add}
 use Rattle.ot_text.specs.Components.{runs}
 use Rattle.ot_text.proofs.RunLemmas.{GivesNothing}
-use Rattle.ot_text.proofs.Built.{on_err, same_insert, longer_insert, more_insert, may_end, may_end_none, at_delete, written_back, nothing_left}
+use Rattle.ot_text.proofs.Built.{extends_pushed, on_err, same_insert, longer_insert, more_insert, may_end, may_end_none, at_delete, written_back, nothing_left}
 use Rattle.ot_text.proofs.build.add_text.Goals as goal
 use Rattle.ot_text.proofs.build.add_text.Goals.{then-length-gt0+in-Retain, else-length-gt0}
 
@@ -28,11 +28,11 @@ returns-clause-ok g c =
     elim c.if-length-gt0.branch [
       | then-length-gt0+in-Retain w ↦
           let same = ap vec_items w.components-is ∙ written_back c.args.components.now.items (c.len-length.result - 1) w.index_mut.result.now w.index_mut.ensures.value in
-          rw (c.in_ok-push.ensures.items, same)
+          extends_pushed c.args.components.now.items c.if-length-gt0.components.items c.push.new.self.items _ _ c.in_ok-push.ensures.items same
           (more_insert c.args.components.now.items _ c.args.text.items refl c.requires.filled
           (may_end c.args.components.now.items (c.len-length.result - 1) w.index_mut.result.now (Add c.args.text.items) (omega arith) w.index_mut.ensures.value (rw w.in-Retain.is tt))
           c.requires.normal)
       | else-length-gt0 w ↦
-          rw (c.in_ok-push.ensures.items, ap vec_items w.components-is)
+          extends_pushed c.args.components.now.items c.if-length-gt0.components.items c.push.new.self.items _ _ c.in_ok-push.ensures.items (ap vec_items w.components-is)
           (more_insert c.args.components.now.items _ c.args.text.items refl c.requires.filled (may_end_none c.args.components.now.items (Add c.args.text.items) (omega arith)) c.requires.normal)
     ]

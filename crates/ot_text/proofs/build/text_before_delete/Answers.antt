@@ -2,7 +2,7 @@ use Rattle.std.proofs.Common.{◌≡◌, ℕ, length, ◌-◌, drop, zero, suc, 
 use Rattle.std.specs.Vec.{vec_items}
 use Rattle.ot_text.specs.Components.{runs}
 use Rattle.ot_text.proofs.RunLemmas.{GivesNothing}
-use Rattle.ot_text.proofs.Built.{on_err, same_insert, longer_insert, insert_before, may_end_before, ends_in_delete, written_back, one_at_least}
+use Rattle.ot_text.proofs.Built.{extends_by, on_err, same_insert, longer_insert, insert_before, may_end_before, ends_in_delete, written_back, one_at_least}
 use Rattle.ot_text.proofs.build.text_before_delete.Goals as goal
 use Rattle.ot_text.proofs.build.text_before_delete.Goals.{then-length-gt1+in_default, else-length-gt1}
 
@@ -19,18 +19,17 @@ returns-in-Insert-clause-ok g c =
 
 pub returns-clause-ok : goal.returns-clause-ok
 returns-clause-ok g c =
+    let cs = c.args.components.now.items in
     elim c.if-length-gt1.branch [
       | then-length-gt1+in_default w ↦
           let k : ℕ = c.len-length.result - 2 in
-          let same = ap vec_items w.components-is ∙ written_back c.args.components.now.items k w.index_mut.result.now w.index_mut.ensures.value in
-          let place : c.len-length.result - 1 ≡ suc k = omega arith in
-          rw (c.in_ok-insert.ensures.items, same, place)
-          (insert_before c.args.components.now.items (suc k) c.args.text c.args.text.items refl c.requires.filled (omega arith) c.requires.at_delete
-          (λ n f. may_end_before c.args.components.now.items k _ n c.args.text.items (omega arith) w.index_mut.ensures.value w.in_default.not-Insert f)
+          extends_by cs c.if-length-gt1.components.items c.insert.new.self.items (c.len-length.result - 1) (suc k) c.args.text c.args.text.items c.in_ok-insert.ensures.items
+          (ap vec_items w.components-is ∙ written_back cs k w.index_mut.result.now w.index_mut.ensures.value) (omega arith)
+          (insert_before cs (suc k) c.args.text c.args.text.items refl c.requires.filled (omega arith) c.requires.at_delete
+          (λ n f. may_end_before cs k w.index_mut.result.now n c.args.text.items (omega arith) w.index_mut.ensures.value w.in_default.not-Insert f)
           c.requires.normal)
       | else-length-gt1 w ↦
-          let filled : length c.args.components.now.items ≡ 1 = one_at_least c.args.components.now.items (omega arith) c.requires.at_delete in
-          let place : c.len-length.result - 1 ≡ zero = omega arith in
-          rw (c.in_ok-insert.ensures.items, ap vec_items w.components-is, place)
-          (insert_before c.args.components.now.items zero c.args.text c.args.text.items refl c.requires.filled (omega arith) c.requires.at_delete (λ n f. tt) c.requires.normal)
+          let filled : length cs ≡ 1 = one_at_least cs (omega arith) c.requires.at_delete in
+          extends_by cs c.if-length-gt1.components.items c.insert.new.self.items (c.len-length.result - 1) zero c.args.text c.args.text.items c.in_ok-insert.ensures.items (ap vec_items w.components-is) (omega arith)
+          (insert_before cs zero c.args.text c.args.text.items refl c.requires.filled (omega arith) c.requires.at_delete (λ n f. tt) c.requires.normal)
     ]

@@ -10,7 +10,7 @@ returns c =
     let there = is_there c.args.line.now c.in_default.not-Nothing in
     let quiet = quiet_is c.is_quiet.result here.machine c.is_quiet.ensures.exact in
     record {
-      goes = λ none. end_agrees here c.settle.new.self line c.is_quiet.result c.in_ok-difference.difference quiet c.in_ok-difference.ensures (c.settle.ensures.none none);
-      decided = end_decides here line c.is_quiet.result c.in_ok-difference.difference c.settle.result there quiet c.in_ok-difference.ensures c.settle.ensures.some;
+      goes = λ none. end_agrees here c.settle.new.self line c.is_quiet.result c.in_ok-judged.judged quiet c.in_ok-judged.ensures (c.settle.ensures.none none);
+      decided = end_decides here line c.is_quiet.result c.in_ok-judged.judged c.settle.result there quiet c.in_ok-judged.ensures c.settle.ensures.some;
       nothing = not_nothing line c.settle.result there;
     }

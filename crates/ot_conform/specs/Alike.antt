@@ -1,0 +1,25 @@
+-- A port's line that is a line of `steps`, byte for byte.
+use Rattle.std.specs.Prelude.{◌≡◌, ℕ, List, [], ◌∷◌, ◌++◌, None, Some, Result, Ok, Err}
+use Rattle.ot_steps.specs.Lines.{Line}
+use Rattle.ot_steps.specs.Text.{line_text}
+use Rattle.ot_conform.specs.Answers.{IsCompared}
+use Rattle.ot_conform.specs.Counted.{with_port_line, with_printed}
+use Rattle.ot_conform.specs.Differences.{field_of}
+use Rattle.ot_conform.specs.Due.{DueLine}
+use Rattle.ot_conform.specs.Ports.{PortLine, port_line}
+use Rattle.ot_conform.specs.declared.answers.Difference.{Difference}
+use Rattle.ot_conform.specs.declared.counts.Counts.{Counts}
+
+-- the bytes are the line without its LF
+abbrev pub IsPrinted : Line → List ℕ → Type 0
+IsPrinted line bytes = bytes ++ 10 ∷ [] ≡ line_text line
+
+-- a port's line with these bytes agrees with the one that is due, and tells the values that the line of `steps` has
+pub record StandsFor (due : DueLine) (printed : Line) : Type 0 where
+  pub agrees : (bytes : List ℕ) → IsPrinted printed bytes → field_of due.line (port_line bytes) ≡ None
+  pub counts : (bytes : List ℕ) (c : Counts) → IsPrinted printed bytes → with_port_line c (port_line bytes) ≡ with_printed c printed
+
+-- a line agrees with the one that is due, and these are the counts with what it tells; or this is the difference
+abbrev pub IsJudged : Counts → DueLine → PortLine → Result Counts Difference → Type 0
+IsJudged counts due line (Ok counts') = IsCompared due line None × (counts' ≡ with_port_line counts line)
+IsJudged counts due line (Err d) = IsCompared due line (Some d)

@@ -1,0 +1,114 @@
+//! Instructions and runs of which no list is kept: it stands in the machine, and is looked at there.
+
+ghost use Rattle.std.specs.Prelude.{◌≡◌, IfErr, IfOk, IfSome, OnErr, OnOk, Some};
+ghost use Rattle.std.specs.Option.{option_map};
+ghost use Rattle.ot_isa.specs.declared.instruction.Instr.TheVariants.{Read, ReadServer};
+ghost use Rattle.ot_model.specs.declared.shown.Reader.TheVariants.{Client, Server};
+ghost use Rattle.ot_model.specs.Table.{step, Performed, Refused};
+ghost use Rattle.ot_machine.specs.Answers.{IsRefusal};
+ghost use Rattle.ot_machine.specs.Ended.{IsEnding};
+ghost use Rattle.ot_machine.specs.Reads.{reader_of, shown_by, IsThere};
+
+use crate::machine::{Machine, STEP_LIMIT};
+use crate::outcome::Ending;
+use ot_isa::{Instr, Schedule};
+use ot_model::{Reader, Refusal};
+use std::alloc::{AllocError, Global};
+
+impl Machine {
+    // Performs a read that shows no list.
+    fn pass_read(&mut self, client: u16) -> Result<(), Refusal>
+        ensures done { OnOk result (step self.old (Read client) ≡ Performed self.new (Some (shown_by self.new (Client client)))) }
+        ensures there { OnOk result (IsThere self.new (Client client)) }
+        ensures refused { IfErr result (λ r. step self.old (Read client) ≡ Refused r) }
+        ensures unchanged { OnErr result (self.new ≡ self.old) }
+    {
+        if let Some(refusal) = self.read_refusal(client) {
+            return Err(refusal);
+        }
+        self.steps += 1;
+        Ok(())
+    }
+
+    fn pass_read_server(&mut self) -> Result<(), Refusal>
+        ensures done { OnOk result (step self.old ReadServer ≡ Performed self.new (Some (shown_by self.new Server))) }
+        ensures refused { IfErr result (λ r. step self.old ReadServer ≡ Refused r) }
+        ensures unchanged { OnErr result (self.new ≡ self.old) }
+    {
+        if self.steps >= STEP_LIMIT {
+            return Err(Refusal::StepsFull);
+        }
+        self.steps += 1;
+        Ok(())
+    }
+
+    /// Performs the instruction as [`Machine::step`] does, and gives who is read by it in place of the list: that list stands in the
+    /// machine, and [`Machine::document_of`] shows it without a copy. A read takes no memory.
+    ///
+    /// The refusals are those of `step`; `Memory` is none of a read's. After an error nothing has changed.
+    pub fn perform(&mut self, instr: &Instr) -> Result<Option<Reader>, Refusal>
+        ensures done { IfOk result (λ who. step self.old instr.now ≡ Performed self.new (option_map (shown_by self.new) who)) }
+        ensures reader { IfOk result (λ who. who ≡ reader_of instr.now) }
+        ensures there { IfOk result (λ who. IfSome who (IsThere self.new)) }
+        ensures refused { IfErr result (λ r. IsRefusal (step self.old instr.now) r) }
+        ensures unchanged { OnErr result (self.new ≡ self.old) }
+    {
+        match instr {
+            Instr::Edit(client, op) => {
+                self.edit::<false>(*client, op)?;
+                Ok(None)
+            }
+            Instr::Take(client) => {
+                self.take::<false>(*client)?;
+                Ok(None)
+            }
+            Instr::Deliver(client) => {
+                self.deliver::<false>(*client)?;
+                Ok(None)
+            }
+            Instr::Acknowledge(client) => {
+                self.acknowledge::<false>(*client)?;
+                Ok(None)
+            }
+            Instr::Join(client) => {
+                self.join(*client)?;
+                Ok(None)
+            }
+            Instr::Read(client) => {
+                self.pass_read(*client)?;
+                Ok(Some(Reader::Client(*client)))
+            }
+            Instr::ReadServer => {
+                self.pass_read_server()?;
+                Ok(Some(Reader::Server))
+            }
+        }
+    }
+}
+
+/// Runs the schedule as [`run`] does, and keeps none of the lists that its reads show: it takes the memory of the machine alone, and a read
+/// none.
+pub fn end_of_run(alloc: Global, schedule: &Schedule) -> Result<Ending, AllocError>
+    ensures { IfOk result (λ ending. IsEnding schedule.now ending) }
+{
+    let clients = schedule.clients();
+    let mut machine = Machine::with_present(alloc, clients, schedule.present(), schedule.start())?;
+    for place in 0..schedule.len() {
+        let Some(instr) = schedule.get(place) else {
+            unreachable!()
+        };
+        match machine.perform(instr) {
+            Ok(_) => {}
+            Err(refusal) => {
+                return Ok(Ending {
+                    machine,
+                    stopped: Some((place, refusal)),
+                });
+            }
+        }
+    }
+    Ok(Ending {
+        machine,
+        stopped: None,
+    })
+}
