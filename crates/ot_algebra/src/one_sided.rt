@@ -6,6 +6,7 @@ ghost use Rattle.ot_algebra.specs.Merge.{first_after, second_after};
 ghost use Rattle.ot_text.specs.declared.TheConstants.{LIMIT};
 
 use crate::cursor::{self, Front};
+use crate::overlap::MANY;
 use crate::transformation::{SPLIT, add_part, transform, transformed_splice};
 use ot_text::{Component, Element, TextOp, only_memory};
 use std::alloc::AllocError;
@@ -22,6 +23,9 @@ pub fn transform_first<T: Element>(a: TextOp<T>, b: &TextOp<T>) -> Result<TextOp
     requires fits { a.base + length (news a.image) + length (news b.now.image) ≤ LIMIT }
     ensures { IfOk result (λ op. op ≡ first_after a b.now) }
 {
+    if a.components().len() < MANY {
+        return carry(a, b);
+    }
     if let Some((change, _)) = transformed_splice(&a, b)? {
         let mut carried = a;
         carried.replace(change.start, change.end, change.part)?;
@@ -85,7 +89,9 @@ pub fn transform_second<T: Element>(a: &TextOp<T>, b: &TextOp<T>) -> Result<Text
     requires fits { a.now.base + length (news a.now.image) + length (news b.now.image) ≤ LIMIT }
     ensures { IfOk result (λ op. op ≡ second_after a.now b.now) }
 {
-    if let Some((_, second)) = transformed_splice(a, b)? {
+    if a.components().len() >= MANY
+        && let Some((_, second)) = transformed_splice(a, b)?
+    {
         return Ok(second);
     }
     let (_, second) = transform(a.allocator(), a, b)?;

@@ -11,7 +11,7 @@ use crate::touched::{kept_first, kept_last};
 use ot_text::{Component, Element, TextOp};
 
 /// From how many components on it pays to look which of them are touched.
-const MANY: usize = 16;
+pub(crate) const MANY: usize = 16;
 
 /// A place in an operation's components: before the component `at`. Those before it take and make so many elements.
 #[derive(Clone, Copy)]
@@ -111,16 +111,13 @@ pub(crate) fn whole<T>(components: &[Component<T>]) -> Overlap
     }
 }
 
-/// The components of `a` that `b` touches, with one more at each end that it touches only in part. None where `a` has few components, or
-/// half of them or more are touched.
+/// The components of `a` that `b` touches, with one more at each end that it touches only in part. None where these are half of them or
+/// more.
 pub(crate) fn touched_part<T: Element>(a: &TextOp<T>, b: &TextOp<T>) -> Option<Overlap>
     requires { a.now.base ≡ b.now.base }
     ensures { IfSome result (λ part. IsOverlap (normal_runs a.now) (normal_runs b.now) part) }
 {
     let ours = a.components();
-    if ours.len() < MANY {
-        return None;
-    }
     let others = b.components();
     let from = first_met(ours, kept_first(others));
     let end = end_met(ours, from, b.base_len() - kept_last(others));

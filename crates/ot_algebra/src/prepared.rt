@@ -7,6 +7,7 @@ ghost use Rattle.ot_algebra.specs.Merge.{first_after, second_after};
 ghost use Rattle.ot_text.specs.declared.TheConstants.{LIMIT};
 
 use crate::composition::{compose, composed_splice};
+use crate::overlap::MANY;
 use crate::transformation::{transform, transformed_splice};
 use ot_text::{Element, Prepared, TextOp};
 
@@ -41,16 +42,32 @@ pub fn prepare_transform<T: Element>(
     ensures second { IfOk result (λ given. given.1 ≡ second_after a b.now) }
     ensures err { IfErr result (λ op. op ≡ a) }
 {
+    if a.components().len() < MANY {
+        return transform_whole(a, b);
+    }
     match transformed_splice(&a, b) {
         Ok(Some((change, second))) => {
-            return match a.prepare_replace(change.start, change.end, change.part) {
+            match a.prepare_replace(change.start, change.end, change.part) {
                 Ok(first) => Ok((first, second)),
                 Err(a) => Err(a),
-            };
+            }
         }
-        Ok(None) => {}
-        Err(_) => return Err(a),
+        Ok(None) => transform_whole(a, b),
+        Err(_) => Err(a),
     }
+}
+
+// Does so where all components are gone over.
+fn transform_whole<T: Element>(
+    a: TextOp<T>,
+    b: &TextOp<T>,
+) -> Result<(Prepared<T>, TextOp<T>), TextOp<T>>
+    requires same_base { a.base ≡ b.now.base }
+    requires fits { a.base + length (news a.image) + length (news b.now.image) ≤ LIMIT }
+    ensures first { IfOk result (λ given. given.0 ≡ record { before = a; after = first_after a b.now }) }
+    ensures second { IfOk result (λ given. given.1 ≡ second_after a b.now) }
+    ensures err { IfErr result (λ op. op ≡ a) }
+{
     match transform(a.allocator(), &a, b) {
         Ok((first, second)) => Ok((Prepared::new(a, first), second)),
         Err(_) => Err(a),

@@ -42,7 +42,7 @@ pub fn transform<T: Element>(
 }
 
 /// What makes the first result of `transform` where `a` lies: the components of `a` that `b` touches, after it; and the second result. None
-/// where `a` has few components, or `b` touches half of them or more.
+/// where `b` touches half of them or more.
 pub(crate) fn transformed_splice<T: Element>(
     a: &TextOp<T>,
     b: &TextOp<T>,
