@@ -43,12 +43,17 @@ def buffers(clients=64, edits=1500):
     return lines
 
 
+def waiting(parts, length):
+    """A client with so many insertions outstanding and as many more in its buffer."""
+    whole = ",".join('1,"b"' for _ in range(parts))
+    again = ",".join('2,"c"' for _ in range(parts))
+    return [*opening(2, length), f"edit 0 [{whole},{length - parts}]", f"edit 0 [{again},{length - parts}]"]
+
+
 def pending(parts=7000, deliveries=33000):
     """A client with 14,000 characters pending, to which 33,000 operations are delivered, in the debugger."""
     length = 30000
-    whole = ",".join('1,"b"' for _ in range(parts))
-    again = ",".join('2,"c"' for _ in range(parts))
-    lines = [*opening(2, length), f"edit 0 [{whole},{length - parts}]", f"edit 0 [{again},{length - parts}]"]
+    lines = waiting(parts, length)
     for k in range(deliveries):
         lines.append(edit(1, 7, "x", 0, length) if k % 2 == 0 else edit(1, 7, "", 1, length + 1))
         lines += ["take 1", "ack 1"][: 2 if k < deliveries else 0]
@@ -60,9 +65,7 @@ def pending(parts=7000, deliveries=33000):
 def both_ends(parts=7000, entries=14900):
     """The same client without the debugger, where each of 14,900 operations changes the document near both ends."""
     length = 30000
-    whole = ",".join('1,"b"' for _ in range(parts))
-    again = ",".join('2,"c"' for _ in range(parts))
-    lines = [*opening(2, length), f"edit 0 [{whole},{length - parts}]", f"edit 0 [{again},{length - parts}]"]
+    lines = waiting(parts, length)
     for k in range(entries):
         changes = [7, '"x"', length - 14, '"y"', 7] if k % 2 == 0 else [7, -1, length - 14, -1, 7]
         lines += ["edit 1 [" + ",".join(str(it) for it in changes) + "]", "take 1", "ack 1"]
