@@ -3,7 +3,7 @@
     python3 bench/gate_cost.py [--room FOLDER] [--lanes N] [--only proof,tests,edits] [--limit MINUTES] [CRATE ..]
 
 The gate proves each crate from nothing, proves it once more with its tests where it has some, and checks it once for each must-fail edit, the first
-of them from nothing. This script does the same by the gate's own functions (it loads the `rt` that is on the path), each part by itself with one job,
+of them from nothing. This script does the same by the gate's own functions (it loads the `rt` that is on the path), each part by itself, with one job where there are others to run beside it,
 on a copy of the repository in FOLDER, and counts the processor time of all processes of a part: that is about the same on a machine that is busy with other work.
 
 What was measured is kept in FOLDER/costs.json under a sum of the sources that it depends on: a run that was stopped goes on where it was, and what has not
@@ -103,7 +103,7 @@ def edits_in_turn(crate):
     return found
 
 
-def measured(name, part):
+def measured(name, part, jobs):
     """In a process of its own: what the part's calls used, by what they are of."""
     crate = crates()[name]
     os.makedirs(f"{crate.folder}/out", exist_ok=True)
@@ -111,9 +111,9 @@ def measured(name, part):
         sys.stdout = crate.out = quiet
         try:
             if part == "proof":
-                return {part: timed(lambda: not crate.ci(["--jobs", "1"], False))}
+                return {part: timed(lambda: not crate.ci(["--jobs", str(jobs)], False))}
             if part == "tests" and crate.has_tests():
-                return {part: timed(lambda: not crate.ci(["--jobs", "1"], True) and gate().run(crate, True))}
+                return {part: timed(lambda: not crate.ci(["--jobs", str(jobs)], True) and gate().run(crate, True))}
             return edits_in_turn(crate) if part == "edits" else {}
         except (Exception, SystemExit) as error:
             return {f"{part}: {error!r}": (0.0, False)}
@@ -130,26 +130,32 @@ def well(found):
     return all(it[1] for it in found.values())
 
 
+def spare(running, lanes):
+    return max(0, lanes - sum(jobs for _, _, jobs in running.values()))
+
+
 def measure(costs, names, parts, lanes, until, file):
     """Runs what is not known yet, side by side, each part once the proofs below it stand."""
     wanted = [(name, part) for name in names for part in parts]
     below = {it.name for name, _ in wanted for it in crates()[name].below()}
     wanted += [(name, "proof") for name in crates() if name in below and (name, "proof") not in wanted]
-    left = sorted((it for it in wanted if not is_known(costs, *it)), key=lambda it: len(crates()[it[0]].below()))
+    left = sorted((it for it in wanted if not is_known(costs, *it)), key=lambda it: (PARTS.index(it[1]), len(crates()[it[0]].below())))
     stands = {name for name in crates() if is_known(costs, name, "proof") and well(costs[f"{name} proof"]["found"])}
     running = {}
     # (each lane is a process, since processor time is counted by process)
     with ProcessPoolExecutor(lanes, mp_context=multiprocessing.get_context("fork")) as pool:
         while left or running:
             ready = [it for it in left if all(dep.name in stands for dep in crates()[it[0]].below())]
-            while ready and len(running) < lanes and time.time() < until:
+            while ready and spare(running, lanes) and time.time() < until:
+                # (a proof that others wait for gets the lanes that would be idle)
+                jobs = max(1, spare(running, lanes) // len(ready))
                 task = ready.pop(0)
                 left.remove(task)
-                running[pool.submit(measured, *task)] = task
+                running[pool.submit(measured, *task, jobs)] = (*task, jobs if task[1] != "edits" else 1)
             if not running:
                 return
             for it in wait(running, return_when=FIRST_COMPLETED).done:
-                name, part = running.pop(it)
+                name, part, _ = running.pop(it)
                 found = it.result()
                 costs[f"{name} {part}"] = {"sum": sum_of(name, part), "found": found}
                 if part == "proof" and well(found):

@@ -1,7 +1,7 @@
 """Writes schedules within the limits that are hard to run or to debug, and times the program on each.
 
-`python3 bench/hostile_schedules.py [--program PATH] [SHAPE..]` times all shapes or those that are named, and prints processor time and peak memory;
-`--write FOLDER` writes them there. Those that are debugged carry a line `%%` and their commands.
+`python3 bench/hostile_schedules.py [--program PATH] [SHAPE..]` times all shapes or those that are named, and prints processor time and peak memory
+of `run`, `check`, `steps` and `explain`; `--write FOLDER` writes them there. Those that are debugged carry a line `%%` and their commands.
 """
 import sys
 
@@ -50,26 +50,61 @@ def waiting(parts, length):
     return [*opening(2, length), f"edit 0 [{whole},{length - parts}]", f"edit 0 [{again},{length - parts}]"]
 
 
-def pending(parts=7000, deliveries=33000):
-    """A client with 14,000 characters pending, to which 33,000 operations are delivered, in the debugger."""
+def pending(parts=7000, deliveries=22000):
+    """A client with 14,000 characters pending, to which 22,000 operations are delivered."""
     length = 30000
     lines = waiting(parts, length)
     for k in range(deliveries):
         lines.append(edit(1, 7, "x", 0, length) if k % 2 == 0 else edit(1, 7, "", 1, length + 1))
-        lines += ["take 1", "ack 1"][: 2 if k < deliveries else 0]
-    lines = lines[: 100000 - deliveries]
-    room = sum(line == "take 1" for line in lines)
-    return [*lines, *["deliver 0"] * min(deliveries, room), "%%", "run", "back 1"]
+        lines += ["take 1", "ack 1"]
+    return [*lines, *["deliver 0"] * deliveries]
 
 
-def both_ends(parts=7000, entries=14900):
-    """The same client without the debugger, where each of 14,900 operations changes the document near both ends."""
+def places(count, length, gone):
+    """An operation that puts a character in at so many places of a document of that length, or takes those characters out again."""
+    step = (length - 14) // max(1, count - 1)
+    parts = [7]
+    for k in range(count):
+        kept = step if k + 1 < count else length - 7 - step * (count - 1)
+        parts += [-1 if gone else '"x"', kept]
+    return "[" + ",".join(str(it) for it in parts) + "]"
+
+
+def at_places(count, parts=7000, entries=14900):
+    """The same client, where each operation that is delivered changes the document at so many places, the first and the last near its ends."""
     length = 30000
     lines = waiting(parts, length)
     for k in range(entries):
-        changes = [7, '"x"', length - 14, '"y"', 7] if k % 2 == 0 else [7, -1, length - 14, -1, 7]
-        lines += ["edit 1 [" + ",".join(str(it) for it in changes) + "]", "take 1", "ack 1"]
+        lines += [f"edit 1 {places(count, length, k % 2)}", "take 1", "ack 1"]
     return [*lines, *["deliver 0"] * entries]
+
+
+def long_message_at_places(count, parts=7500, entries=22000):
+    """A message of 15,000 components that is taken over 22,000 log entries, each of which changes the document at so many places."""
+    length = 40000
+    whole = ",".join('1,"b"' for _ in range(parts))
+    lines = [*opening(2, length), f"edit 0 [{whole},{length - parts}]"]
+    for k in range(entries):
+        lines += [f"edit 1 {places(count, length, k % 2)}", "take 1", "ack 1"]
+    return [*lines, "take 0"]
+
+
+def edited_at_places(count, parts=6000, edits=3000):
+    """Two clients with an operation and a buffer of 12,000 components, which they edit at so many places."""
+    length = 30000
+    whole = ",".join('1,"b"' for _ in range(parts))
+    again = ",".join('2,"c"' for _ in range(parts))
+    lines = opening(2, length)
+    for c in range(2):
+        lines += [f"edit {c} [{whole},{length - parts}]", f"edit {c} [{again},{length - parts}]"]
+    length += 2 * parts
+    for k in range(edits):
+        lines += [f"edit {c} {places(count, length, k % 2)}" for c in range(2)]
+    return lines
+
+
+def debugged(lines, *commands):
+    return [*lines, "%%", *commands]
 
 
 def idle_watch(edits=20000, length=40000):
@@ -77,7 +112,20 @@ def idle_watch(edits=20000, length=40000):
     return [*opening(2, length), *typed(1, edits, length), "%%", "watch doc 0", "run"]
 
 
-SHAPES = {"long-message": long_message, "buffers": buffers, "pending": pending, "both-ends": both_ends, "idle-watch": idle_watch}
+SHAPES = {
+    "long-message": long_message,
+    "long-message-both-ends": lambda: long_message_at_places(2),
+    "buffers": buffers,
+    "buffers-both-ends": lambda: edited_at_places(2),
+    "pending": pending,
+    "both-ends": lambda: at_places(2),
+    "five-places": lambda: at_places(5),
+    "pending-debugged": lambda: debugged(pending(), "run", "back 1"),
+    "going-back": lambda: debugged(pending(), "run", "back 20000"),
+    "both-ends-debugged": lambda: debugged(at_places(2), "run", "back 14000"),
+    "idle-watch": idle_watch,
+}
+WORDS = ("run", "check", "steps", "explain")
 
 
 def write(lines, path):
@@ -86,11 +134,14 @@ def write(lines, path):
 
 
 def measure(program, lines, room):
-    """Processor time, peak memory, and the status."""
+    """Of each subcommand: processor time, peak memory, and the status."""
     path = f"{room}/schedule.ots"
     write(lines, path)
-    seconds, memory, status, _ = run(program, "debug" if "%%" in lines else "run", path)
-    return f"{seconds:.2f} s, {memory:.0f} MB, status {status}"
+    told = []
+    for word in ("debug",) if "%%" in lines else WORDS:
+        seconds, memory, status, _ = run(program, word, path)
+        told.append(f"{word} {seconds:.2f} s, {memory:.0f} MB, status {status}")
+    return "; ".join(told)
 
 
 if __name__ == "__main__":

@@ -53,7 +53,7 @@ abbrev pub ◌+>◌ : App → App → App
 app +> sub = with_subcommand app sub.top
 
 -- the program's command line
-abbrev pub otbench_app : App
+unfoldable pub otbench_app : App
 otbench_app =
     top_app
     +> flagged_app (codes "run") (codes "image")

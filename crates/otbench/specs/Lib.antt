@@ -1,7 +1,1 @@
-pub mod Ran
-pub mod Converted
-pub mod Generated
-pub mod Judged
-pub mod Checked
-pub mod Debugged
 pub mod Served

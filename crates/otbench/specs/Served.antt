@@ -6,12 +6,12 @@ use Rattle.clap.specs.Words.{Text, takes}
 use Rattle.ot_input.specs.Inputs.{OfText, OfImage}
 use Rattle.outcomes.specs.Outcomes.{Streams, WantsMemory}
 use Rattle.ot_words.specs.Requests.{otbench_app, request_of}
-use Rattle.otbench.specs.Ran.{MayReport}
-use Rattle.otbench.specs.Converted.{MayGiveImage, MayGiveText}
-use Rattle.otbench.specs.Generated.{Generates}
-use Rattle.otbench.specs.Judged.{Judges}
-use Rattle.otbench.specs.Checked.{MayFind}
-use Rattle.otbench.specs.Debugged.{Debugs}
+use Rattle.ot_commands.specs.Ran.{MayReport}
+use Rattle.ot_commands.specs.Converted.{MayGiveImage, MayGiveText}
+use Rattle.ot_commands.specs.Generated.{Generates}
+use Rattle.ot_commands.specs.Judged.{Judges}
+use Rattle.ot_commands.specs.Checked.{MayFind}
+use Rattle.ot_commands.specs.Debugged.{Debugs}
 use Rattle.ot_steps_command.specs.Stepped.{Steps as DoesSteps}
 use Rattle.ot_explain_command.specs.Explains.{Explains}
 use Rattle.ot_conform_command.specs.Conformed.{Compares}

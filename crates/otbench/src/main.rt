@@ -1,28 +1,17 @@
 //! A proved test bench for ot.js sessions: the program.
 //!
 //! ```text
-//!    words ── ot_words ──▶ Asked ── serving ──▶ running      run: a schedule's reads, stop and end
-//!                                    ├──▶ checking     check: a run's stop, whether all is quiet, the verdict of its trace
-//!                                    ├──▶ debugging    debug: back and forth through a run, by commands
-//!                                    ├──▶ converting   asm, dis: between a schedule's text and its image
-//!                                    ├──▶ judging      judge: whether a recorded trace has the weak list property
-//!                                    ├──▶ generating   generate: a session made at random
+//!    words ── ot_words ──▶ Asked ── serving ──▶ ot_commands         run, check, debug, asm, dis, judge, generate
 //!                                    ├──▶ ot_steps_command    steps: a run as lines of JSON
 //!                                    ├──▶ ot_explain_command  explain: a run in words
 //!                                    ├──▶ ot_conform_command  conform: a port's lines against the run
-//!                                    └──▶ ot_threads   threads: a plan that workers on threads type, as the schedule that they record
+//!                                    └──▶ ot_threads          threads: a plan that workers on threads type, as the schedule that they record
 //! ```
 //!
 //! [`serve`](serving::serve) does the whole work over any reader and two writers, and says by its clause what it writes and answers
 //! (`specs/Served.antt`); `main` hands it the process's own words and streams.
 #![tactic(auto)]
 
-mod checking;
-mod converting;
-mod debugging;
-mod generating;
-mod judging;
-mod running;
 mod serving;
 
 use serving::serve;

@@ -7,14 +7,12 @@ ghost use Rattle.clap.specs.declared.error.kind.ErrorKind.TheVariants.{OutOfMemo
 ghost use Rattle.outcomes.specs.Outcomes.{memory_fault};
 ghost use Rattle.otbench.specs.Served.{Serves, ServesAsked, ServesWords};
 
-use crate::checking::check_text;
-use crate::converting::{assemble, disassemble_image};
-use crate::debugging::debug_text;
-use crate::generating::generate_session;
-use crate::judging::judge_input;
-use crate::running::{run_image, run_text};
 use clap::Error;
 use clap::error::ErrorKind;
+use ot_commands::{
+    assemble, check_text, debug_text, disassemble_image, generate_session, judge_input, run_image,
+    run_text,
+};
 use ot_conform_command::run_conform;
 use ot_explain_command::run_explain;
 use ot_steps_command::run_steps;

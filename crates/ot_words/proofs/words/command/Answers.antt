@@ -1,11 +1,12 @@
 use Rattle.std.proofs.Common.{ap, ap₂, codes, rules, ◌≡◌, ◌∙◌}
 use Rattle.std.proofs.lemmas.Result.{IfOk-weaker}
 use Rattle.clap.specs.Words.{App, app_of, with_rule}
-use Rattle.ot_words.specs.Requests.{◌+>◌, flag_rule, flagged_app, top_app}
+use Rattle.ot_words.specs.Requests.{◌+>◌, flag_rule, flagged_app, otbench_app}
 use Rattle.ot_words.proofs.Shapes.{plain_of}
 use Rattle.ot_words.proofs.words.command.Goals as goal
 
 pub returns : goal.returns
+unfolding otbench_app
 returns c =
     let run : app_of c.in_ok-run.run' ≡ flagged_app (codes "run") (codes "image") =
     c.in_ok-run.ensures ∙ ap (λ (a : App). with_rule a (flag_rule (codes "image"))) c.plain.ensures in

@@ -1,6 +1,6 @@
-use Rattle.std.proofs.Common.{ap, codes, ◌≡◌, ◌∙◌}
+use Rattle.std.proofs.Common.{ap, codes, ◌∙◌}
 use Rattle.std.proofs.lemmas.Result.{IfOk-weaker}
-use Rattle.clap.specs.Words.{App, app_of, with_rule}
+use Rattle.clap.specs.Words.{App, with_rule}
 use Rattle.ot_words.specs.Requests.{flag_rule, option_rule}
 use Rattle.ot_words.proofs.words.generate_command.Goals as goal
 

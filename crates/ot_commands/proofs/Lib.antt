@@ -1,0 +1,2 @@
+mod Talked
+mod Ran

@@ -1,0 +1,64 @@
+-- A talk behind a mark, from its parts.
+use Rattle.std.proofs.Common.{◌≡◌, ◌-◌, ◌++◌, ℕ, Bool, true, List, [], Option, Some, None, Ok, length, refl, ap, arith, inl, inr}
+use Rattle.std.specs.Prelude.{IfSome}
+use Rattle.std.specs.Io.KnownBytes.{prepend_known}
+use Rattle.std.proofs.KnownBytes.{Keeps-refl}
+use Rattle.line_reader.specs.Lines.{lines_of}
+use Rattle.ot_isa.specs.Program.{Program}
+use Rattle.ot_asm.specs.Parts.{lines_before, lines_behind, TakesPart}
+use Rattle.ot_asm.specs.Stepping.{outcome_of_lines}
+use Rattle.ot_debug.specs.Session.{Session, started}
+use Rattle.ot_console.specs.declared.talking.TalkStop.{TalkStop}
+use Rattle.ot_console.specs.Talking.{TalksAll, TalksPart}
+use Rattle.outcomes.specs.Outcomes.{Streams}
+use Rattle.ot_commands.specs.Debugged.{talk_status, Debugs, MayConverse, TellsStop}
+
+-- each line was answered
+pub converses : (schedule : Program) (before after : Session) (faulted : Bool) (input : Option (List ℕ)) (earlier : ℕ) (old new faults : Option (List ℕ))
+    → before ≡ started schedule → TalksAll before after faulted input old new
+    → IfSome input (λ rest. MayConverse schedule (lines_of rest) earlier (talk_status faulted) (record { output = old; output' = new; faults = faults; faults' = faults }))
+converses schedule before after faulted None earlier old new faults begun said = tt
+converses schedule before after faulted (Some rest) earlier old new faults begun said =
+    inl (record {
+      after = after;
+      text = said.text;
+      faulted = faulted;
+      talks = rw (said.all, ← begun) said.talks;
+      gives = (inl (refl, said.written), Keeps-refl faults);
+    })
+
+-- the talk broke off
+pub breaks_off : (schedule : Program) (before after : Session) (stop : TalkStop) (input left : Option (List ℕ)) (earlier : ℕ) (old new faults faults' : Option (List ℕ))
+    → before ≡ started schedule → TalksPart stop earlier before after input left old new → TellsStop stop faults faults'
+    → IfSome input (λ rest. MayConverse schedule (lines_of rest) earlier 1 (record { output = old; output' = new; faults = faults; faults' = faults' }))
+breaks_off schedule before after stop None left earlier old new faults faults' begun said tells = tt
+breaks_off schedule before after stop (Some rest) None earlier old new faults faults' begun said tells = absurd said.taken
+breaks_off schedule before after stop (Some rest) (Some behind) earlier old new faults faults' begun said tells =
+    inr (inl (record {
+      stop = stop;
+      answered = said.lines;
+      left = lines_of (said.taken.0 ++ behind);
+      front = said.taken.2;
+      after = after;
+      text = said.text;
+      faulted = said.faulted;
+      talks = rw (← begun) said.talks;
+      written = said.written;
+      number = said.number;
+      tells = tells;
+      status_is = refl;
+    }))
+
+-- the lines before the mark, and the talk behind it
+pub debugged : (held : List ℕ) (known rest : Option (List ℕ)) (schedule : Program) (taken status : ℕ) (streams : Streams) → held ≡ []
+    → TakesPart true (prepend_known held known) rest taken
+    → IfSome (prepend_known held known) (λ text. outcome_of_lines (lines_before true (lines_of text)) ≡ Ok schedule)
+    → IfSome rest (λ behind. MayConverse schedule (lines_of behind) taken status streams)
+    → IfSome known (λ text. Debugs text status streams)
+debugged held None rest schedule taken status streams none part spelled talk = tt
+debugged held (Some text) None schedule taken status streams none part spelled talk = absurd part
+debugged held (Some text) (Some behind) schedule taken status streams none part spelled talk =
+    let here = rw none at part in
+    let so_many : taken ≡ length (lines_of text) - length (lines_behind true (lines_of text)) = omega (arith, here.1, ap length here.0) in
+    let spells = rw none at spelled in
+    inr (schedule, spells, rw (← so_many, ← here.0) talk)

@@ -1,0 +1,6 @@
+pub mod Ran
+pub mod Converted
+pub mod Generated
+pub mod Judged
+pub mod Checked
+pub mod Debugged

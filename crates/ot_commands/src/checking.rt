@@ -1,0 +1,64 @@
+//! `check`: what is found of a schedule's run.
+
+ghost use Rattle.std.specs.Prelude.{◌≡◌, IfSome};
+ghost use Rattle.ot_input.specs.Inputs.{OfText};
+ghost use Rattle.ot_commands.specs.Checked.{check_status, MayFind};
+
+use crate::running::status_of;
+use ot_asm::assemble_from;
+use ot_input::complain_of_line;
+use ot_isa::Schedule;
+use ot_machine::{Ending, end_of_run};
+use ot_report::find;
+use outcomes::{complain_of_memory, give};
+use std::alloc::Global;
+use std::io::{Read, Write};
+
+// The status of a run that ended so, and of its trace.
+fn check_status(ending: &Ending, full: bool) -> u8
+    ensures { result ≡ check_status full ending.now.stopped }
+{
+    if full { 1 } else { status_of(ending.stopped) }
+}
+
+// Runs the schedule and prints what is found.
+fn report_findings<O: Write, F: Write>(
+    alloc: Global,
+    schedule: &Schedule,
+    output: &mut O,
+    faults: &mut F,
+) -> u8
+    ensures { MayFind schedule.now result (record { output = O.contents output.old; output' = O.contents output.new; faults = F.contents faults.old; faults' = F.contents faults.new }) }
+{
+    let Ok(ending) = end_of_run(alloc, schedule) else {
+        complain_of_memory(faults);
+        return 1;
+    };
+    let Ok(found) = find(alloc, schedule, &ending) else {
+        complain_of_memory(faults);
+        return 1;
+    };
+    give(
+        found.text.as_bytes(),
+        check_status(&ending, found.full),
+        output,
+    )
+}
+
+/// Runs the schedule whose text is the input, and prints what is found of it.
+pub fn check_text<I: Read, O: Write, F: Write>(
+    alloc: Global,
+    input: &mut I,
+    output: &mut O,
+    faults: &mut F,
+) -> u8
+    ensures { IfSome (I.remaining input.old) (λ text. OfText MayFind text result (record { output = O.contents output.old; output' = O.contents output.new; faults = F.contents faults.old; faults' = F.contents faults.new })) }
+{
+    match assemble_from(alloc, input) {
+        Ok(schedule) => report_findings(alloc, &schedule, output, faults),
+        Err(fault) => {
+            complain_of_line(alloc, fault, faults);
+            1
+        }
+    }
+}

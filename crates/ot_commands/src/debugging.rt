@@ -1,0 +1,94 @@
+//! `debug`: a schedule's lines, a line `%%`, and commands that lead through its run back and forth.
+
+ghost use Rattle.std.specs.Prelude.{◌≡◌, Bool, IfSome};
+ghost use Rattle.line_reader.specs.Lines.{lines_of};
+ghost use Rattle.line_reader.specs.Taken.{before};
+ghost use Rattle.ot_commands.specs.Debugged.{talk_status, Debugs, MayConverse, TellsStop};
+
+use line_reader::ReadAhead;
+use ot_asm::{AsmFault, Kind, assemble_until_mark};
+use ot_console::{TalkStop, talk};
+use ot_debug::Debugger;
+use ot_input::complain_of_line;
+use ot_isa::Schedule;
+use outcomes::complain_of_memory;
+use std::alloc::Global;
+use std::io::{Read, Write};
+
+// Writes why a talk broke off.
+fn complain_of_stop<F: Write>(alloc: Global, stop: TalkStop, faults: &mut F)
+    ensures { TellsStop stop (F.contents faults.old) (F.contents faults.new) }
+{
+    match stop {
+        TalkStop::ReadFault(line) => complain_of_line(
+            alloc,
+            AsmFault {
+                line,
+                kind: Kind::ReadFault,
+            },
+            faults,
+        ),
+        TalkStop::Memory(line) => complain_of_line(
+            alloc,
+            AsmFault {
+                line,
+                kind: Kind::Memory,
+            },
+            faults,
+        ),
+        TalkStop::WriteFault => {}
+    }
+}
+
+// The status of a talk.
+fn talk_status(faulted: bool) -> u8
+    ensures { result ≡ talk_status faulted }
+{
+    if faulted { 1 } else { 0 }
+}
+
+// Answers the commands that are left, from the schedule's opening on. So many lines stand before them.
+fn converse<I: Read, O: Write, F: Write>(
+    alloc: Global,
+    schedule: Schedule,
+    earlier: u64,
+    ahead: &mut ReadAhead,
+    input: &mut I,
+    output: &mut O,
+    faults: &mut F,
+) -> u8
+    ensures { IfSome (before ahead.old (I.remaining input.old)) (λ rest. MayConverse schedule (lines_of rest) earlier result (record { output = O.contents output.old; output' = O.contents output.new; faults = F.contents faults.old; faults' = F.contents faults.new })) }
+{
+    let Ok(mut debugger) = Debugger::new(alloc, schedule) else {
+        complain_of_memory(faults);
+        return 1;
+    };
+    match talk(alloc, &mut debugger, ahead, input, output, earlier) {
+        Ok(faulted) => talk_status(faulted),
+        Err(stop) => {
+            complain_of_stop(alloc, stop, faults);
+            1
+        }
+    }
+}
+
+/// Reads a schedule's lines as far as the first line `%%`, and answers each command behind it as it is read.
+pub fn debug_text<I: Read, O: Write, F: Write>(
+    alloc: Global,
+    input: &mut I,
+    output: &mut O,
+    faults: &mut F,
+) -> u8
+    ensures { IfSome (I.remaining input.old) (λ text. Debugs text result (record { output = O.contents output.old; output' = O.contents output.new; faults = F.contents faults.old; faults' = F.contents faults.new })) }
+{
+    let mut ahead = ReadAhead::new();
+    match assemble_until_mark(alloc, &mut ahead, input) {
+        Ok((schedule, taken)) => {
+            converse(alloc, schedule, taken, &mut ahead, input, output, faults)
+        }
+        Err(fault) => {
+            complain_of_line(alloc, fault, faults);
+            1
+        }
+    }
+}

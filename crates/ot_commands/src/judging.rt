@@ -1,0 +1,93 @@
+//! `judge`: whether a recorded trace has the weak list property.
+
+ghost use Rattle.std.specs.Prelude.{◌≡◌, ◌≢◌, Ok, Err, IfErr, IfOk, IfSome};
+ghost use Rattle.ot_commands.specs.Judged.{trace_fault, trace_of_bytes, verdict_status, Judges, MayGiveVerdict};
+ghost use Rattle.ot_judge.specs.declared.fault.TraceFault.TheVariants as kind;
+
+use ot_asm::read_text;
+use ot_judge::{Trace, TraceFault, Verdict, judge, read_trace};
+use ot_report::print_verdict;
+use outcomes::{complain, complain_of_input, complain_of_memory, give};
+use std::alloc::Global;
+use std::io::{Read, Write};
+use streams::read_whole;
+
+fn status_of(verdict: Verdict) -> u8
+    ensures { result ≡ verdict_status verdict }
+{
+    match verdict {
+        Verdict::Holds => 0,
+        _ => 1,
+    }
+}
+
+fn fault_line(fault: TraceFault) -> &'static str
+    ensures { result.now ≡ trace_fault fault }
+{
+    match fault {
+        TraceFault::NotJson => "otbench: NotJson\n",
+        TraceFault::BadShape => "otbench: BadShape\n",
+        TraceFault::TraceFull => "otbench: TraceFull\n",
+        TraceFault::TagTwice(_) => "otbench: TagTwice\n",
+        TraceFault::Memory => "otbench: Memory\n",
+    }
+}
+
+// The trace that the bytes are.
+fn trace_in(alloc: Global, bytes: &[u8]) -> Result<Trace, TraceFault>
+    ensures ok { IfOk result (λ t. trace_of_bytes bytes.now ≡ Ok t) }
+    ensures err { IfErr result (λ e. e ≢ kind.Memory → trace_of_bytes bytes.now ≡ Err e) }
+{
+    match read_text(bytes) {
+        Some(text) => {
+            let trace = read_trace(alloc, text)?;
+            Ok(trace)
+        }
+        None => Err(TraceFault::NotJson),
+    }
+}
+
+// Judges the trace and prints the verdict.
+fn give_verdict<O: Write, F: Write>(
+    alloc: Global,
+    trace: &Trace,
+    output: &mut O,
+    faults: &mut F,
+) -> u8
+    ensures { MayGiveVerdict trace.now result (record { output = O.contents output.old; output' = O.contents output.new; faults = F.contents faults.old; faults' = F.contents faults.new }) }
+{
+    let Ok(verdict) = judge(alloc, trace) else {
+        complain_of_memory(faults);
+        return 1;
+    };
+    let Ok(line) = print_verdict(alloc, verdict) else {
+        complain_of_memory(faults);
+        return 1;
+    };
+    give(line.as_bytes(), status_of(verdict), output)
+}
+
+/// Judges the trace that is the input.
+pub fn judge_input<I: Read, O: Write, F: Write>(
+    alloc: Global,
+    input: &mut I,
+    output: &mut O,
+    faults: &mut F,
+) -> u8
+    ensures { IfSome (I.remaining input.old) (λ bytes. Judges bytes result (record { output = O.contents output.old; output' = O.contents output.new; faults = F.contents faults.old; faults' = F.contents faults.new })) }
+{
+    let bytes = match read_whole(alloc, input) {
+        Ok(bytes) => bytes,
+        Err(fault) => {
+            complain_of_input(fault, faults);
+            return 1;
+        }
+    };
+    match trace_in(alloc, bytes.as_slice()) {
+        Ok(trace) => give_verdict(alloc, &trace, output, faults),
+        Err(fault) => {
+            complain(faults, fault_line(fault));
+            1
+        }
+    }
+}

@@ -1,0 +1,28 @@
+//! The program's subcommands that need neither handle nor lines of JSON, over any reader and two writers.
+//!
+//! ```text
+//!    running      run: a schedule's reads, stop and end
+//!    checking     check: a run's stop, whether all is quiet, the verdict of its trace
+//!    debugging    debug: back and forth through a run, by commands
+//!    converting   asm, dis: between a schedule's text and its image
+//!    judging      judge: whether a recorded trace has the weak list property
+//!    generating   generate: a session made at random
+//! ```
+//!
+//! Each call answers the program's status, and says by its clause what it writes: `specs/` has a file for each module (`Ran`, `Checked`,
+//! `Debugged`, `Converted`, `Judged`, `Generated`), over the streams of `outcomes`. Begin with [`run_text`].
+#![tactic(auto)]
+
+mod checking;
+mod converting;
+mod debugging;
+mod generating;
+mod judging;
+mod running;
+
+pub use checking::check_text;
+pub use converting::{assemble, disassemble_image};
+pub use debugging::debug_text;
+pub use generating::generate_session;
+pub use judging::judge_input;
+pub use running::{run_image, run_text};

@@ -1,0 +1,87 @@
+//! `run`: a schedule's reads, its stop and its end.
+
+ghost use Rattle.std.specs.Prelude.{◌≡◌, IfSome};
+ghost use Rattle.ot_input.specs.Inputs.{OfImage, OfText};
+ghost use Rattle.ot_commands.specs.Ran.{MayReport, stop_status};
+
+use ot_asm::assemble_from;
+use ot_image::load;
+use ot_input::{complain_of_byte, complain_of_line};
+use ot_isa::Schedule;
+use ot_model::Refusal;
+use ot_report::{ReportFault, write_report};
+use outcomes::{complain_of_input, complain_of_memory};
+use std::alloc::Global;
+use std::io::{Read, Write};
+use streams::read_whole;
+
+/// The status of a run that stopped in this way: 0 where all instructions were performed, else 1.
+pub fn status_of(stopped: Option<(usize, Refusal)>) -> u8
+    ensures { result ≡ stop_status stopped }
+{
+    match stopped {
+        None => 0,
+        Some(_) => 1,
+    }
+}
+
+// Runs the schedule and writes its report.
+fn report<O: Write, F: Write>(
+    alloc: Global,
+    schedule: &Schedule,
+    output: &mut O,
+    faults: &mut F,
+) -> u8
+    ensures { MayReport schedule.now result (record { output = O.contents output.old; output' = O.contents output.new; faults = F.contents faults.old; faults' = F.contents faults.new }) }
+{
+    match write_report(alloc, schedule, output) {
+        Ok(stopped) => status_of(stopped),
+        Err(ReportFault::WriteFault) => 1,
+        Err(ReportFault::Memory) => {
+            complain_of_memory(faults);
+            1
+        }
+    }
+}
+
+/// Runs the schedule whose text is the input.
+pub fn run_text<I: Read, O: Write, F: Write>(
+    alloc: Global,
+    input: &mut I,
+    output: &mut O,
+    faults: &mut F,
+) -> u8
+    ensures { IfSome (I.remaining input.old) (λ text. OfText MayReport text result (record { output = O.contents output.old; output' = O.contents output.new; faults = F.contents faults.old; faults' = F.contents faults.new })) }
+{
+    match assemble_from(alloc, input) {
+        Ok(schedule) => report(alloc, &schedule, output, faults),
+        Err(fault) => {
+            complain_of_line(alloc, fault, faults);
+            1
+        }
+    }
+}
+
+/// Runs the schedule whose image is the input.
+pub fn run_image<I: Read, O: Write, F: Write>(
+    alloc: Global,
+    input: &mut I,
+    output: &mut O,
+    faults: &mut F,
+) -> u8
+    ensures { IfSome (I.remaining input.old) (λ bytes. OfImage MayReport bytes result (record { output = O.contents output.old; output' = O.contents output.new; faults = F.contents faults.old; faults' = F.contents faults.new })) }
+{
+    match read_whole(alloc, input) {
+        Ok(bytes) => match load(alloc, bytes.as_slice()) {
+            Ok(schedule) => report(alloc, &schedule, output, faults),
+            Err(fault) => {
+                complain_of_byte(alloc, fault, faults);
+                1
+            }
+        },
+        Err(fault) => {
+            complain_of_input(fault, faults);
+            1
+        }
+    }
+}

@@ -1,8 +1,0 @@
-use Rattle.line_reader.specs.Taken.{before}
-use Rattle.otbench.proofs.Talked.{debugged}
-use Rattle.otbench.proofs.debugging.debug_text.Goals as goal
-
-pub returns-in-Ok : goal.returns-in-Ok
-returns-in-Ok g c =
-    debugged c.new-ahead.result.held (g.I.Read.remaining c.args.input.now) (before c.assemble_until_mark.new.ahead (g.I.Read.remaining c.assemble_until_mark.new.reader))
-    c.in-Ok.schedule c.in-Ok.taken c.converse.result _ c.new-ahead.ensures.held c.in-Ok.ensures.part c.in-Ok.ensures.ok c.converse.ensures
