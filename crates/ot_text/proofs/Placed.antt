@@ -7,10 +7,10 @@ use Rattle.std.proofs.Math.Seq.{take-add, take-suc, drop-cons, take-suc-set, tak
 use Rattle.ot_text.specs.declared.edit.Place.{Place}
 use Rattle.ot_text.specs.Run.{Run, Keep, Add, Skip}
 use Rattle.ot_text.specs.Chunks.{lists, concatenated}
-use Rattle.ot_text.specs.Spots.{Spot, chunks_of, kept, step, capacities, HasMore, HasRoom, HaveRoom, IsPlace, spot_at, behind}
+use Rattle.ot_text.specs.Spots.{Spot, chunks_of, start, kept, step, capacities, HasMore, HasRoom, HaveRoom, IsPlace, spot_at, behind}
 use Rattle.ot_text.proofs.Chunked.{in_range, list_at}
 use Rattle.ot_text.proofs.Drafted.{lists_set}
-use Rattle.ot_text.proofs.Spotted.{kept_on, kept_here, skipped_on, skipped_here}
+use Rattle.ot_text.proofs.Spotted.{kept_on, kept_here, skipped_on, skipped_here, keeps, left}
 
 -- the next chunk
 pub next_there : {A : Type 0} (cs : List (List A)) (k : ℕ) → 0 < behind cs k → suc k < length cs
@@ -153,3 +153,22 @@ pub spot_whole : {A : Type 0} (cs : List (List A)) (place : Place) → IsPlace c
 spot_whole {A} cs place p =
     let there : place.chunk < length cs = p.there in
     rw (take-append-drop place.at (get_or cs place.chunk [])) (sym (take-append-drop place.chunk cs) ∙ ap (λ (t : List (List A)). take place.chunk cs ++ t) (drop-cons cs place.chunk [] there))
+
+-- the place before the first item
+pub spot_start : {A : Type 0} (cs : List (List A)) → 0 < length cs → spot_at cs (record { chunk = 0; at = 0 }) ≡ start cs
+spot_start [] h = absurd (omega arith)
+spot_start (c ∷ cs) h = refl
+
+left_start : {A : Type 0} (cs : List (List A)) → left (start cs) ≡ concatenated cs
+left_start [] = refl
+left_start (c ∷ cs) = refl
+
+-- what lies behind the place after the first items
+pub after_ahead : {A : Type 0} (cs : List (List A)) (place : Place) (count : ℕ) → count ≤ length (concatenated cs) → spot_at cs place ≡ step (Keep count) (start cs) → length (spot_at cs place).rest + behind cs place.chunk + count ≡ length (concatenated cs)
+after_ahead {A} cs place count h is =
+    let s : Spot A = spot_at cs place in
+    let o : Spot A = start cs in
+    let w = (keeps o.before o.done o.rest o.after count).left_is in
+    let size : length (left s) ≡ length (drop count (left o)) = ap (λ (t : Spot A). length (left t)) is ∙ ap length w in
+    let whole : length (left o) ≡ length (concatenated cs) = ap length (left_start cs) in
+    omega (arith, h, size, whole, length-drop count (left o), length-append s.rest (concatenated s.after))

@@ -30,6 +30,9 @@ pub kept_here : {A : Type 0} (b : List (List A)) (d r : List A) (a : List (List 
 kept_here b d r [] n h = refl
 kept_here b d r (c ∷ a) n h = rw (le-ltb (length r) n h) refl
 
+pub kept_none : {A : Type 0} (s : Spot A) → step (Keep 0) s ≡ s
+kept_none s = kept_here s.before s.done s.rest s.after 0 (omega arith) ∙ rw (append-nil s.done) refl
+
 pub skipped_on : {A : Type 0} (b : List (List A)) (d r c : List A) (a : List (List A)) (n : ℕ) → length r < n → skipped b d r (c ∷ a) n ≡ skipped (b ++ d ∷ []) [] c a (n - length r)
 skipped_on b d r c a n h = rw (lt-ltb (length r) n h) refl
 

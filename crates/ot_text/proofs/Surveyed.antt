@@ -2,9 +2,11 @@
 use Rattle.std.proofs.Common.{◌≡◌, ℕ, zero, suc, ◌+◌, ◌-◌, ◌<◌, ◌≤◌, List, [], ◌∷◌, ◌++◌, length, take, drop, get_or, refl, sym, ap, ◌∙◌, arith, add-one, length-append}
 use Rattle.std.proofs.lemmas.List.{append-nil, length-drop, length-take-le}
 use Rattle.ot_text.specs.declared.survey.Survey.{Survey}
+use Rattle.std.proofs.Math.Seq.{take-suc}
+use Rattle.ot_text.specs.declared.edit.Place.{Place}
 use Rattle.ot_text.specs.Run.{Run, Keep, Add, Skip}
-use Rattle.ot_text.specs.Chunks.{MayPrecede, IsChunked}
-use Rattle.ot_text.specs.Spots.{Spot, chunks_of, skipped, step, behind, IsSurvey, Sees, HasLeft}
+use Rattle.ot_text.specs.Chunks.{MayPrecede, IsChunked, MayEnd}
+use Rattle.ot_text.specs.Spots.{Spot, chunks_of, skipped, step, behind, IsPlace, spot_at, IsSurvey, Sees, HasLeft}
 use Rattle.ot_text.proofs.Chunked.{chunked_push, may_end_last}
 use Rattle.ot_text.proofs.Spotted.{kept_on, kept_here, skipped_on, skipped_here}
 use Rattle.ot_text.proofs.Placed.{next_chunk}
@@ -14,6 +16,32 @@ pub chunked_drop : {A : Type 0} (cs : List (List A)) (k : ℕ) → IsChunked cs 
 chunked_drop cs zero p = p
 chunked_drop [] (suc k) p = tt
 chunked_drop (c ∷ cs) (suc k) p = chunked_drop cs k p.3
+
+-- so are those before it
+pub chunked_take : {A : Type 0} (cs : List (List A)) (k : ℕ) → IsChunked cs → IsChunked (take k cs)
+chunked_take cs zero p = tt
+chunked_take [] (suc k) p = tt
+chunked_take {A} (c ∷ cs) (suc k) p = (p.0, p.1, precedes cs k p.2, chunked_take cs k p.3) where
+  precedes : (cs : List (List A)) (k : ℕ) → MayPrecede c cs → MayPrecede c (take k cs)
+  precedes cs zero m = tt
+  precedes [] (suc k) m = tt
+  precedes (d ∷ cs) (suc k) m = m
+
+pub may_end_take : {A : Type 0} (cs : List (List A)) (k n : ℕ) → k < length cs → 512 < length (get_or cs k []) + n → MayEnd (take (suc k) cs) n
+may_end_take cs k n h l = rw (take-suc cs k [] h) (may_end_last (take k cs) (get_or cs k []) n l)
+
+-- a place before which nothing has changed
+pub sees_place : {A : Type 0} (cs : List (List A)) (survey : Survey) (place : Place) → IsChunked cs → IsPlace cs place → survey.chunk ≡ place.chunk → survey.done ≡ place.at → survey.rest ≡ length (spot_at cs place).rest → ((n : ℕ) → 512 < survey.before + n → MayEnd (take place.chunk cs) n) → Sees cs survey (spot_at cs place)
+sees_place cs survey place chunked p chunk done rest ends =
+    let there = p.there in
+    record {
+      chunk_is = chunk ∙ sym (length-take-le place.chunk cs (omega arith));
+      done_is = done ∙ sym (length-take-le place.at (get_or cs place.chunk []) p.inside);
+      rest_is = rest;
+      after_is = rw chunk refl;
+      chunked = chunked_take cs place.chunk chunked;
+      may_end = ends;
+    }
 
 chunked_join : {A : Type 0} (b : List (List A)) (c : List A) (a : List (List A)) → IsChunked (b ++ c ∷ []) → MayPrecede c a → IsChunked a → IsChunked (b ++ c ∷ a)
 chunked_join [] c a p m q = (p.0, p.1, m, q)

@@ -10,7 +10,7 @@ use Rattle.ot_text.specs.declared.edit.Place.{Place}
 use Rattle.ot_text.specs.Run.{Keep, Add, Skip, base_of}
 use Rattle.ot_text.specs.Components.{run_of, runs}
 use Rattle.ot_text.specs.Chunks.{lists, concatenated, IsChunked}
-use Rattle.ot_text.specs.Spots.{Spot, chunks_of, start, step, edited, capacities, HasMore, HaveRoom, behind, IsPlace, spot_at, IsSurvey, Sees}
+use Rattle.ot_text.specs.Spots.{Spot, chunks_of, step, edited, capacities, HasMore, HaveRoom, behind, IsPlace, spot_at, IsSurvey, Sees}
 use Rattle.ot_text.proofs.Built.{past_end}
 use Rattle.ot_text.proofs.Applied.{runs_rest}
 use Rattle.ot_text.proofs.Spotted.{keeps, skips, left}
@@ -18,27 +18,27 @@ use Rattle.ot_text.proofs.Placed.{more_then, more_rooms, spot_whole}
 use Rattle.ot_text.proofs.Surveyed.{sees_added}
 
 -- the components up to place i are in the survey; where the others have room, all have
-pub record IsSurveying {T : Type 0} (components : List (Component T)) (cs : List (List T)) (i : ℕ) (survey : Survey) (now : List (Vec T Global)) : Type 0 where
+pub record IsSurveying {T : Type 0} (components : List (Component T)) (cs : List (List T)) (from : Spot T) (i : ℕ) (survey : Survey) (now : List (Vec T Global)) : Type 0 where
   pub same : lists now ≡ cs
   pub survey_is : IsSurvey cs survey
   pub within : base_of (runs (drop i components)) ≤ survey.rest + behind cs survey.chunk
   pub spot : Spot T
   pub sees : Sees cs survey spot
-  pub leads : edited (runs (drop i components)) spot ≡ edited (runs components) (start cs)
-  pub room : (later : List ℕ) → HasMore (capacities now) later → HaveRoom (runs (drop i components)) spot later → HaveRoom (runs components) (start cs) later
+  pub leads : edited (runs (drop i components)) spot ≡ edited (runs components) from
+  pub room : (later : List ℕ) → HasMore (capacities now) later → HaveRoom (runs (drop i components)) spot later → HaveRoom (runs components) from later
 
-pub surveying_none : {T : Type 0} (components : List (Component T)) (cs : List (List T)) (survey : Survey) (now : List (Vec T Global)) → lists now ≡ cs → IsSurvey cs survey → base_of (runs components) ≤ survey.rest + behind cs survey.chunk → Sees cs survey (start cs) → IsSurveying components cs 0 survey now
-surveying_none components cs survey now same w h q = record {
+pub surveying_none : {T : Type 0} (components : List (Component T)) (cs : List (List T)) (from : Spot T) (survey : Survey) (now : List (Vec T Global)) → lists now ≡ cs → IsSurvey cs survey → base_of (runs components) ≤ survey.rest + behind cs survey.chunk → Sees cs survey from → IsSurveying components cs from 0 survey now
+surveying_none components cs from survey now same w h q = record {
   same = same;
   survey_is = w;
   within = h;
-  spot = start cs;
+  spot = from;
   sees = q;
   leads = refl;
   room = λ later m r. r;
 }
 
-module _ {T : Type 0} (components : List (Component T)) (cs : List (List T)) (i : ℕ) (survey : Survey) (now : List (Vec T Global)) (c : Component T) (h : i < length components) (e : c ≡ get_or components i c) (before : IsSurveying components cs i survey now) where
+module _ {T : Type 0} (components : List (Component T)) (cs : List (List T)) (from : Spot T) (i : ℕ) (survey : Survey) (now : List (Vec T Global)) (c : Component T) (h : i < length components) (e : c ≡ get_or components i c) (before : IsSurveying components cs from i survey now) where
   rest_is : (k : Component T) → c ≡ k → runs (drop i components) ≡ run_of k ∷ runs (drop (suc i) components)
   rest_is k is = rw (← is) (runs_rest components i c h e)
 
@@ -48,7 +48,7 @@ module _ {T : Type 0} (components : List (Component T)) (cs : List (List T)) (i 
   pub survey_delete_within : (n : ℕ) → c ≡ Delete n → n ≤ survey.rest + behind cs survey.chunk
   survey_delete_within n is = let f = rw (rest_is (Delete n) is) at before.within in omega (arith, f)
 
-  pub surveying_retain : (n : ℕ) → c ≡ Retain n → (survey' : Survey) → IsSurvey cs survey' → survey'.rest + behind cs survey'.chunk + n ≡ survey.rest + behind cs survey.chunk → ((s : Spot T) → Sees cs survey s → Sees cs survey' (step (Keep n) s)) → IsSurveying components cs (i + 1) survey' now
+  pub surveying_retain : (n : ℕ) → c ≡ Retain n → (survey' : Survey) → IsSurvey cs survey' → survey'.rest + behind cs survey'.chunk + n ≡ survey.rest + behind cs survey.chunk → ((s : Spot T) → Sees cs survey s → Sees cs survey' (step (Keep n) s)) → IsSurveying components cs from (i + 1) survey' now
   surveying_retain n is survey' w passed sees =
       let f = rw (rest_is (Retain n) is) at before.within in
       let l = rw (rest_is (Retain n) is) at before.leads in
@@ -63,7 +63,7 @@ module _ {T : Type 0} (components : List (Component T)) (cs : List (List T)) (i 
         room = rw add-one (λ later m rooms. r later m (tt, rooms));
       }
 
-  pub surveying_delete : (n : ℕ) → c ≡ Delete n → (survey' : Survey) → IsSurvey cs survey' → survey'.rest + behind cs survey'.chunk + n ≡ survey.rest + behind cs survey.chunk → ((s : Spot T) → Sees cs survey s → Sees cs survey' (step (Skip n) s)) → IsSurveying components cs (i + 1) survey' now
+  pub surveying_delete : (n : ℕ) → c ≡ Delete n → (survey' : Survey) → IsSurvey cs survey' → survey'.rest + behind cs survey'.chunk + n ≡ survey.rest + behind cs survey.chunk → ((s : Spot T) → Sees cs survey s → Sees cs survey' (step (Skip n) s)) → IsSurveying components cs from (i + 1) survey' now
   surveying_delete n is survey' w passed sees =
       let f = rw (rest_is (Delete n) is) at before.within in
       let l = rw (rest_is (Delete n) is) at before.leads in
@@ -78,7 +78,7 @@ module _ {T : Type 0} (components : List (Component T)) (cs : List (List T)) (i 
         room = rw add-one (λ later m rooms. r later m (tt, rooms));
       }
 
-  pub surveying_insert : (v : Vec T Global) → c ≡ Insert v → (survey' : Survey) (now' : List (Vec T Global)) → lists now' ≡ lists now → HasMore (capacities now) (capacities now') → survey' ≡ record survey { done = survey.done + length v.items } → IsSurvey cs survey' → survey'.done + survey'.rest ≤ get_or (capacities now') survey.chunk 0 → IsSurveying components cs (i + 1) survey' now'
+  pub surveying_insert : (v : Vec T Global) → c ≡ Insert v → (survey' : Survey) (now' : List (Vec T Global)) → lists now' ≡ lists now → HasMore (capacities now) (capacities now') → survey' ≡ record survey { done = survey.done + length v.items } → IsSurvey cs survey' → survey'.done + survey'.rest ≤ get_or (capacities now') survey.chunk 0 → IsSurveying components cs from (i + 1) survey' now'
   surveying_insert v is survey' now' same more added w enough =
       let f = rw (rest_is (Insert v) is) at before.within in
       let l = rw (rest_is (Insert v) is) at before.leads in
@@ -104,14 +104,14 @@ module _ {T : Type 0} (components : List (Component T)) (cs : List (List T)) (i 
             r later (more_then _ _ _ more m) (rw (← at, size) (omega arith), rooms));
       }
 
-pub surveying_room : {T : Type 0} (components : List (Component T)) (cs : List (List T)) (i : ℕ) (survey : Survey) (now : List (Vec T Global)) → length components ≤ i → IsSurveying components cs i survey now → HaveRoom (runs components) (start cs) (capacities now)
-surveying_room components cs i survey now h w =
+pub surveying_room : {T : Type 0} (components : List (Component T)) (cs : List (List T)) (from : Spot T) (i : ℕ) (survey : Survey) (now : List (Vec T Global)) → length components ≤ i → IsSurveying components cs from i survey now → HaveRoom (runs components) from (capacities now)
+surveying_room components cs from i survey now h w =
     let none = past_end components i h in
     let r = rw none at w.room in
     r (capacities now) (λ k. omega arith) tt
 
-pub surveying_chunked : {T : Type 0} (components : List (Component T)) (cs : List (List T)) (i : ℕ) (survey : Survey) (now : List (Vec T Global)) → length components ≤ i → IsSurveying components cs i survey now → ((s : Spot T) → Sees cs survey s → IsChunked (chunks_of s)) → IsChunked (chunks_of (edited (runs components) (start cs)))
-surveying_chunked components cs i survey now h w ends =
+pub surveying_chunked : {T : Type 0} (components : List (Component T)) (cs : List (List T)) (from : Spot T) (i : ℕ) (survey : Survey) (now : List (Vec T Global)) → length components ≤ i → IsSurveying components cs from i survey now → ((s : Spot T) → Sees cs survey s → IsChunked (chunks_of s)) → IsChunked (chunks_of (edited (runs components) from))
+surveying_chunked components cs from i survey now h w ends =
     let none = past_end components i h in
     let l = rw none at w.leads in
     rw (← l) (ends w.spot w.sees)
@@ -123,23 +123,14 @@ pub record IsEditing {T : Type 0} (components : List (Component T)) (whole : Spo
   pub leads : edited (runs (drop i components)) (spot_at (lists now) place) ≡ whole
   pub room : HaveRoom (runs (drop i components)) (spot_at (lists now) place) (capacities now)
 
-spot_start : {T : Type 0} (cs : List (List T)) → 0 < length cs → spot_at cs (record { chunk = 0; at = 0 }) ≡ start cs
-spot_start [] h = absurd (omega arith)
-spot_start (c ∷ cs) h = refl
-
-start-left : {T : Type 0} (cs : List (List T)) → left (start cs) ≡ concatenated cs
-start-left [] = refl
-start-left (c ∷ cs) = refl
-
-pub editing_none : {T : Type 0} (components : List (Component T)) (now : List (Vec T Global)) → 0 < length (lists now) → base_of (runs components) ≤ length (concatenated (lists now)) → HaveRoom (runs components) (start (lists now)) (capacities now) → IsEditing components (edited (runs components) (start (lists now))) 0 (record { chunk = 0; at = 0 }) now
-editing_none {T} components now some h room =
-    let s = spot_start (lists now) some in
-    let size : length (left (spot_at (lists now) (record { chunk = 0; at = 0 }))) ≡ length (concatenated (lists now)) = ap (λ (t : Spot T). length (left t)) s ∙ ap length (start-left (lists now)) in
+pub editing_none : {T : Type 0} (components : List (Component T)) (now : List (Vec T Global)) (place : Place) → IsPlace (lists now) place → base_of (runs components) ≤ length (spot_at (lists now) place).rest + behind (lists now) place.chunk → HaveRoom (runs components) (spot_at (lists now) place) (capacities now) → IsEditing components (edited (runs components) (spot_at (lists now) place)) 0 place now
+editing_none {T} components now place p h room =
+    let s : Spot T = spot_at (lists now) place in
     record {
-      place_is = record { there = some; inside = omega arith };
-      within = rw size h;
-      leads = ap (λ (t : Spot T). edited (runs components) t) s;
-      room = subst (λ (t : Spot T). HaveRoom (runs components) t (capacities now)) (sym s) room;
+      place_is = p;
+      within = omega (arith, h, length-append s.rest (concatenated s.after));
+      leads = refl;
+      room = room;
     }
 
 module _ {T : Type 0} (components : List (Component T)) (whole : Spot T) (i : ℕ) (place : Place) (now : List (Vec T Global)) (c : Component T) (h : i < length components) (e : c ≡ get_or components i c) (before : IsEditing components whole i place now) where

@@ -35,11 +35,11 @@ in_place_text {T} op touched all old new spells base same is =
     let takes : base_of all ≡ length (concatenated old) = ap (λ (o : Operation T). o.base) spells ∙ base in
     ap concatenated (is ∙ same (start old)) ∙ edited-applies all old takes ∙ ap (λ (o : Operation T). apply o (concatenated old)) spells
 
-pub in_place_held : {T : Type 0} (op : Operation T) (touched all : List (Run T)) (old new : List (List T)) (count : ℕ) → operation_of all ≡ op → op.base ≡ length (concatenated old) → ((s : Spot T) → chunks_of (edited touched s) ≡ chunks_of (edited all s)) → new ≡ chunks_of (edited touched (start old)) → IsChunked (chunks_of (edited touched (start old))) → count ≡ length op.image → count ≤ 1000000 → IsHeld new count
+pub in_place_held : {T : Type 0} (op : Operation T) (touched all : List (Run T)) (old new : List (List T)) (count : ℕ) → operation_of all ≡ op → op.base ≡ length (concatenated old) → ((s : Spot T) → chunks_of (edited touched s) ≡ chunks_of (edited all s)) → new ≡ chunks_of (edited touched (start old)) → IsChunked new → count ≡ length op.image → count ≤ 1000000 → IsHeld new count
 in_place_held {T} op touched all old new count spells base same is chunked size small =
     let text = in_place_text op touched all old new spells base same is in
     record {
-      chunked = rw is chunked;
+      chunked = chunked;
       count_is = rw (size, text) (sym (length-apply op (concatenated old) (is_operation all op spells) (omega (arith, base))));
       fits = small;
     }

@@ -1,16 +1,18 @@
 //! What components make of a document's chunks.
 
-ghost use Rattle.std.specs.Prelude.{◌≡◌, ◌≤◌, [], length, IfOk};
+ghost use Rattle.std.specs.Prelude.{◌≡◌, ◌+◌, ◌<◌, ◌≤◌, [], length, IfOk, OnErr, IsTrue};
 ghost use Rattle.ot_text.specs.Operation.{apply, invert};
-ghost use Rattle.ot_text.specs.Run.{base_of, image_from, operation_of};
+ghost use Rattle.ot_text.specs.Run.{Keep, base_of, image_from, operation_of};
 ghost use Rattle.ot_text.specs.Components.{runs};
 ghost use Rattle.ot_text.specs.Chunks.{lists, concatenated, IsChunked};
-ghost use Rattle.ot_text.specs.Spots.{Spot, chunks_of, edited};
+ghost use Rattle.ot_text.specs.Spots.{Spot, chunks_of, start, step, edited};
 ghost use Rattle.ot_text.specs.Draft.{IsInOrder, IsDraft, written};
 ghost use Rattle.ot_text.specs.declared.TheConstants.{LIMIT};
 
 use crate::cursor::Cursor;
 use crate::draft::Draft;
+use crate::edit::{Place, edit_components};
+use crate::survey::survey_components;
 use crate::{Component, Element, TextOp, only_memory};
 use std::alloc::{AllocError, Global};
 
@@ -24,6 +26,40 @@ pub fn without_last_retain<T>(components: &[Component<T>]) -> &[Component<T>]
         return &components[..length - 1];
     }
     components
+}
+
+// The count of a retain at the front, or 0, and the components behind it.
+fn split_front<T>(components: &[Component<T>]) -> (usize, &[Component<T>])
+    ensures base { base_of (runs components.now) ≡ result.0 + base_of (runs result.1.now) }
+    ensures same { (s : Spot T) → edited (runs components.now) s ≡ edited (runs result.1.now) (step (Keep result.0) s) }
+{
+    if let Some((Component::Retain(count), rest)) = components.split_first() {
+        return (*count, rest);
+    }
+    (0, components)
+}
+
+// Makes of the chunks what the components make of them, where they lie, where they then are chunks as they have to be. Says whether that
+// was made; else they are as they were.
+pub fn change_chunks<T: Copy>(
+    components: &[Component<T>],
+    chunks: &mut Vec<Vec<T>>,
+) -> Result<bool, AllocError>
+    requires chunked { IsChunked (lists chunks.old.items) }
+    requires some { 0 < length chunks.old.items }
+    requires base { base_of (runs components.now) ≤ length (concatenated (lists chunks.old.items)) }
+    ensures made { IfOk result (λ made. IsTrue made → lists chunks.new.items ≡ chunks_of (edited (runs components.now) (start (lists chunks.old.items)))) }
+    ensures chunked { IsChunked (lists chunks.new.items) }
+    ensures not { IfOk result (λ made. (IsTrue made → ⊥) → lists chunks.new.items ≡ lists chunks.old.items) }
+    ensures err { OnErr result (lists chunks.new.items ≡ lists chunks.old.items) }
+{
+    let (front, touched) = split_front(components);
+    let place = Place::after(chunks.as_slice(), front);
+    if !survey_components(touched, chunks, &place)? {
+        return Ok(false);
+    }
+    edit_components(touched, chunks, place);
+    Ok(true)
 }
 
 // The draft of the document that the components make of the chunks.

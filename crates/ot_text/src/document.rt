@@ -5,13 +5,11 @@ ghost use Rattle.ot_text.specs.Operation.{apply};
 ghost use Rattle.ot_text.specs.Chunks.{lists, concatenated, IsChunked};
 ghost use Rattle.ot_text.specs.declared.TheConstants.{LIMIT};
 
-use crate::change::{apply_components, draft_components, without_last_retain};
+use crate::change::{apply_components, change_chunks, draft_components, without_last_retain};
 use crate::compare::same_items;
 use crate::cursor::Cursor;
 use crate::draft::{CHUNK, Draft, FILL, assemble, copy_pieces};
-use crate::edit::edit_components;
 use crate::pieces::Pieces;
-use crate::survey::survey_components;
 use crate::{Element, TextOp};
 use std::alloc::{AllocError, Global};
 use std::marker::Model;
@@ -176,10 +174,9 @@ impl<T: Element> Doc<T> {
         ensures err { OnErr result (self.new ≡ self.old) }
     {
         let touched = without_last_retain(op.components());
-        if self.chunks.is_empty() || !survey_components(touched, &mut self.chunks)? {
+        if self.chunks.is_empty() || !change_chunks(touched, &mut self.chunks)? {
             return Ok(false);
         }
-        edit_components(touched, &mut self.chunks);
         self.count = op.target_len();
         Ok(true)
     }

@@ -22,10 +22,13 @@ fn insert_items<T: Copy>(chunk: &mut Vec<T>, at: usize, text: &[T])
     ensures items { chunk.new.items ≡ take at chunk.old.items ++ text.now ++ drop at chunk.old.items }
     ensures room { vec_capacity chunk.old ≤ vec_capacity chunk.new }
 {
+    let length = chunk.len();
     if chunk.extend_from_slice(text).is_err() {
         unreachable!();
     }
-    chunk.slice_mut(at..).rotate_right(text.len());
+    let end = at + text.len();
+    chunk.copy_within(at..length, end);
+    chunk.slice_mut(at..end).copy_from_slice(text);
 }
 
 // Takes items out of a chunk.
@@ -35,13 +38,26 @@ fn remove_items<T: Copy>(chunk: &mut Vec<T>, at: usize, count: usize)
     ensures room { vec_capacity chunk.new ≡ vec_capacity chunk.old }
 {
     let length = chunk.len();
-    chunk.slice_mut(at..).rotate_left(count);
+    chunk.copy_within(at + count..length, at);
     chunk.truncate(length - count);
 }
 
 impl Place {
+    // The place behind the first items.
+    pub fn after<T>(chunks: &[Vec<T>], count: usize) -> Place
+        requires some { 0 < length chunks.now }
+        requires within { count ≤ length (concatenated (lists chunks.now)) }
+        ensures place { IsPlace (lists chunks.now) result }
+        ensures spot { spot_at (lists chunks.now) result ≡ step (Keep count) (start (lists chunks.now)) }
+        ensures ahead { length (spot_at (lists chunks.now) result).rest + behind (lists chunks.now) result.chunk + count ≡ length (concatenated (lists chunks.now)) }
+    {
+        let mut place = Place { chunk: 0, at: 0 };
+        place.keep(chunks, count);
+        place
+    }
+
     // How many items of its chunk lie behind it.
-    fn rest<T>(&self, chunks: &[Vec<T>]) -> usize
+    pub fn rest<T>(&self, chunks: &[Vec<T>]) -> usize
         requires { IsPlace (lists chunks.now) self.now }
         ensures { result ≡ length (spot_at (lists chunks.now) self.now).rest }
     {
@@ -95,14 +111,14 @@ impl Place {
     }
 }
 
-// Makes of the chunks what the components make of them, which have room for it.
-pub fn edit_components<T: Copy>(components: &[Component<T>], chunks: &mut Vec<Vec<T>>)
-    requires some { 0 < length chunks.old.items }
-    requires base { base_of (runs components.now) ≤ length (concatenated (lists chunks.old.items)) }
-    requires room { HaveRoom (runs components.now) (start (lists chunks.old.items)) (capacities chunks.old.items) }
-    ensures { lists chunks.new.items ≡ chunks_of (edited (runs components.now) (start (lists chunks.old.items))) }
+// Makes of the chunks what the components make of them from a place on, which have room for it.
+pub fn edit_components<T: Copy>(components: &[Component<T>], chunks: &mut Vec<Vec<T>>, from: Place)
+    requires place { IsPlace (lists chunks.old.items) from }
+    requires base { base_of (runs components.now) ≤ length (spot_at (lists chunks.old.items) from).rest + behind (lists chunks.old.items) from.chunk }
+    requires room { HaveRoom (runs components.now) (spot_at (lists chunks.old.items) from) (capacities chunks.old.items) }
+    ensures { lists chunks.new.items ≡ chunks_of (edited (runs components.now) (spot_at (lists chunks.old.items) from)) }
 {
-    let mut place = Place { chunk: 0, at: 0 };
+    let mut place = from;
     for component in components {
         match component {
             Component::Retain(count) => place.keep(chunks.as_slice(), *count),

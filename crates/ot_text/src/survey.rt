@@ -1,13 +1,14 @@
 //! Looks whether a change can be made in the chunks where they lie, and makes room in them.
 
-ghost use Rattle.std.specs.Prelude.{◌≡◌, ◌↔◌, ◌+◌, ◌<◌, ◌≤◌, suc, ◌++◌, ◌∷◌, [], length, take, drop, get_or, map, OnOk, IfOk, IsTrue, vec_capacity};
+ghost use Rattle.std.specs.Prelude.{◌≡◌, ◌↔◌, ℕ, ◌+◌, ◌<◌, ◌≤◌, suc, ◌++◌, ◌∷◌, [], length, take, drop, get_or, map, OnOk, IfOk, IsTrue, vec_capacity};
 ghost use Rattle.ot_text.specs.Run.{Keep, Add, Skip, base_of};
 ghost use Rattle.ot_text.specs.Components.{runs};
-ghost use Rattle.ot_text.specs.Chunks.{lists, concatenated, IsChunked};
-ghost use Rattle.ot_text.specs.Spots.{Spot, chunks_of, start, step, edited, capacities, HasMore, HaveRoom, behind, IsSurvey, Sees, HasLeft};
+ghost use Rattle.ot_text.specs.Chunks.{lists, IsChunked, MayEnd};
+ghost use Rattle.ot_text.specs.Spots.{Spot, chunks_of, step, edited, capacities, HasMore, HaveRoom, behind, IsPlace, spot_at, IsSurvey, Sees, HasLeft};
 
 use crate::Component;
 use crate::draft::CHUNK;
+use crate::edit::Place;
 use std::alloc::AllocError;
 
 // A spot in the chunks as they will be: how many items its chunk will have before it and has after it, and how many the chunk
@@ -21,19 +22,19 @@ pub struct Survey {
 }
 
 impl Survey {
-    // The spot before the first item.
-    fn start<T>(chunks: &[Vec<T>]) -> Survey
+    // A place in chunks before which nothing has changed.
+    fn start<T>(chunks: &[Vec<T>], place: &Place) -> Survey
         requires chunked { IsChunked (lists chunks.now) }
-        requires some { 0 < length chunks.now }
+        requires place { IsPlace (lists chunks.now) place.now }
         ensures survey { IsSurvey (lists chunks.now) result }
-        ensures ahead { result.rest + behind (lists chunks.now) result.chunk ≡ length (concatenated (lists chunks.now)) }
-        ensures spot { Sees (lists chunks.now) result (start (lists chunks.now)) }
+        ensures ahead { result.rest + behind (lists chunks.now) result.chunk ≡ length (spot_at (lists chunks.now) place.now).rest + behind (lists chunks.now) place.now.chunk }
+        ensures spot { Sees (lists chunks.now) result (spot_at (lists chunks.now) place.now) }
     {
         Survey {
-            chunk: 0,
-            done: 0,
-            rest: chunks[0].len(),
-            before: CHUNK,
+            chunk: place.chunk,
+            done: place.at,
+            rest: place.rest(chunks),
+            before: size_before(chunks, place.chunk),
         }
     }
 
@@ -137,6 +138,19 @@ impl Survey {
     }
 }
 
+// How many items the chunk before one has; 512 where there is none.
+fn size_before<T>(chunks: &[Vec<T>], chunk: usize) -> usize
+    requires chunked { IsChunked (lists chunks.now) }
+    requires within { chunk ≤ length chunks.now }
+    ensures small { result ≤ 512 }
+    ensures may_end { (count : ℕ) → 512 < result + count → MayEnd (take chunk (lists chunks.now)) count }
+{
+    if chunk == 0 {
+        return CHUNK;
+    }
+    chunks[chunk - 1].len()
+}
+
 // Gives the chunk room for `size` items: for twice as many, where that is no more than a chunk may have.
 fn make_room<T>(chunk: &mut Vec<T>, size: usize) -> Result<(), AllocError>
     requires { size ≤ 512 }
@@ -151,20 +165,21 @@ fn make_room<T>(chunk: &mut Vec<T>, size: usize) -> Result<(), AllocError>
     Ok(())
 }
 
-// Can the components be made of the chunks where they lie, so that they are chunks of 1 to 512 items, each two neighbours with
-// more than 512? Makes room for all that comes, so that it can then be made with no memory.
+// Can the components be made of the chunks where they lie, from a place on, so that they are chunks of 1 to 512 items, each two
+// neighbours with more than 512? Makes room for all that comes, so that it can then be made with no memory.
 pub fn survey_components<T>(
     components: &[Component<T>],
     chunks: &mut Vec<Vec<T>>,
+    from: &Place,
 ) -> Result<bool, AllocError>
     requires chunked { IsChunked (lists chunks.old.items) }
-    requires some { 0 < length chunks.old.items }
-    requires base { base_of (runs components.now) ≤ length (concatenated (lists chunks.old.items)) }
+    requires place { IsPlace (lists chunks.old.items) from.now }
+    requires base { base_of (runs components.now) ≤ length (spot_at (lists chunks.old.items) from.now).rest + behind (lists chunks.old.items) from.now.chunk }
     ensures same { lists chunks.new.items ≡ lists chunks.old.items }
-    ensures chunked { IfOk result (λ fits. IsTrue fits → IsChunked (chunks_of (edited (runs components.now) (start (lists chunks.old.items))))) }
-    ensures room { IfOk result (λ fits. IsTrue fits → HaveRoom (runs components.now) (start (lists chunks.old.items)) (capacities chunks.new.items)) }
+    ensures chunked { IfOk result (λ fits. IsTrue fits → IsChunked (chunks_of (edited (runs components.now) (spot_at (lists chunks.old.items) from.now)))) }
+    ensures room { IfOk result (λ fits. IsTrue fits → HaveRoom (runs components.now) (spot_at (lists chunks.old.items) from.now) (capacities chunks.new.items)) }
 {
-    let mut survey = Survey::start(chunks.as_slice());
+    let mut survey = Survey::start(chunks.as_slice(), from);
     for component in components {
         let fits = match component {
             Component::Retain(count) => survey.keep(chunks.as_slice(), *count),

@@ -11,17 +11,17 @@ loop-component-preserved g c =
           let e = w.as_slice-in-Retain.ensures.value in
           let yes = rw w.fits-is at c.if-not-fits.false in
           rw (w.chunks-is, w.survey-is)
-          (surveying_retain _ _ _ _ _ _ c.loop-component-test.true c.component-item.is inv _ w.in-Retain.is _ (rw (e, inv.same) at w.keep-fits.ensures.survey) ((rw (e, inv.same) at w.keep-fits.ensures.ahead) yes) ((rw (e, inv.same) at w.keep-fits.ensures.spot) yes))
+          (surveying_retain _ _ _ _ _ _ _ c.loop-component-test.true c.component-item.is inv _ w.in-Retain.is _ (rw (e, inv.same) at w.keep-fits.ensures.survey) ((rw (e, inv.same) at w.keep-fits.ensures.ahead) yes) ((rw (e, inv.same) at w.keep-fits.ensures.spot) yes))
       | in-Insert+in_ok-fits-in-Insert w ↦
           let yes = rw w.fits-is at c.if-not-fits.false in
           let ok = w.in-Insert.text.ok in
           let size : w.len.result ≡ length w.in-Insert.text.items = omega (arith, ok, w.len.ensures) in
           let done = w.in_ok-fits-in-Insert.ensures in
           rw (w.chunks-is, w.survey-is)
-          (surveying_insert _ _ _ _ _ _ c.loop-component-test.true c.component-item.is inv _ w.in-Insert.is _ _ w.insert.ensures.same w.insert.ensures.more (rw size at (done.added yes)) (rw inv.same at w.insert.ensures.survey) (done.room yes))
+          (surveying_insert _ _ _ _ _ _ _ c.loop-component-test.true c.component-item.is inv _ w.in-Insert.is _ _ w.insert.ensures.same w.insert.ensures.more (rw size at (done.added yes)) (rw inv.same at w.insert.ensures.survey) (done.room yes))
       | in-Delete w ↦
           let e = w.as_slice-in-Delete.ensures.value in
           let yes = rw w.fits-is at c.if-not-fits.false in
           rw (w.chunks-is, w.survey-is)
-          (surveying_delete _ _ _ _ _ _ c.loop-component-test.true c.component-item.is inv _ w.in-Delete.is _ (rw (e, inv.same) at w.delete-fits.ensures.survey) ((rw (e, inv.same) at w.delete-fits.ensures.ahead) yes) ((rw (e, inv.same) at w.delete-fits.ensures.spot) yes))
+          (surveying_delete _ _ _ _ _ _ _ c.loop-component-test.true c.component-item.is inv _ w.in-Delete.is _ (rw (e, inv.same) at w.delete-fits.ensures.survey) ((rw (e, inv.same) at w.delete-fits.ensures.ahead) yes) ((rw (e, inv.same) at w.delete-fits.ensures.spot) yes))
     ]

@@ -11,8 +11,8 @@ invariant_of-self-2 g c =
     let old = lists c.self.inside.chunks.items in
     let touched = runs c.without_last_retain-touched.result.now in
     let base : op.base ≡ length (concatenated old) = rw c.self.view_is c.requires in
-    let new : lists c.edit_components.new.chunks.items ≡ chunks_of (edited touched (start old)) = rw c.survey_components.ensures.same at c.edit_components.ensures in
-    in_place_held op touched (runs c.components.result.now) old (lists c.edit_components.new.chunks.items) c.target_len-self-inside.result c.components.ensures.spells base c.without_last_retain-touched.ensures.same new (c.in_ok-survey_components.ensures.chunked c.if-not-branch.false) c.target_len-self-inside.ensures.value c.target_len-self-inside.ensures.small
+    let new : lists c.change_chunks.new.chunks.items ≡ chunks_of (edited touched (start old)) = c.in_ok-change_chunks.ensures.made c.if-not-branch.false in
+    in_place_held op touched (runs c.components.result.now) old (lists c.change_chunks.new.chunks.items) c.target_len-self-inside.result c.components.ensures.spells base c.without_last_retain-touched.ensures.same new c.change_chunks.ensures.chunked c.target_len-self-inside.ensures.value c.target_len-self-inside.ensures.small
 
 pub returns-clause-made : goal.returns-clause-made
 returns-clause-made g c = λ t.
@@ -20,6 +20,6 @@ returns-clause-made g c = λ t.
     let old = lists c.self.inside.chunks.items in
     let touched = runs c.without_last_retain-touched.result.now in
     let base : op.base ≡ length (concatenated old) = rw c.self.view_is c.requires in
-    let new : lists c.edit_components.new.chunks.items ≡ chunks_of (edited touched (start old)) = rw c.survey_components.ensures.same at c.edit_components.ensures in
-    let text = in_place_text op touched (runs c.components.result.now) old (lists c.edit_components.new.chunks.items) c.components.ensures.spells base c.without_last_retain-touched.ensures.same new in
+    let new : lists c.change_chunks.new.chunks.items ≡ chunks_of (edited touched (start old)) = c.in_ok-change_chunks.ensures.made c.if-not-branch.false in
+    let text = in_place_text op touched (runs c.components.result.now) old (lists c.change_chunks.new.chunks.items) c.components.ensures.spells base c.without_last_retain-touched.ensures.same new in
     rw c.self.view_is at text
