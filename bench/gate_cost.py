@@ -121,6 +121,12 @@ def measured(name, part, jobs):
             sys.stdout = sys.__stdout__
 
 
+@functools.lru_cache(maxsize=None)
+def waiting(name):
+    """How many crates the longest chain has that waits for this one."""
+    return max((1 + waiting(it.name) for it in crates().values() if name in {dep.name for dep in it.below()}), default=0)
+
+
 def is_known(costs, name, part):
     known = costs.get(f"{name} {part}")
     return known is not None and known["sum"] == sum_of(name, part) and (part != "proof" or os.path.isdir(crates()[name].rlib) or crates()[name].is_program)
@@ -139,7 +145,7 @@ def measure(costs, names, parts, lanes, until, file):
     wanted = [(name, part) for name in names for part in parts]
     below = {it.name for name, _ in wanted for it in crates()[name].below()}
     wanted += [(name, "proof") for name in crates() if name in below and (name, "proof") not in wanted]
-    left = sorted((it for it in wanted if not is_known(costs, *it)), key=lambda it: (PARTS.index(it[1]), len(crates()[it[0]].below())))
+    left = sorted((it for it in wanted if not is_known(costs, *it)), key=lambda it: (PARTS.index(it[1]), -waiting(it[0])))
     stands = {name for name in crates() if is_known(costs, name, "proof") and well(costs[f"{name} proof"]["found"])}
     running = {}
     # (each lane is a process, since processor time is counted by process)
@@ -147,9 +153,11 @@ def measure(costs, names, parts, lanes, until, file):
         while left or running:
             ready = [it for it in left if all(dep.name in stands for dep in crates()[it[0]].below())]
             while ready and spare(running, lanes) and time.time() < until:
-                # (a proof that others wait for gets the lanes that would be idle)
+                # (a proof that others wait for gets the lanes that would be idle, and two where the longest chain of all waits for it)
                 jobs = max(1, spare(running, lanes) // len(ready))
                 task = ready.pop(0)
+                if task[1] == "proof" and waiting(task[0]) == max(waiting(name) for name, part in left if part == "proof"):
+                    jobs = max(jobs, min(2, lanes))
                 left.remove(task)
                 running[pool.submit(measured, *task, jobs)] = (*task, jobs if task[1] != "edits" else 1)
             if not running:

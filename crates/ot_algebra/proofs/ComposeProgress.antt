@@ -276,7 +276,7 @@ compose_insert a b built text xs ys w =
     }
 
 module _ {A : Type 0} (a b built : Operation A) (count : ℕ) (xs ys : List (Run A)) where
-  retain_retain :
+  pub retain_retain :
       (m n : ℕ) → count ≤ m → count ≤ n → ComposeProgress a b built (Keep m ∷ xs) (Keep n ∷ ys)
       → ComposeProgress a b (appended built (Keep count)) (skipped count (Keep m ∷ xs)) (skipped count (Keep n ∷ ys))
   retain_retain m n in_first in_second w =
@@ -322,7 +322,7 @@ module _ {A : Type 0} (a b built : Operation A) (count : ℕ) (xs ys : List (Run
         image = ap (λ rest. built.image ++ rest) (sym step) ∙ w.image;
       }
 
-  insert_retain :
+  pub insert_retain :
       (text : List A) (n : ℕ) → count ≤ length text → count ≤ n → ComposeProgress a b built (Add text ∷ xs) (Keep n ∷ ys)
       → ComposeProgress a b (appended built (Add (take count text))) (skipped_made count (Add text ∷ xs)) (skipped count (Keep n ∷ ys))
   insert_retain text n in_first in_second w =
@@ -493,7 +493,7 @@ unfolding compose
 bounds_of xs ys base_fits target_fits =
     record { base_fits = base_fits; target_fits = omega (arith, target_fits, length-filter_map-le (item_in (image_from 0 xs)) (image_from 0 ys)) }
 
-small :
+pub small :
     {A : Type 0} (a b built : Operation A) (xs ys : List (Run A)) → ComposeBounds a b → ComposeProgress a b built xs ys
     → IsTooLong built → ⊥
 small a b built xs ys bounds w =

@@ -1,48 +1,52 @@
 -- Runs of one operation that lie in what the other keeps stay as they are: transform goes past them at once.
-use Rattle.std.proofs.Common.{◌≡◌, ℕ, suc, zero, ◌+◌, ◌-◌, ◌<◌, ◌≤◌, List, [], ◌∷◌, ◌++◌, length, map, refl, sym, ap, subst, ◌∙◌, arith, append_assoc, append-nil}
+use Rattle.std.proofs.Common.{nat_eq, if◌then◌else◌, ◌≡◌, ℕ, suc, zero, ◌+◌, ◌-◌, ◌<◌, ◌≤◌, List, [], ◌∷◌, ◌++◌, length, map, refl, sym, ap, subst, ◌∙◌, arith, append_assoc, append-nil}
 use borrow.Author.Tests.{ne_eqb}
 use Rattle.ot_text.specs.Operation.{Operation, New, olds, with_retain, with_insert, with_delete}
-use Rattle.ot_text.specs.Run.{Run, Keep, Add, Skip, base_of, image_from, IsNormal}
+use Rattle.ot_text.specs.Run.{Run, Keep, Add, Skip, base_of, image_from}
+use Rattle.ot_text.specs.Rewriting.{with_runs}
 use Rattle.ot_text.proofs.RunLemmas.{olds-add, same_operation}
-use Rattle.ot_algebra.specs.Cursor.{target_of, skipped, first_keep, last_keep, after_kept}
-use Rattle.ot_algebra.specs.Overlap.{StartsOtherwise}
+use Rattle.ot_algebra.specs.Cursor.{target_of, skipped, kept_by}
 use Rattle.ot_algebra.proofs.SkippedLaws.{skipped_retain-whole, skipped_retain-part, skipped_delete-whole}
-use Rattle.ot_algebra.proofs.ComposeProgress.{last_keep_within}
 use Rattle.ot_algebra.proofs.TransformProgress.{Progress, progress_insert_first, progress_both_stay, progress_first_goes}
 
--- an operation with more runs at its end
-abbrev pub extended : {A : Type 0} → Operation A → List (Run A) → Operation A
-extended op rs = record { base = op.base + base_of rs; image = op.image ++ image_from op.base rs }
+-- how many places the first run keeps
+abbrev pub first_keep : {A : Type 0} → List (Run A) → ℕ
+first_keep [] = 0
+first_keep (run ∷ runs) = kept_by run
 
-extended-none : {A : Type 0} (op : Operation A) → extended op [] ≡ op
-extended-none op = same_operation _ _ _ _ (omega arith) (append-nil op.image)
+-- the runs without `count` places that their first run keeps
+abbrev pub after_kept : {A : Type 0} → ℕ → List (Run A) → List (Run A)
+after_kept count runs = if nat_eq count 0 then runs else skipped count runs
 
-extended-keep : {A : Type 0} (op : Operation A) (m : ℕ) (rs : List (Run A)) → extended (with_retain op m) rs ≡ extended op (Keep m ∷ rs)
-extended-keep op m rs = same_operation _ _ _ _ (omega arith) (append_assoc op.image (olds op.base m) (image_from (op.base + m) rs))
+pub with_runs-none : {A : Type 0} (op : Operation A) → with_runs op [] ≡ op
+with_runs-none op = same_operation _ _ _ _ (omega arith) (append-nil op.image)
 
-extended-add : {A : Type 0} (op : Operation A) (text : List A) (rs : List (Run A)) → extended (with_insert op text) rs ≡ extended op (Add text ∷ rs)
-extended-add op text rs = same_operation _ _ _ _ refl (append_assoc op.image (map New text) (image_from op.base rs))
+pub with_runs-keep : {A : Type 0} (op : Operation A) (m : ℕ) (rs : List (Run A)) → with_runs (with_retain op m) rs ≡ with_runs op (Keep m ∷ rs)
+with_runs-keep op m rs = same_operation _ _ _ _ (omega arith) (append_assoc op.image (olds op.base m) (image_from (op.base + m) rs))
 
-extended-skip : {A : Type 0} (op : Operation A) (m : ℕ) (rs : List (Run A)) → extended (with_delete op m) rs ≡ extended op (Skip m ∷ rs)
-extended-skip op m rs = same_operation _ _ _ _ (omega arith) refl
+pub with_runs-add : {A : Type 0} (op : Operation A) (text : List A) (rs : List (Run A)) → with_runs (with_insert op text) rs ≡ with_runs op (Add text ∷ rs)
+with_runs-add op text rs = same_operation _ _ _ _ refl (append_assoc op.image (map New text) (image_from op.base rs))
+
+pub with_runs-skip : {A : Type 0} (op : Operation A) (m : ℕ) (rs : List (Run A)) → with_runs (with_delete op m) rs ≡ with_runs op (Skip m ∷ rs)
+with_runs-skip op m rs = same_operation _ _ _ _ (omega arith) refl
 
 retain-none : {A : Type 0} (op : Operation A) → with_retain op 0 ≡ op
 retain-none op = same_operation _ _ _ _ (omega arith) (append-nil op.image)
 
-retain-more : {A : Type 0} (op : Operation A) (m n : ℕ) → with_retain (with_retain op m) n ≡ with_retain op (m + n)
+pub retain-more : {A : Type 0} (op : Operation A) (m n : ℕ) → with_retain (with_retain op m) n ≡ with_retain op (m + n)
 retain-more {A} op m n =
     same_operation _ _ _ _ (omega arith)
     (append_assoc op.image (olds op.base m) (olds (op.base + m) n) ∙ ap (λ rest. op.image ++ rest) (sym (olds-add {A = A} op.base m n)))
 
 -- what is left of the first run
 
-kept_none : {A : Type 0} (ys : List (Run A)) → after_kept 0 ys ≡ ys
+pub kept_none : {A : Type 0} (ys : List (Run A)) → after_kept 0 ys ≡ ys
 kept_none ys = refl
 
-kept_some : {A : Type 0} (count : ℕ) (ys : List (Run A)) → 0 < count → after_kept count ys ≡ skipped count ys
+pub kept_some : {A : Type 0} (count : ℕ) (ys : List (Run A)) → 0 < count → after_kept count ys ≡ skipped count ys
 kept_some count ys some = rw (ne_eqb count 0 (omega (arith, some))) refl
 
-kept_more :
+pub kept_more :
     {A : Type 0} (m count n : ℕ) (ys : List (Run A)) → 0 < m → m + count ≤ n
     → after_kept count (skipped m (Keep n ∷ ys)) ≡ after_kept (m + count) (Keep n ∷ ys)
 kept_more m zero n ys some within =
@@ -65,7 +69,7 @@ kept_more m (suc count) n ys some within = by (n - (m + suc count)) (omega (arit
         ∙ skipped_retain-part (suc count) (suc (count + suc left)) left ys (omega arith)
         ∙ sym (kept_some (m + suc count) (Keep n ∷ ys) (omega arith) ∙ skipped_retain-part (m + suc count) n left ys (omega (arith, e)))
 
-first_more : {A : Type 0} (m count n : ℕ) (ys : List (Run A)) → m + count ≤ n → count ≤ first_keep (skipped m (Keep n ∷ ys))
+pub first_more : {A : Type 0} (m count n : ℕ) (ys : List (Run A)) → m + count ≤ n → count ≤ first_keep (skipped m (Keep n ∷ ys))
 first_more {A} m count n ys within = by (n - m) (omega (arith, within))
   where
     by : (left : ℕ) → n ≡ m + left → count ≤ first_keep (skipped m (Keep n ∷ ys))
@@ -84,12 +88,12 @@ moved a b f g s t xs ys zs first_is second_is rest_is w =
 pub progress_kept :
     {A : Type 0} (a b first second : Operation A) (front rest ys : List (Run A)) → base_of front ≤ first_keep ys
     → Progress a b first second (front ++ rest) ys
-    → Progress a b (extended first front) (with_retain second (target_of front)) rest (after_kept (base_of front) ys)
+    → Progress a b (with_runs first front) (with_retain second (target_of front)) rest (after_kept (base_of front) ys)
 progress_kept a b first second [] rest ys within w =
-    moved a b first (extended first []) second (with_retain second 0) rest ys (after_kept 0 ys)
-    (sym (extended-none first)) (sym (retain-none second)) (sym (kept_none ys)) w
+    moved a b first (with_runs first []) second (with_retain second 0) rest ys (after_kept 0 ys)
+    (sym (with_runs-none first)) (sym (retain-none second)) (sym (kept_none ys)) w
 progress_kept a b first second (Add text ∷ front) rest ys within w =
-    moved a b _ _ _ _ rest (after_kept (base_of front) ys) (after_kept (base_of front) ys) (extended-add first text front) (retain-more second (length text) (target_of front)) refl
+    moved a b _ _ _ _ rest (after_kept (base_of front) ys) (after_kept (base_of front) ys) (with_runs-add first text front) (retain-more second (length text) (target_of front)) refl
     (progress_kept a b (with_insert first text) (with_retain second (length text)) front rest ys within
     (progress_insert_first a b first second text (front ++ rest) ys w))
 progress_kept a b first second (Keep m ∷ front) rest [] within w = absurd (omega (arith, within, w.first_normal.0))
@@ -101,7 +105,7 @@ progress_kept a b first second (Keep m ∷ front) rest (Keep n ∷ ys) within w 
     (skipped_retain-whole m m (front ++ rest) (omega arith))
     (progress_both_stay a b first second m m n (front ++ rest) ys (omega arith) (omega (arith, within)) w) in
     moved a b _ _ _ _ rest (after_kept (base_of front) (skipped m (Keep n ∷ ys))) (after_kept (m + base_of front) (Keep n ∷ ys))
-    (extended-keep first m front) (retain-more second m (target_of front)) (kept_more m (base_of front) n ys w.first_normal.0 within)
+    (with_runs-keep first m front) (retain-more second m (target_of front)) (kept_more m (base_of front) n ys w.first_normal.0 within)
     (progress_kept a b (with_retain first m) (with_retain second m) front rest (skipped m (Keep n ∷ ys)) (first_more m (base_of front) n ys within) one)
 progress_kept a b first second (Skip m ∷ front) rest [] within w = absurd (omega (arith, within, w.first_normal.0))
 progress_kept a b first second (Skip m ∷ front) rest (Add text ∷ ys) within w = absurd (omega (arith, within, w.first_normal.0))
@@ -112,30 +116,5 @@ progress_kept a b first second (Skip m ∷ front) rest (Keep n ∷ ys) within w 
     (skipped_delete-whole m m (front ++ rest) (omega arith))
     (progress_first_goes a b first second m m n (front ++ rest) ys (omega arith) (omega (arith, within)) w) in
     moved a b _ _ _ _ rest (after_kept (base_of front) (skipped m (Keep n ∷ ys))) (after_kept (m + base_of front) (Keep n ∷ ys))
-    (extended-skip first m front) refl (kept_more m (base_of front) n ys w.first_normal.0 within)
+    (with_runs-skip first m front) refl (kept_more m (base_of front) n ys w.first_normal.0 within)
     (progress_kept a b (with_delete first m) second front rest (skipped m (Keep n ∷ ys)) (first_more m (base_of front) n ys within) one)
-
--- past all that is left, in what the other keeps at its end
-
-kept_all :
-    {A : Type 0} (ys : List (Run A)) → IsNormal ys → StartsOtherwise ys → base_of ys ≤ last_keep ys
-    → (base_of ys ≤ first_keep ys) × StartsOtherwise (after_kept (base_of ys) ys)
-kept_all [] normal otherwise kept = (omega arith, tt)
-kept_all (Add text ∷ ys) normal otherwise kept = absurd otherwise
-kept_all {A} (Keep n ∷ []) normal otherwise kept = (omega arith, subst StartsOtherwise (sym (kept_whole n normal.0)) tt)
-  where
-    kept_whole : (n : ℕ) → 0 < n → after_kept {A = A} (n + 0) (Keep n ∷ []) ≡ []
-    kept_whole n some = kept_some (n + 0) (Keep n ∷ []) (omega (arith, some)) ∙ skipped_retain-whole (n + 0) n [] (omega arith)
-kept_all (Keep n ∷ y ∷ ys) normal otherwise kept = absurd (omega (arith, normal.0, kept, last_keep_within (y ∷ ys)))
-kept_all (Skip n ∷ []) normal otherwise kept = absurd (omega (arith, normal.0, kept))
-kept_all (Skip n ∷ y ∷ ys) normal otherwise kept = absurd (omega (arith, normal.0, kept, last_keep_within (y ∷ ys)))
-
-pub progress_rest :
-    {A : Type 0} (a b first second : Operation A) (back ys : List (Run A)) → StartsOtherwise ys → base_of back ≤ last_keep ys
-    → Progress a b first second back ys
-    → Progress a b (extended first back) (with_retain second (target_of back)) [] (after_kept (base_of back) ys) × StartsOtherwise (after_kept (base_of back) ys)
-progress_rest a b first second back ys otherwise kept w =
-    let all = kept_all ys w.second_normal otherwise (omega (arith, kept, w.same_base)) in (
-      progress_kept a b first second back [] ys (omega (arith, all.0, w.same_base)) (subst (λ xs. Progress a b first second xs ys) (sym (append-nil back)) w),
-      subst (λ count. StartsOtherwise (after_kept count ys)) (sym w.same_base) all.1,
-    )

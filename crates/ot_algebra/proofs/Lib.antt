@@ -16,10 +16,9 @@ pub mod TransformProgress
 pub mod TransformArms
 pub mod PartLeft
 pub mod ComposeProgress
-pub mod ComposeSpliced
-pub mod Walked
 pub mod Places
 pub mod KeptRuns
-pub mod OverlapArms
-pub mod OverlapPart
+pub mod Staying
+pub mod Written
+pub mod Composing
 pub mod Examples

@@ -10,7 +10,7 @@ use Rattle.ot_text.specs.Components.{run_of, runs}
 use Rattle.ot_text.specs.declared.Component.{Component}
 use Rattle.ot_algebra.specs.Merge.{first_after}
 use Rattle.ot_algebra.specs.Cursor.{appended, skipped, runs_left, runs_from, span_of, keeps_of, transformed_part}
-use Rattle.ot_algebra.specs.Overlap.{StartsOtherwise}
+use Rattle.ot_algebra.proofs.RunSlots.{StartsOtherwise}
 use Rattle.ot_algebra.proofs.SkippedLaws.{skipped_retain-whole, skipped_retain-part, skipped_delete-whole, skipped_delete-part}
 use Rattle.ot_algebra.proofs.TransformProgress.{Progress, progress_insert_first, progress_insert_second, progress_end_first}
 use Rattle.ot_algebra.proofs.TransformArms.{Whole, arm_part, otherwise_of, small}

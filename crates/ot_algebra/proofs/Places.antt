@@ -1,17 +1,13 @@
 -- How a place in an operation's components moves on.
-use Rattle.std.proofs.Common.{◌≡◌, ℕ, suc, zero, ◌+◌, ◌-◌, ◌<◌, ◌≤◌, List, [], ◌∷◌, length, drop, get_or, refl, sym, ap, subst, ◌∙◌, arith}
-use Rattle.std.proofs.lemmas.List.{length-map}
-use Rattle.ot_text.specs.Operation.{Operation}
-use Rattle.ot_text.specs.Run.{Run, Keep, Add, Skip, base_of, operation_of, normal_runs}
+use Rattle.std.proofs.Common.{◌≡◌, ℕ, suc, zero, ◌+◌, ◌-◌, ◌<◌, ◌≤◌, List, [], ◌∷◌, length, take, drop, get_or, sym, ap, ◌∙◌, arith}
+use Rattle.std.proofs.lemmas.List.{length-map, take_rest, drop-map}
+use Rattle.std.proofs.Math.Seq.{take-length}
+use Rattle.ot_text.specs.Run.{Run, Keep, Add, Skip, base_of}
 use Rattle.ot_text.specs.declared.Component.{Component}
-use Rattle.ot_text.specs.declared.Component.TheVariants.{Retain, Insert, Delete}
 use Rattle.ot_text.specs.Components.{run_of, runs}
-use Rattle.ot_algebra.specs.Cursor.{target_of, first_keep, end_keep}
-use Rattle.ot_algebra.specs.Overlap.{IsPlace, IsOverlap, StartsOtherwise}
-use Rattle.ot_algebra.specs.declared.overlap.Place.{Place}
-use Rattle.ot_algebra.specs.declared.overlap.Overlap.{Overlap}
-use Rattle.ot_algebra.proofs.RunLengths.{length-image_from}
-use Rattle.ot_algebra.proofs.Walked.{drop_past, target_at, keeps_within}
+use Rattle.ot_algebra.specs.Cursor.{target_of, EndsIn}
+use Rattle.ot_algebra.specs.Places.{IsPlace}
+use Rattle.ot_algebra.specs.declared.ahead.Place.{Place}
 
 one_base : {A : Type 0} (r : Run A) (rs : List (Run A)) → base_of (r ∷ rs) ≡ base_of (r ∷ []) + base_of rs
 one_base (Keep n) rs = omega arith
@@ -25,6 +21,19 @@ base_at [] k c below is = absurd (omega (arith, below))
 base_at (d ∷ cs) zero c below is = one_base (run_of d) (runs cs) ∙ ap (λ e. base_of (run_of e ∷ []) + base_of (runs cs)) (sym is)
 base_at (d ∷ cs) (suc k) c below is =
     let next : suc k + 1 ≡ suc (k + 1) = omega arith in rw next (base_at cs k c (omega (arith, below)) is)
+
+one_target : {A : Type 0} (r : Run A) (rs : List (Run A)) → target_of (r ∷ rs) ≡ target_of (r ∷ []) + target_of rs
+one_target (Keep n) rs = omega arith
+one_target (Add text) rs = omega arith
+one_target (Skip n) rs = omega arith
+
+target_at :
+    {T : Type 0} (cs : List (Component T)) (k : ℕ) (c : Component T) → k < length cs → c ≡ get_or cs k c
+    → target_of (drop k (runs cs)) ≡ target_of (run_of c ∷ []) + target_of (drop (k + 1) (runs cs))
+target_at [] k c below is = absurd (omega (arith, below))
+target_at (d ∷ cs) zero c below is = one_target (run_of d) (runs cs) ∙ ap (λ e. target_of (run_of e ∷ []) + target_of (runs cs)) (sym is)
+target_at (d ∷ cs) (suc k) c below is =
+    let next : suc k + 1 ≡ suc (k + 1) = omega arith in rw next (target_at cs k c (omega (arith, below)) is)
 
 pub origin : {A : Type 0} (rs : List (Run A)) → IsPlace rs (record { at = 0; taken = 0; made = 0 })
 origin rs = record { within = omega arith; taken = omega arith; made = omega arith }
@@ -48,75 +57,15 @@ place_past cs c p q below is at_is taken_is made_is w =
       made = omega (arith, ap (λ k. target_of (drop k (runs cs))) at_is, made_is, w.made, target_at cs p.at c below is);
     }
 
--- what stands behind a place
+-- all but the first component
 
-pub none_left_at :
-    {T : Type 0} (cs : List (Component T)) (k : ℕ) → length cs ≤ k → (base_of (drop k (runs cs)) ≡ 0) × StartsOtherwise (drop k (runs cs))
-none_left_at cs k past = rw (drop_past (runs cs) k (omega (arith, past, length-map cs run_of))) (refl, tt)
+pub ends_tail : {T : Type 0} (cs : List (Component T)) → 0 < length cs → EndsIn (runs cs) (runs (take (length cs - 1) (drop 1 cs)))
+ends_tail [] some = absurd (omega (arith, some))
+ends_tail (c ∷ cs) some =
+    let one_less : suc (length cs) - 1 ≡ length cs = omega arith in
+    rw one_less (run_of c ∷ [], ap (λ ds. run_of c ∷ runs ds) (sym (take-length cs)))
 
-pub otherwise_at :
-    {T : Type 0} (cs : List (Component T)) (k : ℕ) (c : Component T) → k < length cs → c ≡ get_or cs k c
-    → 0 < base_of (run_of c ∷ []) → StartsOtherwise (drop k (runs cs))
-otherwise_at [] k c below is takes = absurd (omega (arith, below))
-otherwise_at (Retain n ∷ cs) zero c below is takes = tt
-otherwise_at (Insert text ∷ cs) zero c below is takes = absurd (omega (arith, takes, ap (λ e. base_of (run_of e ∷ [])) is))
-otherwise_at (Delete n ∷ cs) zero c below is takes = tt
-otherwise_at (d ∷ cs) (suc k) c below is takes = otherwise_at cs k c (omega (arith, below)) is takes
+-- the components from a place on
 
-pub whole_overlap :
-    {A : Type 0} (rs ys : List (Run A)) (count : ℕ) → count ≡ length rs
-    → IsOverlap rs ys (record { from = record { at = 0; taken = 0; made = 0 }; end = count; made_behind = 0 })
-whole_overlap rs ys count e =
-    let none : drop count rs ≡ [] = drop_past rs count (omega (arith, e)) in
-    record {
-      order = omega arith;
-      within = omega (arith, e);
-      from = origin rs;
-      made_behind = rw none refl;
-      kept_before = omega arith;
-      kept_behind = rw none (omega arith);
-      behind = rw none tt;
-    }
-
--- the part that is found
-
-module _ {T : Type 0} (a b : Operation T) (ours others : List (Component T)) (a_is : operation_of (runs ours) ≡ a) (b_is : operation_of (runs others) ≡ b) (same : a.base ≡ b.base) where
-  pub target_is : target_of (runs ours) ≡ length a.image
-  target_is = sym (length-image_from 0 (runs ours)) ∙ ap (λ (op : Operation T). length op.image) a_is
-
-  pub last_within : (kept base : ℕ) → kept ≡ end_keep (runs others) → base ≡ b.base → kept ≤ base
-  last_within kept base kept_is base_is =
-      omega (arith, kept_is, base_is, keeps_within (runs others), ap (λ (op : Operation T). op.base) b_is)
-
-  pub made_within : (p : Place) (target : ℕ) → IsPlace (runs ours) p → target ≡ length a.image → p.made ≤ target
-  made_within p target w target_length = omega (arith, w.made, target_is, target_length)
-
-  pub found :
-      (from end : Place) (base target before last : ℕ) → runs ours ≡ normal_runs a → runs others ≡ normal_runs b
-      → base ≡ b.base → target ≡ length a.image → before ≡ first_keep (runs others) → last ≡ end_keep (runs others)
-      → IsPlace (runs ours) from → IsPlace (runs ours) end → from.taken ≤ before → from.at ≤ end.at
-      → base - last + base_of (drop end.at (runs ours)) ≤ base_of (runs ours) → StartsOtherwise (drop end.at (runs ours))
-      → IsOverlap (normal_runs a) (normal_runs b) (record { from = from; end = end.at; made_behind = target - end.made })
-  found from end base target before last a_form b_form base_is target_length before_is last_is from_place end_place kept order behind otherwise =
-      let part : Overlap = record { from = from; end = end.at; made_behind = target - end.made } in
-      let all : IsOverlap (runs ours) (runs others) part =
-      record {
-        order = order;
-        within = end_place.within;
-        from = from_place;
-        made_behind = omega (arith, end_place.made, target_is, target_length);
-        kept_before = omega (arith, kept, before_is);
-        kept_behind =
-            omega (
-              arith,
-              behind,
-              base_is,
-              same,
-              last_is,
-              keeps_within (runs others),
-              ap (λ (op : Operation T). op.base) a_is,
-              ap (λ (op : Operation T). op.base) b_is,
-            );
-        behind = otherwise;
-      } in
-      subst (λ rs. IsOverlap rs (normal_runs b) part) a_form (subst (λ ss. IsOverlap (runs ours) ss part) b_form all)
+pub runs_at : {T : Type 0} (cs : List (Component T)) (k : ℕ) → runs (take (length cs - k) (drop k cs)) ≡ drop k (runs cs)
+runs_at cs k = ap runs (take_rest cs k) ∙ sym (drop-map run_of k cs)

@@ -3,7 +3,6 @@ use Rattle.std.proofs.Common.{◌≡◌, ℕ, suc, zero, ◌+◌, List, [], ◌�
 use Rattle.std.proofs.lemmas.List.{length-replicate, map-append}
 use Rattle.ot_text.specs.Operation.{Old, New, olds}
 use Rattle.ot_text.specs.Run.{Run, base_of, image_from, MayLead, IsNormal, Keep, Add, Skip}
-use Rattle.ot_algebra.specs.Overlap.{StartsOtherwise}
 use Rattle.ot_algebra.proofs.Slots.{Slot, slots_image, slots_image-gone}
 use Rattle.ot_algebra.proofs.Slots.Slot.{Stays, Gone}
 
@@ -52,6 +51,11 @@ image-slots_of_runs i (Add text ∷ runs) =
 image-slots_of_runs i (Skip count ∷ runs) =
     ap (λ rest. map New (slots_of_runs runs).0 ++ rest) (slots_image-gone i (i + count) count (slots_of_runs runs).1 refl)
     ∙ image-slots_of_runs (i + count) runs
+
+-- no insertion stands at the front
+abbrev pub StartsOtherwise : {A : Type 0} → List (Run A) → Type 0
+StartsOtherwise (Add text ∷ runs) = ⊥
+StartsOtherwise runs = Unit {0}
 
 pub after_delete : {A : Type 0} (count : ℕ) (runs : List (Run A)) → MayLead (Skip count) runs → StartsOtherwise runs
 after_delete count [] may = tt

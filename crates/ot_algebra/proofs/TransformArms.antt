@@ -1,15 +1,18 @@
 -- The arms of transform's loop, over plain variables.
-use Rattle.std.proofs.Common.{◌≡◌, ℕ, ◌+◌, ◌<◌, ◌≤◌, List, length, refl, arith}
+use Rattle.std.proofs.Common.{◌≡◌, ℕ, ◌+◌, ◌<◌, ◌≤◌, List, ◌∷◌, length, map, refl, subst, arith, min}
 use Rattle.std.specs.Borrow.{Bor}
+use Rattle.ot_algebra.specs.declared.cursor.Cursor.{Cursor}
 use Rattle.ot_text.specs.Operation.{Operation, IsOperation, news, IsTooLong}
-use Rattle.ot_text.specs.Run.{Run, operation_of}
-use Rattle.ot_algebra.specs.Cursor.{skipped, runs_from, span_of, keeps_of, transformed_part}
+use Rattle.ot_algebra.specs.Merge.{first_after, second_after}
+use Rattle.ot_text.specs.Run.{Run, Keep, Add, Skip, operation_of}
+use Rattle.ot_algebra.specs.Cursor.{appended, skipped, runs_left, runs_from, span_of, keeps_of, transformed_part}
+use Rattle.ot_text.specs.Components.{run_of}
 use Rattle.ot_algebra.specs.declared.cursor.Front.{Front}
 use Rattle.ot_algebra.specs.declared.cursor.Front.TheVariants.{Retain as RetainHead, Insert as InsertHead, Delete as DeleteHead, End}
-use Rattle.ot_algebra.specs.Overlap.{StartsOtherwise}
+use Rattle.ot_algebra.proofs.RunSlots.{StartsOtherwise}
 use Rattle.ot_algebra.proofs.SkippedLaws.{runs_size, runs_size-skipped_retain, runs_size-skipped_delete}
 use Rattle.ot_text.proofs.OperationLaws.{is_operation}
-use Rattle.ot_algebra.proofs.TransformProgress.{progress_small, Progress, progress_both_stay, progress_first_goes, progress_second_goes, progress_both_go}
+use Rattle.ot_algebra.proofs.TransformProgress.{progress_small, Progress, progress_insert_first, progress_insert_second, progress_both_stay, progress_first_goes, progress_second_goes, progress_both_go, progress_end_first, progress_end_second}
 
 pub arm_part :
     {A : Type 0} (a b first second : Operation A) (count : ℕ) → 0 < count → (h k : Front A) (xs ys : List (Run A))
@@ -33,6 +36,48 @@ otherwise_of (RetainHead m) xs not_insert = tt
 otherwise_of (InsertHead text) xs not_insert = absurd (not_insert text refl)
 otherwise_of (DeleteHead m) xs not_insert = tt
 otherwise_of End xs not_insert = tt
+
+pub arm_insert_first :
+    {A : Type 0} (a b first second first_next second_next : Operation A) (at next : Cursor A) (ys : List (Run A)) (text : Bor (List A))
+    → at.head ≡ InsertHead text → runs_left next ≡ map run_of at.rest.now
+    → first_next ≡ appended first (Add text.now) → second_next ≡ appended second (Keep (length text.now))
+    → Progress a b first second (runs_left at) ys → Progress a b first_next second_next (runs_left next) ys
+arm_insert_first a b first second first_next second_next at next ys text head_is next_is first_is second_is w =
+    let here : Progress a b first second (Add text.now ∷ map run_of at.rest.now) ys =
+    subst (λ head. Progress a b first second (runs_from head (map run_of at.rest.now)) ys) head_is w in
+    rw (first_is, second_is, next_is) (progress_insert_first a b first second text.now (map run_of at.rest.now) ys here)
+
+pub arm_insert_second :
+    {A : Type 0} (a b first second first_next second_next : Operation A) (other at next : Cursor A) (text : Bor (List A))
+    → ((text : Bor (List A)) → other.head ≡ InsertHead text → ⊥)
+    → at.head ≡ InsertHead text → runs_left next ≡ map run_of at.rest.now
+    → first_next ≡ appended first (Keep (length text.now)) → second_next ≡ appended second (Add text.now)
+    → Progress a b first second (runs_left other) (runs_left at) → Progress a b first_next second_next (runs_left other) (runs_left next)
+arm_insert_second a b first second first_next second_next other at next text not_insert head_is next_is first_is second_is w =
+    let here : Progress a b first second (runs_left other) (Add text.now ∷ map run_of at.rest.now) =
+    subst (λ head. Progress a b first second (runs_left other) (runs_from head (map run_of at.rest.now))) head_is w in
+    rw (first_is, second_is, next_is)
+    (progress_insert_second a b first second text.now (runs_left other) (map run_of at.rest.now)
+    (otherwise_of other.head (map run_of other.rest.now) not_insert) here)
+
+-- one side is used up
+pub arm_end :
+    {A : Type 0} (a b first second : Operation A) (h k : Front A) (xs ys : List (Run A))
+    → ((text : Bor (List A)) → h ≡ InsertHead text → ⊥) → ((text : Bor (List A)) → k ≡ InsertHead text → ⊥)
+    → min (span_of h) (span_of k) ≡ 0 → Progress a b first second (runs_from h xs) (runs_from k ys)
+    → (first ≡ first_after a b) × (second ≡ second_after a b)
+arm_end a b first second End k xs ys not_h not_k none w = progress_end_first a b first second (runs_from k ys) (otherwise_of k ys not_k) w
+arm_end a b first second (InsertHead text) k xs ys not_h not_k none w = absurd (not_h text refl)
+arm_end a b first second (RetainHead m) End xs ys not_h not_k none w =
+    progress_end_second a b first second (Keep m ∷ xs) tt w
+arm_end a b first second (DeleteHead m) End xs ys not_h not_k none w =
+    progress_end_second a b first second (Skip m ∷ xs) tt w
+arm_end a b first second (RetainHead m) (InsertHead text) xs ys not_h not_k none w = absurd (not_k text refl)
+arm_end a b first second (DeleteHead m) (InsertHead text) xs ys not_h not_k none w = absurd (not_k text refl)
+arm_end a b first second (RetainHead m) (RetainHead n) xs ys not_h not_k none w = absurd (omega (arith, none, w.first_normal.0, w.second_normal.0))
+arm_end a b first second (RetainHead m) (DeleteHead n) xs ys not_h not_k none w = absurd (omega (arith, none, w.first_normal.0, w.second_normal.0))
+arm_end a b first second (DeleteHead m) (RetainHead n) xs ys not_h not_k none w = absurd (omega (arith, none, w.first_normal.0, w.second_normal.0))
+arm_end a b first second (DeleteHead m) (DeleteHead n) xs ys not_h not_k none w = absurd (omega (arith, none, w.first_normal.0, w.second_normal.0))
 
 pub size_skipped :
     {A : Type 0} (count : ℕ) → 0 < count → (h : Front A) (xs : List (Run A)) → count ≤ span_of h
@@ -58,6 +103,33 @@ small a b first second xs ys whole w =
     let f = bounds.0 in
     let g = bounds.1 in
     (λ long. omega (arith, f, long), λ long. omega (arith, g, long))
+
+pub small_insert_first :
+    {A : Type 0} (a b first second : Operation A) (at : Cursor A) (ys : List (Run A)) (text : Bor (List A)) → Whole a b
+    → at.head ≡ InsertHead text → Progress a b first second (runs_left at) ys
+    → (IsTooLong (appended first (Add text.now)) → ⊥) × (IsTooLong (appended second (Keep (length text.now))) → ⊥)
+small_insert_first a b first second at ys text whole head_is w =
+    small a b _ _ (map run_of at.rest.now) ys whole
+    (progress_insert_first a b first second text.now (map run_of at.rest.now) ys
+    (subst (λ head. Progress a b first second (runs_from head (map run_of at.rest.now)) ys) head_is w))
+
+pub small_insert_second :
+    {A : Type 0} (a b first second : Operation A) (other at : Cursor A) (text : Bor (List A)) → Whole a b
+    → ((text : Bor (List A)) → other.head ≡ InsertHead text → ⊥) → at.head ≡ InsertHead text
+    → Progress a b first second (runs_left other) (runs_left at)
+    → (IsTooLong (appended first (Keep (length text.now))) → ⊥) × (IsTooLong (appended second (Add text.now)) → ⊥)
+small_insert_second a b first second other at text whole not_insert head_is w =
+    small a b _ _ (runs_left other) (map run_of at.rest.now) whole
+    (progress_insert_second a b first second text.now (runs_left other) (map run_of at.rest.now)
+    (otherwise_of other.head (map run_of other.rest.now) not_insert)
+    (subst (λ head. Progress a b first second (runs_left other) (runs_from head (map run_of at.rest.now))) head_is w))
+
+pub small_part :
+    {A : Type 0} (a b first second : Operation A) (count : ℕ) → Whole a b → 0 < count → (h k : Front A) (xs ys : List (Run A))
+    → count ≤ span_of h → count ≤ span_of k → Progress a b first second (runs_from h xs) (runs_from k ys)
+    → (IsTooLong (transformed_part first (keeps_of h) (keeps_of k) count) → ⊥) × (IsTooLong (transformed_part second (keeps_of k) (keeps_of h) count) → ⊥)
+small_part a b first second count whole some h k xs ys in_first in_second w =
+    small a b _ _ _ _ whole (arm_part a b first second count some h k xs ys in_first in_second w)
 
 pub whole_of :
     {A : Type 0} (a b : Operation A) (xs ys : List (Run A)) → operation_of xs ≡ a → operation_of ys ≡ b → a.base ≡ b.base

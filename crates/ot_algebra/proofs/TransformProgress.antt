@@ -10,8 +10,7 @@ use Rattle.ot_algebra.specs.Cursor.{appended, target_of, skipped}
 use Rattle.ot_algebra.proofs.Slots.{after, placed}
 use Rattle.ot_algebra.proofs.TransformedLaws.{after-length}
 use Rattle.ot_algebra.proofs.SlotsMerged.{merge-slots_merged}
-use Rattle.ot_algebra.proofs.RunSlots.{stays, slots_of_runs, no_front, image-slots_of_runs, length-slots_of_runs}
-use Rattle.ot_algebra.specs.Overlap.{StartsOtherwise}
+use Rattle.ot_algebra.proofs.RunSlots.{stays, slots_of_runs, StartsOtherwise, no_front, image-slots_of_runs, length-slots_of_runs}
 use Rattle.ot_algebra.proofs.RunLengths.{length-image_from}
 use Rattle.ot_algebra.proofs.MergeSteps.{forms_merged, gone, runs_merged, runs_merged-insert_first, runs_merged-insert_second, boths, both_stay, first_goes, second_goes, both_go}
 use Rattle.ot_algebra.proofs.SkippedLaws.{RetainSkipped, skipped_retain, DeleteSkipped, skipped_delete, delete_form}
@@ -270,6 +269,13 @@ pub progress_end_first :
 progress_end_first a b first second ys otherwise w =
     let none : ys ≡ [] = none_left ys w.second_normal otherwise (sym w.same_base) in
     progress_done a b first second (subst (Progress a b first second []) none w)
+
+pub progress_end_second :
+    {A : Type 0} (a b first second : Operation A) (xs : List (Run A)) → StartsOtherwise xs → Progress a b first second xs []
+    → (first ≡ first_after a b) × (second ≡ second_after a b)
+progress_end_second a b first second xs otherwise w =
+    let none : xs ≡ [] = none_left xs w.first_normal otherwise w.same_base in
+    progress_done a b first second (subst (λ left. Progress a b first second left []) none w)
 
 -- what is built is never longer than what comes out
 pub progress_fits :

@@ -24,26 +24,23 @@
 //! Each turn of a loop ends a component of `a` or `b`, so the cost is that of the components of both and of the text
 //! that is inserted: nothing is paid for each character that is kept or deleted.
 //!
-//! Where `b` changes one place of an `a` of many components, only the components of `a` at that place are made anew, and take their place
-//! (`splice::Splice`): `compose_into` and `prepare_compose` do so, which measure places by what components make (`touched`), and
-//! `transform_first` and `prepare_transform`, which measure them by what components take (`overlap`).
+//! Where `b` keeps much of an `a` of many components, long runs of these stay where they lie (`ahead`), and only what `b` touches is written: the result
+//! is a change of `a`, made of `ot_text::Rewrite`.
 //!
 //! Contracts: `specs/Compose.antt` has `compose`, `specs/Merge.antt` has `merge`, `first_after` and `second_after`, and
 //! `specs/Laws.antt` the laws, each of which is the contract of a function in [`laws`]. `specs/Cursor.antt` serves the
-//! loops alone, `specs/Overlap.antt` and `specs/Splice.antt` what is made anew in its place. To read: `composition::compose`, then `transformation::transform`, then `laws`.
+//! loops alone, `specs/Places.antt` the components that stay. To read: `composition::compose`, then `transformation::transform`, then `laws`.
 #![tactic(auto)]
 
+mod ahead;
 mod composition;
 mod cursor;
 pub mod laws;
 mod one_sided;
-mod overlap;
 mod prepared;
-mod splice;
-mod touched;
 mod transformation;
 
-pub use composition::{compose, compose_into};
+pub use composition::compose;
 pub use one_sided::{transform_first, transform_second};
 pub use prepared::{prepare_compose, prepare_transform};
 pub use transformation::transform;

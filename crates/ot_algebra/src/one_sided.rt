@@ -5,17 +5,15 @@ ghost use Rattle.ot_text.specs.Operation.{news};
 ghost use Rattle.ot_algebra.specs.Merge.{first_after, second_after};
 ghost use Rattle.ot_text.specs.declared.TheConstants.{LIMIT};
 
+use crate::ahead::MANY;
 use crate::cursor::{self, Front};
-use crate::overlap::MANY;
-use crate::transformation::{SPLIT, add_part, transform, transformed_splice};
+use crate::transformation::{SPLIT, add_part, changed, rewritten};
 use ot_text::{Component, Element, TextOp, only_memory};
 use std::alloc::AllocError;
 
 /// What `a` becomes after `b`: the first result of `transform`, under its conditions, for an `a` that is no longer wanted, as a
-/// server needs it that carries an operation over its log. The texts of `a` move; no text is copied but one that is joined with
-/// another, and each component of both costs a step. Where `b` touches few of many components of `a`, these alone are made anew, their
-/// texts are copied, and the others stay where they are: it costs these, a look at those before them, and a move of those behind where
-/// their number changes.
+/// server needs it that carries an operation over its log. The texts of a short `a` move. Of a long one, in components, those that `b` touches
+/// are made anew, and the others stay where they are: it costs a look at these, and a move of them where the number of those before changes.
 ///
 /// `Err` comes only where memory was refused, and `a` is gone then; `b` is only read.
 pub fn transform_first<T: Element>(a: TextOp<T>, b: &TextOp<T>) -> Result<TextOp<T>, AllocError>
@@ -26,15 +24,11 @@ pub fn transform_first<T: Element>(a: TextOp<T>, b: &TextOp<T>) -> Result<TextOp
     if a.components().len() < MANY {
         return carry(a, b);
     }
-    if let Some((change, _)) = transformed_splice(&a, b)? {
-        let mut carried = a;
-        carried.replace(change.start, change.end, change.part)?;
-        return Ok(carried);
-    }
-    carry(a, b)
+    let (change, _) = rewritten(a.allocator(), &a, b)?;
+    changed(a, change)
 }
 
-// The first result of `transform`, where all components are gone over.
+// The first result of `transform`, step by step.
 fn carry<T: Element>(a: TextOp<T>, b: &TextOp<T>) -> Result<TextOp<T>, AllocError>
     requires same_base { a.base ≡ b.now.base }
     requires fits { a.base + length (news a.image) + length (news b.now.image) ≤ LIMIT }
@@ -80,8 +74,8 @@ fn carry<T: Element>(a: TextOp<T>, b: &TextOp<T>) -> Result<TextOp<T>, AllocErro
     }
 }
 
-/// What `b` becomes after `a`: the second result of `transform`, under its conditions. Where `b` touches few of many components of `a`, it
-/// costs these, a look at those before them, and `b`.
+/// What `b` becomes after `a`: the second result of `transform`, under its conditions. It costs `b`, the components of `a` that `b` touches, and a look
+/// at the others.
 ///
 /// `Err` comes only where memory was refused; `a` and `b` are only read.
 pub fn transform_second<T: Element>(a: &TextOp<T>, b: &TextOp<T>) -> Result<TextOp<T>, AllocError>
@@ -89,11 +83,6 @@ pub fn transform_second<T: Element>(a: &TextOp<T>, b: &TextOp<T>) -> Result<Text
     requires fits { a.now.base + length (news a.now.image) + length (news b.now.image) ≤ LIMIT }
     ensures { IfOk result (λ op. op ≡ second_after a.now b.now) }
 {
-    if a.components().len() >= MANY
-        && let Some((_, second)) = transformed_splice(a, b)?
-    {
-        return Ok(second);
-    }
-    let (_, second) = transform(a.allocator(), a, b)?;
+    let (_, second) = rewritten(a.allocator(), a, b)?;
     Ok(second)
 }

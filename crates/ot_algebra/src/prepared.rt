@@ -6,9 +6,8 @@ ghost use Rattle.ot_algebra.specs.Compose.{compose as composition};
 ghost use Rattle.ot_algebra.specs.Merge.{first_after, second_after};
 ghost use Rattle.ot_text.specs.declared.TheConstants.{LIMIT};
 
-use crate::composition::{compose, composed_splice};
-use crate::overlap::MANY;
-use crate::transformation::{transform, transformed_splice};
+use crate::composition::composed;
+use crate::transformation::rewritten;
 use ot_text::{Element, Prepared, TextOp};
 
 /// Prepares `a` to become what `compose` gives of it and `b`. Where memory was refused `a` comes back; `b` is only read.
@@ -19,15 +18,10 @@ pub fn prepare_compose<T: Element>(a: TextOp<T>, b: &TextOp<T>) -> Result<Prepar
     ensures ok { IfOk result (λ change. change ≡ record { before = a; after = composition a b.now }) }
     ensures err { IfErr result (λ op. op ≡ a) }
 {
-    match composed_splice(&a, b) {
-        Ok(Some(change)) => return a.prepare_replace(change.start, change.end, change.part),
-        Ok(None) => {}
-        Err(_) => return Err(a),
-    }
-    match compose(a.allocator(), &a, b) {
-        Ok(after) => Ok(Prepared::new(a, after)),
-        Err(_) => Err(a),
-    }
+    let Ok(change) = composed(a.allocator(), &a, b) else {
+        return Err(a);
+    };
+    a.prepare(change)
 }
 
 /// Prepares `a` to become what it is after `b`, and gives what `b` becomes after `a`: the two results of `transform`, under its conditions. Where
@@ -42,34 +36,9 @@ pub fn prepare_transform<T: Element>(
     ensures second { IfOk result (λ given. given.1 ≡ second_after a b.now) }
     ensures err { IfErr result (λ op. op ≡ a) }
 {
-    if a.components().len() < MANY {
-        return transform_whole(a, b);
-    }
-    match transformed_splice(&a, b) {
-        Ok(Some((change, second))) => {
-            match a.prepare_replace(change.start, change.end, change.part) {
-                Ok(first) => Ok((first, second)),
-                Err(a) => Err(a),
-            }
-        }
-        Ok(None) => transform_whole(a, b),
-        Err(_) => Err(a),
-    }
-}
-
-// Does so where all components are gone over.
-fn transform_whole<T: Element>(
-    a: TextOp<T>,
-    b: &TextOp<T>,
-) -> Result<(Prepared<T>, TextOp<T>), TextOp<T>>
-    requires same_base { a.base ≡ b.now.base }
-    requires fits { a.base + length (news a.image) + length (news b.now.image) ≤ LIMIT }
-    ensures first { IfOk result (λ given. given.0 ≡ record { before = a; after = first_after a b.now }) }
-    ensures second { IfOk result (λ given. given.1 ≡ second_after a b.now) }
-    ensures err { IfErr result (λ op. op ≡ a) }
-{
-    match transform(a.allocator(), &a, b) {
-        Ok((first, second)) => Ok((Prepared::new(a, first), second)),
-        Err(_) => Err(a),
-    }
+    let Ok((change, second)) = rewritten(a.allocator(), &a, b) else {
+        return Err(a);
+    };
+    let first = a.prepare(change)?;
+    Ok((first, second))
 }

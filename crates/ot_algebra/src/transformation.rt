@@ -1,20 +1,16 @@
 //! Two operations on one document, each after the other.
 
-ghost use Rattle.std.specs.Prelude.{◌≡◌, ◌+◌, ◌≤◌, length, IfOk, IfSome, OnOk};
-ghost use Rattle.std.specs.List.{splice};
-ghost use Rattle.ot_text.specs.Operation.{IsOperation, IsTooLong, news};
-ghost use Rattle.ot_text.specs.Run.{operation_of, normal_runs};
-ghost use Rattle.ot_algebra.specs.Overlap.{IsOverlap};
+ghost use Rattle.std.specs.Prelude.{◌≡◌, ◌+◌, ◌≤◌, length, IfOk, OnOk};
+ghost use Rattle.ot_text.specs.Operation.{IsTooLong, news};
+ghost use Rattle.ot_text.specs.Patch.{FitsOn, patched};
 ghost use Rattle.ot_algebra.specs.Compose.{compose};
 ghost use Rattle.ot_algebra.specs.Merge.{first_after, second_after};
 ghost use Rattle.ot_algebra.specs.Cursor.{transformed_part};
-ghost use Rattle.ot_algebra.specs.Splice.{Makes};
 ghost use Rattle.ot_text.specs.declared.TheConstants.{LIMIT};
 
+use crate::ahead::{self, MANY, Measure};
 use crate::cursor::{self, Front};
-use crate::overlap::{self, Overlap, touched_part};
-use crate::splice::Splice;
-use ot_text::{Element, TextOp, only_memory};
+use ot_text::{Element, Patch, Rewrite, TextOp, only_memory};
 use std::alloc::{AllocError, Global};
 
 /// How many components an operation gains, mostly, by another one: one edit at one place splits one of them in three.
@@ -37,84 +33,111 @@ pub fn transform<T: Element>(
     requires fits { a.now.base + length (news a.now.image) + length (news b.now.image) ≤ LIMIT }
     ensures { IfOk result (λ pair. pair ≡ (first_after a.now b.now, second_after a.now b.now)) }
 {
-    let (first, second) = transform_overlap(alloc, a, b, overlap::whole(a.components()))?;
+    let (change, second) = rewritten(alloc, a, b)?;
+    if let Patch::Whole(first) = change {
+        return Ok((first, second));
+    }
+    let first = changed(a.copy()?, change)?;
     Ok((first, second))
 }
 
-/// What makes the first result of `transform` where `a` lies: the components of `a` that `b` touches, after it; and the second result. None
-/// where `b` touches half of them or more.
-pub(crate) fn transformed_splice<T: Element>(
-    a: &TextOp<T>,
-    b: &TextOp<T>,
-) -> Result<Option<(Splice<T>, TextOp<T>)>, AllocError>
-    requires same_base { a.now.base ≡ b.now.base }
-    requires fits { a.now.base + length (news a.now.image) + length (news b.now.image) ≤ LIMIT }
-    ensures first { IfOk result (λ found. IfSome found (λ pair. Makes a.now pair.0 (first_after a.now b.now))) }
-    ensures second { IfOk result (λ found. IfSome found (λ pair. pair.1 ≡ second_after a.now b.now)) }
+/// What an operation was rewritten as, in its place.
+pub(crate) fn changed<T: Element>(op: TextOp<T>, change: Patch<T>) -> Result<TextOp<T>, AllocError>
+    requires fits_in { FitsOn change op }
+    requires short { IsTooLong (patched change op) → ⊥ }
+    ensures { IfOk result (λ after. after ≡ patched change op) }
 {
-    let Some(part) = touched_part(a, b) else {
-        return Ok(None);
-    };
-    let (made, second) = transform_overlap(a.allocator(), a, b, part)?;
-    if a.may_replace(part.from.at, part.end, &made) {
-        let first = Splice {
-            start: part.from.at,
-            end: part.end,
-            part: made,
-        };
-        return Ok(Some((first, second)));
+    match op.prepare(change) {
+        Ok(ready) => Ok(ready.commit()),
+        Err(_) => Err(AllocError),
     }
-    Ok(None)
 }
 
-// What the components of a part of `a` become after `b`, which touches no others, and what `b` becomes after `a`: the first takes the
-// part's place in `a`. It costs the part and what `b` changes.
-fn transform_overlap<T: Element>(
+/// What `a` becomes after `b`, as a change of it, and what `b` becomes after `a`. Long runs of components that `b` keeps stay where they lie: they cost a
+/// look each.
+pub(crate) fn rewritten<T: Element>(
     alloc: Global,
     a: &TextOp<T>,
     b: &TextOp<T>,
-    part: Overlap,
-) -> Result<(TextOp<T>, TextOp<T>), AllocError>
+) -> Result<(Patch<T>, TextOp<T>), AllocError>
     requires same_base { a.now.base ≡ b.now.base }
     requires fits { a.now.base + length (news a.now.image) + length (news b.now.image) ≤ LIMIT }
-    requires part { IsOverlap (normal_runs a.now) (normal_runs b.now) part }
-    ensures first { IfOk result (λ pair. operation_of (splice (normal_runs a.now) part.from.at part.end (normal_runs pair.0)) ≡ first_after a.now b.now) }
+    ensures fits_in { IfOk result (λ pair. FitsOn pair.0 a.now) }
+    ensures first { IfOk result (λ pair. patched pair.0 a.now ≡ first_after a.now b.now) }
     ensures second { IfOk result (λ pair. pair.1 ≡ second_after a.now b.now) }
-    ensures operation { IfOk result (λ pair. IsOperation pair.0) }
-    ensures short { IfOk result (λ pair. IsTooLong (operation_of (splice (normal_runs a.now) part.from.at part.end (normal_runs pair.0))) → ⊥) }
+    ensures short { IfOk result (λ pair. IsTooLong (patched pair.0 a.now) → ⊥) }
 {
     let all = a.components();
     let others = b.components();
-    let ours = &all[part.from.at..part.end];
-    let mut at_a = cursor::start(ours);
-    let mut at_b = cursor::past_kept(others, part.from.taken);
-    let mut first = TextOp::with_capacity(alloc, ours.len().saturating_add(SPLIT))?;
+    let mut at_a = cursor::start(all);
+    let mut at_b = cursor::start(others);
+    // How many components of `b` were left when those ahead were last looked at.
+    let mut looked = others.len();
+    let mut first = Rewrite::new(alloc, a, room(all.len(), others.len()))?;
     let mut second = TextOp::with_capacity(alloc, others.len().saturating_add(SPLIT))?;
-    only_memory(second.retain(part.from.made))?;
     loop {
         if let Front::Insert(text) = at_a.head {
-            only_memory(first.insert(text))?;
+            first.insert(text)?;
             only_memory(second.retain(text.len()))?;
             at_a = cursor::next(at_a);
             continue;
         }
         if let Front::Insert(text) = at_b.head {
-            only_memory(first.retain(text.len()))?;
+            first.retain(text.len())?;
             only_memory(second.insert(text))?;
             at_b = cursor::next(at_b);
             continue;
         }
-        let count = cursor::span(at_a.head).min(cursor::span(at_b.head));
+        let rest = at_a.rest;
+        let span = cursor::span(at_a.head);
+        let count = span.min(cursor::span(at_b.head));
         if count == 0 {
-            only_memory(second.retain(part.made_behind))?;
-            return Ok((first, second));
+            return Ok((first.finish()?, second));
         }
         let keeps_a = cursor::keeps(at_a.head);
         let keeps_b = cursor::keeps(at_b.head);
-        add_part(&mut first, keeps_a, keeps_b, count)?;
+        add_first(&mut first, keeps_a, keeps_b, count)?;
         add_part(&mut second, keeps_b, keeps_a, count)?;
         at_a = cursor::skip(at_a, count);
         at_b = cursor::skip(at_b, count);
+        if rest.len() < MANY || count < span || at_b.rest.len() >= looked {
+            continue;
+        }
+        looked = at_b.rest.len();
+        let Some(stay) = ahead::staying(rest, Measure::Taken, cursor::kept(at_b.head)) else {
+            continue;
+        };
+        let from = all.len() - rest.len();
+        let stays = first.keep(from, from + stay.place.at, stay.then)?;
+        if stays {
+            only_memory(second.retain(stay.place.made + stay.then))?;
+            at_a = stay.behind;
+            at_b = cursor::skip(at_b, stay.place.taken + stay.then);
+        }
+    }
+}
+
+/// For how many components there is room at first, where so many others change some of so many: what each changes, and the ones about it.
+pub(crate) fn room(count: usize, others: usize) -> usize {
+    count.min(others.saturating_mul(MANY)).saturating_add(SPLIT)
+}
+
+// Adds `count` elements of the document to what the first operation becomes.
+fn add_first<T: Element>(
+    first: &mut Rewrite<'_, T>,
+    keeps: bool,
+    other_keeps: bool,
+    count: usize,
+) -> Result<(), AllocError>
+    requires { IsTooLong (transformed_part first.old.built keeps other_keeps count) → ⊥ }
+    ensures { OnOk result (first.new ≡ record first.old { built = transformed_part first.old.built keeps other_keeps count }) }
+{
+    if other_keeps && keeps {
+        first.retain(count)
+    } else if other_keeps {
+        first.delete(count)
+    } else {
+        Ok(())
     }
 }
 

@@ -71,6 +71,28 @@ fn append(builder: &mut Builder, instr: Instr)
     }
 }
 
+// An equal instruction, alone.
+fn one_step(alloc: Global, instr: &Instr) -> Result<Vec<Instr>, AllocError>
+    ensures { IfOk result (λ steps. steps.items ≡ instr.now ∷ []) }
+{
+    let mut steps = Vec::with_capacity(alloc, 1)?;
+    let copy = instr.copy()?;
+    steps.push_reserved(copy);
+    Ok(steps)
+}
+
+// Performs the instruction, which the table performs.
+fn perform(machine: &mut Machine, instr: &Instr) -> Result<(), AllocError>
+    requires { IsPerformed (step machine.old instr.now) }
+    ensures ran { OnOk result (RunsTo machine.old (instr.now ∷ []) machine.new) }
+    ensures err { OnErr result (machine.new ≡ machine.old) }
+{
+    match machine.step(instr) {
+        Ok(_shown) => Ok(()),
+        Err(_) => Err(AllocError),
+    }
+}
+
 impl Board {
     ghost use Rattle.ot_board.specs.Boards.{board_in, fresh, outside, with_out, with_parked, HasRoomFor, IsBoard, IsHere, IsJoinRefusal, IsLendRefusal, IsPickUpRefusal, IsRecorded, IsSettleRefusal, IsTakeRefusal, AreIn, IsFinished, IsLeastOut, RunsEndIn};
 
@@ -166,16 +188,11 @@ impl Board {
         ensures ok { IfOk result (λ r. IsRecorded self.old (instr ∷ []) self.old.out self.new r) }
         ensures err { OnErr result (self.new ≡ self.old) }
     {
-        let mut steps = Vec::with_capacity(self.alloc, 1)?;
-        let copy = instr.copy()?;
+        let steps = one_step(self.alloc, &instr)?;
         self.recorded.reserve(1)?;
         let first = self.recorded.instrs().len();
-        match self.machine.step(&instr) {
-            Ok(_shown) => {}
-            Err(_) => return Err(AllocError),
-        }
-        append(&mut self.recorded, copy);
-        steps.push_reserved(instr);
+        perform(&mut self.machine, &instr)?;
+        append(&mut self.recorded, instr);
         Ok(Receipt { first, steps })
     }
 
@@ -368,7 +385,7 @@ fn fill(slots: &mut Vec<Option<Lent>>, client: usize, lent: Lent)
     requires { client < length slots.old.items }
     ensures { slots.new.items ≡ set slots.old.items client (Some lent) }
 {
-    slots[client] = Some(lent);
+    drop(slots[client].replace(lent));
 }
 
 // Takes the session, if there is one, out of the slot.

@@ -1,37 +1,37 @@
 -- What a client waited for before a step, kept over what it waits for after it.
 use Rattle.std.specs.Prelude.{◌≡◌, length}
-use Rattle.ot_text.specs.Operation.{Operation, empty}
-use Rattle.ot_text.specs.Patch.{put_back, FitsOn}
+use Rattle.ot_text.specs.Patch.{patched, LeadsFrom}
 use Rattle.ot_client.specs.State.{Phase, Synchronized, AwaitingConfirm, AwaitingWithBuffer}
 use Rattle.ot_client.specs.declared.past.Past.{Past}
 use Rattle.ot_client.specs.declared.past.Past.TheVariants as kept
+use Rattle.ot_client.specs.declared.waiting.Waiting.{Waiting}
+use Rattle.ot_client.specs.Step.{phase_from, phase_to, IsStepJoined}
 
--- the operations of a phase over which those of an earlier one are kept: what is outstanding, and what waits last; the empty one where nothing does
-abbrev pub first_of : {A : Type 0} → Phase A → Operation A
-first_of Synchronized = empty
-first_of (AwaitingConfirm o) = o
-first_of (AwaitingWithBuffer o b) = o
-
-abbrev pub last_of : {A : Type 0} → Phase A → Operation A
-last_of Synchronized = empty
-last_of (AwaitingConfirm o) = o
-last_of (AwaitingWithBuffer o b) = b
-
--- the earlier phase over two operations
-abbrev pub phase_over : {A : Type 0} → Past A → Operation A → Operation A → Phase A
-phase_over kept.Synchronized first last = Synchronized
-phase_over (kept.AwaitingConfirm o) first last = AwaitingConfirm (put_back o first)
-phase_over (kept.AwaitingWithBuffer o b) first last = AwaitingWithBuffer (put_back o first) (put_back b last)
-
--- what is kept fits on them, and the buffer is over what the outstanding operation makes
-abbrev pub FitsOver : {A : Type 0} → Past A → Operation A → Operation A → Type 0
-FitsOver kept.Synchronized first last = Unit {0}
-FitsOver (kept.AwaitingConfirm o) first last = FitsOn o first
-FitsOver (kept.AwaitingWithBuffer o b) first last = FitsOn o first × FitsOn b last × ((put_back b last).base ≡ length (put_back o first).image)
-
--- the phase before a step, from the phase after it
+-- the phase before a step, from the phase after it: a record is of one kind of step, and over the phases that this kind leaves
 abbrev pub phase_before : {A : Type 0} → Past A → Phase A → Phase A
-phase_before past phase = phase_over past (first_of phase) (last_of phase)
+phase_before kept.Nothing phase = Synchronized
+phase_before (kept.Outstanding p) (AwaitingConfirm o) = AwaitingConfirm (patched p o)
+phase_before kept.Unbuffered (AwaitingWithBuffer o b) = AwaitingConfirm o
+phase_before (kept.Both p q) (AwaitingWithBuffer o b) = AwaitingWithBuffer (patched p.value o) (patched q.value b)
+phase_before (kept.Buffer q) (AwaitingWithBuffer o b) = AwaitingWithBuffer o (patched q b)
+phase_before (kept.Confirmed o) Synchronized = AwaitingConfirm o
+phase_before (kept.Confirmed o) (AwaitingConfirm b) = AwaitingWithBuffer o b
+phase_before past phase = phase
 
+-- the record is over this phase: what is kept fits on its operations, and the buffer is over what the outstanding operation makes
 abbrev pub FitsPhase : {A : Type 0} → Past A → Phase A → Type 0
-FitsPhase past phase = FitsOver past (first_of phase) (last_of phase)
+FitsPhase kept.Nothing Synchronized = Unit {0}
+FitsPhase kept.Nothing (AwaitingConfirm o) = Unit {0}
+FitsPhase (kept.Outstanding p) (AwaitingConfirm o) = LeadsFrom p o
+FitsPhase kept.Unbuffered (AwaitingWithBuffer o b) = Unit {0}
+FitsPhase (kept.Both p q) (AwaitingWithBuffer o b) = LeadsFrom p.value o × LeadsFrom q.value b × ((patched q.value b).base ≡ length (patched p.value o).image)
+FitsPhase (kept.Buffer q) (AwaitingWithBuffer o b) = LeadsFrom q b × ((patched q b).base ≡ length o.image)
+FitsPhase (kept.Confirmed o) Synchronized = Unit {0}
+FitsPhase (kept.Confirmed o) (AwaitingConfirm b) = b.base ≡ length o.image
+FitsPhase past phase = ⊥
+
+-- the step leads from this phase back to the one before
+pub record LeadsBack {A : Type 0} (past : Past A) (phase : Phase A) (waiting : Waiting A) : Type 0 where
+  pub from : phase_from waiting ≡ phase
+  pub to : phase_to waiting ≡ phase_before past phase
+  pub joined : IsStepJoined waiting

@@ -6,7 +6,8 @@ ghost use Rattle.ot_client.specs.State.{buffering, carried, confirming, delivere
 ghost use Rattle.ot_text.specs.declared.TheConstants.{LIMIT};
 ghost use Rattle.ot_client.specs.declared.TheConstants.{REVISION_LIMIT};
 
-use crate::prepared::{PreparedStep, Waiting};
+use crate::prepared::PreparedStep;
+use crate::waiting::Waiting;
 use crate::{AwaitingWithBuffer, Synchronized};
 use ot_algebra::{prepare_transform, transform, transform_second};
 use ot_text::{Element, TextOp};
@@ -106,6 +107,13 @@ impl<T: Element> AwaitingConfirm<T> {
         ensures { result ≡ self.revision + 1 }
     {
         Synchronized::new(self.revision + 1)
+    }
+
+    // The operation that was sent.
+    pub(crate) fn into_outstanding(self) -> TextOp<T>
+        ensures { result ≡ self.outstanding }
+    {
+        self.outstanding
     }
 
     // The step of `edit`, over an edit that is only read. For want of memory the client comes back.

@@ -7,9 +7,10 @@ ghost use Rattle.ot_client.specs.State.{buffering, carried, confirming, delivere
 ghost use Rattle.ot_text.specs.declared.TheConstants.{LIMIT};
 ghost use Rattle.ot_client.specs.declared.TheConstants.{REVISION_LIMIT};
 
-use crate::prepared::{PreparedStep, Waiting};
+use crate::prepared::PreparedStep;
+use crate::waiting::Waiting;
 use crate::{AwaitingConfirm, Sent};
-use ot_algebra::{compose_into, prepare_compose, prepare_transform, transform, transform_second};
+use ot_algebra::{prepare_compose, prepare_transform, transform, transform_second};
 use ot_text::{Element, TextOp};
 use std::alloc::AllocError;
 use std::marker::Model;
@@ -94,20 +95,12 @@ impl<T: Element> AwaitingWithBuffer<T> {
         ensures state { IfOk result (λ client. buffering client ≡ edited (buffering self) op) }
         ensures back { IfErr result (λ back. back ≡ (self, op)) }
     {
-        let mut buffer = self.buffer;
-        let Ok(()) = compose_into(&mut buffer, &op) else {
-            let client = AwaitingWithBuffer {
-                revision: self.revision,
-                outstanding: self.outstanding,
-                buffer,
-            };
-            return Err((client, op));
-        };
-        Ok(AwaitingWithBuffer {
-            revision: self.revision,
-            outstanding: self.outstanding,
-            buffer,
-        })
+        let revision = self.revision;
+        let outstanding = self.outstanding;
+        match prepare_compose(self.buffer, &op) {
+            Ok(buffer) => Ok(AwaitingWithBuffer::new(revision, outstanding, buffer.commit())),
+            Err(buffer) => Err((AwaitingWithBuffer::new(revision, outstanding, buffer), op)),
+        }
     }
 
     /// The client after the next entry of the server's log, an operation of another client over the base of the outstanding one: the outstanding
@@ -157,12 +150,36 @@ impl<T: Element> AwaitingWithBuffer<T> {
         ensures sent { IfOk result (λ given. message_of given.1 ≡ record { revision = self.revision + 1; op = self.buffer }) }
         ensures back { IfErr result (λ back. back ≡ self) }
     {
+        let (client, sent, _confirmed) = self.confirm()?;
+        Ok((client, sent))
+    }
+
+    // So, with the operation that was confirmed.
+    pub(crate) fn confirm(
+        self,
+    ) -> Result<(AwaitingConfirm<T>, Sent<T>, TextOp<T>), AwaitingWithBuffer<T>>
+        requires { self.revision < REVISION_LIMIT }
+        ensures state { IfOk result (λ given. given.0 ≡ record { revision = self.revision + 1; outstanding = self.buffer }) }
+        ensures sent { IfOk result (λ given. message_of given.1 ≡ record { revision = self.revision + 1; op = self.buffer }) }
+        ensures confirmed { IfOk result (λ given. given.2 ≡ self.outstanding) }
+        ensures joined { IsJoined self }
+        ensures back { IfErr result (λ back. back ≡ self) }
+    {
         let Ok(copy) = self.buffer.copy() else {
             return Err(self);
         };
         let revision = self.revision + 1;
         let sent = Sent { revision, op: copy };
-        Ok((AwaitingConfirm::new(revision, self.buffer), sent))
+        let client = AwaitingConfirm::new(revision, self.buffer);
+        Ok((client, sent, self.outstanding))
+    }
+
+    // The operation that was sent, and the buffer.
+    pub(crate) fn into_operations(self) -> (TextOp<T>, TextOp<T>)
+        ensures operations { result ≡ (self.outstanding, self.buffer) }
+        ensures joined { IsJoined self }
+    {
+        (self.outstanding, self.buffer)
     }
 
     // The step of `edit`, over an edit that is only read. For want of memory the client comes back.

@@ -1,12 +1,13 @@
 //! A client in any of the three states.
 
-ghost use Rattle.std.specs.Prelude.{◌≡◌, ◌<◌, IfErr, IfOk, None};
-ghost use Rattle.std.specs.Option.{unwrap_or};
-ghost use Rattle.ot_client.specs.Client.{state_of};
-ghost use Rattle.ot_client.specs.State.{carried, delivered, edited, message_edited, MayDeliver, MayEdit};
+ghost use Rattle.std.specs.Prelude.{◌≡◌, ◌+◌, ◌<◌, IfErr, IfOk, None, Some};
+ghost use Rattle.std.specs.Option.{option_map, unwrap_or};
+ghost use Rattle.ot_client.specs.Client.{message_of, state_of};
+ghost use Rattle.ot_client.specs.Past.{phase_before, FitsPhase};
+ghost use Rattle.ot_client.specs.State.{carried, delivered, edited, message_acknowledged, message_edited, phase_acknowledged, IsAwaiting, MayDeliver, MayEdit};
 ghost use Rattle.ot_client.specs.declared.TheConstants.{REVISION_LIMIT};
 
-use crate::{AwaitingConfirm, AwaitingWithBuffer, PreparedStep, Synchronized};
+use crate::{AwaitingConfirm, AwaitingWithBuffer, Past, PreparedStep, Sent, Synchronized};
 use ot_text::{Element, TextOp};
 use std::alloc::AllocError;
 
@@ -102,6 +103,36 @@ impl<T: Element> Client<T> {
                 Ok((step, applied)) => Ok((step, Some(applied))),
                 Err(client) => Err(Client::AwaitingWithBuffer(client)),
             },
+        }
+    }
+
+    /// Takes the confirmation of the operation that was sent, by the rules of the two states in which one is: the client after it, what it sends
+    /// then, if anything, and what leads back, into which the confirmed operation moves. For want of memory the client comes back.
+    pub fn acknowledge(self) -> Result<(Client<T>, Option<Sent<T>>, Past<T>), Client<T>>
+        requires awaiting { IsAwaiting (state_of self).phase }
+        requires revision { (state_of self).revision < REVISION_LIMIT }
+        ensures revision { IfOk result (λ given. (state_of given.0).revision ≡ (state_of self).revision + 1) }
+        ensures phase { IfOk result (λ given. phase_acknowledged (state_of self).phase ≡ Some (state_of given.0).phase) }
+        ensures sent { IfOk result (λ given. option_map message_of given.1 ≡ message_acknowledged ((state_of self).revision + 1) (state_of self).phase) }
+        ensures past { IfOk result (λ given. phase_before given.2 (state_of given.0).phase ≡ (state_of self).phase) }
+        ensures fits { IfOk result (λ given. FitsPhase given.2 (state_of given.0).phase) }
+        ensures back { IfErr result (λ client. client ≡ self) }
+    {
+        match self {
+            Client::AwaitingConfirm(client) => {
+                let next = Synchronized::new(client.revision() + 1);
+                let past = Past::Confirmed(client.into_outstanding());
+                Ok((Client::Synchronized(next), None, past))
+            }
+            Client::AwaitingWithBuffer(client) => match client.confirm() {
+                Ok((next, sent, confirmed)) => Ok((
+                    Client::AwaitingConfirm(next),
+                    Some(sent),
+                    Past::Confirmed(confirmed),
+                )),
+                Err(client) => Err(Client::AwaitingWithBuffer(client)),
+            },
+            Client::Synchronized(_) => unreachable!(),
         }
     }
 

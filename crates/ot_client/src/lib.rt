@@ -16,7 +16,8 @@
 //! so the next state is made anew, and so is what the document is to be changed by.
 //! [`Client::prepare_edit`] and [`Client::prepare_deliver`] take the same steps in two moves, at the cost of what changes: all memory that the step
 //! takes is there in a [`PreparedStep`], which then gives the client after it (`commit`) or the one before it (`roll_back`) and cannot fail. So a
-//! caller can change more than the client, or nothing. What leads back from the client after a step is a [`Past`].
+//! caller can change more than the client, or nothing. What leads back from the client after a step is a [`Past`], and [`Past::prepare_back`] goes
+//! back so, at the cost of what is kept.
 //! These are the functions `applyClient`, `applyServer` and `serverAck` of the three states in ot.js' `Client`.
 //!
 //! Contracts see a state as `State` of `specs/State.antt`: a revision and a `Phase`. `edited` and `delivered` are two of the rules, `carried` what a
@@ -34,6 +35,7 @@ mod past;
 mod prepared;
 mod sent;
 mod synchronized;
+mod waiting;
 
 /// The greatest revision of a client.
 pub const REVISION_LIMIT: u32 = 1_000_000;
@@ -42,6 +44,6 @@ pub use awaiting_confirm::AwaitingConfirm;
 pub use awaiting_with_buffer::AwaitingWithBuffer;
 pub use client::Client;
 pub use past::Past;
-pub use prepared::PreparedStep;
+pub use prepared::{PreparedBack, PreparedStep};
 pub use sent::Sent;
 pub use synchronized::Synchronized;

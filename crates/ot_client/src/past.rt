@@ -1,73 +1,135 @@
 //! What a client waited for before a step, kept over what it waits for after it.
 
-ghost use Rattle.std.specs.Prelude.{◌≡◌, IfOk};
+ghost use Rattle.std.specs.Prelude.{◌≡◌, length, IfErr, IfOk};
 ghost use Rattle.ot_client.specs.Client.{state_of};
-ghost use Rattle.ot_client.specs.State.{confirming};
+ghost use Rattle.ot_client.specs.Past.{phase_before, FitsPhase, LeadsBack};
 ghost use Rattle.ot_client.specs.State as state;
-ghost use Rattle.ot_client.specs.Past.{phase_over, FitsOver};
 
-use crate::{AwaitingConfirm, AwaitingWithBuffer, Client, Synchronized};
+use crate::prepared::PreparedBack;
+use crate::waiting::Waiting;
+use crate::{AwaitingConfirm, AwaitingWithBuffer, Client};
 use ot_text::{Element, Patch, TextOp};
 use std::alloc::AllocError;
 
-/// What a client waited for before a step: the outstanding operation as a patch over the one that is outstanding after the step, the buffer as a
-/// patch over what waits last then, each over the empty operation where nothing waits. So what the step leaves as it was takes no room.
+/// What a client waited for before a step, by the kind of the step. What the step leaves as it was is not kept.
 #[derive(Drop)]
 pub enum Past<T> {
-    Synchronized,
-    AwaitingConfirm(Patch<T>),
-    AwaitingWithBuffer(Patch<T>, Patch<T>),
+    /// Nothing: an edit was sent, or another's operation came to a client that waits for nothing.
+    Nothing,
+    /// One operation, which went after another's.
+    Outstanding(Patch<T>),
+    /// One operation, which is still outstanding: an edit began the buffer.
+    Unbuffered,
+    /// Both operations, which went after another's.
+    Both(Box<Patch<T>>, Box<Patch<T>>),
+    /// The outstanding operation, which still is, and the buffer, into which an edit was composed.
+    Buffer(Patch<T>),
+    /// This operation, which was confirmed, and then what is outstanding now, if anything is.
+    Confirmed(TextOp<T>),
 }
 
 impl<T: Element> Past<T> {
-    /// What the client waits for, over these two operations. Both are compared with its own. `AllocError` where a growth was refused.
-    pub fn over(
-        client: &Client<T>,
-        first: &TextOp<T>,
-        last: &TextOp<T>,
-    ) -> Result<Past<T>, AllocError>
-        ensures phase { IfOk result (λ past. phase_over past first.now last.now ≡ (state_of client.now).phase) }
-        ensures fits { IfOk result (λ past. FitsOver past first.now last.now) }
+    /// Prepares the client after the step to become the one before it, at that one's revision. Costs what is kept, which is copied. For want of
+    /// memory the client comes back.
+    pub fn prepare_back(
+        &self,
+        client: Client<T>,
+        revision: u32,
+    ) -> Result<PreparedBack<T>, Client<T>>
+        requires { FitsPhase self.now (state_of client).phase }
+        ensures later { IfOk result (λ back. back.later ≡ state_of client) }
+        ensures earlier { IfOk result (λ back. back.earlier ≡ record { revision = revision; phase = phase_before self.now (state_of client).phase }) }
+        ensures same { IfErr result (λ same. same ≡ client) }
     {
-        match client {
-            Client::Synchronized(_) => Ok(Past::Synchronized),
+        let from = client.revision();
+        let waiting = match client {
+            Client::Synchronized(client) => match self.over_nothing() {
+                Ok(waiting) => waiting,
+                Err(_) => return Err(Client::Synchronized(client)),
+            },
             Client::AwaitingConfirm(client) => {
-                let outstanding = Patch::between(client.outstanding(), first)?;
-                Ok(Past::AwaitingConfirm(outstanding))
+                match self.over_outstanding(client.into_outstanding()) {
+                    Ok(waiting) => waiting,
+                    Err(op) => {
+                        return Err(Client::AwaitingConfirm(AwaitingConfirm::new(from, op)));
+                    }
+                }
             }
             Client::AwaitingWithBuffer(client) => {
-                let outstanding = Patch::between(client.outstanding(), first)?;
-                let buffer = Patch::between(client.buffer(), last)?;
-                Ok(Past::AwaitingWithBuffer(outstanding, buffer))
+                let (outstanding, buffer) = client.into_operations();
+                match self.over_both(outstanding, buffer) {
+                    Ok(waiting) => waiting,
+                    Err((outstanding, buffer)) => {
+                        let client = AwaitingWithBuffer::new(from, outstanding, buffer);
+                        return Err(Client::AwaitingWithBuffer(client));
+                    }
+                }
             }
+        };
+        Ok(PreparedBack {
+            from,
+            to: revision,
+            waiting,
+        })
+    }
+
+    // The step back where nothing waits now.
+    fn over_nothing(&self) -> Result<Waiting<T>, AllocError>
+        requires { FitsPhase self.now state.Synchronized }
+        ensures { IfOk result (λ waiting. LeadsBack self.now state.Synchronized waiting) }
+    {
+        match self {
+            Past::Nothing => Ok(Waiting::Nothing),
+            Past::Confirmed(op) => Ok(Waiting::First(op.copy()?)),
+            _ => unreachable!(),
         }
     }
 
-    /// The client that waited for this, at its revision, over what waits first and last after the step. `AllocError` where a growth was refused.
-    pub fn client(
-        &self,
-        revision: u32,
-        first: &TextOp<T>,
-        last: &TextOp<T>,
-    ) -> Result<Client<T>, AllocError>
-        requires { FitsOver self.now first.now last.now }
-        ensures { IfOk result (λ client. state_of client ≡ record { revision = revision; phase = phase_over self.now first.now last.now }) }
+    // The step back where this operation is outstanding now.
+    fn over_outstanding(&self, op: TextOp<T>) -> Result<Waiting<T>, TextOp<T>>
+        requires { FitsPhase self.now (state.AwaitingConfirm op) }
+        ensures ok { IfOk result (λ waiting. LeadsBack self.now (state.AwaitingConfirm op) waiting) }
+        ensures err { IfErr result (λ same. same ≡ op) }
     {
         match self {
-            Past::Synchronized => Ok(Client::Synchronized(Synchronized::new(revision))),
-            Past::AwaitingConfirm(outstanding) => {
-                let outstanding = outstanding.put_back(first)?;
-                Ok(Client::AwaitingConfirm(AwaitingConfirm::new(revision, outstanding)))
+            Past::Nothing => Ok(Waiting::Unsent(op)),
+            Past::Outstanding(patch) => Ok(Waiting::Outstanding(patch.prepare_back(op)?)),
+            Past::Confirmed(first) => match first.copy() {
+                Ok(first) => Ok(Waiting::Unconfirmed(first, op)),
+                Err(_) => Err(op),
+            },
+            _ => unreachable!(),
+        }
+    }
+
+    // The step back where there is a buffer now.
+    fn over_both(
+        &self,
+        outstanding: TextOp<T>,
+        buffer: TextOp<T>,
+    ) -> Result<Waiting<T>, (TextOp<T>, TextOp<T>)>
+        requires fits { FitsPhase self.now (state.AwaitingWithBuffer outstanding buffer) }
+        requires joined { buffer.base ≡ length outstanding.image }
+        ensures ok { IfOk result (λ waiting. LeadsBack self.now (state.AwaitingWithBuffer outstanding buffer) waiting) }
+        ensures err { IfErr result (λ same. same ≡ (outstanding, buffer)) }
+    {
+        match self {
+            Past::Unbuffered => Ok(Waiting::Unbuffered(outstanding, buffer)),
+            Past::Buffer(patch) => match patch.prepare_back(buffer) {
+                Ok(buffer) => Ok(Waiting::Buffer(outstanding, buffer)),
+                Err(buffer) => Err((outstanding, buffer)),
+            },
+            Past::Both(first, second) => {
+                let outstanding = match first.prepare_back(outstanding) {
+                    Ok(outstanding) => outstanding,
+                    Err(outstanding) => return Err((outstanding, buffer)),
+                };
+                match second.prepare_back(buffer) {
+                    Ok(buffer) => Ok(Waiting::Both(outstanding, buffer)),
+                    Err(buffer) => Err((outstanding.roll_back(), buffer)),
+                }
             }
-            Past::AwaitingWithBuffer(outstanding, buffer) => {
-                let outstanding = outstanding.put_back(first)?;
-                let buffer = buffer.put_back(last)?;
-                Ok(Client::AwaitingWithBuffer(AwaitingWithBuffer::new(
-                    revision,
-                    outstanding,
-                    buffer,
-                )))
-            }
+            _ => unreachable!(),
         }
     }
 }

@@ -1,31 +1,15 @@
-//! A step of a client for which all memory is there.
+//! Steps of a client, forth and back, for which all memory is there.
 
 ghost use Rattle.std.specs.Prelude.{◌≡◌, IfOk};
 ghost use Rattle.std.specs.Option.{option_map};
 ghost use Rattle.ot_client.specs.Client.{message_of, state_of};
 ghost use Rattle.ot_client.specs.Past.{phase_before, FitsPhase};
 
-use crate::{AwaitingConfirm, AwaitingWithBuffer, Client, Past, Sent, Synchronized};
-use ot_text::{Element, Patch, Prepared, TextOp};
-use std::alloc::AllocError;
+use crate::waiting::Waiting;
+use crate::{Client, Past, Sent};
+use ot_text::Element;
+use std::alloc::{AllocError, Global};
 use std::marker::Model;
-
-// What waits before a step and after it, each operation once.
-#[derive(Drop)]
-pub(crate) enum Waiting<T> {
-    // Nothing, before and after.
-    Nothing,
-    // Nothing, and then the edit that is sent.
-    First(TextOp<T>),
-    // The outstanding operation, which goes after another's.
-    Outstanding(Prepared<T>),
-    // The outstanding operation, and then the edit that begins the buffer too.
-    Second(TextOp<T>, TextOp<T>),
-    // The outstanding operation and the buffer, which go after another's.
-    Both(Prepared<T>, Prepared<T>),
-    // The outstanding operation, and the buffer with an edit composed into it.
-    Buffer(TextOp<T>, Prepared<T>),
-}
 
 /// A client that is about to take a step. All memory that this takes is there already: it is done by [`PreparedStep::commit`], or the client comes
 /// back as it was by [`PreparedStep::roll_back`], and neither fails.
@@ -38,13 +22,13 @@ pub struct PreparedStep<T> {
 }
 
 impl<T> Model for PreparedStep<T> {
-    ghost use Rattle.ot_client.specs.Step.{Step, step_of, IsStepJoined};
+    ghost use Rattle.ot_client.specs.Step.{Step, step_of, IsForth, IsStepJoined};
 
     ghost Value = { Step T };
 
     ghost view = { λ s. step_of s.from s.to s.waiting s.sent };
 
-    ghost invariant = { λ s. IsStepJoined s.waiting };
+    ghost invariant = { λ s. IsForth s.waiting × IsStepJoined s.waiting };
 }
 
 impl<T: Element> PreparedStep<T> {
@@ -60,81 +44,70 @@ impl<T: Element> PreparedStep<T> {
         ensures client { state_of result.0 ≡ self.after }
         ensures sent { option_map message_of result.1 ≡ self.sent }
     {
-        let PreparedStep {
-            from: _,
-            to: revision,
-            waiting,
-            sent,
-        } = self;
-        let client = match waiting {
-            Waiting::Nothing => Client::Synchronized(Synchronized::new(revision)),
-            Waiting::First(op) => Client::AwaitingConfirm(AwaitingConfirm::new(revision, op)),
-            Waiting::Outstanding(outstanding) => {
-                Client::AwaitingConfirm(AwaitingConfirm::new(revision, outstanding.commit()))
-            }
-            Waiting::Second(outstanding, op) => {
-                Client::AwaitingWithBuffer(AwaitingWithBuffer::new(revision, outstanding, op))
-            }
-            Waiting::Both(outstanding, buffer) => {
-                let outstanding = outstanding.commit();
-                let buffer = buffer.commit();
-                Client::AwaitingWithBuffer(AwaitingWithBuffer::new(revision, outstanding, buffer))
-            }
-            Waiting::Buffer(outstanding, buffer) => {
-                let buffer = buffer.commit();
-                Client::AwaitingWithBuffer(AwaitingWithBuffer::new(revision, outstanding, buffer))
-            }
-        };
-        (client, sent)
+        let client = self.waiting.commit(self.to);
+        (client, self.sent)
     }
 
     /// The client as it was before the step. It takes no memory.
     pub fn roll_back(self) -> Client<T>
         ensures { state_of result ≡ self.before }
     {
-        let PreparedStep {
-            from: revision,
-            to: _,
-            waiting,
-            sent: _,
-        } = self;
-        match waiting {
-            Waiting::Nothing => Client::Synchronized(Synchronized::new(revision)),
-            Waiting::First(_op) => Client::Synchronized(Synchronized::new(revision)),
-            Waiting::Outstanding(outstanding) => {
-                Client::AwaitingConfirm(AwaitingConfirm::new(revision, outstanding.roll_back()))
-            }
-            Waiting::Second(outstanding, _op) => {
-                Client::AwaitingConfirm(AwaitingConfirm::new(revision, outstanding))
-            }
-            Waiting::Both(outstanding, buffer) => {
-                let outstanding = outstanding.roll_back();
-                let buffer = buffer.roll_back();
-                Client::AwaitingWithBuffer(AwaitingWithBuffer::new(revision, outstanding, buffer))
-            }
-            Waiting::Buffer(outstanding, buffer) => {
-                let buffer = buffer.roll_back();
-                Client::AwaitingWithBuffer(AwaitingWithBuffer::new(revision, outstanding, buffer))
-            }
-        }
+        self.waiting.roll_back(self.from)
     }
 
-    /// What leads from what the client will wait for back to what it waits for. Costs the components that change. `AllocError` where a growth
-    /// was refused.
-    pub fn past(&self) -> Result<Past<T>, AllocError>
+    /// What leads from what the client will wait for back to what it waits for, in memory of `alloc`. Costs the components that change.
+    /// `AllocError` where a growth was refused.
+    pub fn past(&self, alloc: Global) -> Result<Past<T>, AllocError>
         ensures phase { IfOk result (λ past. phase_before past self.now.after.phase ≡ self.now.before.phase) }
         ensures fits { IfOk result (λ past. FitsPhase past self.now.after.phase) }
     {
         Ok(match &self.waiting {
-            Waiting::Nothing | Waiting::First(_) => Past::Synchronized,
-            Waiting::Outstanding(outstanding) => Past::AwaitingConfirm(outstanding.patch()?),
-            Waiting::Second(outstanding, _) => Past::AwaitingConfirm(Patch::same(outstanding)),
+            Waiting::Nothing | Waiting::First(_) => Past::Nothing,
+            Waiting::Outstanding(outstanding) => Past::Outstanding(outstanding.patch()?),
+            Waiting::Second(..) => Past::Unbuffered,
             Waiting::Both(outstanding, buffer) => {
-                Past::AwaitingWithBuffer(outstanding.patch()?, buffer.patch()?)
+                let outstanding = Box::new(alloc, outstanding.patch()?)?;
+                Past::Both(outstanding, Box::new(alloc, buffer.patch()?)?)
             }
-            Waiting::Buffer(outstanding, buffer) => {
-                Past::AwaitingWithBuffer(Patch::same(outstanding), buffer.patch()?)
+            Waiting::Buffer(_, buffer) => Past::Buffer(buffer.patch()?),
+            Waiting::Unsent(_) | Waiting::Unbuffered(..) | Waiting::Unconfirmed(..) => {
+                unreachable!()
             }
         })
+    }
+}
+
+/// A client that is about to go back over a step. All memory that this takes is there already: it is done by [`PreparedBack::commit`], or the client
+/// comes back as it was by [`PreparedBack::roll_back`], and neither fails.
+#[derive(Drop)]
+pub struct PreparedBack<T> {
+    pub(crate) from: u32,
+    pub(crate) to: u32,
+    pub(crate) waiting: Waiting<T>,
+}
+
+impl<T> Model for PreparedBack<T> {
+    ghost use Rattle.ot_client.specs.Step.{Back, back_of, IsStepJoined};
+
+    ghost Value = { Back T };
+
+    ghost view = { λ b. back_of b.from b.to b.waiting };
+
+    ghost invariant = { λ b. IsStepJoined b.waiting };
+}
+
+impl<T: Element> PreparedBack<T> {
+    /// The client before the step that is taken back. It takes no memory.
+    pub fn commit(self) -> Client<T>
+        ensures { state_of result ≡ self.earlier }
+    {
+        self.waiting.commit(self.to)
+    }
+
+    /// The client as it was, after that step. It takes no memory.
+    pub fn roll_back(self) -> Client<T>
+        ensures { state_of result ≡ self.later }
+    {
+        self.waiting.roll_back(self.from)
     }
 }

@@ -5,7 +5,8 @@ ghost use Rattle.ot_client.specs.Client.{message_of};
 ghost use Rattle.ot_client.specs.State.{confirming, delivered, edited, synchronized};
 ghost use Rattle.ot_client.specs.declared.TheConstants.{REVISION_LIMIT};
 
-use crate::prepared::{PreparedStep, Waiting};
+use crate::prepared::PreparedStep;
+use crate::waiting::Waiting;
 use crate::{AwaitingConfirm, Sent};
 use ot_text::{Element, TextOp};
 use std::marker::Model;

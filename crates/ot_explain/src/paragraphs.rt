@@ -54,7 +54,7 @@ pub(crate) fn perform(
 {
     let mut text = heading(alloc, line_at(lines, number), number, instr)?;
     let first = before(alloc, machine, instr)?;
-    if let Err(refusal) = machine.step(instr) {
+    if let Err(refusal) = machine.perform(instr) {
         return Ok(Err(refusal));
     }
     let second = after(alloc, machine, instr)?;

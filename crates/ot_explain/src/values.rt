@@ -4,25 +4,17 @@ ghost use Rattle.std.specs.Prelude.{◌≡◌, ◌<◌, length, IfOk, string_byt
 ghost use Rattle.std.specs.Option.{option_copied, option_map};
 ghost use Rattle.ot_machine.specs.Readers.{ClientHas};
 ghost use Rattle.ot_steps.specs.Lines.{plain_operation};
-ghost use Rattle.ot_explain.specs.Words.{document_text, entry_text, list_text, made_text, operation_text};
+ghost use Rattle.ot_explain.specs.Words.{document_text, entry_text, list_text, made_text};
 
 use ot_isa::{Tagged, plain};
-use ot_json::write_op;
 use ot_server::Entry;
-use ot_steps::plain_operation;
+pub(crate) use ot_steps::operation_text;
 use ot_text::{Doc, TextOp};
 use serde_json::Value;
 use std::alloc::{AllocError, Global};
 
 /// The most characters of a document that are shown.
 const SHORT: usize = 80;
-
-pub(crate) fn operation_text(alloc: Global, op: &TextOp<Tagged>) -> Result<String, AllocError>
-    ensures { IfOk result (λ s. string_bytes s ≡ operation_text op.now) }
-{
-    let plain = plain_operation(alloc, op)?;
-    write_op(alloc, &plain)
-}
 
 /// An operation that was made, if there is one.
 pub(crate) fn made_text(alloc: Global, op: Option<&TextOp<Tagged>>) -> Result<String, AllocError>

@@ -292,8 +292,8 @@ impl Walk {
         ensures { OnOk result (IsMade self.old instr self.new) }
     {
         self.recorded.reserve(1)?;
-        match self.machine.step(&instr) {
-            Ok(_shown) => {}
+        match self.machine.perform(&instr) {
+            Ok(_reader) => {}
             Err(_) => return Err(AllocError),
         }
         // For the proof: what every machine keeps.

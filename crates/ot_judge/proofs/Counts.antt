@@ -1,11 +1,12 @@
 -- Counted edits, and what an event sees after the last one of its replica.
-use Rattle.std.proofs.Common.{◌≡◌, ℕ, ◌+◌, ◌<◌, ◌≤◌, List, length, take, ap, sym, ◌∙◌, cond, arith, Bool, true, inl, inr, subst, eq-eqb, below_more, ◌≢◌}
+use Rattle.std.proofs.Common.{◌≡◌, ℕ, ◌+◌, ◌<◌, ◌≤◌, List, length, get_or, take, ap, sym, ◌∙◌, cond, arith, Bool, true, inl, inr, subst, eq-eqb, below_more, ◌≢◌}
 use Rattle.std.specs.Prelude.{Option, Some, None, IfSome, IsTrue, sum_by}
 use Rattle.std.proofs.lemmas.Bool.{and_parts, cases_lt, cases_order, eqb-true, ltb-true, or_cases, or_right}
-use Rattle.std.proofs.lemmas.List.{take-take}
+use Rattle.std.proofs.lemmas.List.{get_or_past, take-take}
 use Rattle.std.proofs.lemmas.List.Sums.{sum_by_more, sum_by-take-le}
 use Rattle.ot_model.specs.Trace.{EventView, event_at, no_event}
 use Rattle.ot_model.specs.Visibility.{edits_before, follows, is_edit_of, seen_of, sees, SeesRightly}
+use Rattle.ot_judge.specs.Numbers.{IsNumbered}
 use Rattle.ot_judge.specs.Turns.{IsBacked, IsEdit, IsLastOf, SeesAsMuch}
 
 abbrev number_of : Bool → ℕ
@@ -75,6 +76,25 @@ sees-after events e last within lastof own on backed before = record {
     | inr same ↦ closed-same events e d last lastof on before lt (eqb-true (event_at events d).replica (event_at events e).replica same)
   ];
 }
+
+-- an edit of the replica, by its number
+pub numbered-edit : (events : List EventView) (numbers : List ℕ) (r n d : ℕ) → d < length events → IsNumbered events numbers → is_edit_of r (event_at events d) ≡ true → get_or numbers d 0 ≡ n → IsEdit events r n d
+numbered-edit events numbers r n d within numbered edit is = record {
+  within = within;
+  edit = edit;
+  number = ap (λ (k : ℕ). edits_before events d k) (sym (replica-is r (event_at events d) edit).1) ∙ sym (numbered.each d within) ∙ is;
+}
+
+-- the last edit that an event counts backs it
+pub backed-by : (events : List EventView) (e r n d : ℕ) → IsEdit events r n d → n + 1 ≡ seen_of (event_at events e) r → d < e → SeesAsMuch events e d → IsBacked events e r
+backed-by events e r n d is few before closed = inr (d, record { before = before; edit = is.edit; number = omega (arith, is.number, few); closed = closed })
+
+-- an event counts no edits of replicas past those that it names
+pub backed-all : (events : List EventView) (e n : ℕ) → length (event_at events e).seen ≤ n → ((k : ℕ) → k < n → IsBacked events e k) → (r : ℕ) → IsBacked events e r
+backed-all events e n long below r = elim (cases_lt r n) [
+  | inl here ↦ below r here
+  | inr past ↦ inl (get_or_past (event_at events e).seen r 0 (omega (arith, long, past)))
+]
 
 -- the last event of the replica stands among the events
 pub last-within : (events : List EventView) (n e r : ℕ) (last : Option ℕ) → IsLastOf events e r last → e < n → IfSome last (λ p. p < n)

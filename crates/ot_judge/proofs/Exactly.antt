@@ -16,7 +16,7 @@ use Rattle.ot_judge.specs.Contents.{first_misplaced}
 use Rattle.ot_judge.specs.Turns.{AreNews, given, given_before, HoldBefore, HoldsExactly, IsLastOf, IsTaken, list_before, ReadsOnly, StandsOnce}
 use Rattle.ot_judge.proofs.Faults.{exact-places, occurrences-present}
 use Rattle.ot_judge.proofs.Newly.{known-split, reads-give, same-bool}
-use Rattle.ot_judge.proofs.TagLemmas.{contains-more, no_tag, occurrences-absent, occurrences-more, same_tag-symm, same_tag-true}
+use Rattle.ot_judge.proofs.TagLemmas.{no_tag, occurrences-absent, occurrences-more, same_tag-symm, same_tag-true, set-more}
 
 abbrev number_of : Bool → ℕ
 number_of b = cond b 1 0
@@ -87,19 +87,13 @@ take-tag old new gone a stays has updates = record {
   had = λ q h. ap old (same_tag-true q a (and_parts (same_tag q a) (not (gone q)) h).0) ∙ has;
 }
 
-cond_or : (t b : Bool) → cond t true b ≡ (b || t)
-cond_or true true = refl
-cond_or true false = refl
-cond_or false true = refl
-cond_or false false = refl
-
 -- one more tag, which was not in the set
 pub once-more : (tags : List Tag) (i : ℕ) (q : Tag) (had here new : Bool) → i < length tags → StandsOnce (take i tags) q had → StandsOnce (take i tags) (get_or tags i no_tag) here → here ≡ false → new ≡ cond (same_tag (get_or tags i no_tag) q) true had → StandsOnce (take (i + 1) tags) q new
 once-more tags i q had here new lt before at out updates =
     let a : Tag = get_or tags i no_tag in
     let more = occurrences-more tags q i no_tag lt in
     record {
-      same = updates ∙ ap (λ (b : Bool). cond b true had) (same_tag-symm a q) ∙ cond_or (same_tag q a) had ∙ ap (λ (b : Bool). b || same_tag q a) before.same ∙ sym (contains-more tags q i no_tag lt);
+      same = set-more tags i q no_tag had new lt before.same updates;
       few = elim (cases_Bool (same_tag q a)) [
         | inl met ↦
             let none = ap (λ (b : Tag). occurrences b (take i tags)) (same_tag-true q a met) ∙ occurrences-absent a (take i tags) (sym at.same ∙ out) in

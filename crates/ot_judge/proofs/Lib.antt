@@ -8,6 +8,7 @@ pub mod Rising
 pub mod Faults
 pub mod Whole
 pub mod Filtered
+pub mod Grown
 pub mod Climbing
 pub mod Repeated
 pub mod Making

@@ -4,7 +4,7 @@ use Rattle.std.specs.Prelude.{Option, Some, None, All}
 use Rattle.std.specs.List.{Contains, flat_map, range_with_len}
 use Rattle.std.proofs.lemmas.Bool.{and_from, and_parts, both_ways, cases_Bool, cases_lt, eqb-true, ltb-true, or_cases, or_left, or_right}
 use Rattle.std.proofs.lemmas.List.{append-nil, get_or_past, take_more}
-use Rattle.std.proofs.lemmas.List.Elements.{All-push, Contains-append_left, Contains-push}
+use Rattle.std.proofs.lemmas.List.Elements.{All-cons, All-nil, All-push, All-weaker, Contains-append_left, Contains-push}
 use Rattle.std.proofs.lemmas.List.Folds.{list_any-append}
 use Rattle.std.proofs.lemmas.List.Concat.{flat_map-append}
 use Rattle.std.proofs.lemmas.List.FromFn.{get_or-range_with_len, length-range_with_len}
@@ -173,6 +173,14 @@ adds-skip events e r n d last old new same is a = record {
   rest = adds-rest events e r n d last old new new (λ k h. h) (inl (knew-itself events d last same)) is a;
 }
 
+-- an event knows itself
+pub own-known : (events : List EventView) (e : ℕ) (news : List ℕ) → e < length events → news ≡ e ∷ [] → All (IsKnown events e) news
+own-known events e news within one =
+    subst (λ (ns : List ℕ). All (IsKnown events e) ns) (sym one) (All-cons (IsKnown events e) e [] (record { within = within; known = or_left _ (sees events e e) (eq-eqb e e refl) }) (All-nil (IsKnown events e)))
+
+pub own-there : (e : ℕ) (news : List ℕ) → news ≡ e ∷ [] → Contains news e
+own-there e news one = subst (λ (ns : List ℕ). Contains ns e) (sym one) (0, omega arith, refl)
+
 -- all that the event newly knows was added
 pub news-all : (events : List EventView) (e n : ℕ) (last : Option ℕ) (news : List ℕ) → length (event_at events e).seen ≤ n → All (IsKnown events e) news → Contains news e
     → ((r : ℕ) → r < n → (d : ℕ) → d < length events → is_edit_of r (event_at events d) ≡ true → edits_before events d r < seen_of (event_at events e) r → (knew events last d ≡ true) ⊎ Contains news d) → AreNews events e last news
@@ -190,6 +198,11 @@ news-all events e n last news long known own rest = record {
         ]
   ];
 }
+
+-- news stand among the events
+pub news-within : (events : List EventView) (e n : ℕ) (last : Option ℕ) (news slice : List ℕ) → length events ≡ n → slice ≡ news → AreNews events e last news → All (λ d. d < n) slice
+news-within events e n last news slice long same are =
+    subst (λ (ds : List ℕ). All (λ d. d < n) ds) (sym same) (All-weaker (IsKnown events e) (λ d. d < n) (λ d h. omega (arith, h.within, long)) news are.known)
 
 pub given-more : (events : List EventView) (part : EventView → List Tag) (news : List ℕ) (i : ℕ) → i < length news → given events part (take (i + 1) news) ≡ given events part (take i news) ++ part (event_at events (get_or news i 0))
 given-more events part news i lt =

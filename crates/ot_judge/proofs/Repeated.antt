@@ -1,8 +1,8 @@
 -- Tags that stand in a list twice.
-use Rattle.std.proofs.Common.{◌≡◌, ℕ, ◌+◌, ◌<◌, ◌≤◌, List, [], ◌∷◌, ◌++◌, length, get_or, take, ap, sym, ◌∙◌, cond, arith, Bool, true, false, ◌||◌, ◌&&◌, refl, inl, inr, append-nil, append_assoc, subst, suc}
+use Rattle.std.proofs.Common.{◌≡◌, ℕ, ◌+◌, ◌<◌, ◌≤◌, List, [], ◌∷◌, ◌++◌, length, get_or, take, drop, ap, sym, ◌∙◌, cond, arith, Bool, true, false, ◌||◌, ◌&&◌, refl, inl, inr, append-nil, append_assoc, subst, suc}
 use Rattle.std.specs.Prelude.{Some, None, find, nat_lt}
 use Rattle.std.proofs.lemmas.Bool.{cases_Bool, lt-ltb, both_ways}
-use Rattle.std.proofs.lemmas.List.{get_or_append_left}
+use Rattle.std.proofs.lemmas.List.{drop_all, drop_more, get_or_append_left, take_more}
 use Rattle.std.proofs.Math.Seq.{get_or-append_seam}
 use Rattle.std.proofs.lemmas.List.Sums.{sum_by-append, sum_by-cons}
 use Rattle.ot_isa.specs.declared.elements.Tag.{Tag}
@@ -97,3 +97,20 @@ distinct-again before (a ∷ tags) d = elim (cases_Bool (contains before a)) [
   length-front : (before : List Tag) (a : Tag) (tags : List Tag) → length before < length (before ++ a ∷ tags)
   length-front [] a tags = omega arith
   length-front (x ∷ xs) a tags = omega (arith, length-front xs a tags)
+
+-- ---- the search for a tag that is named again, part way
+
+again-step : (tags : List Tag) (i : ℕ) (d : Tag) (b : Bool) → i < length tags → contains (take i tags) (get_or tags i d) ≡ b → first_again (take i tags) (drop i tags) ≡ cond b (Some (get_or tags i d)) (first_again (take (i + 1) tags) (drop (i + 1) tags))
+again-step tags i d b lt is =
+    let a : Tag = get_or tags i d in
+    ap (first_again (take i tags)) (drop_more tags i d lt) ∙ ap (λ (t : Bool). cond t (Some a) (first_again (take i tags ++ a ∷ []) (drop (i + 1) tags))) is
+    ∙ ap (λ ts. cond b (Some a) (first_again ts (drop (i + 1) tags))) (sym (take_more tags i d lt))
+
+pub again-on : (tags : List Tag) (i : ℕ) (d : Tag) → i < length tags → contains (take i tags) (get_or tags i d) ≡ false → first_again [] tags ≡ first_again (take i tags) (drop i tags) → first_again [] tags ≡ first_again (take (i + 1) tags) (drop (i + 1) tags)
+again-on tags i d lt out before = before ∙ again-step tags i d false lt out
+
+pub again-here : (tags : List Tag) (i : ℕ) (d : Tag) → i < length tags → contains (take i tags) (get_or tags i d) ≡ true → first_again [] tags ≡ first_again (take i tags) (drop i tags) → Some (get_or tags i d) ≡ first_again [] tags
+again-here tags i d lt met before = sym (before ∙ again-step tags i d true lt met)
+
+pub again-end : (tags : List Tag) (i : ℕ) → length tags ≤ i → first_again [] tags ≡ first_again (take i tags) (drop i tags) → None ≡ first_again [] tags
+again-end tags i le before = sym (before ∙ ap (first_again (take i tags)) (drop_all i tags le))

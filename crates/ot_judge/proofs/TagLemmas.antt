@@ -1,5 +1,5 @@
 -- The test of tags, and lists of tags.
-use Rattle.std.proofs.Common.{◌≡◌, ℕ, ◌+◌, ◌<◌, List, [], ◌∷◌, ◌++◌, map, length, get_or, take, ap, ◌∙◌, cond, arith, true, false, Bool, ◌||◌, eq-eqb, refl}
+use Rattle.std.proofs.Common.{◌≡◌, ℕ, ◌+◌, ◌<◌, List, [], ◌∷◌, ◌++◌, map, length, get_or, take, ap, sym, ◌∙◌, cond, arith, true, false, Bool, ◌||◌, eq-eqb, refl}
 use Rattle.std.specs.Prelude.{filter, ◌==◌}
 use Rattle.std.proofs.lemmas.Bool.{eqb-true, and_parts, and_from, or_parts}
 use Rattle.std.proofs.lemmas.List.{take_more, map-append}
@@ -38,6 +38,18 @@ contains-more tags q i d lt = list_any_more (same_tag q) tags i d lt
 
 pub occurrences-more : (tags : List Tag) (q : Tag) (i : ℕ) (d : Tag) → i < length tags → occurrences q (take (i + 1) tags) ≡ occurrences q (take i tags) + cond (same_tag q (get_or tags i d)) 1 0
 occurrences-more tags q i d lt = sum_by_more (λ b. cond (same_tag q b) 1 0) tags i d lt
+
+cond_or : (t b : Bool) → cond t true b ≡ (b || t)
+cond_or true true = refl
+cond_or true false = refl
+cond_or false true = refl
+cond_or false false = refl
+
+-- a set to which one more tag is added
+pub set-more : (tags : List Tag) (i : ℕ) (q d : Tag) (had new : Bool) → i < length tags → had ≡ contains (take i tags) q → new ≡ cond (same_tag (get_or tags i d) q) true had → new ≡ contains (take (i + 1) tags) q
+set-more tags i q d had new lt before updates =
+    let a : Tag = get_or tags i d in
+    updates ∙ ap (λ (b : Bool). cond b true had) (same_tag-symm a q) ∙ cond_or (same_tag q a) had ∙ ap (λ (b : Bool). b || same_tag q a) before ∙ sym (contains-more tags q i d lt)
 
 abbrev count_of : Bool → ℕ
 count_of b = cond b 1 0

@@ -26,22 +26,26 @@ struct Graph {
     first: Option<usize>,
 }
 
+// Puts an element into the chain behind another one.
+fn chain_behind(next: &mut Vec<Option<usize>>, n: usize, p: usize) -> Result<(), AllocError> {
+    let behind = next.get(p).copied().unwrap_or(None);
+    next.push(behind)?;
+    if let Some(link) = next.get_mut(p) {
+        *link = Some(n);
+    }
+    Ok(())
+}
+
 // Puts an element into the chain, behind another one or at its front.
 fn chain_in(graph: &mut Graph, n: usize, previous: Option<usize>) -> Result<(), AllocError> {
     match previous {
-        Some(p) => {
-            let behind = graph.next.get(p).copied().unwrap_or(None);
-            graph.next.push(behind)?;
-            if let Some(next) = graph.next.get_mut(p) {
-                *next = Some(n);
-            }
-        }
+        Some(p) => chain_behind(&mut graph.next, n, p),
         None => {
             graph.next.push(graph.first)?;
             graph.first = Some(n);
+            Ok(())
         }
     }
-    Ok(())
 }
 
 // The number of an element, which stands behind another one or at the front where it is met first.

@@ -17,16 +17,22 @@ use ot_isa::Tag;
 use std::alloc::{AllocError, Global};
 use std::collections::HashSet;
 
+// So many empty rows.
+fn empty_rows(alloc: Global, count: usize) -> Result<Vec<Vec<usize>>, AllocError> {
+    let mut rows = Vec::new(alloc);
+    for _ in 0..count {
+        rows.push(Vec::new(alloc))?;
+    }
+    Ok(rows)
+}
+
 /// By replica, where its edits stand among the events. Nothing is promised of it: who reads it checks it.
 pub fn edits_of(
     alloc: Global,
     replicas: usize,
     events: &[Event],
 ) -> Result<Vec<Vec<usize>>, AllocError> {
-    let mut table = Vec::new(alloc);
-    for _ in 0..replicas {
-        table.push(Vec::new(alloc))?;
-    }
+    let mut table = empty_rows(alloc, replicas)?;
     for d in 0..events.len() {
         let x = &events[d];
         if x.edit {

@@ -5,21 +5,18 @@ use Rattle.std.proofs.lemmas.Option.{slice_get-map, slice_get_read, same_Some, s
 use Rattle.std.specs.Prelude.{slice_get, if◌then◌else◌}
 use Rattle.std.specs.Option.{option_map}
 use Rattle.ot_isa.specs.declared.elements.Tagged.{Tagged}
-use Rattle.ot_text.specs.Operation.{Operation}
 use Rattle.ot_client.specs.declared.sent.Sent.{Sent}
 use Rattle.ot_client.specs.Client.{message_of}
 use Rattle.ot_server.specs.History.{History}
-use Rattle.ot_model.specs.Table.{Client, Message, State, absent, is_joined, phase_in, with_client}
+use Rattle.ot_model.specs.Table.{Client, Message, State, absent, is_joined, with_client}
 use Rattle.ot_model.specs.Sound.{IsSound}
 use Rattle.ot_machine.specs.declared.seat.Seat.{Seat}
 use Rattle.ot_machine.specs.declared.kept.Before.{Before}
-use Rattle.ot_client.specs.Past.{phase_over}
-use Rattle.ot_client.specs.declared.past.Past.{Past}
-use Rattle.ot_client.specs.declared.past.Past.TheVariants as kept
 use Rattle.ot_machine.specs.Seats.{View, view_of, client_of, phase_of, numbers, incoming, queued, swept, idle, AreQueues, state_from, IsKept}
-use Rattle.ot_machine.specs.Undoing.{first_of, last_of, message_at, message_in, queue_before, reverted, FitsBack, FitsPhase, Restores, IsRecord}
+use Rattle.ot_machine.specs.Undoing.{message_at, message_in, queue_before, reverted, FitsBack, FitsPhase, Restores, IsRecord}
 use Rattle.ot_machine.specs.declared.undo.Record.TheVariants.{ClientStep, Joined, Read}
 use Rattle.ot_machine.proofs.RowLaws.{client_at, queue_at}
+use Rattle.ot_machine.proofs.Undoing.{kept_joined}
 
 -- a loop over all seats
 swept_next : {X : Type 0} (f : X → X) (i : ℕ) (xs : List X) (y : X) → slice_get (swept f i xs) i ≡ Some y → set (swept f i xs) i (f y) ≡ swept f (suc i) xs
@@ -149,14 +146,9 @@ revision_right before was x n queue true is from joined after inside right =
 revision_right before was x n queue false is from joined after inside right =
     rw (is, joined) (right ∙ ap (λ k. numbers k (n - k)) after)
 
-kept_joined : (past : Past Tagged) (first last : Operation Tagged) → is_joined (phase_in (phase_over past first last)) ≡ true
-kept_joined kept.Synchronized first last = refl
-kept_joined (kept.AwaitingConfirm o) first last = refl
-kept_joined (kept.AwaitingWithBuffer o b) first last = refl
-
 queue_right : (before : Before) (was x : Client) (n : ℕ) (queue : List ℕ) → Restores before was x → x.revision ≤ n → queue ≡ incoming x n → queue_before before queue ≡ incoming was n
 queue_right before was x n queue is inside right =
-    let joined : is_joined was.phase ≡ true = ap (λ (y : Client). is_joined y.phase) (sym is.back) ∙ kept_joined before.past (first_of x.phase) (last_of x.phase) in
+    let joined : is_joined was.phase ≡ true = ap (λ (y : Client). is_joined y.phase) (sym is.back) ∙ kept_joined before.past x.phase is.joined in
     revision_right before was x n queue before.received refl (ap (λ (y : Client). y.revision) (sym is.back)) joined is.revision inside (right ∙ rw is.joined refl)
 
 -- a step at a client taken back

@@ -2,7 +2,6 @@
 use Rattle.std.proofs.Common.{ℕ, suc, List, [], ◌∷◌, take, arith}
 use Rattle.std.proofs.lemmas.List.Elements.{All-take}
 use Rattle.std.specs.List.{All}
-use Rattle.ot_isa.specs.Program.{Program, IsProgram}
 use Rattle.ot_isa.specs.Program as isa
 use Rattle.ot_isa.specs.declared.instruction.Instr.{Instr}
 use Rattle.ot_isa.specs.declared.instruction.Instr.TheVariants.{Edit, Take, Deliver, Acknowledge, Join, Read, ReadServer}

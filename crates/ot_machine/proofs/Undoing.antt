@@ -5,18 +5,18 @@ use Rattle.std.specs.Option.{option_map}
 use Rattle.ot_isa.specs.declared.elements.Tagged.{Tagged}
 use Rattle.ot_text.specs.Operation.{Operation, IsOperation, apply, invert}
 use Rattle.ot_client.specs.declared.sent.Sent.{Sent}
+use Rattle.ot_client.specs.Past as kept
 use Rattle.ot_client.specs.State as state
+use Rattle.ot_client.specs.declared.past.Past.{Past}
 use Rattle.ot_client.specs.Client.{message_of, state_of}
 use Rattle.ot_client.specs.declared.client.Client as program
 use Rattle.ot_client.specs.declared.client.Client.TheVariants as client
-use Rattle.ot_model.specs.Table.{Client, Message, Phase, NotJoined, Synchronized, AwaitingConfirm, AwaitingWithBuffer, is_joined, acknowledged}
+use Rattle.ot_model.specs.Table.{Client, Message, Phase, NotJoined, Synchronized, AwaitingConfirm, AwaitingWithBuffer, is_joined, phase_in}
 use Rattle.ot_model.proofs.Algebra.{laws}
-use Rattle.std.proofs.lemmas.Option.{same_Some}
-use Rattle.ot_machine.specs.declared.seat.Seat.{Seat}
 use Rattle.ot_machine.specs.declared.kept.Before.{Before}
-use Rattle.ot_machine.specs.Seats.{client_of, phase_of, under_way, MaySend}
+use Rattle.ot_machine.specs.Seats.{phase_of, under_way, MaySend}
 use Rattle.ot_machine.proofs.RowLaws.{none_up}
-use Rattle.ot_machine.specs.Undoing.{phase_acknowledged, IsBefore, Restores}
+use Rattle.ot_machine.specs.Undoing.{phase_before, IsBefore, Restores}
 
 -- it fits what the operation makes of the list
 pub inverse_base : (op inverse : Operation Tagged) (list : List Tagged) → IsOperation op → op.base ≡ length list → inverse ≡ invert op list → inverse.base ≡ length (apply op list)
@@ -68,18 +68,14 @@ sends_alone (client.Synchronized here) op up sent may is some = absurd (some (ap
 sends_alone (client.AwaitingConfirm here) op up sent may is some = ap (λ s. under_way s up) (none_up sent is)
 sends_alone (client.AwaitingWithBuffer here) op up sent may is some = ap (λ s. under_way s up) (none_up sent is)
 
-acknowledged_led :
-    (was now : Client) (phase : Phase) → acknowledged was phase ≡ Some now → was.message ≡ None → Led was now true × (now.phase ≡ phase_acknowledged phase) × (now.list ≡ was.list)
-acknowledged_led was now NotJoined is none = absurd (cc)
-acknowledged_led was now Synchronized is none = absurd (cc)
-acknowledged_led was now (AwaitingConfirm o) is none =
-    subst (λ x. Led was x true × (x.phase ≡ Synchronized) × (x.list ≡ was.list)) (same_Some _ now is) (record { message = λ some. absurd (some none); joined = refl; revision = refl }, refl, refl)
-acknowledged_led was now (AwaitingWithBuffer o b) is none =
-    subst (λ x. Led was x true × (x.phase ≡ AwaitingConfirm b) × (x.list ≡ was.list)) (same_Some _ now is) (record { message = λ some. absurd (some none); joined = refl; revision = refl }, refl, refl)
+-- a client is joined before a step after which it is
+in_joined : (phase : state.Phase Tagged) → is_joined (phase_in phase) ≡ true
+in_joined state.Synchronized = refl
+in_joined (state.AwaitingConfirm o) = refl
+in_joined (state.AwaitingWithBuffer o b) = refl
 
-pub acknowledge_restored :
-    (kept : Option Before) (was : Seat) (now : Client) → acknowledged (client_of was) (phase_of was.client) ≡ Some now → was.up ≡ None
-    → IsSomeAnd kept (λ before. IsBefore before (client_of was) (phase_acknowledged (phase_of was.client)) was.list true) → IsSomeAnd kept (λ before. Restores before (client_of was) now)
-acknowledge_restored kept was now is none of_seat =
-    let led = acknowledged_led (client_of was) now (phase_of was.client) is (ap (option_map message_of) none) in
-    kept_restored kept (client_of was) now (client_of was) (phase_acknowledged (phase_of was.client)) was.list true led.0 refl (sym led.1) (sym led.2) of_seat
+pub kept_joined : (past : Past Tagged) (phase : Phase) → is_joined phase ≡ true → is_joined (phase_before past phase) ≡ true
+kept_joined past NotJoined on = absurd (cc)
+kept_joined past Synchronized on = in_joined (kept.phase_before past state.Synchronized)
+kept_joined past (AwaitingConfirm o) on = in_joined (kept.phase_before past (state.AwaitingConfirm o))
+kept_joined past (AwaitingWithBuffer o b) on = in_joined (kept.phase_before past (state.AwaitingWithBuffer o b))

@@ -1,13 +1,13 @@
 -- What a step keeps so that it can be taken back.
 use Rattle.std.specs.Prelude.{◌≡◌, ◌↔◌, ℕ, suc, ◌-◌, Bool, true, IsTrue, List, ◌∷◌, Option, Some, None, length, slice_get, take, if◌then◌else◌}
 use Rattle.ot_isa.specs.declared.elements.Tagged.{Tagged}
-use Rattle.ot_text.specs.Operation.{Operation, apply, empty}
-use Rattle.ot_client.specs.Past.{phase_over, FitsOver}
+use Rattle.ot_text.specs.Operation.{Operation, apply}
+use Rattle.ot_client.specs.Past as client
 use Rattle.ot_client.specs.declared.past.Past.{Past}
 use Rattle.ot_client.specs.declared.sent.Sent.{Sent}
 use Rattle.ot_client.specs.Client.{message_of}
 use Rattle.ot_server.specs.History.{IsUndo}
-use Rattle.ot_model.specs.Table.{Client, Message, State, Phase, NotJoined, Synchronized, AwaitingConfirm, AwaitingWithBuffer, is_joined, phase_in, absent, taken, with_client}
+use Rattle.ot_model.specs.Table.{Client, Message, State, Phase, NotJoined, by_rule, is_joined, phase_in, absent, taken, with_client}
 use Rattle.ot_model.specs.Sound.{IsSound}
 use Rattle.ot_machine.specs.declared.kept.Before.{Before}
 use Rattle.ot_machine.specs.declared.undo.Record.{Record}
@@ -20,33 +20,13 @@ abbrev pub list_before : Option (Operation Tagged) → List Tagged → List Tagg
 list_before None list = list
 list_before (Some inverse) list = apply inverse list
 
--- the operations of a phase over which those of an earlier one are kept: what is outstanding, and what waits last; the empty one where nothing does
-abbrev pub first_of : Phase → Operation Tagged
-first_of NotJoined = empty
-first_of Synchronized = empty
-first_of (AwaitingConfirm o) = o
-first_of (AwaitingWithBuffer o b) = o
-
-abbrev pub last_of : Phase → Operation Tagged
-last_of NotJoined = empty
-last_of Synchronized = empty
-last_of (AwaitingConfirm o) = o
-last_of (AwaitingWithBuffer o b) = b
-
 -- the phase before a step, from the phase after it
 abbrev pub phase_before : Past Tagged → Phase → Phase
-phase_before past phase = phase_in (phase_over past (first_of phase) (last_of phase))
+phase_before past phase = by_rule NotJoined (λ p. phase_in (client.phase_before past p)) phase
 
--- what is kept fits on the phase after it
+-- what is kept is over the phase after it
 abbrev pub FitsPhase : Past Tagged → Phase → Type 0
-FitsPhase past phase = FitsOver past (first_of phase) (last_of phase)
-
--- the phase after an acknowledgement
-abbrev pub phase_acknowledged : Phase → Phase
-phase_acknowledged NotJoined = NotJoined
-phase_acknowledged Synchronized = Synchronized
-phase_acknowledged (AwaitingConfirm o) = Synchronized
-phase_acknowledged (AwaitingWithBuffer o b) = AwaitingConfirm b
+FitsPhase past phase = by_rule ⊥ (λ p. client.FitsPhase past p) phase
 
 -- the client as the record says
 abbrev pub reverted : Before → Client → Client

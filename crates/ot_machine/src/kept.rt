@@ -1,15 +1,14 @@
 //! What is kept of a client before a step of its own, and how it comes back. `KEPT` says whether a step is to be taken back; where it is not,
 //! nothing is made and nothing is kept.
 
-ghost use Rattle.std.specs.Prelude.{◌≡◌, length, map, true, IfErr, IfOk, IsSomeAnd, IsTrue, OnErr, OnOk, Some};
+ghost use Rattle.std.specs.Prelude.{◌≡◌, length, map, IfErr, IfOk, IsSomeAnd, IsTrue, OnErr, OnOk};
 ghost use Rattle.ot_text.specs.Operation.{apply};
 ghost use Rattle.ot_model.specs.Table.{phase_in};
-ghost use Rattle.ot_machine.specs.Seats.{client_in, client_of, phase_of, revision_of, view_of, IsAwaiting};
-ghost use Rattle.ot_machine.specs.Undoing.{phase_acknowledged, phase_before, queue_before, reverted, unsent, FitsBack, FitsPhase, IsBefore};
+ghost use Rattle.ot_machine.specs.Seats.{client_in, client_of, phase_of, revision_of, view_of};
+ghost use Rattle.ot_machine.specs.Undoing.{list_before, phase_before, queue_before, reverted, unsent, FitsBack, FitsPhase, IsBefore};
 
 use crate::seat::Seat;
-use crate::waiting::{first_waiting, last_waiting};
-use ot_client::{Client, Past, PreparedStep};
+use ot_client::{Past, PreparedStep};
 use ot_isa::Tagged;
 use ot_text::{Doc, TextOp};
 use std::alloc::AllocError;
@@ -52,7 +51,7 @@ pub(crate) fn before_change<const KEPT: bool>(
     if !KEPT {
         return Ok(None);
     }
-    let past = step.past()?;
+    let past = step.past(seat.list.allocator())?;
     let inverse = inverse_of(applied, &seat.list)?;
     Ok(Some(Before {
         past,
@@ -61,35 +60,6 @@ pub(crate) fn before_change<const KEPT: bool>(
         count: seat.count,
         unsent: seat.up.is_empty(),
         received,
-    }))
-}
-
-// What is kept of the client before an acknowledgement: its buffer, if there is one, is outstanding after it, and its list stays.
-pub(crate) fn before_acknowledgement<const KEPT: bool>(
-    seat: &Seat,
-) -> Result<Option<Before>, AllocError>
-    requires { IsAwaiting (phase_of seat.now.client) }
-    ensures { IsTrue KEPT → IfOk result (λ kept. IsSomeAnd kept (λ before. IsBefore before (client_of seat.now) (phase_acknowledged (phase_of seat.now.client)) seat.now.list true)) }
-{
-    if !KEPT {
-        return Ok(None);
-    }
-    let Some(client) = &seat.client else {
-        unreachable!()
-    };
-    let none = TextOp::new(seat.list.allocator());
-    let left = match client {
-        Client::AwaitingWithBuffer(client) => client.buffer(),
-        _ => &none,
-    };
-    let past = Past::over(client, left, left)?;
-    Ok(Some(Before {
-        past,
-        revision: client.revision(),
-        inverse: None,
-        count: seat.count,
-        unsent: seat.up.is_empty(),
-        received: true,
     }))
 }
 
@@ -109,18 +79,6 @@ pub(crate) fn unsend_all(seats: &mut Vec<Seat>)
     }
 }
 
-// The client's state as it was before the step.
-fn client_before(seat: &Seat, before: &Before) -> Result<Client<Tagged>, AllocError>
-    requires { FitsPhase before.now.past (phase_of seat.now.client) }
-    ensures phase { IfOk result (λ client. phase_of (Some client) ≡ phase_before before.now.past (phase_of seat.now.client)) }
-    ensures revision { IfOk result (λ client. revision_of (Some client) ≡ before.now.revision) }
-{
-    let none = TextOp::new(seat.list.allocator());
-    let first = first_waiting(&seat.client, &none);
-    let last = last_waiting(&seat.client, &none);
-    before.past.client(before.revision, first, last)
-}
-
 // The client as it was before the step. Where memory is wanting what was kept comes back.
 pub(crate) fn revert(seat: &mut Seat, before: Before) -> Result<(), (AllocError, Before)>
     requires list { FitsBack before.inverse seat.old.list }
@@ -130,17 +88,12 @@ pub(crate) fn revert(seat: &mut Seat, before: Before) -> Result<(), (AllocError,
     ensures err { OnErr result (view_of seat.new ≡ view_of seat.old) }
     ensures back { IfErr result (λ e. e.1 ≡ before) }
 {
-    let Ok(client) = client_before(seat, &before) else {
-        return Err((AllocError, before));
-    };
     if before.received
         && let Err(e) = seat.down.reserve_one()
     {
         return Err((e, before));
     }
-    if let Some(inverse) = &before.inverse
-        && let Err(e) = seat.list.change(inverse)
-    {
+    if let Err(e) = revert_client(seat, &before) {
         return Err((e, before));
     }
     if before.received {
@@ -149,7 +102,36 @@ pub(crate) fn revert(seat: &mut Seat, before: Before) -> Result<(), (AllocError,
     if before.unsent {
         let _ = seat.up.pop();
     }
-    seat.client = Some(client);
     seat.count = before.count;
+    Ok(())
+}
+
+// Its client and its list as they were before the step; for want of memory they stay.
+fn revert_client(seat: &mut Seat, before: &Before) -> Result<(), AllocError>
+    requires list { FitsBack before.now.inverse seat.old.list }
+    requires phase { FitsPhase before.now.past (phase_of seat.old.client) }
+    ensures phase { OnOk result (phase_of seat.new.client ≡ phase_before before.now.past (phase_of seat.old.client)) }
+    ensures revision { OnOk result (revision_of seat.new.client ≡ before.now.revision) }
+    ensures list { OnOk result (seat.new.list ≡ list_before before.now.inverse seat.old.list) }
+    ensures links { (seat.new.up ≡ seat.old.up) × (seat.new.down ≡ seat.old.down) × (seat.new.count ≡ seat.old.count) }
+    ensures err { OnErr result (seat.new ≡ seat.old) }
+{
+    let Some(client) = seat.client.take() else {
+        unreachable!()
+    };
+    let back = match before.past.prepare_back(client, before.revision) {
+        Ok(back) => back,
+        Err(client) => {
+            seat.client = Some(client);
+            return Err(AllocError);
+        }
+    };
+    if let Some(inverse) = &before.inverse
+        && let Err(e) = seat.list.change(inverse)
+    {
+        seat.client = Some(back.roll_back());
+        return Err(e);
+    }
+    seat.client = Some(back.commit());
     Ok(())
 }

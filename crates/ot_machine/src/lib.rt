@@ -52,7 +52,6 @@ mod running;
 mod seat;
 mod state;
 mod undo;
-mod waiting;
 
 pub use machine::{INSERTED_LIMIT, Machine, STEP_LIMIT};
 pub use ot_model::{Reader, Refusal, Shown};

@@ -228,18 +228,7 @@ impl Machine {
         ensures unchanged { OnErr result (self.new ≡ self.old) }
         ensures kept { OnOk result (IsRecord self.old self.new Record.Read) }
     {
-        let place = client as usize;
-        if place >= self.seats.len() {
-            return Err(Refusal::NoSuchClient);
-        }
-        if self.steps >= STEP_LIMIT {
-            return Err(Refusal::StepsFull);
-        }
-        let seat = &self.seats[place];
-        if seat.client.is_none() {
-            return Err(Refusal::NotJoined);
-        }
-        let list = seat.list.copy()?;
+        let list = self.shown_at(client)?.copy()?;
         self.steps += 1;
         Ok(Shown {
             who: Reader::Client(client),
@@ -254,10 +243,7 @@ impl Machine {
         ensures unchanged { OnErr result (self.new ≡ self.old) }
         ensures kept { OnOk result (IsRecord self.old self.new Record.Read) }
     {
-        if self.steps >= STEP_LIMIT {
-            return Err(Refusal::StepsFull);
-        }
-        let list = self.server.document().copy()?;
+        let list = self.shown_at_server()?.copy()?;
         self.steps += 1;
         Ok(Shown {
             who: Reader::Server,

@@ -9,7 +9,7 @@ ghost use Rattle.ot_machine.specs.Answers.{IsRefusal};
 ghost use Rattle.ot_machine.specs.Ended.{IsEnding};
 ghost use Rattle.ot_machine.specs.Reads.{reader_of, shown_by, IsThere};
 
-use crate::machine::{Machine, STEP_LIMIT};
+use crate::machine::Machine;
 use crate::outcome::Ending;
 use ot_isa::{Instr, Schedule};
 use ot_model::{Reader, Refusal};
@@ -23,9 +23,7 @@ impl Machine {
         ensures refused { IfErr result (λ r. step self.old (Read client) ≡ Refused r) }
         ensures unchanged { OnErr result (self.new ≡ self.old) }
     {
-        if let Some(refusal) = self.read_refusal(client) {
-            return Err(refusal);
-        }
+        let _list = self.shown_at(client)?;
         self.steps += 1;
         Ok(())
     }
@@ -35,9 +33,7 @@ impl Machine {
         ensures refused { IfErr result (λ r. step self.old ReadServer ≡ Refused r) }
         ensures unchanged { OnErr result (self.new ≡ self.old) }
     {
-        if self.steps >= STEP_LIMIT {
-            return Err(Refusal::StepsFull);
-        }
+        let _list = self.shown_at_server()?;
         self.steps += 1;
         Ok(())
     }

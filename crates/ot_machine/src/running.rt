@@ -1,34 +1,55 @@
 //! Runs of schedules.
 
-ghost use Rattle.std.specs.Prelude.{◌≡◌, ◌∷◌, [], length, IfErr, IfOk, OnErr, OnOk, MatchOption, Some};
+ghost use Rattle.std.specs.Prelude.{◌≡◌, ◌∷◌, ◌<◌, [], IfErr, IfOk, OnErr, OnOk, Some};
 ghost use Rattle.ot_isa.specs.declared.instruction.Instr.TheVariants.{Read, ReadServer};
+ghost use Rattle.ot_model.specs.declared.shown.Reader.TheVariants.{Client, Server};
 ghost use Rattle.ot_model.specs.Table as table;
 ghost use Rattle.ot_model.specs.Table.{step, Refused};
-ghost use Rattle.ot_machine.specs.Answers.{IsPerformed, IsRefusal};
+ghost use Rattle.ot_machine.specs.Answers.{IsRefusal};
 ghost use Rattle.ot_machine.specs.Ended.{IsRun};
+ghost use Rattle.ot_machine.specs.Reads.{list_of, IsThere};
 
 use crate::machine::{Machine, STEP_LIMIT};
 use crate::outcome::Replay;
-use ot_isa::{Instr, Schedule};
+use ot_isa::{Instr, Schedule, Tagged};
 use ot_model::{Refusal, Shown};
+use ot_text::Doc;
 use std::alloc::{AllocError, Global};
 
 impl Machine {
-    // Why a read at the client is refused, if it is.
-    pub(crate) fn read_refusal(&self, client: u16) -> Option<Refusal>
-        ensures { MatchOption result (IsPerformed (step self.now (Read client))) (λ r. step self.now (Read client) ≡ Refused r) }
+    // The row of a read: the list that a read at the client shows, which then only counts, or why it is refused.
+    pub(crate) fn shown_at(&self, client: u16) -> Result<&Doc<Tagged>, Refusal>
+        ensures below { IfOk result (λ list. self.now.steps < STEP_LIMIT) }
+        ensures there { IfOk result (λ list. IsThere self.now (Client client)) }
+        ensures is { IfOk result (λ list. list.now ≡ list_of self.now (Client client)) }
+        ensures shows { IfOk result (λ list. step self.now (Read client) ≡ table.shows self.now (Client client) list.now) }
+        ensures refused { IfErr result (λ r. step self.now (Read client) ≡ Refused r) }
     {
         let place = client as usize;
         if place >= self.seats.len() {
-            return Some(Refusal::NoSuchClient);
+            return Err(Refusal::NoSuchClient);
         }
         if self.steps >= STEP_LIMIT {
-            return Some(Refusal::StepsFull);
+            return Err(Refusal::StepsFull);
         }
-        if self.seats[place].client.is_none() {
-            return Some(Refusal::NotJoined);
+        let seat = &self.seats[place];
+        if seat.client.is_none() {
+            return Err(Refusal::NotJoined);
         }
-        None
+        Ok(&seat.list)
+    }
+
+    // The row of a read of the server.
+    pub(crate) fn shown_at_server(&self) -> Result<&Doc<Tagged>, Refusal>
+        ensures below { IfOk result (λ list. self.now.steps < STEP_LIMIT) }
+        ensures is { IfOk result (λ list. list.now ≡ self.now.server) }
+        ensures shows { IfOk result (λ list. step self.now ReadServer ≡ table.shows self.now Server list.now) }
+        ensures refused { IfErr result (λ r. step self.now ReadServer ≡ Refused r) }
+    {
+        if self.steps >= STEP_LIMIT {
+            return Err(Refusal::StepsFull);
+        }
+        Ok(self.server.document())
     }
 
     // Performs a read, for whose list there is room.
@@ -38,9 +59,7 @@ impl Machine {
         ensures unchanged { OnErr result (self.new ≡ self.old) }
         ensures kept { OnErr result (shown.new.items ≡ shown.old.items) }
     {
-        if let Some(refusal) = self.read_refusal(client) {
-            return Err(refusal);
-        }
+        let _list = self.shown_at(client)?;
         shown.reserve(1)?;
         let list = self.read(client)?;
         shown.push_reserved(list);
@@ -53,9 +72,7 @@ impl Machine {
         ensures unchanged { OnErr result (self.new ≡ self.old) }
         ensures kept { OnErr result (shown.new.items ≡ shown.old.items) }
     {
-        if self.steps >= STEP_LIMIT {
-            return Err(Refusal::StepsFull);
-        }
+        let _list = self.shown_at_server()?;
         shown.reserve(1)?;
         let list = self.read_server()?;
         shown.push_reserved(list);

@@ -272,25 +272,31 @@ pub(crate) fn acknowledge<const KEPT: bool>(seat: &mut Seat) -> Result<Option<Be
     ensures err { OnErr result (seat.new ≡ seat.old) }
     ensures kept { IsTrue KEPT → IfOk result (λ kept. IsSomeAnd kept (λ before. Restores before (client_of seat.old) (client_of seat.new))) }
 {
-    let before = kept::before_acknowledgement::<KEPT>(seat)?;
-    match seat.client.take() {
-        Some(Client::AwaitingConfirm(client)) => {
-            seat.client = Some(Client::Synchronized(client.acknowledge()));
+    let Some(client) = seat.client.take() else {
+        unreachable!()
+    };
+    let revision = client.revision();
+    let (client, sent, past) = match client.acknowledge() {
+        Ok(given) => given,
+        Err(client) => {
+            seat.client = Some(client);
+            return Err(AllocError);
         }
-        Some(Client::AwaitingWithBuffer(client)) => match client.acknowledge() {
-            Ok((client, sent)) => {
-                seat.client = Some(Client::AwaitingConfirm(client));
-                seat.up.push(sent);
-            }
-            Err(client) => {
-                seat.client = Some(Client::AwaitingWithBuffer(client));
-                return Err(AllocError);
-            }
-        },
-        _ => unreachable!(),
-    }
+    };
+    seat.client = Some(client);
+    put_up(&mut seat.up, sent);
     let _ = seat.down.pop();
-    Ok(before)
+    if !KEPT {
+        return Ok(None);
+    }
+    Ok(Some(Before {
+        past,
+        revision,
+        inverse: None,
+        count: seat.count,
+        unsent: true,
+        received: true,
+    }))
 }
 
 // Gives the client, which has not joined, the server's document and revision.

@@ -1,6 +1,6 @@
 //! Keys with their values, as text.
 
-ghost use Rattle.std.specs.Prelude.{◌≡◌, ◌++◌, ◌∷◌, [], OnOk, string_bytes};
+ghost use Rattle.std.specs.Prelude.{◌≡◌, ◌++◌, ◌∷◌, [], IfOk, OnOk, string_bytes};
 ghost use Rattle.ot_client.specs.Client.{message_of};
 ghost use Rattle.ot_isa.specs.Tagging.{chars_of};
 ghost use Rattle.ot_steps.specs.Lines.{plain_message, plain_operation};
@@ -13,6 +13,9 @@ use ot_isa::Tagged;
 use ot_report::{push_letters, push_quoted};
 use ot_text::{Doc, TextOp};
 use std::alloc::{AllocError, Global};
+
+/// So many bytes are held for a component at first: one of a few digits or letters, and its comma.
+const PART: usize = 4;
 
 // A key, behind which its value comes.
 fn push_key(text: &mut String, key: &str) -> Result<(), AllocError>
@@ -65,8 +68,8 @@ pub(crate) fn push_text(
     push_letters(alloc, text, letters)
 }
 
-// The array of an operation.
-fn push_array(alloc: Global, text: &mut String, op: &TextOp<char>) -> Result<(), AllocError>
+/// Adds the operation as a compact JSON array. For want of memory the text holds a part of it.
+pub fn push_array(alloc: Global, text: &mut String, op: &TextOp<char>) -> Result<(), AllocError>
     ensures { OnOk result (string_bytes text.new ≡ string_bytes text.old ++ text_of_operation op.now) }
 {
     push_components(alloc, text, op.components())
@@ -84,11 +87,24 @@ pub(crate) fn push_edit(
     push_array(alloc, text, op)
 }
 
-// The array of an operation without its tags.
-fn push_plain_array(alloc: Global, text: &mut String, op: &TextOp<Tagged>) -> Result<(), AllocError>
+/// Adds the operation as a compact JSON array, without the tags of what it inserts. For want of memory the text holds a part of it.
+pub fn push_plain_array(
+    alloc: Global,
+    text: &mut String,
+    op: &TextOp<Tagged>,
+) -> Result<(), AllocError>
     ensures { OnOk result (string_bytes text.new ≡ string_bytes text.old ++ text_of_operation (plain_operation op.now)) }
 {
     push_components(alloc, text, op.components())
+}
+
+/// The operation as a compact JSON array, without the tags of what it inserts; or want of memory.
+pub fn operation_text(alloc: Global, op: &TextOp<Tagged>) -> Result<String, AllocError>
+    ensures { IfOk result (λ s. string_bytes s ≡ text_of_operation (plain_operation op.now)) }
+{
+    let mut text = String::with_capacity(alloc, op.components().len().saturating_mul(PART))?;
+    push_plain_array(alloc, &mut text, op)?;
+    Ok(text)
 }
 
 pub(crate) fn push_operation(

@@ -1,6 +1,7 @@
 //! Operations as the text of their JSON arrays, component by component.
 
-ghost use Rattle.std.specs.Prelude.{◌≡◌, ◌++◌, decimal, map, OnOk, string_bytes};
+ghost use Rattle.std.specs.Prelude.{◌≡◌, ◌++◌, decimal, map, IfSome, OnOk, string_bytes};
+ghost use Rattle.std.specs.Char.{encode_utf8};
 ghost use Rattle.serde_json.specs.Written.{comma_if, compact_text};
 ghost use Rattle.ot_json.specs.Writing.{array_of, data_of};
 ghost use Rattle.ot_text.specs.Components.{run_of, runs};
@@ -12,12 +13,41 @@ use ot_report::{Letter, push_letters};
 use ot_text::Component;
 use std::alloc::{AllocError, Global};
 
-/// The digits of a number.
-pub(crate) fn push_decimal(text: &mut String, number: u64) -> Result<(), AllocError>
+// The digit of a number below 10: most counts are one, and a character is added for less than a string.
+fn digit_of(number: u64) -> Option<char>
+    ensures { IfSome result (λ digit. encode_utf8 digit ≡ decimal number) }
+{
+    match number {
+        0 => Some('0'),
+        1 => Some('1'),
+        2 => Some('2'),
+        3 => Some('3'),
+        4 => Some('4'),
+        5 => Some('5'),
+        6 => Some('6'),
+        7 => Some('7'),
+        8 => Some('8'),
+        9 => Some('9'),
+        _ => None,
+    }
+}
+
+// All digits at once.
+fn push_digits(text: &mut String, number: u64) -> Result<(), AllocError>
     ensures { OnOk result (string_bytes text.new ≡ string_bytes text.old ++ decimal number) }
 {
     let mut digits = Buffer::new();
     text.push_str(digits.format(number))
+}
+
+/// Adds the number's decimal digits.
+pub fn push_decimal(text: &mut String, number: u64) -> Result<(), AllocError>
+    ensures { OnOk result (string_bytes text.new ≡ string_bytes text.old ++ decimal number) }
+{
+    match digit_of(number) {
+        Some(digit) => text.push(digit),
+        None => push_digits(text, number),
+    }
 }
 
 // A component as an item of the array.

@@ -21,7 +21,11 @@ pub mod Touched
 pub mod Patched
 pub mod Replaced
 pub mod Put
-pub mod Replacing
-pub mod Behind
-pub mod Unchanged
-pub mod Readied
+pub mod Ranges
+pub mod Differing
+pub mod Leading
+pub mod Glued
+pub mod Written
+pub mod Spliced
+pub mod Kept
+pub mod Finished

@@ -1,13 +1,11 @@
 -- What an operation and an older one share, at the front and at the back.
 use Rattle.std.proofs.Common.{◌≡◌, ◌≢◌, ℕ, zero, suc, ◌+◌, ◌-◌, ◌<◌, ◌≤◌, List, [], ◌∷◌, ◌++◌, length, take, drop, get_or, refl, sym, ap, ◌∙◌, subst, arith, append_assoc, length-drop}
 use Rattle.std.specs.Prelude.{slice_get}
-use Rattle.std.specs.List.{splice}
-use Rattle.std.proofs.lemmas.List.{drop-drop, drop-map, length-map, length-take, take-append-drop, take-map}
+use Rattle.std.proofs.lemmas.List.{drop-drop, drop-map, length-map, length-take, take-append-drop, take-map, take_rest}
 use Rattle.ot_text.specs.declared.Component.{Component}
-use Rattle.ot_text.specs.Operation.{Operation}
-use Rattle.ot_text.specs.Run.{Run, IsSound, normal_runs, operation_of}
+use Rattle.ot_text.specs.Run.{Run}
 use Rattle.ot_text.specs.Components.{run_of, runs}
-use Rattle.ot_text.specs.Patch.{Difference, older_runs, put_back, FitsOn, IsFitting, LeadsBack, ShareFront, ShareBack}
+use Rattle.ot_text.specs.Patch.{LeadBack, ShareFront, ShareBack}
 use Rattle.ot_text.proofs.Compared.{run_at}
 
 run_behind : {T : Type 0} (cs : List (Component T)) (j : ℕ) (c : Component T) → j < length cs → c ≡ get_or cs j c → drop j (runs cs) ≡ run_of c ∷ drop (suc j) (runs cs)
@@ -128,38 +126,23 @@ module _ {T : Type 0} (a b rest_a rest_b between kept : List (Component T)) (fro
   found_runs : take front (runs b) ++ runs kept ++ drop (front + (length rest_b - back)) (runs b) ≡ runs a
   found_runs = is_older (runs a) (runs b) (runs kept) front back (length rest_b - back) found.fronts backs_are kept_are many_newer
 
-  -- the difference that was found leads back, and is as small as can be
+  there : (front - 0 ≡ front)
+  there = omega arith
+
+  -- what was found leads back, and is as small as can be
   pub found_leads :
-      (base target inserted : ℕ)
-      → LeadsBack (record { front = front; older = runs kept; newer = length rest_b - back; base = base; target = target; inserted = inserted }) (runs b) (runs a)
-  found_leads base target inserted = record {
-    within = is_within (runs a) (runs b) (runs kept) front back (length rest_b - back) found.fronts backs_are kept_are many_newer;
-    older_is = found_runs;
-    least = record {
-      first = is_first (runs a) (runs b) (runs kept) front back (length rest_b - back) found.fronts backs_are kept_are many_newer;
-      last = is_last (runs a) (runs b) (runs kept) front back (length rest_b - back) found.fronts backs_are kept_are many_newer;
-    };
-  }
-
--- the older runs as the ones that the patch keeps in the place of others
-module _
-    {T : Type 0} (d e : Difference T) (op : Operation T) (copied : List (Component T)) (same : d ≡ e) (copied_is : runs copied ≡ d.older)
-  where
-    in_place : older_runs d (normal_runs op) ≡ splice (normal_runs op) d.front (d.front + d.newer) (runs copied)
-    in_place = append_assoc (take d.front (normal_runs op)) d.older (drop (d.front + d.newer) (normal_runs op)) ∙ rw copied_is refl
-
-    pub kept_within : FitsOn e op → d.front + d.newer ≤ length (normal_runs op)
-    unfolding FitsOn
-    kept_within fits =
-        let fitting : IsFitting d (normal_runs op) = subst (λ f. IsFitting f (normal_runs op)) (sym same) fits in
-        fitting.within
-
-    pub kept_sound : FitsOn e op → IsSound (splice (normal_runs op) d.front (d.front + d.newer) (runs copied)) d.base d.target d.inserted
-    unfolding FitsOn
-    kept_sound fits =
-        let fitting : IsFitting d (normal_runs op) = subst (λ f. IsFitting f (normal_runs op)) (sym same) fits in
-        subst (λ rs. IsSound rs d.base d.target d.inserted) in_place fitting.sound
-
-    pub kept_back : operation_of (splice (normal_runs op) d.front (d.front + d.newer) (runs copied)) ≡ put_back e op
-    unfolding put_back
-    kept_back = ap operation_of (sym in_place) ∙ ap (λ f. operation_of (older_runs f (normal_runs op))) same
+      (end : ℕ) → end ≡ front + (length rest_b - back) → (front ≡ end → 0 < length (runs kept))
+      → LeadBack (record { start = front; end = end; part = runs kept } ∷ []) (runs b) (runs a)
+  found_leads end is some = rw is (record {
+    in_order = (omega arith, omega arith, is_within (runs a) (runs b) (runs kept) front back (length rest_b - back) found.fronts backs_are kept_are many_newer);
+    older_is =
+        rw (there, take_rest (runs b) (front + (length rest_b - back))) found_runs;
+    least = (
+      record {
+        some = rw is at some;
+        first = λ mine other. is_first (runs a) (runs b) (runs kept) front back (length rest_b - back) found.fronts backs_are kept_are many_newer mine (omega (arith, other));
+        last = λ mine other. is_last (runs a) (runs b) (runs kept) front back (length rest_b - back) found.fronts backs_are kept_are many_newer mine (omega (arith, other));
+      },
+      tt,
+    );
+  })

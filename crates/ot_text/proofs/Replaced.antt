@@ -1,16 +1,20 @@
--- Runs in the place of others: the normal form at the two joints, and the three lengths.
-use Rattle.std.proofs.Common.{◌≡◌, ◌↔◌, ℕ, zero, suc, ◌+◌, ◌-◌, ◌<◌, ◌≤◌, List, [], ◌∷◌, ◌++◌, length, take, drop, map, get_or, refl, sym, ap, subst, ◌∙◌, arith, length-append, length-drop}
-use Rattle.std.proofs.lemmas.List.{take-append-drop, length-map, map-append, take-map, drop-map}
+-- Runs in the place of others: the normal form at a joint, and the three lengths.
+use Rattle.std.proofs.Common.{◌≡◌, ◌↔◌, ℕ, zero, suc, ◌+◌, ◌-◌, ◌<◌, ◌≤◌, List, [], ◌∷◌, ◌++◌, length, take, drop, map, get_or, refl, sym, ap, subst, ◌∙◌, arith, length-append}
+use Rattle.std.proofs.lemmas.List.{length-map, map-append, take-map, drop-map, drop_more}
 use Rattle.std.specs.List.{splice, slice_range}
-use Rattle.ot_text.specs.Operation.{Item, New, olds, news, IsTooLong}
-use Rattle.ot_text.specs.Run.{Run, Keep, Add, Skip, base_of, image_from, operation_of, MayFollow, IsNormal, IsSound}
-use Rattle.ot_text.specs.Joint.{Joins}
 use Rattle.std.specs.Prelude.{Vec}
 use Rattle.std.specs.declared.alloc.Global.{Global}
 use Rattle.ot_text.specs.declared.Component.{Component}
 use Rattle.ot_text.specs.declared.Component.TheVariants.{Retain, Insert, Delete}
+use Rattle.ot_text.specs.declared.lengths.Lengths.{Lengths}
+use Rattle.ot_text.specs.Operation.{Item, New, olds, news, IsTooLong}
+use Rattle.ot_text.specs.Run.{Run, Keep, Add, Skip, base_of, image_from, operation_of, MayFollow, IsNormal, IsSound}
+use Rattle.ot_text.specs.Joint.{Joins}
 use Rattle.ot_text.specs.Components.{run_of, runs}
-use Rattle.ot_text.proofs.RunLemmas.{base_of-append, image_from-append, length-olds, length-news-append, length-news-olds, length-news-news}
+use Rattle.ot_text.specs.Splices.{Piece, AreInOrder, spliced, spliced_up_to, FitIn}
+use Rattle.ot_text.specs.Change.{gone, come, growth, AreLengths}
+use Rattle.ot_text.proofs.RunLemmas.{base_of-append, image_from-append, length-olds, length-news-append, length-news-olds, length-news-news, length-news-le}
+use Rattle.ot_text.proofs.Ranges.{range_split, range_rest, order_le}
 
 -- the normal form of two lists, one after the other
 
@@ -33,27 +37,10 @@ normal_joins [] back n = tt
 normal_joins (r ∷ []) back n = n.1
 normal_joins (r ∷ q ∷ front) back n = normal_joins (q ∷ front) back n.2
 
--- only the first run of the second list counts
-joins_first : {A : Type 0} (front : List (Run A)) (r : Run A) (xs ys : List (Run A)) → Joins front (r ∷ xs) → Joins front (r ∷ ys)
-joins_first [] r xs ys j = tt
-joins_first (q ∷ []) r xs ys j = j
-joins_first (q ∷ p ∷ front) r xs ys j = joins_first (p ∷ front) r xs ys j
-
 pub joined_none :
     {A : Type 0} (front back : List (Run A)) → IsNormal front → IsNormal back
     → Joins front back ↔ IsNormal (front ++ ([] ++ back))
 joined_none front back n m = (λ j. normal_joined front back n m j, λ h. normal_joins front back h)
-
-pub joined_some :
-    {A : Type 0} (front : List (Run A)) (r : Run A) (middle back : List (Run A)) → IsNormal front → IsNormal (r ∷ middle) → IsNormal back
-    → (Joins front (r ∷ middle) × Joins (r ∷ middle) back) ↔ IsNormal (front ++ ((r ∷ middle) ++ back))
-joined_some front r middle back n k m = (
-  λ j. normal_joined front ((r ∷ middle) ++ back) n (normal_joined (r ∷ middle) back k m j.1) (joins_first front r middle (middle ++ back) j.0),
-  λ h. (
-    joins_first front r (middle ++ back) middle (normal_joins front ((r ∷ middle) ++ back) h),
-    normal_joins (r ∷ middle) back (normal_back front ((r ∷ middle) ++ back) h),
-  ),
-)
 
 -- the joint as the components at it
 
@@ -86,52 +73,6 @@ pub joins_both :
     → (MayFollow (run_of last) (run_of first) → Joins (runs front) (runs back)) × (Joins (runs front) (runs back) → MayFollow (run_of last) (run_of first))
 joins_both front [] k last first e some last_is first_is = absurd (omega (arith, some))
 joins_both front (c ∷ back) k last first e some last_is first_is = rw (← first_is) (joins_at front k last first back e last_is)
-
-take_rest : {X : Type 0} (xs : List X) (k : ℕ) → take (length xs - k) (drop k xs) ≡ drop k xs
-take_rest xs k = whole (drop k xs) (length xs - k) (length-drop k xs)
-  where
-    whole : {X : Type 0} (ys : List X) (n : ℕ) → length ys ≡ n → take n ys ≡ ys
-    whole [] zero e = refl
-    whole [] (suc n) e = refl
-    whole (y ∷ ys) zero e = absurd (omega (arith, e))
-    whole (y ∷ ys) (suc n) e = ap (λ rest. y ∷ rest) (whole ys n (omega (arith, e)))
-
--- other runs in the middle of normal ones
-
-module _ {T : Type 0} (own others : List (Component T)) (start end : ℕ) (normal : IsNormal (runs own)) where
-  front_normal : IsNormal (runs (take start own))
-  front_normal = normal_front (runs (take start own)) (runs (drop start own)) (rw (← map-append run_of (take start own) (drop start own), take-append-drop) normal)
-
-  back_normal : IsNormal (runs (drop end own))
-  back_normal = normal_back (runs (take end own)) (runs (drop end own)) (rw (← map-append run_of (take end own) (drop end own), take-append-drop) normal)
-
-  pub none_between :
-      length others ≡ 0
-      → (Joins (runs (take start own)) (runs (take (length own - end) (drop end own))) → IsNormal (splice (runs own) start end (runs others)))
-      × (IsNormal (splice (runs own) start end (runs others)) → Joins (runs (take start own)) (runs (take (length own - end) (drop end own))))
-  none_between none =
-      rw (take_rest own end, take-map run_of start own, drop-map run_of end own, no_runs others none)
-      (joined_none (runs (take start own)) (runs (drop end own)) front_normal back_normal)
-    where
-      no_runs : (cs : List (Component T)) → length cs ≡ 0 → runs cs ≡ []
-      no_runs [] e = refl
-      no_runs (c ∷ cs) e = absurd (omega (arith, e))
-
-  pub some_between :
-      IsNormal (runs others) → 0 < length others
-      → (Joins (runs (take start own)) (runs others) × Joins (runs others) (runs (take (length own - end) (drop end own))) → IsNormal (splice (runs own) start end (runs others)))
-      × (IsNormal (splice (runs own) start end (runs others)) → Joins (runs (take start own)) (runs others) × Joins (runs others) (runs (take (length own - end) (drop end own))))
-  some_between others_normal some =
-      rw (take_rest own end, take-map run_of start own, drop-map run_of end own) (by others others_normal some)
-    where
-      by : (cs : List (Component T)) → IsNormal (runs cs) → 0 < length cs
-          → (Joins (runs (take start own)) (runs cs) × Joins (runs cs) (runs (drop end own)) → IsNormal (runs (take start own) ++ (runs cs ++ runs (drop end own))))
-          × (IsNormal (runs (take start own) ++ (runs cs ++ runs (drop end own))) → Joins (runs (take start own)) (runs cs) × Joins (runs cs) (runs (drop end own)))
-      by [] cs_normal some = absurd (omega (arith, some))
-      by (c ∷ cs) cs_normal some = joined_some (runs (take start own)) (run_of c) (runs cs) (runs (drop end own)) front_normal cs_normal back_normal
-
-pub as_many : {T : Type 0} (cs : List (Component T)) (rs : List (Run T)) → runs cs ≡ rs → length rs ≡ length cs
-as_many cs rs e = sym (ap length e) ∙ length-map cs run_of
 
 -- runs of a list with others in its middle
 pub runs_splice : {T : Type 0} (own others : List (Component T)) (start end : ℕ) → runs (splice own start end others) ≡ splice (runs own) start end (runs others)
@@ -234,69 +175,170 @@ counted_all whole k base target inserted past w =
     nothing (x ∷ xs) zero past = absurd (omega (arith, past))
     nothing (x ∷ xs) (suc k) past = nothing xs k (omega (arith, past))
 
--- the three lengths with other runs in the middle
-module _ {A : Type 0} (front gone back : List (Run A)) where
-  parts : (middle : List (Run A)) → base_of (front ++ (middle ++ back)) ≡ base_of front + (base_of middle + base_of back)
-  parts middle = omega (arith, base_of-append front (middle ++ back), base_of-append middle back)
+-- the lengths of two lists, one after the other
 
-  made : (middle : List (Run A)) → length (image_from 0 (front ++ (middle ++ back))) ≡ length (image_from 0 front) + (length (image_from 0 middle) + length (image_from 0 back))
-  made middle =
-      rw (image_from-append 0 front (middle ++ back), image_from-append (0 + base_of front) middle back)
-      (simp length-append
-      (omega (arith, length-image_from-any (0 + base_of front) 0 middle, length-image_from-any (0 + base_of front + base_of middle) 0 back)))
+pub target-append : {A : Type 0} (xs ys : List (Run A)) → length (image_from 0 (xs ++ ys)) ≡ length (image_from 0 xs) + length (image_from 0 ys)
+target-append xs ys =
+    ap length (image_from-append 0 xs ys) ∙ length-append (image_from 0 xs) (image_from (0 + base_of xs) ys)
+    ∙ ap (λ n. length (image_from 0 xs) + n) (length-image_from-any (0 + base_of xs) 0 ys)
 
-  added : (middle : List (Run A)) → length (news (image_from 0 (front ++ (middle ++ back)))) ≡ length (news (image_from 0 front)) + (length (news (image_from 0 middle)) + length (news (image_from 0 back)))
-  added middle =
-      rw (image_from-append 0 front (middle ++ back), image_from-append (0 + base_of front) middle back)
-      (simp length-news-append
-      (omega (arith, length-news-any (0 + base_of front) 0 middle, length-news-any (0 + base_of front + base_of middle) 0 back)))
+pub inserted-append : {A : Type 0} (xs ys : List (Run A)) → length (news (image_from 0 (xs ++ ys))) ≡ length (news (image_from 0 xs)) + length (news (image_from 0 ys))
+inserted-append xs ys =
+    ap (λ image. length (news image)) (image_from-append 0 xs ys) ∙ length-news-append (image_from 0 xs) (image_from (0 + base_of xs) ys)
+    ∙ ap (λ n. length (news (image_from 0 xs)) + n) (length-news-any (0 + base_of xs) 0 ys)
 
-  pub small_part :
-      {base target inserted : ℕ} → IsSound (front ++ (gone ++ back)) base target inserted
-      → (base_of gone ≤ base) × (length (image_from 0 gone) ≤ target) × (length (news (image_from 0 gone)) ≤ inserted)
-  small_part sound = (
-    omega (arith, sound.base_is, parts gone),
-    omega (arith, sound.target_is, made gone),
-    omega (arith, sound.inserted_is, added gone),
-  )
+-- normal runs are no more than the elements that they take and make
+pub length-filled : {A : Type 0} (from : ℕ) (rs : List (Run A)) → IsNormal rs → length rs ≤ base_of rs + length (image_from from rs)
+length-filled from [] normal = omega arith
+length-filled {A} from (Keep n ∷ rs) normal =
+    omega (arith, normal.0, length-filled (from + n) rs normal.2, length-append (olds {A = A} from n) (image_from (from + n) rs))
+length-filled from (Add s ∷ rs) normal =
+    let made : length (map {B = Item _} New s) ≡ length s = length-map s New in
+    omega (arith, normal.0, made, length-filled from rs normal.2, length-append (map New s) (image_from from rs))
+length-filled from (Skip n ∷ rs) normal = omega (arith, normal.0, length-filled (from + n) rs normal.2)
 
-  pub sound_replaced :
-      {base target inserted : ℕ} (middle : List (Run A)) → IsSound (front ++ (gone ++ back)) base target inserted
-      → IsNormal (front ++ (middle ++ back)) → (IsTooLong (operation_of (front ++ (middle ++ back))) → ⊥)
-      → IsSound (front ++ (middle ++ back)) (base - base_of gone + base_of middle)
-      (target - length (image_from 0 gone) + length (image_from 0 middle)) (inserted - length (news (image_from 0 gone)) + length (news (image_from 0 middle)))
-  sound_replaced middle sound normal fits =
-      record {
-        normal = normal;
-        base_is = omega (arith, sound.base_is, parts gone, parts middle);
-        target_is = omega (arith, sound.target_is, made gone, made middle);
-        inserted_is = omega (arith, sound.inserted_is, added gone, added middle);
-        base_fits = omega (arith, sound.base_is, parts gone, parts middle, fits);
-        target_fits = omega (arith, sound.target_is, made gone, made middle, fits);
-      }
+-- what stays, beside what goes and what comes
 
--- the same of an operation's components
-module _ {T : Type 0} (cs ds : List (Component T)) (start end : ℕ) (order : start ≤ end) (within : end ≤ length cs) where
-  gone_is : runs (slice_range cs start end) ≡ take (end - start) (drop start (runs cs))
-  gone_is = sym (take-map run_of (end - start) (drop start cs)) ∙ ap (take (end - start)) (sym (drop-map run_of start cs))
+module _ {A : Type 0} (f : List (Run A) → ℕ) (add : (xs ys : List (Run A)) → f (xs ++ ys) ≡ f xs + f ys) where
+  nothing : f [] ≡ 0
+  nothing = omega (arith, add [] [])
 
-  pub parted : runs cs ≡ take start (runs cs) ++ (runs (slice_range cs start end) ++ drop end (runs cs))
-  parted = parts_of (runs cs) start end order (omega (arith, within, length-map cs run_of)) ∙ rw gone_is refl
+  stays :
+      (at : ℕ) (ps : List (Piece A)) (last : ℕ) (xs : List (Run A)) → AreInOrder at ps last
+      → (k : ℕ) × (f (slice_range xs at last) ≡ k + f (gone ps xs)) × (f (spliced_up_to at ps last xs) ≡ k + f (come ps))
+  stays at [] last xs order = (f (slice_range xs at last), omega (arith, nothing), omega (arith, nothing))
+  stays at (p ∷ ps) last xs order =
+      let rest = stays p.end ps last xs order.2 in
+      let within : p.end ≤ last = order_le p.end ps last order.2 in (
+        f (slice_range xs at p.start) + rest.0,
+        ap f (range_split xs at p.start last order.0 (omega (arith, order.1, within)))
+            ∙ add (slice_range xs at p.start) (slice_range xs p.start last)
+            ∙ ap (λ n. f (slice_range xs at p.start) + n)
+            (ap f (range_split xs p.start p.end last order.1 within) ∙ add (slice_range xs p.start p.end) (slice_range xs p.end last))
+            ∙ omega (arith, rest.1, add (slice_range xs p.start p.end) (gone ps xs)),
+        add (slice_range xs at p.start ++ p.part) (spliced_up_to p.end ps last xs)
+            ∙ ap (λ n. n + f (spliced_up_to p.end ps last xs)) (add (slice_range xs at p.start) p.part)
+            ∙ omega (arith, rest.2, add p.part (come ps)),
+      )
 
-  sound_parts : {base target inserted : ℕ} → IsSound (runs cs) base target inserted → IsSound (take start (runs cs) ++ (runs (slice_range cs start end) ++ drop end (runs cs))) base target inserted
-  sound_parts {base} {target} {inserted} sound = subst (λ rs. IsSound rs base target inserted) parted sound
+  module _ (ps : List (Piece A)) (xs : List (Run A)) (order : AreInOrder 0 ps (length xs)) where
+    all : f (slice_range xs 0 (length xs)) ≡ f xs
+    all = ap f (range_rest xs 0)
 
-  pub gone_small :
-      {base target inserted : ℕ} → IsSound (runs cs) base target inserted
-      → (base_of (runs (slice_range cs start end)) ≤ base) × (length (image_from 0 (runs (slice_range cs start end))) ≤ target)
-      × (length (news (image_from 0 (runs (slice_range cs start end)))) ≤ inserted)
-  gone_small sound = small_part (take start (runs cs)) (runs (slice_range cs start end)) (drop end (runs cs)) (sound_parts sound)
+    pub gone_le : f (gone ps xs) ≤ f xs
+    gone_le = let kept = stays 0 ps (length xs) xs order in omega (arith, all, kept.1)
 
-  pub replaced_sound :
-      {base target inserted : ℕ} → IsSound (runs cs) base target inserted
-      → IsNormal (splice (runs cs) start end (runs ds)) → (IsTooLong (operation_of (splice (runs cs) start end (runs ds))) → ⊥)
-      → IsSound (splice (runs cs) start end (runs ds)) (base - base_of (runs (slice_range cs start end)) + base_of (runs ds))
-      (target - length (image_from 0 (runs (slice_range cs start end))) + length (image_from 0 (runs ds)))
-      (inserted - length (news (image_from 0 (runs (slice_range cs start end)))) + length (news (image_from 0 (runs ds))))
-  replaced_sound sound normal fits =
-      sound_replaced (take start (runs cs)) (runs (slice_range cs start end)) (drop end (runs cs)) (runs ds) (sound_parts sound) normal fits
+    pub come_le : f (come ps) ≤ f (spliced ps xs)
+    come_le = let kept = stays 0 ps (length xs) xs order in omega (arith, kept.2)
+
+    pub measured : f (spliced ps xs) ≡ f xs - f (gone ps xs) + f (come ps)
+    measured = let kept = stays 0 ps (length xs) xs order in omega (arith, all, kept.1, kept.2)
+
+growth_come : {A : Type 0} (ps : List (Piece A)) → growth ps ≤ length (come ps)
+growth_come [] = omega arith
+growth_come (p ∷ ps) = omega (arith, growth_come ps, length-append p.part (come ps))
+
+module _
+    {A : Type 0} (ps : List (Piece A)) (xs : List (Run A)) {base target inserted : ℕ} (sound : IsSound xs base target inserted) (fits : FitIn ps xs)
+    (short : IsTooLong (operation_of (spliced ps xs)) → ⊥)
+  where
+    order : AreInOrder 0 ps (length xs)
+    order = fits.in_order
+
+    pub base_small : base_of (spliced ps xs) ≤ 1000000
+    base_small = omega (arith, short)
+
+    pub target_small : length (image_from 0 (spliced ps xs)) ≤ 1000000
+    target_small = omega (arith, short)
+
+    pub growth_small : growth ps ≤ 2000000
+    growth_small =
+        omega (arith, growth_come ps, come_le length length-append ps xs order, length-filled 0 (spliced ps xs) fits.normal, base_small, target_small)
+
+    pub gone_base : base_of (gone ps xs) ≤ base
+    gone_base = omega (arith, sound.base_is, gone_le base_of base_of-append ps xs order)
+
+    pub gone_target : length (image_from 0 (gone ps xs)) ≤ target
+    gone_target = omega (arith, sound.target_is, gone_le (λ rs. length (image_from 0 rs)) target-append ps xs order)
+
+    pub gone_inserted : length (news (image_from 0 (gone ps xs))) ≤ inserted
+    gone_inserted = omega (arith, sound.inserted_is, gone_le (λ rs. length (news (image_from 0 rs))) inserted-append ps xs order)
+
+    pub come_base : base_of (come ps) ≤ 1000000
+    come_base = omega (arith, base_small, come_le base_of base_of-append ps xs order)
+
+    pub come_target : length (image_from 0 (come ps)) ≤ 1000000
+    come_target = omega (arith, target_small, come_le (λ rs. length (image_from 0 rs)) target-append ps xs order)
+
+    pub come_inserted : length (news (image_from 0 (come ps))) ≤ 1000000
+    come_inserted = omega (arith, come_target, length-news-le (image_from 0 (come ps)))
+
+    pub sound_with :
+        (less more : Lengths) → AreLengths (gone ps xs) less → AreLengths (come ps) more
+        → IsSound (spliced ps xs) (base - less.base + more.base) (target - less.target + more.target) (inserted - less.inserted + more.inserted)
+    sound_with less more less_is more_is =
+        let base_is : base - less.base + more.base ≡ base_of (spliced ps xs) =
+        omega (arith, sound.base_is, less_is.base_is, more_is.base_is, measured base_of base_of-append ps xs order) in
+        let target_is : target - less.target + more.target ≡ length (image_from 0 (spliced ps xs)) =
+        omega (arith, sound.target_is, less_is.target_is, more_is.target_is, measured (λ rs. length (image_from 0 rs)) target-append ps xs order) in
+        record {
+          normal = fits.normal;
+          base_is = base_is;
+          target_is = target_is;
+          inserted_is = omega (arith, sound.inserted_is, less_is.inserted_is, more_is.inserted_is, measured (λ rs. length (news (image_from 0 rs))) inserted-append ps xs order);
+          base_fits = omega (arith, base_is, base_small);
+          target_fits = omega (arith, target_is, target_small);
+        }
+
+pub length_small : {A : Type 0} {rs : List (Run A)} {base target inserted : ℕ} → IsSound rs base target inserted → length rs ≤ 2000000
+length_small {rs = rs} sound =
+    omega (arith, length-filled 0 rs sound.normal, sound.base_is, sound.target_is, sound.base_fits, sound.target_fits)
+
+pub inserted_small : {A : Type 0} {rs : List (Run A)} {base target inserted : ℕ} → IsSound rs base target inserted → inserted ≤ 1000000
+inserted_small {rs = rs} sound = omega (arith, sound.inserted_is, sound.target_is, sound.target_fits, length-news-le (image_from 0 rs))
+
+-- the lengths of some of the runs, and those that are left
+pub record Left {A : Type 0} (whole rest : List (Run A)) (lengths : Lengths) : Type 0 where
+  pub base_is : lengths.base + base_of rest ≡ base_of whole
+  pub target_is : lengths.target + length (image_from 0 rest) ≡ length (image_from 0 whole)
+  pub inserted_is : lengths.inserted + length (news (image_from 0 rest)) ≡ length (news (image_from 0 whole))
+  pub fewer : lengths.inserted ≤ lengths.target
+
+pub left_start : {A : Type 0} (whole : List (Run A)) → Left whole whole (record { base = 0; target = 0; inserted = 0 })
+left_start whole = record { base_is = omega arith; target_is = omega arith; inserted_is = omega arith; fewer = omega arith }
+
+module _ {A : Type 0} (whole part rest both : List (Run A)) (lengths : Lengths) (is : both ≡ part ++ rest) (left : Left whole both lengths) where
+  pub left_base : lengths.base + base_of part + base_of rest ≡ base_of whole
+  left_base = omega (arith, left.base_is, ap base_of is, base_of-append part rest)
+
+  pub left_target : lengths.target + length (image_from 0 part) + length (image_from 0 rest) ≡ length (image_from 0 whole)
+  left_target = omega (arith, left.target_is, ap (λ rs. length (image_from 0 rs)) is, target-append part rest)
+
+  pub left_next :
+      (more : Lengths) → more.base ≡ lengths.base + base_of part → more.target ≡ lengths.target + length (image_from 0 part)
+      → more.inserted ≡ lengths.inserted + length (news (image_from 0 part)) → Left whole rest more
+  left_next more base_is target_is inserted_is = record {
+    base_is = omega (arith, left_base, base_is);
+    target_is = omega (arith, left_target, target_is);
+    inserted_is = omega (arith, left.inserted_is, inserted_is, ap (λ rs. length (news (image_from 0 rs))) is, inserted-append part rest);
+    fewer = omega (arith, left.fewer, target_is, inserted_is, length-news-le (image_from 0 part));
+  }
+
+pub left_none : {A : Type 0} (whole rest : List (Run A)) (lengths : Lengths) → rest ≡ [] → Left whole rest lengths → AreLengths whole lengths
+left_none {A} whole rest lengths none left =
+    let here : Left whole [] lengths = subst (λ (rs : List (Run A)). Left whole rs lengths) none left in
+    record { base_is = omega (arith, here.base_is); target_is = omega (arith, here.target_is); inserted_is = omega (arith, here.inserted_is) }
+
+-- the runs that go and come, from a piece on
+module _ {A : Type 0} (ps : List (Piece A)) (i : ℕ) (p : Piece A) (below : i < length ps) (is : p ≡ get_or ps i p) where
+  rest_is : drop i ps ≡ p ∷ drop (i + 1) ps
+  rest_is = drop_more ps i p below ∙ ap (λ q. q ∷ drop (i + 1) ps) (sym is)
+
+  pub gone_rest : (xs : List (Run A)) → gone (drop i ps) xs ≡ slice_range xs p.start p.end ++ gone (drop (i + 1) ps) xs
+  gone_rest xs = ap (λ qs. gone qs xs) rest_is
+
+  pub come_rest : come (drop i ps) ≡ p.part ++ come (drop (i + 1) ps)
+  come_rest = ap come rest_is
+
+pub runs_range : {T : Type 0} (cs : List (Component T)) (start end : ℕ) → runs (slice_range cs start end) ≡ slice_range (runs cs) start end
+runs_range cs start end = sym (take-map run_of (end - start) (drop start cs)) ∙ ap (take (end - start)) (sym (drop-map run_of start cs))

@@ -1,51 +1,46 @@
--- What is kept of an operation beside a later one that resembles it.
-use Rattle.std.specs.Prelude.{◌≡◌, ◌≢◌, ℕ, suc, ◌+◌, ◌-◌, ◌<◌, ◌≤◌, List, ◌++◌, length, take, drop, slice_get}
-use Rattle.ot_text.specs.declared.lengths.Lengths.{Lengths}
-use Rattle.ot_text.specs.Operation.{Operation}
-use Rattle.ot_text.specs.Run.{Run, IsSound, normal_runs, operation_of}
+-- What leads from one operation to another.
+use Rattle.std.specs.Prelude.{◌≡◌, ◌≢◌, ℕ, suc, ◌-◌, ◌<◌, ◌≤◌, List, [], ◌∷◌, length, take, drop, slice_get}
+use Rattle.ot_text.specs.declared.patch.Patch.{Patch}
+use Rattle.ot_text.specs.declared.patch.Patch.TheVariants.{Whole, Parts}
+use Rattle.ot_text.specs.Operation.{Operation, IsTooLong}
+use Rattle.ot_text.specs.Run.{Run, normal_runs, operation_of}
+use Rattle.ot_text.specs.Splices.{Piece, spliced, AreInOrder, FitIn}
 
--- both begin with as many equal runs; then come the runs of the older one, and so many of the newer one; behind these they are equal again.
--- The lengths are the older one's.
-pub record Difference (A : Type 0) : Type 0 where
-  pub front : ℕ
-  pub older : List (Run A)
-  pub newer : ℕ
-  pub base : ℕ
-  pub target : ℕ
-  pub inserted : ℕ
+-- what a patch makes of an operation: another one, or itself with pieces in their places
+abbrev pub patched : {A : Type 0} → Patch A → Operation A → Operation A
+patched (Whole other) op = other
+patched (Parts ps) op = operation_of (spliced ps.items (normal_runs op))
 
--- the runs of the older one, from those of the newer one
-abbrev pub older_runs : {A : Type 0} → Difference A → List (Run A) → List (Run A)
-older_runs d runs = take d.front runs ++ d.older ++ drop (d.front + d.newer) runs
+-- its pieces have their places in the operation
+abbrev pub FitsOn : {A : Type 0} → Patch A → Operation A → Type 0
+FitsOn (Whole other) op = Unit {0}
+FitsOn (Parts ps) op = FitIn ps.items (normal_runs op)
 
--- the older operation, from the newer one
-unfoldable pub put_back : {A : Type 0} → Difference A → Operation A → Operation A
-put_back d op = operation_of (older_runs d (normal_runs op))
+-- and what it makes is within the limits
+abbrev pub LeadsFrom : {A : Type 0} → Patch A → Operation A → Type 0
+LeadsFrom (Whole other) op = Unit {0}
+LeadsFrom (Parts ps) op = FitIn ps.items (normal_runs op) × (IsTooLong (operation_of (spliced ps.items (normal_runs op))) → ⊥)
 
--- the difference is one to the newer operation: its places are there, and what it makes is an operation of these lengths
-pub record IsFitting {A : Type 0} (d : Difference A) (runs : List (Run A)) : Type 0 where
-  pub within : d.front + d.newer ≤ length runs
-  pub sound : IsSound (older_runs d runs) d.base d.target d.inserted
+-- a piece stands for something, and shares nothing: where it has runs and others go for them, it neither begins nor ends as these
+pub record IsLeastPiece {A : Type 0} (p : Piece A) (runs : List (Run A)) : Type 0 where
+  pub some : p.start ≡ p.end → 0 < length p.part
+  pub first : 0 < length p.part → p.start < p.end → slice_get p.part 0 ≢ slice_get runs p.start
+  pub last : 0 < length p.part → p.start < p.end → slice_get p.part (length p.part - 1) ≢ slice_get runs (p.end - 1)
 
-unfoldable pub FitsOn : {A : Type 0} → Difference A → Operation A → Type 0
-FitsOn d op = IsFitting d (normal_runs op)
+abbrev pub AreLeast : {A : Type 0} → List (Piece A) → List (Run A) → Type 0
+AreLeast [] runs = Unit {0}
+AreLeast (p ∷ ps) runs = IsLeastPiece p runs × AreLeast ps runs
 
--- nothing more is shared: where runs of both stand between, these neither begin nor end alike
-pub record IsLeast {A : Type 0} (d : Difference A) (runs : List (Run A)) : Type 0 where
-  pub first : 0 < length d.older → 0 < d.newer → slice_get d.older 0 ≢ slice_get runs d.front
-  pub last : 0 < length d.older → 0 < d.newer → slice_get d.older (length d.older - 1) ≢ slice_get runs (d.front + d.newer - 1)
+-- the patch is made of such pieces
+abbrev pub IsLeast : {A : Type 0} → Patch A → List (Run A) → Type 0
+IsLeast (Whole other) runs = ⊥
+IsLeast (Parts ps) runs = AreLeast ps.items runs
 
--- the lengths of the difference
-pub record HasLengths {A : Type 0} (d : Difference A) (lengths : Lengths) : Type 0 where
-  pub base_is : d.base ≡ lengths.base
-  pub target_is : d.target ≡ lengths.target
-  pub inserted_is : d.inserted ≡ lengths.inserted
-
--- the difference leads from newer runs back to older ones, and shares all that it can
-pub record LeadsBack {A : Type 0} (d : Difference A) (newer older : List (Run A)) : Type 0 where
-  pub within : d.front + d.newer ≤ length newer
-  pub older_is : older_runs d newer ≡ older
-  pub least : IsLeast d newer
+-- pieces that lead from newer runs back to older ones, and share all that they can
+pub record LeadBack {A : Type 0} (ps : List (Piece A)) (newer older : List (Run A)) : Type 0 where
+  pub in_order : AreInOrder 0 ps (length newer)
+  pub older_is : spliced ps newer ≡ older
+  pub least : AreLeast ps newer
 
 -- two lists of runs begin with n equal ones, and with no more
 pub record ShareFront {A : Type 0} (a b : List (Run A)) (n : ℕ) : Type 0 where

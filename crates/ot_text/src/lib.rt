@@ -29,26 +29,29 @@
 //! be edited as they lie, a survey counts what they will have and makes room in them, and the edit takes no memory. Else a draft is
 //! made over the old chunks as they are, and then the old chunks move into their new places, which takes no memory either.
 //!
-//! A change of an operation is prepared (`Prepared`), which makes its growths, and then made or taken back, neither of which takes memory:
+//! A change of an operation is prepared (`Prepared`), which makes its growths, and then made or taken back, neither of which takes memory. It is
+//! given as parts that take the place of some of its components (`Patch`), so that what lies between them costs nothing:
 //!
 //! ```text
-//!     op       [ retain 7 | insert "ab" | retain 5 | .. | retain 2 ]      as it is, with room for two more
-//!     part                              [ retain 2 | insert "c" | retain 3 ]    in the place of `retain 5`
+//!     op       [ retain 7 | insert "ab" | retain 5 | .. | retain 2 ]      as it is, with room for what comes
+//!     parts                             [ retain 2 | insert "c" | retain 3 ]    in the place of `retain 5`, and others behind
 //!
-//!     commit   [ retain 7 | insert "ab" | retain 2 | insert "c" | retain 3 | .. | retain 2 ]    moved in; what comes behind moves on
-//!     patch    behind 2 components `retain 5` stood where 3 stand now (`Patch`): leads back, in place again
+//!     commit   [ retain 7 | insert "ab" | retain 2 | insert "c" | retain 3 | .. ]    moved in; what comes behind moves on
+//!     patch    `retain 5` in the place of the components from 2 up to 5: leads back, in place again
 //! ```
 //!
 //! - `specs/Operation.antt`: base and image, the builder's three calls, `apply`, `invert`.
 //! - `specs/Run.antt`, `specs/Components.antt`: the components as runs, their normal form, what they spell.
 //! - `specs/Chunks.antt`, `specs/Draft.antt`, `specs/Spots.antt`: the rule on chunks, a place in them, the draft of a change, the change
 //!   where they lie.
-//! - `specs/Patch.antt`: what is kept of an operation beside a later one that resembles it.
-//! - `specs/Prepared.antt`: an operation and what is about to become of it.
+//! - `specs/Splices.antt`, `specs/Patch.antt`: parts in the place of components, and what leads from one operation to another.
+//! - `specs/Change.antt`, `specs/Prepared.antt`: an operation and what is about to become of it.
+//! - `specs/Rewriting.antt`: an operation that is written over an old one.
 //!
 //! Begin with `TextOp` below, then `build.rt` (normal form), `document.rt` (`Doc`), `survey.rt` and `edit.rt` (the change
-//! where chunks lie), `cursor.rt` and `draft.rt` (the draft), and `change.rt` (what components make of chunks). `prepared.rt` and
-//! `replace.rt` change an operation where its components lie, and `patch.rt` leads from an operation back to an older one.
+//! where chunks lie), `cursor.rt` and `draft.rt` (the draft), and `change.rt` (what components make of chunks). `patch.rt` leads from
+//! one operation to another, `prepared.rt` and `in_place.rt` change an operation where its components lie, `difference.rt` finds what
+//! leads back, and `rewrite.rt` writes an operation over an old one, of which long runs stay where they lie.
 #![tactic(auto)]
 
 ghost use Rattle.std.specs.Prelude.{◌≡◌, ◌+◌, ◌<◌, ◌≤◌, ◌↔◌, List, length, max, OnOk, OnErr, IfOk, IsErrOf, IsTrue};
@@ -61,16 +64,20 @@ mod change;
 mod compare;
 mod copy;
 mod cursor;
+mod difference;
 mod document;
 mod draft;
 mod edit;
 mod element;
+mod in_place;
 mod lengths;
 mod patch;
 mod pieces;
 mod prepared;
 mod refusal;
 mod replace;
+mod rewrite;
+mod splices;
 mod survey;
 
 use build::{add_delete, add_insert, add_retain, add_text};
@@ -83,6 +90,8 @@ pub use patch::Patch;
 pub use pieces::Pieces;
 pub use prepared::Prepared;
 pub use refusal::{OpRefusal, only_memory};
+pub use rewrite::Rewrite;
+pub use splices::Splice;
 use std::alloc::{AllocError, Global};
 use std::marker::Model;
 

@@ -1,15 +1,12 @@
 //! Other components in the place of some of an operation's own, where these lie.
 
-ghost use Rattle.std.specs.Prelude.{◌≡◌, ◌+◌, ◌-◌, ◌≤◌, ◌↔◌, ◌++◌, List, length, take, drop, OnOk, OnErr, IsTrue, vec_len, vec_capacity};
+ghost use Rattle.std.specs.Prelude.{◌≡◌, ◌+◌, ◌-◌, ◌≤◌, ◌↔◌, ◌++◌, take, drop, IsTrue, vec_len, vec_capacity};
 ghost use Rattle.std.specs.List.{splice};
-ghost use Rattle.ot_text.specs.Operation.{IsTooLong};
-ghost use Rattle.ot_text.specs.Run.{operation_of, normal_runs, MayFollow, IsNormal};
+ghost use Rattle.ot_text.specs.Run.{MayFollow};
 ghost use Rattle.ot_text.specs.Components.{run_of, runs};
 ghost use Rattle.ot_text.specs.Joint.{Joins};
 
-use crate::{Component, Element, TextOp};
-use std::alloc::AllocError;
-use std::mem;
+use crate::Component;
 
 // The second component may stand directly after the first.
 fn may_follow<T>(first: &Component<T>, second: &Component<T>) -> bool
@@ -23,7 +20,7 @@ fn may_follow<T>(first: &Component<T>, second: &Component<T>) -> bool
 }
 
 // The components of `back` may stand directly after those of `front`.
-fn joins<T>(front: &[Component<T>], back: &[Component<T>]) -> bool
+pub(crate) fn joins<T>(front: &[Component<T>], back: &[Component<T>]) -> bool
     ensures { IsTrue result ↔ Joins (runs front.now) (runs back.now) }
 {
     let before = front.len();
@@ -37,26 +34,6 @@ fn joins<T>(front: &[Component<T>], back: &[Component<T>]) -> bool
     may_follow(&front[before - 1], &back[0])
 }
 
-// Others in the place of the components from `start` up to `end` keep the normal form.
-fn keeps_normal<T>(own: &[Component<T>], start: usize, end: usize, others: &[Component<T>]) -> bool
-    requires order { start ≤ end }
-    requires within { end ≤ length own.now }
-    requires own_normal { IsNormal (runs own.now) }
-    requires others_normal { IsNormal (runs others.now) }
-    ensures { IsTrue result ↔ IsNormal (splice (runs own.now) start end (runs others.now)) }
-{
-    let front = &own[..start];
-    let back = &own[end..];
-    let count = others.len();
-    if count == 0 {
-        return joins(front, back);
-    }
-    if !joins(front, others) {
-        return false;
-    }
-    joins(others, back)
-}
-
 // Moves components in, before those from `at` on.
 fn insert_components<T: Drop>(
     components: &mut Vec<Component<T>>,
@@ -65,7 +42,8 @@ fn insert_components<T: Drop>(
 )
     requires inside { at ≤ vec_len components.old }
     requires room { vec_len components.old + vec_len added ≤ vec_capacity components.old }
-    ensures { components.new.items ≡ splice components.old.items at at added.items }
+    ensures items { components.new.items ≡ splice components.old.items at at added.items }
+    ensures room { vec_capacity components.old ≤ vec_capacity components.new }
 {
     let count = added.len();
     if components.append(&mut added).is_err() {
@@ -113,7 +91,8 @@ fn put_fewer<T: Drop>(
 )
     requires fewer { start + vec_len added ≤ end }
     requires within { end ≤ vec_len components.old }
-    ensures { components.new.items ≡ splice components.old.items start end added.items }
+    ensures items { components.new.items ≡ splice components.old.items start end added.items }
+    ensures room { vec_capacity components.old ≤ vec_capacity components.new }
 {
     let count = added.len();
     swap_in(components, start, &mut added, count);
@@ -131,7 +110,8 @@ fn put_more<T: Drop>(
     requires within { end ≤ vec_len components.old }
     requires more { end ≤ start + vec_len added }
     requires room { vec_len components.old + vec_len added ≤ vec_capacity components.old + (end - start) }
-    ensures { components.new.items ≡ splice components.old.items start end added.items }
+    ensures items { components.new.items ≡ splice components.old.items start end added.items }
+    ensures room { vec_capacity components.old ≤ vec_capacity components.new }
 {
     let gone = end - start;
     swap_in(components, start, &mut added, gone);
@@ -150,47 +130,12 @@ pub fn put<T: Drop>(
     requires order { start ≤ end }
     requires within { end ≤ vec_len components.old }
     requires room { vec_len components.old + vec_len added ≤ vec_capacity components.old + (end - start) }
-    ensures { components.new.items ≡ splice components.old.items start end added.items }
+    ensures items { components.new.items ≡ splice components.old.items start end added.items }
+    ensures room { vec_capacity components.old ≤ vec_capacity components.new }
 {
     if added.len() <= end - start {
         put_fewer(components, start, end, added);
     } else {
         put_more(components, start, end, added);
-    }
-}
-
-impl<T: Element> TextOp<T> {
-    /// Whether the components of `part` keep the normal form in the place of this operation's components from `start` up to `end`. Looks at
-    /// the two joints alone.
-    pub fn may_replace(&self, start: usize, end: usize, part: &TextOp<T>) -> bool
-        requires order { start ≤ end }
-        requires within { end ≤ length (normal_runs self.now) }
-        ensures { IsTrue result ↔ IsNormal (splice (normal_runs self.now) start end (normal_runs part.now)) }
-    {
-        keeps_normal(self.components(), start, end, part.components())
-    }
-
-    /// Moves the components of `part` into the place of this operation's components from `start` up to `end`, which go. The list stays in
-    /// normal form and the operation within the limits. Costs what these components cost, and a move of those behind them where
-    /// there are more or fewer than before. `AllocError` where a growth was refused: the operation is as it was, and `part` is gone.
-    pub fn replace(&mut self, start: usize, end: usize, part: TextOp<T>) -> Result<(), AllocError>
-        requires order { start ≤ end }
-        requires within { end ≤ length (normal_runs self.old) }
-        requires normal { IsNormal (splice (normal_runs self.old) start end (normal_runs part)) }
-        requires fits { IsTooLong (operation_of (splice (normal_runs self.old) start end (normal_runs part))) → ⊥ }
-        ensures ok { OnOk result (self.new ≡ operation_of (splice (normal_runs self.old) start end (normal_runs part))) }
-        ensures err { OnErr result (self.new ≡ self.old) }
-    {
-        let op = mem::replace(self, TextOp::new(self.allocator()));
-        match op.prepare_replace(start, end, part) {
-            Ok(change) => {
-                *self = change.commit();
-                Ok(())
-            }
-            Err(op) => {
-                *self = op;
-                Err(AllocError)
-            }
-        }
     }
 }

@@ -13,7 +13,7 @@ use Rattle.ot_algebra.proofs.one_sided.carry.Goals.{in-Insert+in_ok-only_memory-
 
 pub loop-ahead-init : goal.loop-ahead-init
 loop-ahead-init g c =
-    rw (c.in_ok-first.ensures, c.start-at_b.ensures, c.into_iter-parts.ensures.rest) (
+    rw (c.in_ok-first.ensures, c.start-at_b.ensures.is, c.into_iter-parts.ensures.rest) (
       empty,
       progress_begin c.args.a c.args.b.now (map run_of c.into_components.result.items) (map run_of c.components-2.result.now)
           c.into_components.ensures.spells c.components-2.ensures.spells c.into_components.ensures.normal c.components-2.ensures.normal c.requires.same_base,
@@ -67,7 +67,7 @@ loop-ahead-preserved-in-Insert-head g c =
     let some : 0 < c.loop-ahead.ahead = omega (arith, c.if-ahead-eq0.false) in (
       appended c.loop-ahead.invariant.0 (Add c.in-Insert-head.text.now),
       arm_left_insert c.args.a c.args.b.now c.loop-ahead.first c.loop-ahead.invariant.0 c.retain-in-Insert-head.new.self c.loop-ahead.keeps c.loop-ahead.ahead (runs (into_iter_items c.loop-ahead.parts))
-          c.loop-ahead.at_b c.next-at_b.result c.in-Insert-head.text some c.in-Insert-head.is c.next-at_b.ensures
+          c.loop-ahead.at_b c.next-at_b.result c.in-Insert-head.text some c.in-Insert-head.is c.next-at_b.ensures.is
           (OnOk-at_ok c.retain-in-Insert-head.result c.in_ok-only_memory.ensures c.retain-in-Insert-head.ensures.ok) c.loop-ahead.invariant.1,
     )
 
@@ -93,7 +93,7 @@ loop-ahead-preserved g c =
     let counts : 0 < c.min-count.result = omega (arith, spans) in
     let in_hand : c.min-count.result ≤ c.loop-ahead.ahead = omega arith in
     let in_second : c.min-count.result ≤ span_of c.loop-ahead.at_b.head = omega arith in
-    rw (c.in_ok-add_part.ensures, c.skip-at_b.ensures, c.keeps.ensures) (
+    rw (c.in_ok-add_part.ensures, c.skip-at_b.ensures.is, c.keeps.ensures) (
       transformed_part c.loop-ahead.invariant.0 (keeps_of c.loop-ahead.at_b.head) c.loop-ahead.keeps c.min-count.result,
       arm_left c.args.a c.args.b.now c.loop-ahead.first c.loop-ahead.invariant.0 c.min-count.result counts c.loop-ahead.keeps c.loop-ahead.ahead c.loop-ahead.at_b.head items rest in_hand in_second c.loop-ahead.invariant.1,
     )

@@ -5,9 +5,25 @@ use Rattle.ot_model.specs.Trace.{contains, EventView, inserted_tags, same_tag}
 use Rattle.ot_judge.specs.Contents.{first_misplaced}
 use Rattle.ot_judge.specs.Turns.{given}
 use Rattle.ot_judge.specs.Views.{views}
+use Rattle.ot_judge.proofs.Counts.{last-within}
 use Rattle.ot_judge.proofs.Exactly.{exactly-along, holds-next}
+use Rattle.ot_judge.proofs.Newly.{news-within}
 use Rattle.ot_judge.proofs.Views.{event_at-views, length-views}
 use Rattle.ot_judge.proofs.confirm.holds_after.Goals as goal
+
+pub news_of-requires-clause-last : goal.news_of-requires-clause-last
+news_of-requires-clause-last c = last-within _ _ _ _ _ c.requires.last c.requires.within
+
+pub add_deleted-requires : goal.add_deleted-requires
+add_deleted-requires c =
+    news-within _ c.args.e (length c.args.events.now) c.args.last _ _ (length-views c.args.events.now) c.as_slice.ensures.value (rw c.in-Some.is at c.in_ok-news.ensures)
+
+pub inserted_by-requires : goal.inserted_by-requires
+inserted_by-requires c =
+    news-within _ c.args.e (length c.args.events.now) c.args.last _ _ (length-views c.args.events.now) c.as_slice-2.ensures.value (rw c.in-Some.is at c.in_ok-news.ensures)
+
+pub list_before-held-requires : goal.list_before-held-requires
+list_before-held-requires c = last-within _ _ _ _ _ c.requires.last c.requires.within
 
 pub returns : goal.returns
 returns c = λ done hold had.

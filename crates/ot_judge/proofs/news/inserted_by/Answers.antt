@@ -1,4 +1,5 @@
-use Rattle.std.proofs.Common.{◌∙◌, ◌++◌, ap, sym, get_or, List, map, take}
+use Rattle.std.proofs.Common.{◌∙◌, ◌++◌, ap, sym, arith, get_or, List, map, take}
+use Rattle.std.proofs.lemmas.List.{take_all}
 use Rattle.ot_isa.specs.declared.elements.Tag.{Tag}
 use Rattle.ot_model.specs.declared.trace.Placed.{Placed}
 use Rattle.ot_model.specs.Trace.{EventView, inserted_tags}
@@ -16,3 +17,9 @@ loop-d-preserved c =
     ∙ ap (λ (ts : List Tag). ts ++ inserted_tags (event_view c.index-events-d.result)) c.loop-d.invariant
     ∙ ap (λ (x : EventView). given (views c.args.events.now) inserted_tags (take c.loop-d.d-index c.args.news.now) ++ inserted_tags x) (sym at)
     ∙ sym (given-more (views c.args.events.now) inserted_tags c.args.news.now c.loop-d.d-index c.loop-d-test.true)
+
+pub bounds-events-d : goal.bounds-events-d
+bounds-events-d c = c.requires c.loop-d.d-index 0 c.loop-d-test.true
+
+pub returns : goal.returns
+returns c = c.loop-d.invariant ∙ ap (given (views c.args.events.now) inserted_tags) (take_all c.loop-d.d-index c.args.news.now (omega arith))

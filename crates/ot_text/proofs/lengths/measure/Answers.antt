@@ -52,11 +52,7 @@ loop-component-preserved g c =
       | in-Delete w ↦ rw (w.base-is, w.target-is, w.inserted-is) (counted_delete _ _ _ _ _ _ _ w.in-Delete.is here)
     ]
 
-pub returns-clause-base : goal.returns-clause-base
-returns-clause-base g c = (counted_all _ _ _ _ _ (omega arith) c.loop-component.invariant).0
-
-pub returns-clause-target : goal.returns-clause-target
-returns-clause-target g c = (counted_all _ _ _ _ _ (omega arith) c.loop-component.invariant).1
-
-pub returns-clause-inserted : goal.returns-clause-inserted
-returns-clause-inserted g c = (counted_all _ _ _ _ _ (omega arith) c.loop-component.invariant).2
+pub returns : goal.returns
+returns g c =
+    let all = counted_all _ _ _ _ _ (omega arith) c.loop-component.invariant in
+    record { base_is = all.0; target_is = all.1; inserted_is = all.2 }

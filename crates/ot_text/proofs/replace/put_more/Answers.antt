@@ -2,8 +2,8 @@ use Rattle.std.proofs.Common.{◌∙◌, arith}
 use Rattle.ot_text.proofs.Put.{more}
 use Rattle.ot_text.proofs.replace.put_more.Goals as goal
 
-pub returns : goal.returns
-returns g c =
-    c.insert_components.ensures
+pub returns-clause-items : goal.returns-clause-items
+returns-clause-items g c =
+    c.insert_components.ensures.items
     ∙ more c.args.components.now.items c.args.added.items c.swap_in.new.components.items c.swap_in.new.others.items c.remove_components.new.components.items c.args.start c.args.end
     c.requires.order (omega arith) (omega arith) c.swap_in.ensures.items c.swap_in.ensures.rest c.remove_components.ensures.items

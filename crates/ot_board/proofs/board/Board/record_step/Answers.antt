@@ -1,35 +1,31 @@
 use Rattle.std.proofs.Common.{◌≡◌, ℕ, rules, arith, refl, sym, ap, ◌∙◌, subst, [], ◌∷◌, length, List}
-use Rattle.ot_isa.specs.declared.instruction.Instr.{Instr}
 use Rattle.ot_isa.specs.Program.{Program, with_instr}
-use Rattle.ot_model.specs.Session.{RunsTo}
 use Rattle.ot_board.specs.declared.receipt.Receipt.{Receipt}
 use Rattle.ot_board.specs.Boards.{BoardView, HasRoomFor, IsRecorded, board_in, with_steps}
-use Rattle.ot_board.proofs.Boarding.{kept, runs_one}
+use Rattle.ot_board.proofs.Boarding.{kept}
 use Rattle.ot_board.proofs.board.Board.record_step.Goals as goal
 
 pub invariant_of-self-2 : goal.invariant_of-self-2
 invariant_of-self-2 c =
     let b = board_in c.self.inside.machine c.self.inside.recorded.program c.self.inside.out.items c.self.inside.slots.items in
-    let a = board_in c.step.new.self c.append.new.builder.program c.self.inside.out.items c.self.inside.slots.items in
+    let a = board_in c.perform.new.machine c.append.new.builder.program c.self.inside.out.items c.self.inside.slots.items in
     let recorded : a.recorded ≡ with_steps b.recorded (c.args.instr ∷ []) =
-    c.append.ensures.program ∙ ap (λ (p : Program). with_instr p c.in_ok-copy.copy) c.reserve.ensures.program ∙ ap (λ (i : Instr). with_instr b.recorded i) c.in_ok-copy.ensures in
-    let ran : RunsTo b.state (c.args.instr ∷ []) a.state = runs_one c.self.inside.machine c.step.new.self c.args.instr c.in-Ok._shown c.in-Ok.ensures.done in
+    c.append.ensures.program ∙ ap (λ (p : Program). with_instr p c.args.instr) c.reserve.ensures.program in
     let room = subst (λ (v : BoardView). HasRoomFor v 1) (sym c.self.view_is) c.requires.room in
-    kept b a (c.args.instr ∷ []) c.self.invariant recorded ran (omega arith) refl refl c.self.invariant.waiting
+    kept b a (c.args.instr ∷ []) c.self.invariant recorded c.in_ok-perform.ensures.ran (omega arith) refl refl c.self.invariant.waiting
 
 pub returns-clause-ok : goal.returns-clause-ok
 returns-clause-ok c =
     let b = board_in c.self.inside.machine c.self.inside.recorded.program c.self.inside.out.items c.self.inside.slots.items in
-    let a = board_in c.step.new.self c.append.new.builder.program c.self.inside.out.items c.self.inside.slots.items in
+    let a = board_in c.perform.new.machine c.append.new.builder.program c.self.inside.out.items c.self.inside.slots.items in
     let recorded : a.recorded ≡ with_steps b.recorded (c.args.instr ∷ []) =
-    c.append.ensures.program ∙ ap (λ (p : Program). with_instr p c.in_ok-copy.copy) c.reserve.ensures.program ∙ ap (λ (i : Instr). with_instr b.recorded i) c.in_ok-copy.ensures in
-    let ran : RunsTo b.state (c.args.instr ∷ []) a.state = runs_one c.self.inside.machine c.step.new.self c.args.instr c.in-Ok._shown c.in-Ok.ensures.done in
-    let receipt : Receipt = record { first = length c.instrs-first.result.now; steps = c.push_reserved.new.self } in
+    c.append.ensures.program ∙ ap (λ (p : Program). with_instr p c.args.instr) c.reserve.ensures.program in
+    let receipt : Receipt = record { first = length c.instrs-first.result.now; steps = c.in_ok-steps.steps } in
     subst (λ (v : BoardView). IsRecorded v (c.args.instr ∷ []) v.out a receipt) c.self.view_is (record {
       first = ap length c.instrs-first.ensures.value ∙ ap (λ (p : Program). length p.instrs) c.reserve.ensures.program;
-      steps_are = search rules;
+      steps_are = c.in_ok-steps.ensures;
       recorded = recorded;
-      ran = ran;
+      ran = c.in_ok-perform.ensures.ran;
       out_is = refl;
       parked_is = refl;
     })

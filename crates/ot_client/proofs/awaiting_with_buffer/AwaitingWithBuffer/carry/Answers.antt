@@ -1,4 +1,4 @@
-use Rattle.std.proofs.Common.{◌≡◌, ◌∙◌, sym, length}
+use Rattle.std.proofs.Common.{◌≡◌, ◌∙◌, sym}
 use Rattle.ot_algebra.specs.Merge.{second_after}
 use Rattle.ot_algebra.proofs.LengthLaws.{second_after-base, room_after}
 use Rattle.ot_client.proofs.awaiting_with_buffer.AwaitingWithBuffer.carry.Goals as goal

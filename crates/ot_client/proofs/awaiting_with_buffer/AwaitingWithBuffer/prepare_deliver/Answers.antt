@@ -27,4 +27,4 @@ invariant_of-step g c =
     ∙ first_after-base c.self.inside.buffer c.in-Ok.given.1
     ∙ ap (λ op. length op.image) passed_is
     ∙ length-after c.self.inside.outstanding c.args.op.now
-    ∙ sym (ap (λ change. length change.after.image) outstanding_is) in (before, after)
+    ∙ sym (ap (λ change. length change.after.image) outstanding_is) in (tt, (before, after))
