@@ -70,18 +70,23 @@ def places(count, length, gone):
     return "[" + ",".join(str(it) for it in parts) + "]"
 
 
-def at_places(count, parts=7000, entries=14900):
+def entries_at(count):
+    """How many operations a client can make that put a character in at so many places, and take those out again by turns: it may insert 15,000."""
+    return 29800 // count
+
+
+def at_places(count, parts=7000):
     """The same client, where each operation that is delivered changes the document at so many places, the first and the last near its ends."""
-    length = 30000
+    length, entries = 30000, entries_at(count)
     lines = waiting(parts, length)
     for k in range(entries):
         lines += [f"edit 1 {places(count, length, k % 2)}", "take 1", "ack 1"]
     return [*lines, *["deliver 0"] * entries]
 
 
-def long_message_at_places(count, parts=7500, entries=22000):
-    """A message of 15,000 components that is taken over 22,000 log entries, each of which changes the document at so many places."""
-    length = 40000
+def long_message_at_places(count, parts=7500):
+    """A message of 15,000 components that is taken over as many log entries as there can be that each change the document at so many places."""
+    length, entries = 40000, entries_at(count)
     whole = ",".join('1,"b"' for _ in range(parts))
     lines = [*opening(2, length), f"edit 0 [{whole},{length - parts}]"]
     for k in range(entries):
