@@ -26,7 +26,7 @@ use Rattle.ot_steps.specs.Lines as lines
 use Rattle.ot_steps.specs.Steps.{applies, end_line, has_document, is_quiet, last_lines, lines_from, opening_line, run_lines, sends, step_line, stop_at, stop_line}
 use Rattle.ot_steps.specs.Text.{Value, Number, Name, Text, Op, Sent, end_text, value_text, word_text}
 use Rattle.ot_steps.proofs.Running.{reached_within}
-use Rattle.ot_report.specs.Printed.{phase_word, refusal_text}
+use Rattle.ot_values.specs.Values.{phase_word, refusal_text}
 use Rattle.ot_machine.specs.declared.state.Phase.{Phase}
 use Rattle.ot_machine.specs.declared.state.Phase.TheVariants as phase
 use Rattle.ot_conform.specs.Differences.{Ahead, Wanted, Outcome, Conforms, Stopped, ahead_from, ending, field_of, first_key, from_opening, is_limit, is_same, outcome, over, stopping}

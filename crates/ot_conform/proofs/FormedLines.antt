@@ -24,7 +24,7 @@ use Rattle.ot_machine.specs.Ended.{reached}
 use Rattle.ot_machine.proofs.RunLaws.{instr_is}
 use Rattle.ot_machine.specs.declared.state.Phase.{Phase}
 use Rattle.ot_machine.specs.declared.state.Phase.TheVariants as phase
-use Rattle.ot_report.specs.Printed.{phase_word, refusal_text}
+use Rattle.ot_values.specs.Values.{phase_word, refusal_text}
 use Rattle.ot_steps.specs.Lines.{Line, Message, Word, bare}
 use Rattle.ot_steps.specs.Lines as lines
 use Rattle.ot_steps.specs.Steps.{applies, appended_by, client_in, document_after, document_in, edit_of, end_line, first_lines, has_document, is_quiet, last_lines, lines_from, message_in, named, opening_line, placed, sends, step_line, stop_at, stop_line, stop_lines, with_client}

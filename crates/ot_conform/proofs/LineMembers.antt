@@ -6,7 +6,7 @@ use Rattle.std.proofs.lemmas.Slice.Eq.{bytes_eq-Decides}
 use Rattle.serde_json.specs.Data.{Data, Members, number, unsigned, no_members, put}
 use Rattle.serde_json.specs.Find.{get, get_member}
 use Rattle.serde_json.proofs.Views.{get_member-put, get_member-put_other}
-use Rattle.ot_report.specs.Printed.{phase_word, refusal_text}
+use Rattle.ot_values.specs.Values.{phase_word, refusal_text}
 use Rattle.ot_steps.specs.Lines.{Line}
 use Rattle.ot_steps.specs.Text.{Field, Value, Number, Name, Text, Op, Sent, end_text, field, fields, named_fields, opening_fields, placed_fields, word_text}
 use Rattle.ot_conform.specs.Laws.{data_of}

@@ -8,7 +8,8 @@ use Rattle.serde_json.specs.Written.{compact_text, has_float, IsInOrder}
 use Rattle.ot_isa.specs.Program.{client_of}
 use Rattle.ot_isa.specs.declared.instruction.Instr.{Instr}
 use Rattle.ot_model.specs.declared.shown.Refusal.{Refusal}
-use Rattle.ot_report.specs.Printed.{line, refusal_text}
+use Rattle.ot_report.specs.Printed.{line}
+use Rattle.ot_values.specs.Values.{refusal_text}
 use Rattle.ot_steps.specs.Lines.{Line, word_of}
 use Rattle.ot_steps.specs.Text.{line_text, word_text}
 use Rattle.ot_conform.specs.Due.{DueLine, What, Opening, Instruction, End, placed_client}

@@ -10,7 +10,7 @@ use Rattle.ot_isa.specs.Program.{IsProgram, Program}
 use Rattle.ot_model.specs.Operation.{Operation}
 use Rattle.ot_model.specs.declared.shown.Refusal.{Refusal}
 use Rattle.ot_model.specs.declared.shown.Refusal.TheVariants.{Memory}
-use Rattle.ot_report.specs.Printed.{refusal_text}
+use Rattle.ot_values.specs.Values.{refusal_text}
 use Rattle.ot_steps.specs.Lines.{Line, Message}
 use Rattle.ot_steps.specs.Text.{Value, Number, Name, Text, Op, Sent, lines_text}
 use Rattle.ot_steps.specs.Written.{AreRunLines}

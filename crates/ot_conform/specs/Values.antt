@@ -1,6 +1,6 @@
 -- What a line has under each key.
 use Rattle.std.specs.Prelude.{ℕ, List, Option, Some, option_map}
-use Rattle.ot_report.specs.Printed.{phase_word}
+use Rattle.ot_values.specs.Values.{phase_word}
 use Rattle.ot_steps.specs.Lines.{Line}
 use Rattle.ot_steps.specs.Text.{Value, Number, Name, Text, Op, Sent, end_text, value_text, word_text}
 use Rattle.ot_conform.specs.declared.keys.Key.{Key}

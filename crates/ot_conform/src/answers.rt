@@ -15,8 +15,8 @@ use crate::keys::{Key, found, is_part, key_text, tells};
 use crate::lines::PortLine;
 use crate::meeting::Field;
 use ot_isa::Instr;
-use ot_report::refusal_name;
 use ot_steps::word;
+use ot_values::refusal_name;
 use serde_json::Value;
 use std::alloc::{AllocError, Global};
 

@@ -7,8 +7,8 @@ ghost use Rattle.ot_isa.specs.Tagging.{chars_of};
 ghost use Rattle.ot_json.specs.Writing.{text_of_operation};
 ghost use Rattle.ot_steps.specs.Lines.{plain_operation};
 ghost use Rattle.ot_steps.specs.Steps.{appended_by, buffer_of, client_in, document_in, edit_of, end_line, has_document, opening_line, outstanding_of, stop_line};
-ghost use Rattle.ot_report.specs.Printed.{phase_word};
 ghost use Rattle.ot_steps.specs.Text.{Name, end_text, line_text, message_text, value_text};
+ghost use Rattle.ot_values.specs.Values.{phase_word};
 ghost use Rattle.ot_conform.specs.Answers.{letters_at, number_before, number_of};
 ghost use Rattle.ot_conform.specs.Counted.{has};
 ghost use Rattle.ot_conform.specs.Due.{IsOfMachine, applied_by, buffer_at, due_of, instr_of, is_read, message_if, messages, moved_client, outstanding_at, placed_client, printed_line, revision_at, state_at};
@@ -20,8 +20,9 @@ use ot_client::{Client, Sent};
 use ot_isa::{Instr, Schedule, Tagged};
 use ot_json::write_op;
 use ot_machine::{Machine, Refusal};
-use ot_steps::{print_end, print_opening, print_step, print_stop, state_name, word};
+use ot_steps::{print_end, print_opening, print_step, print_stop, word};
 use ot_text::{Doc, TextOp};
+use ot_values::phase_name;
 use std::alloc::{AllocError, Global};
 
 /// An instruction that was performed.
@@ -108,7 +109,7 @@ fn state_text(
     let Some(client) = client else {
         return Ok(None);
     };
-    let name = name_text(alloc, state_name(machine.phase(client)))?;
+    let name = name_text(alloc, phase_name(machine.phase(client)))?;
     Ok(Some(name))
 }
 

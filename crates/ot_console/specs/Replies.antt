@@ -1,6 +1,7 @@
 -- The lines of a reply.
 use Rattle.std.specs.Prelude.{◌≡◌, ℕ, Bool, true, false, List, ◌++◌, codes, decimal}
-use Rattle.ot_report.specs.Printed.{line, refusal_text, IsEnd}
+use Rattle.ot_report.specs.Printed.{line, IsEnd}
+use Rattle.ot_values.specs.Values.{refusal_text}
 use Rattle.ot_debug.specs.Session.{Session}
 use Rattle.ot_debug.specs.declared.command.Why.{Why}
 use Rattle.ot_debug.specs.declared.command.Why.TheVariants as why

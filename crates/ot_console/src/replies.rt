@@ -5,7 +5,8 @@ ghost use Rattle.std.specs.Cow.{cow_str_bytes};
 ghost use Rattle.ot_console.specs.Replies.{is_fault, is_refused, place_line, stopped_line, IsMade, IsReplyText};
 
 use ot_debug::{Debugger, Reply, Why};
-use ot_report::{print_end, refusal_name};
+use ot_report::print_end;
+use ot_values::refusal_name;
 use std::alloc::{AllocError, Global};
 use std::borrow::CowStr;
 

@@ -1,3 +1,4 @@
 mod Clients
 mod LineByLine
 mod Progress
+mod Texts

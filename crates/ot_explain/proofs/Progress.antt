@@ -66,13 +66,11 @@ one_more lines s p q i t shown here at e =
 -- ---- one instruction
 
 -- a paragraph from its parts
-pub paragraph_made : (line place number : ℕ) (i : Instr) (s t : State) (start first second mid text : List ℕ) → place ≡ line → start ≡ heading place number i → first ≡ before i s → second ≡ after i t
-    → mid ≡ start ++ first → text ≡ mid ++ second → text ≡ paragraph line number i s t
-paragraph_made line place number i s t start first second mid text is_line is_start is_first is_second is_mid is_text =
-    is_text ∙ ap (λ (m : List ℕ). m ++ second) is_mid ∙ append_assoc start first second
-    ∙ ap (λ (h : List ℕ). h ++ (first ++ second)) (is_start ∙ ap (λ (l : ℕ). heading l number i) is_line)
-    ∙ ap (λ (f : List ℕ). heading line number i ++ (f ++ second)) is_first
-    ∙ ap (λ (l : List ℕ). heading line number i ++ (before i s ++ l)) is_second
+pub paragraph_made : (line place number : ℕ) (i : Instr) (s t : State) (start mid text : List ℕ) → place ≡ line → start ≡ heading place number i → mid ≡ start ++ before i s → text ≡ mid ++ after i t
+    → text ≡ paragraph line number i s t
+paragraph_made line place number i s t start mid text is_line is_start is_mid is_text =
+    is_text ∙ ap (λ (m : List ℕ). m ++ after i t) is_mid ∙ append_assoc start (before i s) (after i t)
+    ∙ ap (λ (h : List ℕ). h ++ (before i s ++ after i t)) (is_start ∙ ap (λ (l : ℕ). heading l number i) is_line)
 
 -- an instruction that is not refused is performed
 pub is_move : (line number : ℕ) (i : Instr) (s t : State) (text : List ℕ) (r : Result (Option Reader) Refusal) → ((x : Refusal) → r ≡ Err x → ⊥) → IfOk r (λ who. step s i ≡ Performed t (option_map (shown_by t) who))

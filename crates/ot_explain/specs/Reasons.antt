@@ -9,7 +9,7 @@ use Rattle.ot_model.specs.declared.shown.Refusal.{Refusal}
 use Rattle.ot_model.specs.declared.shown.Refusal.TheVariants.{NoSuchClient, StepsFull, NotJoined, AlreadyJoined, BadBase, ClientFull, LinkEmpty, WrongHead, Memory}
 use Rattle.ot_model.specs.Operation.{Operation, inserted}
 use Rattle.ot_model.specs.Table.{Client, Message, State}
-use Rattle.ot_report.specs.Printed.{refusal_text}
+use Rattle.ot_values.specs.Values.{refusal_text}
 use Rattle.ot_explain.specs.Words.{entry_text, of_client}
 use Rattle.ot_explain.specs.Told.{heading}
 

@@ -1,10 +1,12 @@
 //! What the state after an instruction tells of it.
 
-ghost use Rattle.std.specs.Prelude.{◌≡◌, ◌<◌, length, IfOk, string_bytes};
+ghost use Rattle.std.specs.Prelude.{◌≡◌, ◌++◌, ◌<◌, length, IfOk, OnOk, string_bytes};
 ghost use Rattle.ot_client.specs.Client.{state_of};
 ghost use Rattle.ot_isa.specs.Program.{IsForClients};
 ghost use Rattle.ot_machine.specs.Readers.{ClientHas};
 ghost use Rattle.ot_model.specs.Table.{phase_in};
+ghost use Rattle.ot_steps.specs.Steps.{client_in};
+ghost use Rattle.ot_explain.specs.Words.{of_client};
 ghost use Rattle.ot_explain.specs.Told as told;
 ghost use Rattle.ot_explain.specs.Told.{appended_words, client_words, read_words, server_words, waiting};
 
@@ -12,46 +14,66 @@ use crate::values::{list_text, made_text, operation_text};
 use ot_client::Client;
 use ot_isa::{Instr, Tagged};
 use ot_machine::Machine;
+use ot_steps::{push_decimal, push_plain_array};
 use std::alloc::{AllocError, Global};
 
 // What a client that has joined waits for.
-fn waiting_state(alloc: Global, client: &Client<Tagged>) -> Result<String, AllocError>
-    ensures { IfOk result (λ s. string_bytes s ≡ waiting (phase_in (state_of client.now).phase)) }
+fn push_waiting_state(
+    alloc: Global,
+    text: &mut String,
+    client: &Client<Tagged>,
+) -> Result<(), AllocError>
+    ensures { OnOk result (string_bytes text.new ≡ string_bytes text.old ++ waiting (phase_in (state_of client.now).phase)) }
 {
     match client {
-        Client::Synchronized(_) => String::from_str(alloc, " is synchronized"),
+        Client::Synchronized(_) => text.push_str(" is synchronized"),
         Client::AwaitingConfirm(client) => {
-            let outstanding = operation_text(alloc, client.outstanding())?;
-            format!(in alloc; " awaits the confirmation of {outstanding}")
+            text.push_str(" awaits the confirmation of ")?;
+            push_plain_array(alloc, text, client.outstanding())
         }
         Client::AwaitingWithBuffer(client) => {
-            let outstanding = operation_text(alloc, client.outstanding())?;
-            let buffer = operation_text(alloc, client.buffer())?;
-            format!(in alloc; " awaits the confirmation of {outstanding}, with the buffer {buffer}")
+            text.push_str(" awaits the confirmation of ")?;
+            push_plain_array(alloc, text, client.outstanding())?;
+            text.push_str(", with the buffer ")?;
+            push_plain_array(alloc, text, client.buffer())
         }
     }
 }
 
-fn waiting(alloc: Global, machine: &Machine, client: u16) -> Result<String, AllocError>
+fn push_waiting(
+    alloc: Global,
+    text: &mut String,
+    machine: &Machine,
+    client: u16,
+) -> Result<(), AllocError>
     requires { client < length machine.now.clients }
-    ensures { IfOk result (λ s. ClientHas machine.now client (λ x. waiting x.phase) (string_bytes s)) }
+    ensures { OnOk result (string_bytes text.new ≡ string_bytes text.old ++ waiting (client_in machine.now client).phase) }
 {
     if !machine.joined(client) {
-        return String::from_str(alloc, " has not joined");
+        return text.push_str(" has not joined");
     }
-    waiting_state(alloc, machine.client(client))
+    push_waiting_state(alloc, text, machine.client(client))
 }
 
-fn client_words(alloc: Global, machine: &Machine, client: u16) -> Result<String, AllocError>
+fn push_client(
+    alloc: Global,
+    text: &mut String,
+    machine: &Machine,
+    client: u16,
+) -> Result<(), AllocError>
     requires { client < length machine.now.clients }
-    ensures { IfOk result (λ s. ClientHas machine.now client (client_words client) (string_bytes s)) }
+    ensures { OnOk result (string_bytes text.new ≡ string_bytes text.old ++ of_client machine.now client (client_words client)) }
 {
-    let revision = machine.revision(client);
-    let waiting = waiting(alloc, machine, client)?;
     let document = list_text(alloc, machine.document(client))?;
-    format!(in alloc;
-        "  client {client} at revision {revision}{waiting}; its document is {document}\n"
-    )
+    text.push_str("  client ")?;
+    push_decimal(text, client as u64)?;
+    text.push_str(" at revision ")?;
+    push_decimal(text, machine.revision(client) as u64)?;
+    push_waiting(alloc, text, machine, client)?;
+    text.push_str("; its document is ")?;
+    text.push_str(document.as_str())?;
+    text.push_str("\n")?;
+    Ok(())
 }
 
 fn read_words(alloc: Global, machine: &Machine, client: u16) -> Result<String, AllocError>
@@ -94,18 +116,32 @@ fn server_words(alloc: Global, machine: &Machine) -> Result<String, AllocError>
     format!(in alloc; "  the server's document is {document}\n")
 }
 
-/// What the state after the instruction tells of it.
-pub(crate) fn after(alloc: Global, machine: &Machine, instr: &Instr) -> Result<String, AllocError>
+/// Adds what the state after the instruction tells of it. For want of memory the text holds a part of it.
+pub(crate) fn push_after(
+    alloc: Global,
+    text: &mut String,
+    machine: &Machine,
+    instr: &Instr,
+) -> Result<(), AllocError>
     requires { IsForClients (length machine.now.clients) instr.now }
-    ensures { IfOk result (λ s. string_bytes s ≡ told.after instr.now machine.now) }
+    ensures { OnOk result (string_bytes text.new ≡ string_bytes text.old ++ told.after instr.now machine.now) }
 {
     match instr {
         Instr::Edit(client, _)
         | Instr::Deliver(client)
         | Instr::Acknowledge(client)
-        | Instr::Join(client) => client_words(alloc, machine, *client),
-        Instr::Read(client) => read_words(alloc, machine, *client),
-        Instr::Take(_) => appended_words(alloc, machine),
-        Instr::ReadServer => server_words(alloc, machine),
+        | Instr::Join(client) => push_client(alloc, text, machine, *client),
+        Instr::Read(client) => {
+            let words = read_words(alloc, machine, *client)?;
+            text.push_str(words.as_str())
+        }
+        Instr::Take(_) => {
+            let words = appended_words(alloc, machine)?;
+            text.push_str(words.as_str())
+        }
+        Instr::ReadServer => {
+            let words = server_words(alloc, machine)?;
+            text.push_str(words.as_str())
+        }
     }
 }

@@ -1,21 +1,21 @@
 //! What the state before an instruction tells of it.
 
-ghost use Rattle.std.specs.Prelude.{◌≡◌, ◌<◌, ◌-◌, length, IfOk, string_bytes};
+ghost use Rattle.std.specs.Prelude.{◌≡◌, ◌++◌, ◌<◌, ◌-◌, length, IfOk, OnOk, string_bytes};
 ghost use Rattle.std.specs.Option.{option_copied, option_map};
 ghost use Rattle.ot_client.specs.Client.{message_of, state_of};
 ghost use Rattle.ot_machine.specs.Readers.{ClientHas};
 ghost use Rattle.ot_model.specs.Table.{phase_in};
-ghost use Rattle.ot_steps.specs.Steps.{delivers};
+ghost use Rattle.ot_steps.specs.Steps.{client_in, delivers};
 ghost use Rattle.ot_explain.specs.Told as told;
-ghost use Rattle.ot_explain.specs.Words.{made_text};
-ghost use Rattle.ot_explain.specs.Told.{acknowledge_words, against_log, against_waiting, confirmed, deliver_words, edit_goes, edit_words, message_words, take_words};
+ghost use Rattle.ot_explain.specs.Words.{made_text, of_client};
+ghost use Rattle.ot_explain.specs.Told.{acknowledge_words, against_log, against_waiting, confirmed, deliver_words, edit_goes, edit_words, join_words, message_words, take_words};
 
-use crate::values::{entry_text, made_text, operation_text};
+use crate::values::{operation_text, push_entry, push_made};
 use ot_client::{Client, Sent};
 use ot_isa::{Instr, Tagged};
 use ot_json::write_op;
 use ot_machine::{Machine, Phase};
-use ot_steps::applies;
+use ot_steps::{applies, push_decimal, push_plain_array};
 use ot_text::TextOp;
 use std::alloc::{AllocError, Global};
 
@@ -102,109 +102,164 @@ fn take_words(alloc: Global, machine: &Machine, client: u16) -> Result<String, A
 }
 
 // What a client that has joined transforms another's operation against.
-fn against_state(alloc: Global, client: &Client<Tagged>) -> Result<String, AllocError>
-    ensures { IfOk result (λ s. string_bytes s ≡ against_waiting (phase_in (state_of client.now).phase)) }
+fn push_against_state(
+    alloc: Global,
+    text: &mut String,
+    client: &Client<Tagged>,
+) -> Result<(), AllocError>
+    ensures { OnOk result (string_bytes text.new ≡ string_bytes text.old ++ against_waiting (phase_in (state_of client.now).phase)) }
 {
     match client {
-        Client::Synchronized(_) => Ok(String::new(alloc)),
+        Client::Synchronized(_) => Ok(()),
         Client::AwaitingConfirm(client) => {
-            let outstanding = operation_text(alloc, client.outstanding())?;
-            format!(in alloc; ", transforms it against its outstanding operation {outstanding}")
+            text.push_str(", transforms it against its outstanding operation ")?;
+            push_plain_array(alloc, text, client.outstanding())
         }
         Client::AwaitingWithBuffer(client) => {
-            let outstanding = operation_text(alloc, client.outstanding())?;
-            let buffer = operation_text(alloc, client.buffer())?;
-            format!(in alloc;
-                ", transforms it against its outstanding operation {outstanding} and its buffer {buffer}"
-            )
+            text.push_str(", transforms it against its outstanding operation ")?;
+            push_plain_array(alloc, text, client.outstanding())?;
+            text.push_str(" and its buffer ")?;
+            push_plain_array(alloc, text, client.buffer())
         }
     }
 }
 
-fn against_waiting(alloc: Global, machine: &Machine, client: u16) -> Result<String, AllocError>
+fn push_against(
+    alloc: Global,
+    text: &mut String,
+    machine: &Machine,
+    client: u16,
+) -> Result<(), AllocError>
     requires { client < length machine.now.clients }
-    ensures { IfOk result (λ s. ClientHas machine.now client (λ x. against_waiting x.phase) (string_bytes s)) }
+    ensures { OnOk result (string_bytes text.new ≡ string_bytes text.old ++ against_waiting (client_in machine.now client).phase) }
 {
     if !machine.joined(client) {
-        return Ok(String::new(alloc));
+        return Ok(());
     }
-    against_state(alloc, machine.client(client))
+    push_against_state(alloc, text, machine.client(client))
 }
 
 // What a delivery to the client would apply.
-fn applied_text(alloc: Global, machine: &Machine, client: u16) -> Result<String, AllocError>
-    ensures { IfOk result (λ s. string_bytes s ≡ made_text (delivers machine.now client)) }
+fn push_applied(
+    alloc: Global,
+    text: &mut String,
+    machine: &Machine,
+    client: u16,
+) -> Result<(), AllocError>
+    ensures { OnOk result (string_bytes text.new ≡ string_bytes text.old ++ made_text (delivers machine.now client)) }
 {
     let applied = applies(machine, &Instr::Deliver(client))?;
-    made_text(alloc, applied.as_ref())
+    push_made(alloc, text, applied.as_ref())
 }
 
-fn deliver_words(alloc: Global, machine: &Machine, client: u16) -> Result<String, AllocError>
+fn push_delivery(
+    alloc: Global,
+    text: &mut String,
+    machine: &Machine,
+    client: u16,
+) -> Result<(), AllocError>
     requires { client < length machine.now.clients }
-    ensures { IfOk result (λ s. ClientHas machine.now client (deliver_words machine.now client) (string_bytes s)) }
+    ensures { OnOk result (string_bytes text.new ≡ string_bytes text.old ++ of_client machine.now client (deliver_words machine.now client)) }
 {
-    let entry = entry_text(alloc, machine.entry(machine.revision(client) as usize))?;
-    let against = against_waiting(alloc, machine, client)?;
-    let applied = applied_text(alloc, machine, client)?;
-    format!(in alloc; "  client {client} takes {entry}{against} and applies {applied}\n")
+    let entry = machine.entry(machine.revision(client) as usize);
+    text.push_str("  client ")?;
+    push_decimal(text, client as u64)?;
+    text.push_str(" takes ")?;
+    push_entry(alloc, text, entry)?;
+    push_against(alloc, text, machine, client)?;
+    text.push_str(" and applies ")?;
+    push_applied(alloc, text, machine, client)?;
+    text.push_str("\n")
 }
 
 // What of a client that has joined is confirmed.
-fn confirmed_state(alloc: Global, client: &Client<Tagged>) -> Result<String, AllocError>
-    ensures { IfOk result (λ s. string_bytes s ≡ confirmed (phase_in (state_of client.now).phase)) }
+fn push_confirmed_state(
+    alloc: Global,
+    text: &mut String,
+    client: &Client<Tagged>,
+) -> Result<(), AllocError>
+    ensures { OnOk result (string_bytes text.new ≡ string_bytes text.old ++ confirmed (phase_in (state_of client.now).phase)) }
 {
     match client {
-        Client::Synchronized(_) => String::from_str(alloc, "nothing"),
+        Client::Synchronized(_) => text.push_str("nothing"),
         Client::AwaitingConfirm(client) => {
-            let outstanding = operation_text(alloc, client.outstanding())?;
-            format!(in alloc; "{outstanding}; it has no buffer")
+            push_plain_array(alloc, text, client.outstanding())?;
+            text.push_str("; it has no buffer")
         }
         Client::AwaitingWithBuffer(client) => {
-            let outstanding = operation_text(alloc, client.outstanding())?;
-            let buffer = operation_text(alloc, client.buffer())?;
-            format!(in alloc; "{outstanding}; it sends its buffer {buffer}")
+            push_plain_array(alloc, text, client.outstanding())?;
+            text.push_str("; it sends its buffer ")?;
+            push_plain_array(alloc, text, client.buffer())
         }
     }
 }
 
-fn confirmed(alloc: Global, machine: &Machine, client: u16) -> Result<String, AllocError>
+fn push_confirmed(
+    alloc: Global,
+    text: &mut String,
+    machine: &Machine,
+    client: u16,
+) -> Result<(), AllocError>
     requires { client < length machine.now.clients }
-    ensures { IfOk result (λ s. ClientHas machine.now client (λ x. confirmed x.phase) (string_bytes s)) }
+    ensures { OnOk result (string_bytes text.new ≡ string_bytes text.old ++ confirmed (client_in machine.now client).phase) }
 {
     if !machine.joined(client) {
-        return String::from_str(alloc, "nothing");
+        return text.push_str("nothing");
     }
-    confirmed_state(alloc, machine.client(client))
+    push_confirmed_state(alloc, text, machine.client(client))
 }
 
-fn acknowledge_words(alloc: Global, machine: &Machine, client: u16) -> Result<String, AllocError>
+fn push_acknowledgement(
+    alloc: Global,
+    text: &mut String,
+    machine: &Machine,
+    client: u16,
+) -> Result<(), AllocError>
     requires { client < length machine.now.clients }
-    ensures { IfOk result (λ s. ClientHas machine.now client (acknowledge_words client) (string_bytes s)) }
+    ensures { OnOk result (string_bytes text.new ≡ string_bytes text.old ++ of_client machine.now client (acknowledge_words client)) }
 {
-    let confirmed = confirmed(alloc, machine, client)?;
-    format!(in alloc; "  client {client} has its outstanding operation confirmed, {confirmed}\n")
+    text.push_str("  client ")?;
+    push_decimal(text, client as u64)?;
+    text.push_str(" has its outstanding operation confirmed, ")?;
+    push_confirmed(alloc, text, machine, client)?;
+    text.push_str("\n")?;
+    Ok(())
 }
 
-/// What the state before the instruction tells of it.
-pub(crate) fn before(alloc: Global, machine: &Machine, instr: &Instr) -> Result<String, AllocError>
-    ensures { IfOk result (λ s. string_bytes s ≡ told.before instr.now machine.now) }
+fn push_join(text: &mut String, client: u16) -> Result<(), AllocError>
+    ensures { OnOk result (string_bytes text.new ≡ string_bytes text.old ++ join_words client) }
 {
-    if let Instr::Join(client) = instr {
-        return format!(in alloc;
-            "  client {client} joins with the server's document and revision\n"
-        );
-    }
+    text.push_str("  client ")?;
+    push_decimal(text, client as u64)?;
+    text.push_str(" joins with the server's document and revision\n")?;
+    Ok(())
+}
+
+/// Adds what the state before the instruction tells of it. For want of memory the text holds a part of it.
+pub(crate) fn push_before(
+    alloc: Global,
+    text: &mut String,
+    machine: &Machine,
+    instr: &Instr,
+) -> Result<(), AllocError>
+    ensures { OnOk result (string_bytes text.new ≡ string_bytes text.old ++ told.before instr.now machine.now) }
+{
     match instr {
         Instr::Edit(client, op) if *client < machine.clients() => {
-            edit_words(alloc, machine, *client, op)
+            let words = edit_words(alloc, machine, *client, op)?;
+            text.push_str(words.as_str())
         }
-        Instr::Take(client) if *client < machine.clients() => take_words(alloc, machine, *client),
+        Instr::Take(client) if *client < machine.clients() => {
+            let words = take_words(alloc, machine, *client)?;
+            text.push_str(words.as_str())
+        }
         Instr::Deliver(client) if *client < machine.clients() => {
-            deliver_words(alloc, machine, *client)
+            push_delivery(alloc, text, machine, *client)
         }
         Instr::Acknowledge(client) if *client < machine.clients() => {
-            acknowledge_words(alloc, machine, *client)
+            push_acknowledgement(alloc, text, machine, *client)
         }
-        _ => Ok(String::new(alloc)),
+        Instr::Join(client) => push_join(text, *client),
+        _ => Ok(()),
     }
 }

@@ -1,6 +1,6 @@
 //! Paragraphs: one for each instruction, and those before and behind them.
 
-ghost use Rattle.std.specs.Prelude.{◌≡◌, ◌++◌, IfErr, IfOk, OnErr, string_bytes};
+ghost use Rattle.std.specs.Prelude.{◌≡◌, ◌++◌, IfErr, IfOk, OnErr, OnOk, string_bytes};
 ghost use Rattle.ot_isa.specs.Program.{IsForClients};
 ghost use Rattle.ot_machine.specs.Answers.{IsRefusal};
 ghost use Rattle.ot_model.specs.Table as table;
@@ -9,14 +9,14 @@ ghost use Rattle.ot_explain.specs.Told.{heading, opening_words};
 ghost use Rattle.ot_explain.specs.Reasons.{refused_paragraph};
 ghost use Rattle.ot_explain.specs.Explained.{IsMove, end_words, last_text, line_at, stop_text};
 
-use crate::after::after;
-use crate::before::before;
+use crate::after::push_after;
+use crate::before::push_before;
 use crate::reasons::reason;
 use crate::values::letters_text;
 use ot_isa::{Instr, Schedule};
 use ot_machine::{Machine, Refusal};
-use ot_report::refusal_name;
 use ot_steps::word;
+use ot_values::refusal_name;
 use std::alloc::{AllocError, Global};
 
 // The line of an instruction.
@@ -40,27 +40,29 @@ fn heading(alloc: Global, line: u64, number: usize, instr: &Instr) -> Result<Str
     }
 }
 
-/// Performs the instruction and gives its paragraph, or why it was not performed.
+/// Performs the instruction and writes its paragraph into the text, instead of what that held, or says why it was not performed. Only
+/// after a performed one the text holds a paragraph.
 pub(crate) fn perform(
     alloc: Global,
+    text: &mut String,
     machine: &mut Machine,
     lines: &[u64],
     number: usize,
     instr: &Instr,
-) -> Result<Result<String, Refusal>, AllocError>
-    ensures paragraph { IfOk result (λ answer. IfOk answer (λ s. IsMove (line_at lines.now number) number instr.now machine.old machine.new (string_bytes s))) }
+) -> Result<Result<(), Refusal>, AllocError>
+    ensures paragraph { IfOk result (λ answer. OnOk answer (IsMove (line_at lines.now number) number instr.now machine.old machine.new (string_bytes text.new))) }
     ensures refused { IfOk result (λ answer. IfErr answer (λ r. IsRefusal (table.step machine.old instr.now) r)) }
     ensures unchanged { IfOk result (λ answer. OnErr answer (machine.new ≡ machine.old)) }
 {
-    let mut text = heading(alloc, line_at(lines, number), number, instr)?;
-    let first = before(alloc, machine, instr)?;
+    let heading = heading(alloc, line_at(lines, number), number, instr)?;
+    text.clear();
+    text.push_str(heading.as_str())?;
+    push_before(alloc, text, machine, instr)?;
     if let Err(refusal) = machine.perform(instr) {
         return Ok(Err(refusal));
     }
-    let second = after(alloc, machine, instr)?;
-    text.push_str(first.as_str())?;
-    text.push_str(second.as_str())?;
-    Ok(Ok(text))
+    push_after(alloc, text, machine, instr)?;
+    Ok(Ok(()))
 }
 
 /// The paragraph of the opening.

@@ -24,12 +24,13 @@ fn write_moves<W: Write>(
     ensures ok { IfOk result (λ stopped. WritesMoves lines.now schedule.now stopped machine.new (W.contents output.old) (W.contents output.new)) }
     ensures err { IfErr result (λ f. MovesUpTo f lines.now schedule.now (W.contents output.old) (W.contents output.new)) }
 {
+    let mut paragraph = String::new(alloc);
     for number in 0..schedule.len() {
         let Some(instr) = schedule.get(number) else {
             unreachable!()
         };
-        match perform(alloc, machine, lines, number, instr)? {
-            Ok(paragraph) => put(output, paragraph.as_bytes())?,
+        match perform(alloc, &mut paragraph, machine, lines, number, instr)? {
+            Ok(()) => put(output, paragraph.as_bytes())?,
             Err(refusal) => return Ok(Some((number, refusal))),
         }
     }

@@ -8,7 +8,8 @@ use Rattle.ot_model.specs.Table.{Client}
 use Rattle.ot_machine.specs.declared.state.Phase.{Phase}
 use Rattle.ot_machine.specs.Readers.{phase_name}
 use Rattle.ot_model.specs.declared.shown.Shown.{Shown}
-use Rattle.ot_report.specs.Printed.{client_line, client_lines, client_text, phase_word, read_line, read_lines}
+use Rattle.ot_report.specs.Printed.{client_line, client_lines, client_text, read_line, read_lines}
+use Rattle.ot_values.specs.Values.{phase_word}
 
 -- one more line
 pub lines_more : (from i n : ℕ) (xs : List Client) (text : List ℕ) → n ≡ from + i → option_map (client_line n) (slice_get xs i) ≡ Some text

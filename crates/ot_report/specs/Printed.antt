@@ -1,23 +1,14 @@
 -- The lines that are printed of a run.
 use Rattle.std.specs.Prelude.{◌≡◌, ◌↔◌, ℕ, suc, List, [], ◌∷◌, ◌++◌, length, Bool, IsTrue, Option, Some, None, codes, decimal, if◌then◌else◌}
-use Rattle.std.specs.Str.{encode_utf8_all}
-use Rattle.json.specs.Print.{quoted}
 use Rattle.ot_isa.specs.declared.elements.Tagged.{Tagged}
-use Rattle.ot_isa.specs.Tagging.{chars_of}
 use Rattle.ot_model.specs.declared.shown.Refusal.{Refusal}
-use Rattle.ot_model.specs.declared.shown.Refusal.TheVariants.{NoSuchClient, StepsFull, NotJoined, AlreadyJoined, BadBase, ClientFull, LinkEmpty, WrongHead, Memory}
 use Rattle.ot_model.specs.declared.shown.Reader.{Reader}
 use Rattle.ot_model.specs.declared.shown.Reader.TheVariants as reader
 use Rattle.ot_model.specs.declared.shown.Shown.{Shown}
 use Rattle.ot_model.specs.Table.{Client, State, IsQuiet}
-use Rattle.ot_machine.specs.declared.state.Phase.{Phase}
-use Rattle.ot_machine.specs.declared.state.Phase.TheVariants as phase
 use Rattle.ot_machine.specs.Readers.{phase_name}
 use Rattle.ot_machine.specs.declared.outcome.Replay.{Replay}
-
--- a text as a JSON string
-abbrev pub text_of : List Tagged → List ℕ
-text_of list = quoted (encode_utf8_all (chars_of list))
+use Rattle.ot_values.specs.Values.{phase_word, refusal_text, text_of}
 
 abbrev pub line : List ℕ → List ℕ
 line text = text ++ 10 ∷ []
@@ -34,26 +25,9 @@ abbrev pub read_lines : List Shown → List ℕ
 read_lines [] = []
 read_lines (shown ∷ others) = read_line shown ++ read_lines others
 
-abbrev pub refusal_text : Refusal → List ℕ
-refusal_text NoSuchClient = codes "NoSuchClient"
-refusal_text StepsFull = codes "StepsFull"
-refusal_text NotJoined = codes "NotJoined"
-refusal_text AlreadyJoined = codes "AlreadyJoined"
-refusal_text BadBase = codes "BadBase"
-refusal_text ClientFull = codes "ClientFull"
-refusal_text LinkEmpty = codes "LinkEmpty"
-refusal_text WrongHead = codes "WrongHead"
-refusal_text Memory = codes "Memory"
-
 -- stopped at I: Refusal
 abbrev pub stop_line : ℕ → Refusal → List ℕ
 stop_line place refusal = codes "stopped at " ++ (decimal place ++ (codes ": " ++ line (refusal_text refusal)))
-
-abbrev pub phase_word : Phase → List ℕ
-phase_word phase.NotJoined = codes "not-joined"
-phase_word phase.Synchronized = codes "synchronized"
-phase_word phase.AwaitingConfirm = codes "awaiting-confirm"
-phase_word phase.AwaitingWithBuffer = codes "awaiting-with-buffer"
 
 -- client C rev R STATE "text"
 abbrev pub client_text : ℕ → ℕ → List ℕ → List Tagged → List ℕ

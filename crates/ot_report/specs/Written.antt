@@ -47,10 +47,6 @@ WritesReportUpTo WriteFault s old new = WritesPartOfReport s old new
 
 -- ---- for private clauses
 
--- what stood there stands there, and more behind it
-abbrev pub Continues : List ℕ → List ℕ → Type 0
-Continues old new = (more : List ℕ) × (new ≡ old ++ more)
-
 -- what is gathered is still there, or it is written
 abbrev pub Flushes : List ℕ → List ℕ → Option (List ℕ) → Option (List ℕ) → Type 0
 Flushes before after old new = (Keeps old new × (after ≡ before)) ⊎ (Appends old new before × (after ≡ []))

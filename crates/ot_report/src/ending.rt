@@ -2,23 +2,12 @@
 
 ghost use Rattle.std.specs.Prelude.{◌≡◌, ◌<◌, ◌++◌, length, IfOk, OnOk, string_bytes};
 ghost use Rattle.ot_machine.specs.Readers.{ClientHas};
-ghost use Rattle.ot_report.specs.Printed.{client_line, client_lines, phase_word, IsEnd};
+ghost use Rattle.ot_report.specs.Printed.{client_line, client_lines, IsEnd};
 
 use crate::lines::{print_client, print_server, quiet_text};
-use ot_machine::{Machine, Phase};
+use ot_machine::Machine;
+use ot_values::phase_name;
 use std::alloc::{AllocError, Global};
-
-// A client's state as it is printed.
-fn phase_name(phase: Phase) -> &'static str
-    ensures { result.now ≡ phase_word phase }
-{
-    match phase {
-        Phase::NotJoined => "not-joined",
-        Phase::Synchronized => "synchronized",
-        Phase::AwaitingConfirm => "awaiting-confirm",
-        Phase::AwaitingWithBuffer => "awaiting-with-buffer",
-    }
-}
 
 // The line of one client.
 fn client_line(alloc: Global, machine: &Machine, client: u16) -> Result<String, AllocError>

@@ -14,7 +14,6 @@
 
 mod ending;
 mod findings;
-mod letters;
 mod lines;
 mod running;
 mod verdicts;
@@ -22,10 +21,7 @@ mod writing;
 
 pub use ending::print_end;
 pub use findings::{Findings, find};
-pub use letters::{Letter, push_letters, push_quoted};
-pub use lines::{
-    print_client, print_read, print_server, print_stop, push_read, quiet_text, refusal_name,
-};
+pub use lines::{print_client, print_read, print_server, print_stop, push_read, quiet_text};
 pub use running::print_run;
 pub use verdicts::{print_convergence, print_verdict};
 pub use writing::{ReportFault, write_report};

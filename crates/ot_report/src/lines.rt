@@ -1,12 +1,12 @@
 //! The lines of reads and of a stop.
 
 ghost use Rattle.std.specs.Prelude.{◌≡◌, ◌++◌, IfOk, OnOk, string_bytes};
-ghost use Rattle.ot_report.specs.Printed.{client_text, quiet_line, read_line, reader_text, refusal_text, server_text, stop_line};
+ghost use Rattle.ot_report.specs.Printed.{client_text, quiet_line, read_line, reader_text, server_text, stop_line};
 
-use crate::letters::push_quoted;
 use ot_isa::Tagged;
 use ot_model::{Reader, Refusal, Shown};
 use ot_text::Doc;
+use ot_values::{push_quoted, refusal_name};
 use std::alloc::{AllocError, Global};
 
 // Who reads.
@@ -42,23 +42,6 @@ pub fn print_read(alloc: Global, shown: &Shown) -> Result<String, AllocError>
     let mut text = String::new(alloc);
     push_read(alloc, &mut text, shown.who, &shown.list)?;
     Ok(text)
-}
-
-/// A refusal as it is printed.
-pub fn refusal_name(refusal: Refusal) -> &'static str
-    ensures { result.now ≡ refusal_text refusal }
-{
-    match refusal {
-        Refusal::NoSuchClient => "NoSuchClient",
-        Refusal::StepsFull => "StepsFull",
-        Refusal::NotJoined => "NotJoined",
-        Refusal::AlreadyJoined => "AlreadyJoined",
-        Refusal::BadBase => "BadBase",
-        Refusal::ClientFull => "ClientFull",
-        Refusal::LinkEmpty => "LinkEmpty",
-        Refusal::WrongHead => "WrongHead",
-        Refusal::Memory => "Memory",
-    }
 }
 
 /// The line of a run that stopped before the instruction at this place: `stopped at I: Refusal`.

@@ -26,6 +26,13 @@ drop_one [] i c inside at = absurd (omega (arith, inside))
 drop_one (b ∷ cs) zero c inside at = rw at refl
 drop_one (b ∷ cs) (suc i) c inside at = drop_one cs i c (omega (arith, inside)) at
 
+-- one item and what is behind it
+pub rest_one : {A : Type 0} (code : A → ℕ) (cs : List (Component A)) (later : Bool) (i : ℕ) (c : Component A) → i < length cs → c ≡ get_or cs i c
+    → rest code cs later i ≡ comma_if later ++ (part code c ++ rest code cs true (i + 1))
+rest_one code cs later i c inside at =
+    let same : suc i ≡ i + 1 = omega arith in
+    ap (λ ds. items_text later (items_of (map data_of (map (lettered code) (runs ds))))) (drop_one cs i c inside at ∙ ap (λ n. c ∷ drop n cs) same)
+
 pub opened : {A : Type 0} (code : A → ℕ) (cs : List (Component A)) (old text : List ℕ) → text ≡ old ++ 91 ∷ [] → IsArrayFrom code cs false 0 old text
 opened code cs old text is =
     record { whole = ap (λ (t : List ℕ). t ++ rest code cs false 0) is ∙ append_assoc old (91 ∷ []) (rest code cs false 0) }
@@ -34,12 +41,11 @@ pub one_more : {A : Type 0} (code : A → ℕ) (cs : List (Component A)) (later 
     → comma ≡ text ++ comma_if later → next ≡ comma ++ part code c → IsArrayFrom code cs later i old text → IsArrayFrom code cs true (i + 1) old next
 one_more code cs later i c old text comma next inside at separated written so_far =
     let behind = rest code cs true (i + 1) in
-    let same : suc i ≡ i + 1 = omega arith in
     record {
       whole = ap (λ (t : List ℕ). t ++ behind) (written ∙ ap (λ (t : List ℕ). t ++ part code c) separated)
           ∙ append_assoc (text ++ comma_if later) (part code c) behind
           ∙ append_assoc text (comma_if later) (part code c ++ behind)
-          ∙ ap (λ ds. text ++ items_text later (items_of (map data_of (map (lettered code) (runs ds))))) (sym (drop_one cs i c inside at ∙ ap (λ n. c ∷ drop n cs) same))
+          ∙ ap (λ (t : List ℕ). text ++ t) (sym (rest_one code cs later i c inside at))
           ∙ so_far.whole;
     }
 

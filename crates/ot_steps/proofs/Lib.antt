@@ -5,6 +5,7 @@ mod Gathering
 pub mod Running
 mod Untagging
 pub mod Delivering
+mod Short
 mod Texts
 pub mod Progress
 pub mod Quiet

@@ -17,7 +17,7 @@ use Rattle.ot_model.specs.Operation.{Operation}
 use Rattle.ot_model.specs.Table.{Client, Message, Phase, State, absent, phase_in}
 use Rattle.ot_machine.specs.Readers.{phase_name, ClientHas}
 use Rattle.ot_machine.specs.declared.state.Phase as shown
-use Rattle.ot_report.specs.Printed.{phase_word, refusal_text}
+use Rattle.ot_values.specs.Values.{phase_word, refusal_text}
 use Rattle.ot_steps.specs.Lines as lines
 use Rattle.ot_steps.specs.Lines.{Line, bare, plain_message, plain_operation}
 use Rattle.ot_steps.specs.Steps.{appended_by, buffer_of, client_in, document_after, document_in, end_line, has_document, line_after, message_in, named, opening_line, outstanding_of, placed, stop_line, with_client}

@@ -4,7 +4,7 @@ use Rattle.std.specs.Str.{encode_utf8_all}
 use Rattle.json.specs.Print.{quoted}
 use Rattle.ot_json.specs.Writing.{text_of_operation}
 use Rattle.ot_model.specs.Operation.{Operation}
-use Rattle.ot_report.specs.Printed.{phase_word, refusal_text}
+use Rattle.ot_values.specs.Values.{phase_word, refusal_text}
 use Rattle.ot_steps.specs.Lines.{Line, Message, Word, Edit, Take, Deliver, Ack, Join, Read, ReadServer}
 use Rattle.ot_steps.specs.Lines as lines
 

@@ -10,8 +10,8 @@ ghost use Rattle.ot_json.specs.Writing.{text_of_operation};
 use crate::operations::{push_components, push_decimal};
 use ot_client::Sent;
 use ot_isa::Tagged;
-use ot_report::{push_letters, push_quoted};
 use ot_text::{Doc, TextOp};
+use ot_values::{push_letters, push_quoted};
 use std::alloc::{AllocError, Global};
 
 /// So many bytes are held for a component at first: one of a few digits or letters, and its comma.

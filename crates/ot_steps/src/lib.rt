@@ -28,7 +28,7 @@ mod writing;
 
 pub use fields::{operation_text, push_array, push_plain_array};
 pub use laws::{downlinks_follow, fold_is_run, lines_fold};
-pub use lines::{print_end, print_opening, print_step, print_stop, state_name, word};
+pub use lines::{print_end, print_opening, print_step, print_stop, word};
 pub use moving::{applies, sends};
 pub use operations::push_decimal;
 pub use plain::plain_operation;

@@ -4,7 +4,6 @@ ghost use Rattle.std.specs.Prelude.{◌≡◌, ◌++◌, ◌<◌, codes, decimal
 ghost use Rattle.std.specs.Option.{option_copied, option_map};
 ghost use Rattle.ot_isa.specs.Program.{client_of, IsForClients};
 ghost use Rattle.ot_isa.specs.Tagging.{chars_of};
-ghost use Rattle.ot_report.specs.Printed.{phase_word};
 ghost use Rattle.ot_steps.specs.Lines.{bare, plain_operation, word_of};
 ghost use Rattle.ot_steps.specs.Steps as steps;
 ghost use Rattle.ot_steps.specs.Steps.{appended_by, buffer_of, client_in, document_after, document_in, end_line, line_after, message_in, named, opening_line, outstanding_of, placed, stop_line, with_client};
@@ -16,9 +15,9 @@ use crate::fields::{
 use crate::operations::push_decimal;
 use ot_client::Client;
 use ot_isa::{Instr, Schedule, Tagged};
-use ot_machine::{Machine, Phase, Refusal};
-use ot_report::refusal_name;
+use ot_machine::{Machine, Refusal};
 use ot_text::{Doc, TextOp};
+use ot_values::{phase_name, refusal_name};
 use std::alloc::{AllocError, Global};
 
 /// The instruction's word, as a schedule spells it.
@@ -33,18 +32,6 @@ pub fn word(instr: &Instr) -> &'static str
         Instr::Join(_) => "join",
         Instr::Read(_) => "read",
         Instr::ReadServer => "read-server",
-    }
-}
-
-/// A client's state as it is printed.
-pub fn state_name(phase: Phase) -> &'static str
-    ensures { result.now ≡ phase_word phase }
-{
-    match phase {
-        Phase::NotJoined => "not-joined",
-        Phase::Synchronized => "synchronized",
-        Phase::AwaitingConfirm => "awaiting-confirm",
-        Phase::AwaitingWithBuffer => "awaiting-with-buffer",
     }
 }
 
@@ -107,7 +94,7 @@ fn push_client(
     ensures { OnOk result (string_bytes text.new ≡ string_bytes text.old ++ fields_text (placed_fields (with_client (client_in machine.now client) (bare 0)))) }
 {
     push_number(text, "revision", machine.revision(client) as u64)?;
-    push_name(text, "state", state_name(machine.phase(client)))?;
+    push_name(text, "state", phase_name(machine.phase(client)))?;
     push_waiting(alloc, text, machine, client)
 }
 

@@ -1,7 +1,6 @@
 use Rattle.std.proofs.Common.{arith, subst, string_bytes, ◌+◌, List, ℕ}
-use Rattle.std.specs.Prelude.{Result, String, IfErr, IfOk, OnErr, ◌≡◌}
+use Rattle.std.specs.Prelude.{Result, IfErr, OnErr, OnOk, ◌≡◌}
 use Rattle.std.specs.Io.KnownBytes.{Appends}
-use Rattle.std.specs.declared.alloc.Global.{Global}
 use Rattle.streams.specs.Streams.{WritesPart}
 use Rattle.ot_model.specs.Table.{step}
 use Rattle.ot_model.specs.declared.shown.Refusal.{Refusal}
@@ -16,8 +15,8 @@ use Rattle.ot_explain.proofs.writing.write_moves.Goals as goal
 pub loop-number-init : goal.loop-number-init
 loop-number-init g c = is_begun c.args.lines.now c.args.schedule.now c.args.machine.now (g.W.Write.contents c.args.output.now) c.requires
 
-pub returns-in_err-paragraph-clause-err : goal.returns-in_err-paragraph-clause-err
-returns-in_err-paragraph-clause-err g c =
+pub returns-in_err-perform-clause-err : goal.returns-in_err-perform-clause-err
+returns-in_err-perform-clause-err g c =
     let s = c.args.schedule.now in
     let old = g.W.Write.contents c.args.output.now in
     let new = g.W.Write.contents c.loop-number.output in
@@ -32,16 +31,17 @@ returns-in_err-put-in-Ok-clause-err g c =
     let old = g.W.Write.contents c.args.output.now in
     let mid = g.W.Write.contents c.loop-number.output in
     let new = g.W.Write.contents c.put.new.writer in
-    let move = subst (λ (r : Result (String Global) Refusal). IfOk r (λ text. IsMove (line_at d c.loop-number.number) c.loop-number.number i c.loop-number.machine c.perform.new.machine (string_bytes text))) c.in-Ok.is c.in_ok-paragraph.ensures.paragraph in
+    let text = string_bytes c.perform.new.text in
+    let move = subst (λ (r : Result (Unit {0}) Refusal). OnOk r (IsMove (line_at d c.loop-number.number) c.loop-number.number i c.loop-number.machine c.perform.new.machine text)) c.in-Ok.is c.in_ok-perform.ensures.paragraph in
     let written = subst (λ (bytes : List ℕ). WritesPart mid new bytes) c.as_bytes.ensures.value c.in_err-put-in-Ok.ensures.err in
     err_is c.from_residual-in_err-put-in-Ok.result WriteFault (λ (f : StepsFault). MovesUpTo f d s old new) c.from_residual-in_err-put-in-Ok.ensures.1
-    (part_of_next d s c.loop-number.number i c.loop-number.machine c.perform.new.machine old mid (string_bytes c.in-Ok.paragraph) c.loop-number.invariant c.in-Some.ensures.some move new written)
+    (part_of_next d s c.loop-number.number i c.loop-number.machine c.perform.new.machine old mid text c.loop-number.invariant c.in-Some.ensures.some move new written)
 
 pub returns-in-Err-clause-ok : goal.returns-in-Err-clause-ok
 returns-in-Err-clause-ok g c =
     let i = c.in-Some.instr.now in
-    let refused = subst (λ (r : Result (String Global) Refusal). IfErr r (λ x. IsRefusal (step c.loop-number.machine i) x)) c.in-Err.is c.in_ok-paragraph.ensures.refused in
-    let same = subst (λ (r : Result (String Global) Refusal). OnErr r (c.perform.new.machine ≡ c.loop-number.machine)) c.in-Err.is c.in_ok-paragraph.ensures.unchanged in
+    let refused = subst (λ (r : Result (Unit {0}) Refusal). IfErr r (λ x. IsRefusal (step c.loop-number.machine i) x)) c.in-Err.is c.in_ok-perform.ensures.refused in
+    let same = subst (λ (r : Result (Unit {0}) Refusal). OnErr r (c.perform.new.machine ≡ c.loop-number.machine)) c.in-Err.is c.in_ok-perform.ensures.unchanged in
     is_stopped c.args.lines.now c.args.schedule.now c.loop-number.number i c.in-Err.refusal c.loop-number.machine c.perform.new.machine (g.W.Write.contents c.args.output.now) (g.W.Write.contents c.loop-number.output)
     c.loop-number.invariant c.in-Some.ensures.some refused same
 
@@ -53,9 +53,10 @@ loop-number-preserved g c =
     let old = g.W.Write.contents c.args.output.now in
     let mid = g.W.Write.contents c.loop-number.output in
     let new = g.W.Write.contents c.put.new.writer in
-    let move = subst (λ (r : Result (String Global) Refusal). IfOk r (λ text. IsMove (line_at d c.loop-number.number) c.loop-number.number i c.loop-number.machine c.perform.new.machine (string_bytes text))) c.in-Ok.is c.in_ok-paragraph.ensures.paragraph in
+    let text = string_bytes c.perform.new.text in
+    let move = subst (λ (r : Result (Unit {0}) Refusal). OnOk r (IsMove (line_at d c.loop-number.number) c.loop-number.number i c.loop-number.machine c.perform.new.machine text)) c.in-Ok.is c.in_ok-perform.ensures.paragraph in
     let written = subst (λ (bytes : List ℕ). Appends mid new bytes) c.as_bytes.ensures.value c.in_ok-put-in-Ok.ensures.ok in
-    is_next d s c.loop-number.number i c.loop-number.machine c.perform.new.machine old mid (string_bytes c.in-Ok.paragraph) c.loop-number.invariant c.in-Some.ensures.some move new written
+    is_next d s c.loop-number.number i c.loop-number.machine c.perform.new.machine old mid text c.loop-number.invariant c.in-Some.ensures.some move new written
 
 pub returns-clause-ok : goal.returns-clause-ok
 returns-clause-ok g c =

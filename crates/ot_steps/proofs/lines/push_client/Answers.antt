@@ -9,5 +9,5 @@ returns c =
     on_ok c.push_waiting.result
     (client_placed c.args.machine.now c.args.client c.revision.result c.phase.result (string_bytes c.args.text.now) (string_bytes c.push_number.new.text) (string_bytes c.push_name.new.text) (string_bytes c.push_waiting.new.text)
     c.revision.ensures c.phase.ensures c.in_ok-push_number.ensures
-    (c.in_ok-push_name.ensures ∙ ap (λ (name : List ℕ). string_bytes c.push_number.new.text ++ field_text (record { key = codes "state"; value = Name name })) c.state_name.ensures))
+    (c.in_ok-push_name.ensures ∙ ap (λ (name : List ℕ). string_bytes c.push_number.new.text ++ field_text (record { key = codes "state"; value = Name name })) c.phase_name.ensures))
     c.push_waiting.ensures

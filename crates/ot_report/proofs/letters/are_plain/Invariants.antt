@@ -1,5 +1,0 @@
-use Rattle.ot_report.proofs.Escaping.{IsPlainTo}
-use Rattle.ot_report.proofs.letters.are_plain.Given as goal
-
-abbrev pub invariant-loop-item : goal.invariant-loop-item
-invariant-loop-item g l = IsPlainTo g.T.Letter.code l.letters l.item-index

@@ -1,5 +1,0 @@
-use Rattle.ot_report.proofs.Ascii.{IsPutTo}
-use Rattle.ot_report.proofs.letters.put_ascii.Given as goal
-
-abbrev pub invariant-loop-place : goal.invariant-loop-place
-invariant-loop-place g l = IsPutTo g.T.Letter.code l.letters l.place l.bytes

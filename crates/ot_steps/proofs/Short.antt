@@ -1,0 +1,120 @@
+-- Short items, gathered in bytes.
+use Rattle.std.proofs.Common.{◌≡◌, ℕ, zero, suc, ◌+◌, ◌-◌, ◌<◌, ◌≤◌, List, [], ◌∷◌, ◌++◌, length, map, set, take, get_or, sym, ap, ◌∙◌, arith, append_assoc, length-set, refl, Vec, Global, Result, Ok, Err, MatchResult, IsOk, IsUtf8}
+use Rattle.std.specs.Prelude.{true, decimal}
+use Rattle.std.specs.Char.{encode_utf8}
+use Rattle.std.specs.Str.{IsAscii, encode_utf8_all}
+use Rattle.std.proofs.lemmas.Fmt.{decimal_digit}
+use Rattle.std.proofs.lemmas.Grind.{take-set_at}
+use Rattle.std.proofs.lemmas.List.{append-nil}
+use Rattle.std.proofs.lemmas.Str.{encode_ascii, IsAscii-append, IsUtf8-from_ascii}
+use Rattle.std.proofs.lemmas.Str.Ascii.{IsAscii-nil, IsAscii-cons}
+use Rattle.json.specs.Print.{quoted}
+use Rattle.json.proofs.Printed.Strings.{escape_byte_plain}
+use Rattle.serde_json.specs.Written.{compact_text}
+use Rattle.ot_text.specs.declared.Component.{Component}
+use Rattle.ot_text.specs.declared.Component.TheVariants.{Retain, Insert, Delete}
+use Rattle.ot_text.specs.Components.{run_of}
+use Rattle.ot_text.specs.Run.{IsFilled, Skip}
+use Rattle.ot_json.specs.Writing.{data_of}
+use Rattle.ot_steps.proofs.Arrays.{part, rest, rest_one}
+
+-- ---- bytes put one behind the other
+
+pub put_two : (bytes : List ℕ) (at a b : ℕ) → at + 2 ≤ length bytes → take (at + 2) (set (set bytes at a) (at + 1) b) ≡ take at bytes ++ a ∷ b ∷ []
+put_two bytes at a b room =
+    take-set_at (set bytes at a) (at + 1) (at + 2) b (omega arith) (omega (arith, room, length-set bytes at a))
+    ∙ ap (λ (t : List ℕ). t ++ b ∷ []) (take-set_at bytes at (at + 1) a (omega arith) (omega (arith, room)))
+    ∙ append_assoc (take at bytes) (a ∷ []) (b ∷ [])
+
+pub put_three : (bytes : List ℕ) (at a b c : ℕ) → at + 3 ≤ length bytes → take (at + 3) (set (set (set bytes at a) (at + 1) b) (at + 2) c) ≡ take at bytes ++ a ∷ b ∷ c ∷ []
+put_three bytes at a b c room =
+    let two = set (set bytes at a) (at + 1) b in
+    let long : length two ≡ length bytes = length-set (set bytes at a) (at + 1) b ∙ length-set bytes at a in
+    take-set_at two (at + 2) (at + 3) c (omega arith) (omega (arith, room, long))
+    ∙ ap (λ (t : List ℕ). t ++ c ∷ []) (put_two bytes at a b (omega (arith, room)))
+    ∙ append_assoc (take at bytes) (a ∷ b ∷ []) (c ∷ [])
+
+pub put_four : (bytes : List ℕ) (at a b c d : ℕ) → at + 4 ≤ length bytes → take (at + 4) (set (set (set (set bytes at a) (at + 1) b) (at + 2) c) (at + 3) d) ≡ take at bytes ++ a ∷ b ∷ c ∷ d ∷ []
+put_four bytes at a b c d room =
+    let two = set (set bytes at a) (at + 1) b in
+    let three = set two (at + 2) c in
+    let long : length three ≡ length bytes = length-set two (at + 2) c ∙ length-set (set bytes at a) (at + 1) b ∙ length-set bytes at a in
+    take-set_at three (at + 3) (at + 4) d (omega arith) (omega (arith, room, long))
+    ∙ ap (λ (t : List ℕ). t ++ d ∷ []) (put_three bytes at a b c (omega (arith, room)))
+    ∙ append_assoc (take at bytes) (a ∷ b ∷ c ∷ []) (d ∷ [])
+
+-- ---- the text of a short component
+
+pub retained : {A : Type 0} (code : A → ℕ) (c : Component A) (n : ℕ) → c ≡ Retain n → n ≤ 9 → part code c ≡ (48 + n) ∷ []
+retained code c n is low = ap (part code) is ∙ decimal_digit n (omega (arith, low))
+
+skipped : (n : ℕ) → 0 < n → n ≤ 9 → compact_text (data_of (Skip n)) ≡ 45 ∷ (48 + n) ∷ []
+skipped zero some low = absurd (omega (arith, some))
+skipped (suc n) some low =
+    let less : suc n - 1 ≡ n = omega arith in
+    ap (λ (m : ℕ). 45 ∷ decimal (suc m)) less ∙ ap (λ (t : List ℕ). 45 ∷ t) (decimal_digit (suc n) (omega (arith, low)))
+
+pub deleted : {A : Type 0} (code : A → ℕ) (c : Component A) (n : ℕ) → c ≡ Delete n → IsFilled (run_of c) → n ≤ 9 → part code c ≡ 45 ∷ (48 + n) ∷ []
+deleted code c n is some low = ap (part code) is ∙ skipped n (rw is at some) low
+
+one_letter : {A : Type 0} (code : A → ℕ) (letters : List A) (x : A) (c : ℕ) → length letters ≡ 1 → x ≡ get_or letters 0 x → c ≡ code x → c < 128 → encode_utf8_all (map code letters) ≡ c ∷ []
+one_letter code [] x c one at is ascii = absurd (omega (arith, one))
+one_letter code (y ∷ []) x c one at is ascii = append-nil (encode_utf8 (code y)) ∙ ap (λ z. encode_utf8 (code z)) (sym at) ∙ ap encode_utf8 (sym is) ∙ encode_ascii c ascii
+one_letter code (y ∷ z ∷ letters) x c one at is ascii = absurd (omega (arith, one))
+
+pub inserted : {A : Type 0} (code : A → ℕ) (component : Component A) (letters : Vec A Global) (x : A) (c : ℕ) → component ≡ Insert letters → length letters.items ≡ 1 → x ≡ get_or letters.items 0 x → c ≡ code x
+    → 32 ≤ c → c < 128 → (c ≡ 34 → ⊥) → (c ≡ 92 → ⊥) → part code component ≡ 34 ∷ c ∷ 34 ∷ []
+inserted code component letters x c component_is one at is printable ascii unquoted unescaped =
+    ap (part code) component_is
+    ∙ ap quoted (one_letter code letters.items x c one at is ascii)
+    ∙ ap (λ (t : List ℕ). 34 ∷ ((t ++ []) ++ 34 ∷ [])) (escape_byte_plain c unquoted unescaped printable)
+
+-- ---- gathered bytes are a text
+
+pub reads : {T E : Type 0} (r : Result T E) (P : T → Type 0) (Q : E → Type 0) (bytes : List ℕ) → IsAscii bytes → MatchResult r P (λ e. (IsUtf8 bytes → ⊥) × Q e) → IsOk r
+reads (Ok text) P Q bytes ascii read = refl
+reads (Err fault) P Q bytes ascii read = absurd (read.0 (IsUtf8-from_ascii bytes ascii))
+
+-- ---- items that are gathered
+
+-- the text, the gathered bytes and what is still to be written are all items behind what stood before
+pub record IsGathered {A : Type 0} (code : A → ℕ) (cs : List (Component A)) (i : ℕ) (old text bytes : List ℕ) (filled : ℕ) : Type 0 where
+  pub ascii : IsAscii (take filled bytes)
+  pub within : filled ≤ length bytes
+  pub whole : (text ++ take filled bytes) ++ rest code cs true i ≡ old ++ rest code cs true 0
+
+pub gathered_none : {A : Type 0} (code : A → ℕ) (cs : List (Component A)) (old bytes : List ℕ) → IsGathered code cs 0 old old bytes 0
+gathered_none code cs old bytes = record { ascii = IsAscii-nil; within = omega arith; whole = ap (λ (t : List ℕ). t ++ rest code cs true 0) (append-nil old) }
+
+-- a short one
+pub gathered_more : {A : Type 0} (code : A → ℕ) (cs : List (Component A)) (i : ℕ) (c : Component A) (old text bytes more : List ℕ) (filled end : ℕ) → i < length cs → c ≡ get_or cs i c
+    → take end more ≡ take filled bytes ++ 44 ∷ part code c → IsAscii (part code c) → end ≤ length more → IsGathered code cs i old text bytes filled → IsGathered code cs (i + 1) old text more end
+gathered_more code cs i c old text bytes more filled end inside at put ascii within so_far =
+    let before = take filled bytes in
+    let behind = rest code cs true (i + 1) in
+    record {
+      ascii = rw put (IsAscii-append before (44 ∷ part code c) so_far.ascii (IsAscii-cons 44 (part code c) (omega arith) ascii));
+      within = within;
+      whole = ap (λ (t : List ℕ). (text ++ t) ++ behind) put
+          ∙ ap (λ (t : List ℕ). t ++ behind) (sym (append_assoc text before (44 ∷ part code c)))
+          ∙ append_assoc (text ++ before) (44 ∷ part code c) behind
+          ∙ ap (λ (t : List ℕ). (text ++ before) ++ t) (sym (rest_one code cs true i c inside at))
+          ∙ so_far.whole;
+    }
+
+-- one that is not
+pub gathered_long : {A : Type 0} (code : A → ℕ) (cs : List (Component A)) (i : ℕ) (c : Component A) (old text bytes more flushed comma next : List ℕ) (filled : ℕ) → i < length cs → c ≡ get_or cs i c
+    → more ≡ bytes → flushed ≡ text ++ take filled more → comma ≡ flushed ++ 44 ∷ [] → next ≡ comma ++ part code c → IsGathered code cs i old text bytes filled → IsGathered code cs (i + 1) old next more 0
+gathered_long code cs i c old text bytes more flushed comma next filled inside at same pushed separated written so_far =
+    let before = text ++ take filled bytes in
+    let behind = rest code cs true (i + 1) in
+    record {
+      ascii = IsAscii-nil;
+      within = omega arith;
+      whole = ap (λ (t : List ℕ). t ++ behind) (append-nil next ∙ written)
+          ∙ append_assoc comma (part code c) behind
+          ∙ ap (λ (t : List ℕ). t ++ (part code c ++ behind)) (separated ∙ ap (λ (t : List ℕ). t ++ 44 ∷ []) (pushed ∙ ap (λ (t : List ℕ). text ++ take filled t) same))
+          ∙ append_assoc before (44 ∷ []) (part code c ++ behind)
+          ∙ ap (λ (t : List ℕ). before ++ t) (sym (rest_one code cs true i c inside at))
+          ∙ so_far.whole;
+    }
