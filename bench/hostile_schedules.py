@@ -108,6 +108,41 @@ def edited_at_places(count, parts=6000, edits=3000):
     return lines
 
 
+def grid(first, step, count, length, gone):
+    """An operation that puts a character in at so many places, so far from each other, or takes those characters out again."""
+    parts = [first]
+    for k in range(count):
+        rest = step if k + 1 < count else length - first - step * (count - 1)
+        parts += [-1 if gone else '"x"', rest]
+    return "[" + ",".join(str(it) for it in parts) + "]"
+
+
+def split_deletion(clients=64, groups=7000, places=700):
+    """A client that deletes all, and takes an operation that splits its deletion into 14,000 components; then 2,604 operations, each of which splits or joins
+    it at 700 more places. They come from 62 clients that join one after the other, since a client may insert 15,000 characters."""
+    length = 30000
+    lines = [f"clients {clients}", "present 2", 'start "' + "a" * length + '"', f"edit 0 [-{length}]"]
+    lines += [f"edit 1 {grid(1, 4, groups, length, False)}", "take 1", "ack 1"]
+    length, entries = length + groups, 0
+    for c in range(2, clients):
+        lines.append(f"join {c}")
+        for k in range(2 * (15000 // places)):
+            lines += [f"edit {c} {grid(3, 50, places, length, k % 2)}", f"take {c}", f"ack {c}"]
+            entries += 1
+    return [*lines, *["deliver 0"] * (entries + 1)]
+
+
+def split_at_many_places(clients=64, groups=7000, places=700):
+    """64 clients that delete all of a text but what splits the deletion into 14,000 components, and then put characters in at 700 places and take them out again."""
+    length = 30000
+    lines = [f"clients {clients}", 'start "' + "a" * length + '"']
+    for c in range(clients):
+        lines += [f'edit {c} [{length},"b"]', f"edit {c} {grid(1, 4, groups, length + 1, False)}"]
+        for k in range(2 * ((15000 - groups) // places)):
+            lines.append(f"edit {c} {grid(3, 50, places, length + 1 + groups, k % 2)}")
+    return lines
+
+
 def debugged(lines, *commands):
     return [*lines, "%%", *commands]
 
@@ -125,6 +160,8 @@ SHAPES = {
     "pending": pending,
     "both-ends": lambda: at_places(2),
     "five-places": lambda: at_places(5),
+    "split-deletion": split_deletion,
+    "many-places-edited": split_at_many_places,
     "pending-debugged": lambda: debugged(pending(), "run", "back 1"),
     "going-back": lambda: debugged(pending(), "run", "back 20000"),
     "both-ends-debugged": lambda: debugged(at_places(2), "run", "back 14000"),
