@@ -1,10 +1,12 @@
 -- How a place in an operation's components moves on.
 use Rattle.std.proofs.Common.{◌≡◌, ℕ, suc, zero, ◌+◌, ◌-◌, ◌<◌, ◌≤◌, List, [], ◌∷◌, length, take, drop, get_or, sym, ap, ◌∙◌, arith}
-use Rattle.std.proofs.lemmas.List.{length-map, take_rest, drop-map}
+use Rattle.std.proofs.lemmas.List.{length-map, take-append-drop, take_rest, drop-map}
 use Rattle.std.proofs.Math.Seq.{take-length}
 use Rattle.ot_text.specs.Run.{Run, Keep, Add, Skip, base_of}
 use Rattle.ot_text.specs.declared.Component.{Component}
 use Rattle.ot_text.specs.Components.{run_of, runs}
+use Rattle.ot_text.proofs.RunLemmas.{base_of-append}
+use Rattle.ot_algebra.proofs.RunLengths.{target_of-append}
 use Rattle.ot_algebra.specs.Cursor.{target_of, EndsIn}
 use Rattle.ot_algebra.specs.Places.{IsPlace}
 use Rattle.ot_algebra.specs.declared.ahead.Place.{Place}
@@ -56,6 +58,37 @@ place_past cs c p q below is at_is taken_is made_is w =
       taken = omega (arith, ap (λ k. base_of (drop k (runs cs))) at_is, taken_is, w.taken, base_at cs p.at c below is);
       made = omega (arith, ap (λ k. target_of (drop k (runs cs))) at_is, made_is, w.made, target_at cs p.at c below is);
     }
+
+-- back before one component
+
+module _ {T : Type 0} (cs : List (Component T)) (c : Component T) (p : Place) (some : 0 < p.at) (is : c ≡ get_or cs (p.at - 1) c) (w : IsPlace (runs cs) p) where
+  below : p.at - 1 < length cs
+  below = omega (arith, some, w.within, length-map cs run_of)
+
+  again : p.at - 1 + 1 ≡ p.at
+  again = omega (arith, some)
+
+  base_back : base_of (drop (p.at - 1) (runs cs)) ≡ base_of (run_of c ∷ []) + base_of (drop p.at (runs cs))
+  base_back = base_at cs (p.at - 1) c below is ∙ ap (λ k. base_of (run_of c ∷ []) + base_of (drop k (runs cs))) again
+
+  target_back : target_of (drop (p.at - 1) (runs cs)) ≡ target_of (run_of c ∷ []) + target_of (drop p.at (runs cs))
+  target_back = target_at cs (p.at - 1) c below is ∙ ap (λ k. target_of (run_of c ∷ []) + target_of (drop k (runs cs))) again
+
+  pub room_back : (base_of (run_of c ∷ []) ≤ p.taken) × (target_of (run_of c ∷ []) ≤ p.made)
+  room_back = (
+    omega (arith, w.taken, base_back, base_of-append (take (p.at - 1) (runs cs)) (drop (p.at - 1) (runs cs)), ap base_of (take-append-drop (p.at - 1) (runs cs))),
+    omega (arith, w.made, target_back, target_of-append (take (p.at - 1) (runs cs)) (drop (p.at - 1) (runs cs)), ap target_of (take-append-drop (p.at - 1) (runs cs))),
+  )
+
+  pub place_back :
+      (taken made : ℕ) → taken ≡ base_of (run_of c ∷ []) → made ≡ target_of (run_of c ∷ [])
+      → IsPlace (runs cs) (record { at = p.at - 1; taken = p.taken - taken; made = p.made - made })
+  place_back taken made taken_is made_is =
+      record {
+        within = omega (arith, w.within);
+        taken = omega (arith, w.taken, taken_is, base_back, room_back.0);
+        made = omega (arith, w.made, made_is, target_back, room_back.1);
+      }
 
 -- all but the first component
 

@@ -14,6 +14,7 @@ use Rattle.ot_algebra.specs.declared.cursor.Cursor.{Cursor}
 use Rattle.ot_algebra.specs.declared.ahead.Measure.{Measure}
 use Rattle.ot_algebra.specs.declared.ahead.Measure.TheVariants.{Taken}
 use Rattle.ot_algebra.specs.declared.ahead.Stay.{Stay}
+use Rattle.ot_algebra.proofs.LengthLaws.{second_after-base}
 use Rattle.ot_algebra.proofs.RunLengths.{length-image_from, target_of-append}
 use Rattle.ot_algebra.proofs.Staying.{ahead_next, ahead_stay, progress_stay, skipped_all}
 use Rattle.ot_algebra.proofs.TransformArms.{Whole, arm_part, small}
@@ -76,6 +77,12 @@ written_whole a b over w next second more at_a at_b next_b keeps_a keeps_b count
     (skipped_all count at_a.head (map run_of at_a.rest.now) some all)
     (arm_part a b w.built second count some at_a.head at_b.head (map run_of at_a.rest.now) (map run_of at_b.rest.now) (omega (arith, all)) in_second before.progress)))
     before
+
+-- what is left to make of the first one's runs, the second has left to take
+pub made_left :
+    {A : Type 0} (a b : Operation A) (over : List (Run A)) (w : Rewriting A) (second : Operation A) (rest xs ys : List (Run A))
+    → Written a b over w second rest xs ys → second.base + target_of xs ≡ length a.image
+made_left a b over w second rest xs ys here = here.progress.second_base ∙ second_after-base a b
 
 -- how long the rest is
 

@@ -1,17 +1,29 @@
 //! Which of an operation's components another one leaves as they are.
+//!
+//! Looking for them costs no more than a few times what passing them one by one does. There is one look for each component of the other operation, and it
+//! ends where the retain ends at which the other stands, or with the operation's own last retain before that; where it finds few, it has passed few. So two
+//! looks pass the same component only where they cannot stay since what is written so far may not stand before them (`Rewrite::keep` refuses): then there
+//! is another look behind the next component. As soon as a retain is written there, all that may follow it in the operation may follow it here too, and no
+//! more than an insertion and a deletion stand between two retains: a transformation is refused once within one retain of the other operation, a
+//! composition twice at most.
 
 ghost use Rattle.std.specs.Prelude.{◌≡◌, ◌+◌, ◌≤◌, ◌<◌, ◌^◌, [], ◌∷◌, IfSome};
 ghost use Rattle.ot_text.specs.Run.{base_of};
 ghost use Rattle.ot_text.specs.Components.{run_of, runs};
-ghost use Rattle.ot_algebra.specs.Cursor.{target_of};
+ghost use Rattle.ot_algebra.specs.Cursor.{kept_of, runs_left, target_of};
 ghost use Rattle.ot_algebra.specs.Places.{IsPlace, Stays, reach};
 ghost use Rattle.ot_text.specs.declared.TheConstants.{LIMIT};
+ghost use Rattle.ot_algebra.specs.declared.ahead.Measure.TheVariants.{Taken};
 
 use crate::cursor::{self, Cursor};
 use ot_text::Component;
 
 /// From how many components on it pays to look which of them stay.
 pub(crate) const MANY: usize = 16;
+
+/// Of how many components the other operation may be for any to stay. Each of its places may move all components behind it once, when the change is put in
+/// place; a move of one costs about a twenty-fifth of writing it anew.
+pub(crate) const PLACES: usize = 32;
 
 // How many of them have to stay for the rest to be written as a part of its own.
 const ENOUGH: usize = 8;
@@ -39,6 +51,12 @@ pub(crate) struct Stay<'a, T> {
     pub(crate) behind: Cursor<'a, T>,
 }
 
+/// Fewer than how many components of the other operation, which has so many, are left when it is first looked which ones stay. Of an operation of many
+/// places none is left then: all is written anew.
+pub(crate) fn first_look(others: usize) -> usize {
+    if others > PLACES { 0 } else { others }
+}
+
 /// How many elements the components before the place take, or make.
 pub(crate) fn reach(place: Place, by: Measure) -> usize
     ensures { result ≡ reach by place }
@@ -46,6 +64,18 @@ pub(crate) fn reach(place: Place, by: Measure) -> usize
     match by {
         Measure::Taken => place.taken,
         Measure::Made => place.made,
+    }
+}
+
+// How many elements the component takes, and how many it makes.
+fn lengths<T>(component: &Component<T>) -> (usize, usize)
+    ensures taken { result.0 ≡ base_of (run_of component.now ∷ []) }
+    ensures made { result.1 ≡ target_of (run_of component.now ∷ []) }
+{
+    match component {
+        Component::Retain(count) => (*count, *count),
+        Component::Insert(text) => (0, text.len()),
+        Component::Delete(count) => (*count, 0),
     }
 }
 
@@ -58,11 +88,7 @@ fn past<T>(place: Place, component: &Component<T>) -> Place
     ensures taken { result.taken ≡ place.taken + base_of (run_of component.now ∷ []) }
     ensures made { result.made ≡ place.made + target_of (run_of component.now ∷ []) }
 {
-    let (taken, made) = match component {
-        Component::Retain(count) => (*count, *count),
-        Component::Insert(text) => (0, text.len()),
-        Component::Delete(count) => (*count, 0),
-    };
+    let (taken, made) = lengths(component);
     Place {
         at: place.at + 1,
         taken: place.taken + taken,
@@ -93,18 +119,39 @@ fn last_retain<T>(components: &[Component<T>], by: Measure, count: usize) -> Pla
     last
 }
 
-/// The components that stay where another operation keeps the next `count` elements, of those that they take or of those that they make: as many
-/// as end before the last retain that it keeps something of, and what it keeps of that one. None where they are few.
-pub(crate) fn staying<T: Copy>(
+// The last retain before a place, or the first component of all. It is near the place: no more than an insertion and a deletion stand between two retains.
+fn retain_before<T>(components: &[Component<T>], end: Place) -> Place
+    requires { IsPlace (runs components.now) end }
+    ensures place { IsPlace (runs components.now) result }
+    ensures taken { result.taken ≤ end.taken }
+{
+    let mut place = end;
+    while place.at > 0 {
+        let component = &components[place.at - 1];
+        let (taken, made) = lengths(component);
+        place = Place {
+            at: place.at - 1,
+            taken: place.taken - taken,
+            made: place.made - made,
+        };
+        if let Component::Retain(_) = component {
+            return place;
+        }
+    }
+    place
+}
+
+// The components before a place stay, and of the retain that stands there what is within `count` elements. None where they are few.
+fn staying_up_to<T: Copy>(
     components: &[Component<T>],
+    place: Place,
     by: Measure,
     count: usize,
 ) -> Option<Stay<'_, T>>
-    requires base_fits { base_of (runs components.now) ≤ LIMIT }
-    requires target_fits { target_of (runs components.now) ≤ LIMIT }
+    requires place { IsPlace (runs components.now) place }
+    requires within { reach by place ≤ count }
     ensures { IfSome result (λ found. Stays (runs components.now) by count found) }
 {
-    let place = last_retain(components, by, count);
     if place.at < ENOUGH {
         return None;
     }
@@ -118,4 +165,48 @@ pub(crate) fn staying<T: Copy>(
         then,
         behind: cursor::skip(at, then),
     })
+}
+
+/// The components that stay where another operation keeps the next `count` elements, of those that they take or of those that they make: as many
+/// as end before the last retain that it keeps something of, and what it keeps of that one. None where they are few.
+pub(crate) fn staying<T: Copy>(
+    components: &[Component<T>],
+    by: Measure,
+    count: usize,
+) -> Option<Stay<'_, T>>
+    requires base_fits { base_of (runs components.now) ≤ LIMIT }
+    requires target_fits { target_of (runs components.now) ≤ LIMIT }
+    ensures { IfSome result (λ found. Stays (runs components.now) by count found) }
+{
+    staying_up_to(components, last_retain(components, by, count), by, count)
+}
+
+/// As `staying`, where the other operation is on the same document and stands at `other`; all the components make `made` elements. Where it keeps
+/// all that is left, nothing is counted: they take what it keeps.
+pub(crate) fn staying_beside<'a, T: Copy>(
+    components: &'a [Component<T>],
+    made: usize,
+    other: Cursor<'_, T>,
+) -> Option<Stay<'a, T>>
+    requires same_base { base_of (runs components.now) ≡ base_of (runs_left other) }
+    requires made { made ≡ target_of (runs components.now) }
+    requires base_fits { base_of (runs components.now) ≤ LIMIT }
+    requires target_fits { target_of (runs components.now) ≤ LIMIT }
+    ensures { IfSome result (λ found. Stays (runs components.now) Taken (kept_of other.entry.head) found) }
+{
+    let count = cursor::kept(other.head);
+    if count == 0 || !other.rest.is_empty() {
+        return staying(components, Measure::Taken, count);
+    }
+    let end = Place {
+        at: components.len(),
+        taken: count,
+        made,
+    };
+    staying_up_to(
+        components,
+        retain_before(components, end),
+        Measure::Taken,
+        count,
+    )
 }

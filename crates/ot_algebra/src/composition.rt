@@ -33,7 +33,8 @@ pub fn compose<T: Element>(
     changed(a.copy()?, change)
 }
 
-/// The composition, as a change of `a`. Long runs of components whose elements `b` keeps stay where they lie: they cost a look each.
+/// The composition, as a change of `a`. Where `b` has at most `PLACES` components, long runs of components whose elements it keeps stay where they lie: they
+/// cost a look each, or up to three. Where it has more, all is written anew: then it costs the components of both, and the text that is inserted.
 pub(crate) fn composed<T: Element>(
     alloc: Global,
     a: &TextOp<T>,
@@ -48,8 +49,8 @@ pub(crate) fn composed<T: Element>(
     let others = b.components();
     let mut at_a = cursor::start(ours);
     let mut at_b = cursor::start(others);
-    // How many components of `b` were left when those ahead were last looked at.
-    let mut looked = others.len();
+    // A look is worth its cost where fewer components of `b` are left than at the last one.
+    let mut looked = ahead::first_look(others.len());
     let mut built = Rewrite::new(alloc, a, room(ours.len(), others.len()))?;
     loop {
         if let Front::Delete(count) = at_a.head {
@@ -83,6 +84,9 @@ pub(crate) fn composed<T: Element>(
         if stays {
             at_a = stay.behind;
             at_b = cursor::skip(at_b, stay.place.made + stay.then);
+        } else {
+            // Behind the next component they may stay after all.
+            looked = others.len();
         }
     }
 }

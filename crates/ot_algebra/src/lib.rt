@@ -21,11 +21,13 @@
 //!                    done     │ at_b: Delete 4, rest: none
 //! ```
 //!
-//! Each turn of a loop ends a component of `a` or `b`, so the cost is that of the components of both and of the text
+//! Each turn of a loop ends a component of `a` or `b`, so a loop costs no more than the components of both and the text
 //! that is inserted: nothing is paid for each character that is kept or deleted.
 //!
 //! Where `b` keeps much of an `a` of many components, long runs of these stay where they lie (`ahead`), and only what `b` touches is written: the result
-//! is a change of `a`, made of `ot_text::Rewrite`.
+//! is a change of `a`, made of `ot_text::Rewrite`. `transform` does not even look at the components behind the last place that `b` changes. A change is a list
+//! of parts, and to put it in place costs what is written and, for each part that changes the number of components, a move of all those behind it. So nothing
+//! stays where `b` has more than 32 components: then everything is written anew, and the cost is that of the components of both again.
 //!
 //! Contracts: `specs/Compose.antt` has `compose`, `specs/Merge.antt` has `merge`, `first_after` and `second_after`, and
 //! `specs/Laws.antt` the laws, each of which is the contract of a function in [`laws`]. `specs/Cursor.antt` serves the

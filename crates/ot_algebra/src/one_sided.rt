@@ -5,15 +5,16 @@ ghost use Rattle.ot_text.specs.Operation.{news};
 ghost use Rattle.ot_algebra.specs.Merge.{first_after, second_after};
 ghost use Rattle.ot_text.specs.declared.TheConstants.{LIMIT};
 
-use crate::ahead::MANY;
+use crate::ahead::{MANY, PLACES};
 use crate::cursor::{self, Front};
 use crate::transformation::{SPLIT, add_part, changed, rewritten};
 use ot_text::{Component, Element, TextOp, only_memory};
 use std::alloc::AllocError;
 
-/// What `a` becomes after `b`: the first result of `transform`, under its conditions, for an `a` that is no longer wanted, as a
-/// server needs it that carries an operation over its log. The texts of a short `a` move. Of a long one, in components, those that `b` touches
-/// are made anew, and the others stay where they are: it costs a look at these, and a move of them where the number of those before changes.
+/// What `a` becomes after `b`: the first result of `transform`, under its conditions, for an `a` that is no longer wanted, as a server needs it that
+/// carries an operation over its log. Where `a` has fewer than 16 components, or `b` more than 32, the texts of `a` move, and it costs the components of
+/// both. Else the components of `a` that `b` touches are made anew, and the others stay where they are: it costs a look, or two, at those before the last
+/// that `b` touches, and for each place at which their number changes a move of those behind.
 ///
 /// `Err` comes only where memory was refused, and `a` is gone then; `b` is only read.
 pub fn transform_first<T: Element>(a: TextOp<T>, b: &TextOp<T>) -> Result<TextOp<T>, AllocError>
@@ -21,7 +22,7 @@ pub fn transform_first<T: Element>(a: TextOp<T>, b: &TextOp<T>) -> Result<TextOp
     requires fits { a.base + length (news a.image) + length (news b.now.image) ≤ LIMIT }
     ensures { IfOk result (λ op. op ≡ first_after a b.now) }
 {
-    if a.components().len() < MANY {
+    if a.components().len() < MANY || b.components().len() > PLACES {
         return carry(a, b);
     }
     let (change, _) = rewritten(a.allocator(), &a, b)?;
@@ -74,8 +75,8 @@ fn carry<T: Element>(a: TextOp<T>, b: &TextOp<T>) -> Result<TextOp<T>, AllocErro
     }
 }
 
-/// What `b` becomes after `a`: the second result of `transform`, under its conditions. It costs `b`, the components of `a` that `b` touches, and a look
-/// at the others.
+/// What `b` becomes after `a`: the second result of `transform`, under its conditions. It costs `b`, the components of `a` that `b` touches, and a look, or
+/// two, at those between them; where `b` has more than 32 components it costs all components of `a`.
 ///
 /// `Err` comes only where memory was refused; `a` and `b` are only read.
 pub fn transform_second<T: Element>(a: &TextOp<T>, b: &TextOp<T>) -> Result<TextOp<T>, AllocError>

@@ -83,9 +83,6 @@ pub record IsGathered {A : Type 0} (code : A → ℕ) (cs : List (Component A)) 
   pub within : filled ≤ length bytes
   pub whole : (text ++ take filled bytes) ++ rest code cs true i ≡ old ++ rest code cs true 0
 
-pub gathered_none : {A : Type 0} (code : A → ℕ) (cs : List (Component A)) (old bytes : List ℕ) → IsGathered code cs 0 old old bytes 0
-gathered_none code cs old bytes = record { ascii = IsAscii-nil; within = omega arith; whole = ap (λ (t : List ℕ). t ++ rest code cs true 0) (append-nil old) }
-
 -- a short one
 pub gathered_more : {A : Type 0} (code : A → ℕ) (cs : List (Component A)) (i : ℕ) (c : Component A) (old text bytes more : List ℕ) (filled end : ℕ) → i < length cs → c ≡ get_or cs i c
     → take end more ≡ take filled bytes ++ 44 ∷ part code c → IsAscii (part code c) → end ≤ length more → IsGathered code cs i old text bytes filled → IsGathered code cs (i + 1) old text more end

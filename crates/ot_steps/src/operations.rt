@@ -141,6 +141,9 @@ fn push_gathered(text: &mut String, bytes: &[u8]) -> Result<(), AllocError>
     requires { IsAscii bytes.now }
     ensures { OnOk result (string_bytes text.new ≡ string_bytes text.old ++ bytes.now) }
 {
+    if bytes.is_empty() {
+        return Ok(());
+    }
     text.push_str(std::str::from_utf8(bytes).unwrap())
 }
 

@@ -4,9 +4,9 @@ use Rattle.std.specs.Prelude.{slice_get}
 use Rattle.std.specs.List.{slice_range}
 use Rattle.std.proofs.lemmas.List.{drop_at, drop_all, drop_more, length-take, take-append-drop}
 use Rattle.ot_text.specs.Run.{Run}
-use Rattle.ot_text.specs.Splices.{Piece, AreInOrder, spliced, spliced_up_to}
+use Rattle.ot_text.specs.Splices.{Piece, AreInOrder, StandApart, spliced, spliced_up_to}
 use Rattle.ot_text.specs.Patch.{IsLeastPiece, AreLeast, LeadBack}
-use Rattle.ot_text.proofs.Ranges.{range_split, range_rest, range_behind, take_left, order_le, order_longer, order_push, spliced_longer, spliced_agree, spliced_last, spliced_none}
+use Rattle.ot_text.proofs.Ranges.{range_split, range_rest, range_behind, take_left, order_le, order_longer, order_push, apart_push, spliced_longer, spliced_agree, spliced_last, spliced_none}
 
 get_left : {X : Type 0} (xs ys : List X) (i : ℕ) → i < length xs → slice_get (xs ++ ys) i ≡ slice_get xs i
 get_left [] ys i less = absurd (omega arith)
@@ -35,7 +35,7 @@ least_push [] p xs least own = (own, tt)
 least_push (q ∷ ps) p xs least own = (least.0, least_push ps p xs least.1 own)
 
 pub lead_none : {A : Type 0} (xs : List (Run A)) → LeadBack [] xs xs
-lead_none xs = record { in_order = omega arith; older_is = spliced_none xs; least = tt }
+lead_none xs = record { in_order = omega arith; apart = tt; older_is = spliced_none xs; least = tt }
 
 -- with more behind that stays
 pub lead_more : {A : Type 0} (ps : List (Piece A)) (xs us more : List (Run A)) → LeadBack ps xs us → LeadBack ps (xs ++ more) (us ++ more)
@@ -43,6 +43,7 @@ lead_more ps xs us more leads =
     let long : length xs ≤ length (xs ++ more) = omega (arith, length-append xs more) in
     record {
       in_order = order_longer 0 ps (length xs) (length (xs ++ more)) leads.in_order long;
+      apart = leads.apart;
       older_is =
           spliced_longer 0 ps (length xs) (length (xs ++ more)) (xs ++ more) leads.in_order long
           ∙ ap (λ front. front ++ slice_range (xs ++ more) (length xs) (length (xs ++ more)))
@@ -54,7 +55,7 @@ lead_more ps xs us more leads =
 -- with one more piece behind
 module _
     {A : Type 0} (ps : List (Piece A)) (p moved : Piece A) (xs us newer older : List (Run A)) (count : ℕ) (many : length xs ≡ count)
-    (leads : LeadBack ps xs us) (own : LeadBack (p ∷ []) newer older) (is : moved ≡ record { start = count + p.start; end = count + p.end; part = p.part })
+    (leads : LeadBack ps xs us) (own : LeadBack (p ∷ []) newer older) (beside : (next : Piece A) → count ≤ next.start → StandApart (ps ++ next ∷ [])) (is : moved ≡ record { start = count + p.start; end = count + p.end; part = p.part })
   where
     abbrev at : Piece A
     at = record { start = count + p.start; end = count + p.end; part = p.part }
@@ -95,6 +96,7 @@ module _
         rw is
         (record {
           in_order = order_push 0 ps at (length (xs ++ newer)) before (omega (arith, own.in_order.1)) (omega (arith, own.in_order.2, long, many));
+          apart = beside at (omega arith);
           older_is = whole_is;
           least = least_push ps at (xs ++ newer) (least_longer 0 ps xs newer leads.in_order leads.least) least_at;
         })
@@ -104,16 +106,32 @@ pub lead_same : {A : Type 0} (ps : List (Piece A)) (xs us newer older : List (Ru
 lead_same ps xs us newer older own leads =
     subst (λ rs. LeadBack ps (xs ++ newer) (us ++ rs)) (sym (spliced_none newer) ∙ own.older_is) (lead_more ps xs us newer leads)
 
+-- the first piece, if there is one, begins behind the place
+abbrev pub BeginBehind : {A : Type 0} → ℕ → List (Piece A) → Type 0
+BeginBehind at [] = Unit {0}
+BeginBehind at (p ∷ ps) = at < p.start
+
+apart_rest : {A : Type 0} (p : Piece A) (ps : List (Piece A)) → StandApart (p ∷ ps) → BeginBehind p.end ps × StandApart ps
+apart_rest p [] apart = (tt, tt)
+apart_rest p (q ∷ ps) apart = apart
+
+apart_behind :
+    {A : Type 0} (ps : List (Piece A)) (last : ℕ) (p : Piece A) → StandApart ps → AreInOrder 0 ps last → (0 < length ps → last < p.start) → StandApart (ps ++ p ∷ [])
+apart_behind [] last p apart order less = tt
+apart_behind (q ∷ ps) last p apart order less = apart_push 0 (q ∷ ps) last p apart order (less (omega arith))
+
 -- what leads back from the runs in front of a place, where so many pieces were gone over
 pub record Going {A : Type 0} (ps back : List (Piece A)) (old : List (Run A)) (at place i : ℕ) : Type 0 where
   pub front : List (Run A)
   pub order : AreInOrder at (drop i ps) (length old)
+  pub apart : StandApart (drop i ps)
+  pub behind : 0 < length back → BeginBehind at (drop i ps)
   pub whole_is : spliced ps old ≡ front ++ spliced_up_to at (drop i ps) (length old) old
   pub place_is : length front ≡ place
   pub leads : LeadBack back front (take at old)
 
-pub going_start : {A : Type 0} (ps : List (Piece A)) (old : List (Run A)) → AreInOrder 0 ps (length old) → Going ps [] old 0 0 0
-going_start ps old order = record { front = []; order = order; whole_is = refl; place_is = refl; leads = lead_none [] }
+pub going_start : {A : Type 0} (ps : List (Piece A)) (old : List (Run A)) → AreInOrder 0 ps (length old) → StandApart ps → Going ps [] old 0 0 0
+going_start ps old order apart = record { front = []; order = order; apart = apart; behind = λ none. absurd (omega (arith, none)); whole_is = refl; place_is = refl; leads = lead_none [] }
 
 module _
     {A : Type 0} (ps back : List (Piece A)) (old : List (Run A)) (at place i : ℕ) (p : Piece A) (below : i < length ps) (is : p ≡ get_or ps i p)
@@ -124,6 +142,15 @@ module _
 
     pub going_order : (at ≤ p.start) × (p.start ≤ p.end) × AreInOrder p.end (drop (i + 1) ps) (length old)
     going_order = rw rest_is at going.order
+
+    going_apart : BeginBehind p.end (drop (i + 1) ps) × StandApart (drop (i + 1) ps)
+    going_apart = apart_rest p (drop (i + 1) ps) (rw rest_is at going.apart)
+
+    -- the pieces that lead back stand apart from any that begins where this one will, or later
+    going_beside : (next : Piece A) → place + (p.start - at) ≤ next.start → StandApart (back ++ next ∷ [])
+    going_beside next later =
+        apart_behind back place next going.leads.apart (rw going.place_is at going.leads.in_order)
+        (λ some. let less : at < p.start = rw rest_is at (going.behind some) in omega (arith, less, later))
 
     abbrev middle : List (Run A)
     middle = slice_range old at p.start
@@ -168,15 +195,18 @@ module _
     pub going_next :
         (new : List (Piece A)) (newer older : List (Run A)) (place_now : ℕ) → newer ≡ p.part → older ≡ slice_range old p.start p.end
         → place_now ≡ place + (p.start - at) + length p.part
-        → ((xs us : List (Run A)) → length xs ≡ place + (p.start - at) → LeadBack back xs us → LeadBack new (xs ++ newer) (us ++ older))
+        → ((xs us : List (Run A)) → length xs ≡ place + (p.start - at) → LeadBack back xs us
+        → ((next : Piece A) → place + (p.start - at) ≤ next.start → StandApart (back ++ next ∷ [])) → LeadBack new (xs ++ newer) (us ++ older))
         → Going ps new old p.end place_now (i + 1)
     going_next new newer older place_now newer_is older_is now add = record {
       front = going.front ++ middle ++ p.part;
       order = going_order.2;
+      apart = going_apart.1;
+      behind = λ _. going_apart.0;
       whole_is = whole_next;
       place_is = length-append (going.front ++ middle) p.part ∙ omega (arith, place_next, now);
       leads =
-          let more = add (going.front ++ middle) (take at old ++ middle) place_next (lead_more back going.front (take at old) middle going.leads) in
+          let more = add (going.front ++ middle) (take at old ++ middle) place_next (lead_more back going.front (take at old) middle going.leads) going_beside in
           subst (λ us. LeadBack new (going.front ++ middle ++ p.part) us) end_is
           (rw (newer_is, older_is, start_is) at more);
     }

@@ -3,7 +3,7 @@ use Rattle.std.proofs.Common.{◌≡◌, ℕ, ◌-◌, List, [], ◌∷◌, ◌+
 use Rattle.ot_text.specs.Operation.{Operation, IsOperation}
 use Rattle.ot_text.specs.Run.{Run, operation_of, normal_runs}
 use Rattle.ot_text.specs.Splices.{Piece, spliced_up_to, spliced, FitIn}
-use Rattle.ot_text.specs.Rewriting.{AreWritten, HasMore}
+use Rattle.ot_text.specs.Rewriting.{AreWritten, HasPushed}
 use Rattle.ot_text.proofs.Normal.{runs_normal}
 use Rattle.ot_text.proofs.Spliced.{more_pushed}
 
@@ -20,7 +20,7 @@ module _
     (left : List (Run A)) (end : ℕ) (made : List (Piece A)) (left_is : left ≡ normal_runs part) (end_is : end ≡ length old)
     (made_is : made ≡ ps ++ record { start = start; end = end; part = left } ∷ [])
   where
-    more : HasMore ps (record { start = start; end = end; part = left }) made
+    more : HasPushed ps (record { start = start; end = end; part = left }) made
     more = rw made_is (more_pushed ps (record { start = start; end = end; part = left }))
 
     pub parts_are : spliced made old ≡ spliced_up_to 0 ps start old ++ normal_runs part
@@ -32,5 +32,6 @@ module _
     pub parts_fit : FitIn made old
     parts_fit = record {
       in_order = more.in_order written.in_order (omega (arith, end_is, written.within)) (length old) (omega (arith, end_is));
+      apart = rw made_is (written.apart (record { start = start; end = end; part = left }) refl);
       normal = rw parts_are written.normal;
     }

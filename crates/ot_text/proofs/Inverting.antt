@@ -16,13 +16,13 @@ use Rattle.ot_text.proofs.Inverted.{IsInverted, inverted_none, inverted_all, ret
 abbrev pub gone : {A : Type 0} → List A → List A → ℕ
 gone d left = length d - length left
 
--- the components up to place i have been taken back, and the cursor stands where they end
-pub record IsInverting {T : Type 0} (components : List (Component T)) (cs : List (List T)) (i chunk offset : ℕ) (op : Operation T) : Type 0 where
-  pub inverted : IsInverted components (concatenated cs) i (gone (concatenated cs) (left_at cs chunk offset)) op
+-- the components up to place i have been taken back, and they end so many items behind the cursor
+pub record IsInverting {T : Type 0} (components : List (Component T)) (cs : List (List T)) (i chunk offset ahead : ℕ) (op : Operation T) : Type 0 where
+  pub inverted : IsInverted components (concatenated cs) i (gone (concatenated cs) (left_at cs chunk offset) + ahead) op
   pub left_is : left_at cs chunk offset ≡ drop (gone (concatenated cs) (left_at cs chunk offset)) (concatenated cs)
   pub inside : IsInside cs chunk offset
 
-pub inverting_none : {T : Type 0} (components : List (Component T)) (cs : List (List T)) → IsChunked cs → base_of (runs components) ≡ length (concatenated cs) → IsInverting components cs 0 0 0 empty
+pub inverting_none : {T : Type 0} (components : List (Component T)) (cs : List (List T)) → IsChunked cs → base_of (runs components) ≡ length (concatenated cs) → IsInverting components cs 0 0 0 0 empty
 inverting_none components cs chunked base =
     let none : gone (concatenated cs) (concatenated cs) ≡ 0 = omega arith in
     record {
@@ -31,50 +31,60 @@ inverting_none components cs chunked base =
       inside = λ f. chunk_filled cs 0 chunked f;
     }
 
-module _ {T : Type 0} (components : List (Component T)) (cs : List (List T)) (i chunk offset : ℕ) (op : Operation T) (c : Component T) (h : i < length components) (e : c ≡ get_or components i c) (before : IsInverting components cs i chunk offset op) where
+module _ {T : Type 0} (components : List (Component T)) (cs : List (List T)) (i chunk offset ahead : ℕ) (op : Operation T) (c : Component T) (h : i < length components) (e : c ≡ get_or components i c) (before : IsInverting components cs i chunk offset ahead op) where
   abbrev left : List T
   left = left_at cs chunk offset
 
+  abbrev over : ℕ
+  over = gone (concatenated cs) left
+
   abbrev at : ℕ
-  at = gone (concatenated cs) left
+  at = over + ahead
 
-  length-left : length left ≡ length (concatenated cs) - at
-  length-left = ap (λ (l : List T). length l) before.left_is ∙ length-drop at (concatenated cs)
+  length-left : length left ≡ length (concatenated cs) - over
+  length-left = ap (λ (l : List T). length l) before.left_is ∙ length-drop over (concatenated cs)
 
-  pub retain_ahead : (n : ℕ) → c ≡ Retain n → n ≤ length left
-  retain_ahead n is = let f = retain_in_range components (concatenated cs) i at op c h e before.inverted n is in omega (arith, f, length-left)
+  pub retain_room : (n : ℕ) → c ≡ Retain n → ahead + n ≤ length (concatenated cs)
+  retain_room n is = let f = retain_in_range components (concatenated cs) i at op c h e before.inverted n is in omega (arith, f)
 
-  pub delete_ahead : (n : ℕ) → c ≡ Delete n → n ≤ length left
-  delete_ahead n is = let f = delete_in_range components (concatenated cs) i at op c h e before.inverted n is in omega (arith, f, length-left)
+  pub skip_ahead : (n : ℕ) → c ≡ Delete n → ahead ≤ length left
+  skip_ahead n is = let f = delete_in_range components (concatenated cs) i at op c h e before.inverted n is in omega (arith, f, length-left)
 
-  further_on : (n : ℕ) → n ≤ length left → gone (concatenated cs) (drop n left) ≡ at + n
-  further_on n within = omega (arith, within, length-left, length-drop n left)
+  pub delete_ahead : (n : ℕ) → c ≡ Delete n → n ≤ length (drop ahead left)
+  delete_ahead n is = let f = delete_in_range components (concatenated cs) i at op c h e before.inverted n is in omega (arith, f, length-left, length-drop ahead left)
 
-  further_left : (n : ℕ) → drop n left ≡ drop (at + n) (concatenated cs)
-  further_left n = ap (λ (l : List T). drop n l) before.left_is ∙ drop-drop n at (concatenated cs)
+  further_on : (n : ℕ) → c ≡ Delete n → gone (concatenated cs) (drop n (drop ahead left)) ≡ at + n
+  further_on n is = omega (arith, delete_ahead n is, length-left, length-drop ahead left, length-drop n (drop ahead left))
 
-  pub inverting_retain : (n : ℕ) → c ≡ Retain n → (chunk' offset' : ℕ) → IsInside cs chunk' offset' → left_at cs chunk' offset' ≡ drop n left → IsInverting components cs (i + 1) chunk' offset' (with_retain op n)
-  inverting_retain n is chunk' offset' inside l =
-      let on = further_on n (retain_ahead n is) in
+  skipped : drop ahead left ≡ drop at (concatenated cs)
+  skipped = ap (λ (l : List T). drop ahead l) before.left_is ∙ drop-drop ahead over (concatenated cs)
+
+  further_left : (n : ℕ) → drop n (drop ahead left) ≡ drop (at + n) (concatenated cs)
+  further_left n = ap (λ (l : List T). drop n l) skipped ∙ drop-drop n at (concatenated cs)
+
+  pub inverting_retain : (n : ℕ) → c ≡ Retain n → IsInverting components cs (i + 1) chunk offset (ahead + n) (with_retain op n)
+  inverting_retain n is =
+      let same : at + n ≡ over + (ahead + n) = omega arith in
       record {
-        inverted = rw (l, on) (inverted_retain components (concatenated cs) i at op c h e before.inverted n is);
-        left_is = rw (l, on) (further_left n);
-        inside = inside;
+        inverted = rw same at (inverted_retain components (concatenated cs) i at op c h e before.inverted n is);
+        left_is = before.left_is;
+        inside = before.inside;
       }
 
-  pub inverting_insert : (v : Vec T Global) → c ≡ Insert v → IsInverting components cs (i + 1) chunk offset (with_delete op (length v.items))
+  pub inverting_insert : (v : Vec T Global) → c ≡ Insert v → IsInverting components cs (i + 1) chunk offset ahead (with_delete op (length v.items))
   inverting_insert v is = record {
     inverted = inverted_insert components (concatenated cs) i at op c h e before.inverted v is;
     left_is = before.left_is;
     inside = before.inside;
   }
 
-  pub inverting_delete : (n : ℕ) → c ≡ Delete n → (chunk' offset' : ℕ) → IsInside cs chunk' offset' → left_at cs chunk' offset' ≡ drop n left → IsInverting components cs (i + 1) chunk' offset' (with_insert op (take n left))
+  pub inverting_delete : (n : ℕ) → c ≡ Delete n → (chunk' offset' : ℕ) → IsInside cs chunk' offset' → left_at cs chunk' offset' ≡ drop n (drop ahead left) → IsInverting components cs (i + 1) chunk' offset' 0 (with_insert op (take n (drop ahead left)))
   inverting_delete n is chunk' offset' inside l =
-      let on = further_on n (delete_ahead n is) in
-      let text : take n (drop at (concatenated cs)) ≡ take n left = ap (λ (t : List T). take n t) (sym before.left_is) in
+      let on = further_on n is in
+      let none : (at + n) + 0 ≡ at + n = omega arith in
+      let text : take n (drop at (concatenated cs)) ≡ take n (drop ahead left) = ap (λ (t : List T). take n t) (sym skipped) in
       record {
-        inverted = rw (l, on, ← text) (inverted_delete components (concatenated cs) i at op c h e before.inverted n is);
+        inverted = rw (l, on, none, ← text) (inverted_delete components (concatenated cs) i at op c h e before.inverted n is);
         left_is = rw (l, on) (further_left n);
         inside = inside;
       }
@@ -86,10 +96,10 @@ module _ {T : Type 0} (components : List (Component T)) (cs : List (List T)) (i 
     pub delete_has_room : (v : Vec T Global) → c ≡ Insert v → IsTooLong (with_delete op (length v.items)) → ⊥
     delete_has_room = room_to_delete components (concatenated cs) i at op c h e before.inverted target_fits base_fits
 
-    pub insert_has_room : (n : ℕ) → c ≡ Delete n → IsTooLong (with_insert op (take n left)) → ⊥
+    pub insert_has_room : (n : ℕ) → c ≡ Delete n → IsTooLong (with_insert op (take n (drop ahead left))) → ⊥
     insert_has_room n is =
-        let text : take n (drop at (concatenated cs)) ≡ take n left = ap (λ (t : List T). take n t) (sym before.left_is) in
+        let text : take n (drop at (concatenated cs)) ≡ take n (drop ahead left) = ap (λ (t : List T). take n t) (sym skipped) in
         rw (← text) (room_to_insert components (concatenated cs) i at op c h e before.inverted target_fits base_fits n is)
 
-pub inverting_all : {T : Type 0} (components : List (Component T)) (cs : List (List T)) (i chunk offset : ℕ) (op : Operation T) → length components ≤ i → IsInverting components cs i chunk offset op → op ≡ invert (operation_of (runs components)) (concatenated cs)
-inverting_all components cs i chunk offset op h a = inverted_all components (concatenated cs) i (gone (concatenated cs) (left_at cs chunk offset)) op h a.inverted
+pub inverting_all : {T : Type 0} (components : List (Component T)) (cs : List (List T)) (i chunk offset ahead : ℕ) (op : Operation T) → length components ≤ i → IsInverting components cs i chunk offset ahead op → op ≡ invert (operation_of (runs components)) (concatenated cs)
+inverting_all components cs i chunk offset ahead op h a = inverted_all components (concatenated cs) i (gone (concatenated cs) (left_at cs chunk offset) + ahead) op h a.inverted

@@ -8,7 +8,7 @@ use Rattle.ot_text.specs.Joint.{Joins}
 use Rattle.ot_text.specs.declared.Component.{Component}
 use Rattle.ot_text.specs.Components.{run_of, runs}
 use Rattle.ot_text.specs.Splices.{Piece, spliced_up_to}
-use Rattle.ot_text.specs.Rewriting.{Rewriting, BeginsKept, AreWritten, with_runs, HasMore}
+use Rattle.ot_text.specs.Rewriting.{Rewriting, BeginsKept, AreWritten, with_runs, HasPushed}
 use Rattle.ot_text.proofs.RunLemmas.{same_operation, base_of-append, image_from-append, one_more_keep, normal_replace}
 use Rattle.ot_text.proofs.Normal.{runs_are, normal_runs_back}
 use Rattle.ot_text.proofs.OperationLaws.{is_operation}
@@ -92,6 +92,7 @@ module _
     pub begun_written : AreWritten ps start old next
     begun_written = record {
       in_order = written.in_order;
+      apart = written.apart;
       within = written.within;
       operation = rw is (begun_operation A then);
       old_normal = written.old_normal;
@@ -100,8 +101,8 @@ module _
     }
 
     module _
-        (from to n : ℕ) (behind : start ≤ from) (order : from ≤ to) (retain : slice_get old to ≡ Some (Keep n)) (joins : Joins (normal_runs part) (drop from old))
-        (left : List (Run A)) (left_is : left ≡ normal_runs part) (made : List (Piece A)) (more : HasMore ps (record { start = start; end = from; part = left }) made)
+        (from to n : ℕ) (behind : start ≤ from) (order : from < to) (retain : slice_get old to ≡ Some (Keep n)) (joins : Joins (normal_runs part) (drop from old))
+        (left : List (Run A)) (left_is : left ≡ normal_runs part) (made : List (Piece A)) (more : HasPushed ps (record { start = start; end = from; part = left }) made)
       where
         abbrev front : List (Run A)
         front = spliced_up_to 0 ps start old
@@ -113,7 +114,7 @@ module _
         rest = drop (suc to) old
 
         made_is : spliced_up_to 0 made to old ≡ front ++ normal_runs part ++ kept
-        made_is = more.spliced written.in_order behind to order old ∙ ap (λ runs. front ++ runs ++ kept) left_is
+        made_is = more.spliced written.in_order behind to (omega (arith, order)) old ∙ ap (λ runs. front ++ runs ++ kept) left_is
 
         rest_is : drop from old ≡ kept ++ Keep n ∷ rest
         rest_is =
@@ -135,7 +136,8 @@ module _
         -- the part is put by before what stays
         pub kept_written : AreWritten made to old next
         kept_written = record {
-          in_order = more.in_order written.in_order behind to order;
+          in_order = more.in_order written.in_order behind to (omega (arith, order));
+          apart = λ next is. more.apart behind written.apart next (omega (arith, order, is));
           within = omega (arith, slice_get_within old to (Keep n) retain);
           operation = rw is (begun_operation A then);
           old_normal = written.old_normal;

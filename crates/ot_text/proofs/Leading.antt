@@ -2,7 +2,7 @@
 use Rattle.std.proofs.Common.{◌≡◌, ℕ, List, [], ap, ◌∙◌, arith}
 use Rattle.ot_text.specs.Operation.{Operation, IsTooLong}
 use Rattle.ot_text.specs.Run.{Run, IsSound, normal_runs, operation_of}
-use Rattle.ot_text.specs.Splices.{Piece, spliced, FitIn}
+use Rattle.ot_text.specs.Splices.{Piece, StandApart, spliced, FitIn}
 use Rattle.ot_text.specs.Patch.{AreLeast, LeadBack}
 use Rattle.ot_text.proofs.Differing.{lead_none}
 use Rattle.ot_text.proofs.Normal.{runs_are}
@@ -16,12 +16,12 @@ module _
 
     pub leads_from : FitIn ps (normal_runs newer) × (IsTooLong (operation_of (spliced ps (normal_runs newer))) → ⊥)
     leads_from = (
-      rw (← form) (record { in_order = leads.in_order; normal = rw leads.older_is sound.normal }),
+      rw (← form) (record { in_order = leads.in_order; apart = leads.apart; normal = rw leads.older_is sound.normal }),
       rw (← form, leads.older_is) (λ long. omega (arith, long, sound.base_is, sound.base_fits, sound.target_is, sound.target_fits)),
     )
 
-    pub leads_least : AreLeast ps (normal_runs newer)
-    leads_least = rw (← form) leads.least
+    pub leads_least : StandApart ps × AreLeast ps (normal_runs newer)
+    leads_least = (leads.apart, rw (← form) leads.least)
 
 -- nothing changes
 module _ {A : Type 0} (rs : List (Run A)) (op : Operation A) {base target inserted : ℕ} (sound : IsSound rs base target inserted) (spells : operation_of rs ≡ op) where

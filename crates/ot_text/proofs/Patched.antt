@@ -134,6 +134,7 @@ module _ {T : Type 0} (a b rest_a rest_b between kept : List (Component T)) (fro
       (end : ℕ) → end ≡ front + (length rest_b - back) → (front ≡ end → 0 < length (runs kept))
       → LeadBack (record { start = front; end = end; part = runs kept } ∷ []) (runs b) (runs a)
   found_leads end is some = rw is (record {
+    apart = tt;
     in_order = (omega arith, omega arith, is_within (runs a) (runs b) (runs kept) front back (length rest_b - back) found.fronts backs_are kept_are many_newer);
     older_is =
         rw (there, take_rest (runs b) (front + (length rest_b - back))) found_runs;

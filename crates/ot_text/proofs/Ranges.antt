@@ -3,7 +3,7 @@ use Rattle.std.proofs.Common.{◌≡◌, ℕ, zero, suc, ◌+◌, ◌-◌, ◌<�
 use Rattle.std.specs.List.{splice, slice_range}
 use Rattle.std.proofs.lemmas.List.{drop-drop, drop-take, take-take, take_rest, take_at, drop_at, length-take-le}
 use Rattle.ot_text.specs.Run.{Run}
-use Rattle.ot_text.specs.Splices.{Piece, AreInOrder, spliced, spliced_up_to}
+use Rattle.ot_text.specs.Splices.{Piece, AreInOrder, StandApart, spliced, spliced_up_to}
 use Rattle.ot_text.specs.Change.{growth}
 
 -- ranges
@@ -74,6 +74,26 @@ order_at at (q ∷ ps) last (suc i) p below is order = order_at q.end ps last i 
 pub order_push : {A : Type 0} (at : ℕ) (ps : List (Piece A)) (p : Piece A) (last : ℕ) → AreInOrder at ps p.start → p.start ≤ p.end → p.end ≤ last → AreInOrder at (ps ++ p ∷ []) last
 order_push at [] p last order own less = (order, own, less)
 order_push at (q ∷ ps) p last order own less = (order.0, order.1, order_push q.end ps p last order.2 own less)
+
+-- pieces that stand apart
+
+-- one more behind the place where they end
+pub apart_push : {A : Type 0} (at : ℕ) (ps : List (Piece A)) (last : ℕ) (p : Piece A) → StandApart ps → AreInOrder at ps last → last < p.start → StandApart (ps ++ p ∷ [])
+apart_push at [] last p apart order less = tt
+apart_push at (q ∷ []) last p apart order less = (omega (arith, order.2, less), tt)
+apart_push at (q ∷ r ∷ ps) last p apart order less = (apart.0, apart_push q.end (r ∷ ps) last p apart.1 order.2 less)
+
+-- and one more behind the last
+pub apart_two : {A : Type 0} (ps : List (Piece A)) (p q : Piece A) → StandApart (ps ++ p ∷ []) → p.end < q.start → StandApart ((ps ++ p ∷ []) ++ q ∷ [])
+apart_two [] p q apart less = (less, tt)
+apart_two (r ∷ []) p q apart less = (apart.0, (less, tt))
+apart_two (r ∷ s ∷ ps) p q apart less = (apart.0, apart_two (s ∷ ps) p q apart.1 less)
+
+-- one that begins later in the place of the last
+pub apart_later : {A : Type 0} (ps : List (Piece A)) (p q : Piece A) → StandApart (ps ++ p ∷ []) → p.start ≤ q.start → StandApart (ps ++ q ∷ [])
+apart_later [] p q apart less = tt
+apart_later (r ∷ []) p q apart less = (omega (arith, apart.0, less), tt)
+apart_later (r ∷ s ∷ ps) p q apart less = (apart.0, apart_later (s ∷ ps) p q apart.1 less)
 
 -- the runs with the pieces
 

@@ -6,7 +6,8 @@ use Rattle.ot_text.specs.declared.Component.{Component}
 use Rattle.ot_text.specs.Run.{Run}
 use Rattle.ot_text.specs.Components.{runs}
 use Rattle.ot_text.specs.Splices.{Piece, AreInOrder, spliced_up_to}
-use Rattle.ot_text.specs.Rewriting.{HasMore}
+use Rattle.ot_text.specs.Rewriting.{HasPushed}
+use Rattle.ot_text.proofs.Ranges.{apart_two, apart_later}
 
 -- the items from `at` up to `last`, in two parts
 taken_on :
@@ -50,10 +51,11 @@ spliced_push at (p ∷ ps) piece last runs =
     inward front (rest ++ piece.part) back (spliced_up_to p.end (ps ++ piece ∷ []) last runs) (spliced_push p.end ps piece last runs)
     ∙ ap (λ xs. xs ++ back) (sym (append_assoc front rest piece.part))
 
-pub more_pushed : {A : Type 0} (ps : List (Piece A)) (piece : Piece A) → HasMore ps piece (ps ++ piece ∷ [])
+pub more_pushed : {A : Type 0} (ps : List (Piece A)) (piece : Piece A) → HasPushed ps piece (ps ++ piece ∷ [])
 more_pushed ps piece = record {
   in_order = λ order own last on. in_order_push 0 ps piece last order own on;
   spliced = λ order own last on runs. spliced_push 0 ps piece last runs;
+  apart = λ own apart next less. apart_two ps piece next (apart piece refl) less;
 }
 
 pub no_runs : {T : Type 0} (cs : List (Component T)) → length cs ≡ 0 → runs cs ≡ []
@@ -61,8 +63,9 @@ no_runs [] none = refl
 no_runs (c ∷ cs) none = absurd (omega (arith, none))
 
 -- a piece that changes nothing
-pub more_same : {A : Type 0} (ps : List (Piece A)) (piece : Piece A) → piece.start ≡ piece.end → piece.part ≡ [] → HasMore ps piece ps
+pub more_same : {A : Type 0} (ps : List (Piece A)) (piece : Piece A) → piece.start ≡ piece.end → piece.part ≡ [] → HasPushed ps piece ps
 more_same ps piece same none = record {
   in_order = λ order own last on. in_order_on 0 ps piece.start last order (omega (arith, own, on));
   spliced = λ order own last on runs. rw (none, append-nil, ← same) (spliced_on 0 ps piece.start last runs order (omega (arith, own, on)));
+  apart = λ own apart next less. apart_later ps piece next (apart piece refl) (omega (arith, own, less));
 }

@@ -13,6 +13,7 @@ module _ {A : Type 0} {ps : List (Piece A)} {start : ℕ} {old : List (Run A)} {
   written_next : {next whole : Operation A} → IsPushed (spliced_up_to 0 ps start old) part next whole → AreWritten ps start old next
   written_next {next} pushed = record {
     in_order = written.in_order;
+    apart = written.apart;
     within = written.within;
     operation = pushed.operation;
     old_normal = written.old_normal;

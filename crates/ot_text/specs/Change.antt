@@ -7,7 +7,7 @@ use Rattle.ot_text.specs.declared.lengths.Lengths.{Lengths}
 use Rattle.ot_text.specs.Operation.{news, Operation}
 use Rattle.ot_text.specs.Run.{Run, base_of, image_from, IsSound}
 use Rattle.ot_text.specs.Components.{runs}
-use Rattle.ot_text.specs.Splices.{Piece, AreInOrder, spliced}
+use Rattle.ot_text.specs.Splices.{Piece, AreInOrder, StandApart, spliced}
 
 -- the operation as it is, and as it will be
 pub record Change (A : Type 0) : Type 0 where
@@ -38,6 +38,7 @@ pub record AreLengths {A : Type 0} (rs : List (Run A)) (lengths : Lengths) : Typ
 -- an operation's components, the pieces that are to take their places, and the lengths before and after. There is room for all that comes
 pub record IsReady {T : Type 0} (components : Vec (Component T) Global) (splices : List (Piece T)) (before after : Lengths) : Type 0 where
   pub in_order : AreInOrder 0 splices (length (runs components.items))
+  pub apart : StandApart splices
   pub before_is : IsSound (runs components.items) before.base before.target before.inserted
   pub after_is : IsSound (spliced splices (runs components.items)) after.base after.target after.inserted
   pub room : length components.items + growth splices ≤ vec_capacity components

@@ -4,7 +4,7 @@ use Rattle.ot_text.specs.declared.patch.Patch.{Patch}
 use Rattle.ot_text.specs.declared.patch.Patch.TheVariants.{Whole, Parts}
 use Rattle.ot_text.specs.Operation.{Operation, IsTooLong}
 use Rattle.ot_text.specs.Run.{Run, normal_runs, operation_of}
-use Rattle.ot_text.specs.Splices.{Piece, spliced, AreInOrder, FitIn}
+use Rattle.ot_text.specs.Splices.{Piece, spliced, AreInOrder, StandApart, FitIn}
 
 -- what a patch makes of an operation: another one, or itself with pieces in their places
 abbrev pub patched : {A : Type 0} → Patch A → Operation A → Operation A
@@ -31,14 +31,15 @@ abbrev pub AreLeast : {A : Type 0} → List (Piece A) → List (Run A) → Type 
 AreLeast [] runs = Unit {0}
 AreLeast (p ∷ ps) runs = IsLeastPiece p runs × AreLeast ps runs
 
--- the patch is made of such pieces
+-- the patch is made of such pieces, and between two of them at least one run stays
 abbrev pub IsLeast : {A : Type 0} → Patch A → List (Run A) → Type 0
 IsLeast (Whole other) runs = ⊥
-IsLeast (Parts ps) runs = AreLeast ps.items runs
+IsLeast (Parts ps) runs = StandApart ps.items × AreLeast ps.items runs
 
--- pieces that lead from newer runs back to older ones, and share all that they can
+-- pieces that lead from newer runs back to older ones, each apart from the next one, and none of which shares its ends with the runs that it stands for
 pub record LeadBack {A : Type 0} (ps : List (Piece A)) (newer older : List (Run A)) : Type 0 where
   pub in_order : AreInOrder 0 ps (length newer)
+  pub apart : StandApart ps
   pub older_is : spliced ps newer ≡ older
   pub least : AreLeast ps newer
 

@@ -126,14 +126,18 @@ pub fn invert_components<T: Element>(
 {
     let mut inverse = TextOp::with_capacity(alloc, components.len())?;
     let mut cursor = Cursor::start();
+    // How many items stay behind the cursor: it goes over them where something is to be read behind them.
+    let mut ahead = 0;
     for component in components {
         match component {
             Component::Retain(count) => {
                 only_memory(inverse.retain(*count))?;
-                cursor.skip(chunks, *count);
+                ahead += *count;
             }
             Component::Insert(text) => only_memory(inverse.delete(text.len()))?,
             Component::Delete(count) => {
+                cursor.skip(chunks, ahead);
+                ahead = 0;
                 let mut text = Vec::with_capacity(alloc, *count)?;
                 cursor.read(chunks, *count, &mut text)?;
                 only_memory(inverse.insert_vec(text))?;

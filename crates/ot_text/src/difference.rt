@@ -1,10 +1,10 @@
 //! In which components two lists differ.
 
-ghost use Rattle.std.specs.Prelude.{◌≡◌, ◌+◌, ◌++◌, ◌≤◌, List, length, IfOk, OnOk};
+ghost use Rattle.std.specs.Prelude.{◌≡◌, ◌+◌, ◌++◌, ◌≤◌, List, [], ◌∷◌, length, IfOk, OnOk};
 ghost use Rattle.std.specs.Option.{option_to_list};
 ghost use Rattle.ot_text.specs.Run.{Run};
 ghost use Rattle.ot_text.specs.Components.{runs};
-ghost use Rattle.ot_text.specs.Splices.{spliced, AreInOrder};
+ghost use Rattle.ot_text.specs.Splices.{Piece, spliced, AreInOrder, StandApart};
 ghost use Rattle.ot_text.specs.Patch.{LeadBack, ShareFront, ShareBack};
 
 use crate::compare::same_component;
@@ -62,7 +62,7 @@ pub fn difference<T: Element>(
     }))
 }
 
-// Adds what leads back from components that stand behind `place` others.
+// Adds what leads back from components that stand behind `place` others, and apart from the pieces before.
 fn add_difference<T: Element>(
     pieces: &mut Vec<Splice<T>>,
     place: usize,
@@ -70,7 +70,7 @@ fn add_difference<T: Element>(
     newer: &[Component<T>],
 ) -> Result<(), AllocError>
     requires { place + length newer.now ≤ 18446744073709551615 }
-    ensures { OnOk result ((xs us : List (Run T)) → length xs ≡ place → LeadBack pieces.old.items xs us → LeadBack pieces.new.items (xs ++ runs newer.now) (us ++ runs older.now)) }
+    ensures { OnOk result ((xs us : List (Run T)) → length xs ≡ place → LeadBack pieces.old.items xs us → ((next : Piece T) → place ≤ next.start → StandApart (pieces.old.items ++ next ∷ [])) → LeadBack pieces.new.items (xs ++ runs newer.now) (us ++ runs older.now)) }
 {
     let alloc = *pieces.allocator();
     if let Some(piece) = difference(alloc, older, newer)? {
@@ -87,6 +87,7 @@ pub fn differences<T: Element>(
     splices: &[Splice<T>],
 ) -> Result<Vec<Splice<T>>, AllocError>
     requires order { AreInOrder 0 splices.now (length (runs components.now)) }
+    requires apart { StandApart splices.now }
     requires small { length (spliced splices.now (runs components.now)) ≤ 18446744073709551615 }
     ensures { IfOk result (λ pieces. LeadBack pieces.items (spliced splices.now (runs components.now)) (runs components.now)) }
 {

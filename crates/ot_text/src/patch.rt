@@ -20,7 +20,8 @@ use crate::{Element, Prepared, Splice, TextOp};
 use std::alloc::AllocError;
 
 /// What leads from one operation to another: this other one altogether, or parts that take the place of some of its components, in order. As a
-/// `Rewrite` makes it, and, as what leads back from an operation to an older one, `Prepared::patch`.
+/// `Rewrite` makes it, and, as what leads back from an operation to an older one, `Patch::between` and `Prepared::patch`. Between two parts of what
+/// these make at least one component stays.
 #[derive(Drop)]
 pub enum Patch<T> {
     Whole(TextOp<T>),
@@ -28,15 +29,16 @@ pub enum Patch<T> {
 }
 
 impl<T: Element> Patch<T> {
-    /// What leads from `newer` back to `older`, with as little kept as can be in one piece: the longest fronts and backs of equal components are
-    /// shared. Both operations are gone through once, and what is kept is copied. `AllocError` where a growth was refused.
+    /// What leads from `newer` back to `older`, in parts none of which is empty in the place of nothing. A part that has components, and takes the
+    /// place of some, neither begins nor ends with the same component as these; between two parts at least one component stays. Both operations are
+    /// gone through once, and what is kept is copied. `AllocError` where a growth was refused.
     pub fn between(older: &TextOp<T>, newer: &TextOp<T>) -> Result<Patch<T>, AllocError>
         ensures leads { IfOk result (λ patch. LeadsFrom patch newer.now) }
         ensures back { IfOk result (λ patch. patched patch newer.now ≡ older.now) }
         ensures least { IfOk result (λ patch. IsLeast patch (normal_runs newer.now)) }
     {
         let alloc = older.allocator();
-        let mut pieces = Vec::new(alloc);
+        let mut pieces = Vec::with_capacity(alloc, 1)?;
         if let Some(piece) = difference(alloc, older.components(), newer.components())? {
             pieces.push(piece)?;
         }

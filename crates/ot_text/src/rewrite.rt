@@ -4,7 +4,7 @@ ghost use Rattle.std.specs.Prelude.{◌≡◌, ℕ, ◌-◌, ◌<◌, ◌≤◌,
 ghost use Rattle.ot_text.specs.Operation.{Operation, empty, with_retain, with_insert, with_delete, IsTooLong};
 ghost use Rattle.ot_text.specs.Run.{Keep, operation_of, normal_runs};
 ghost use Rattle.ot_text.specs.Joint.{Joins};
-ghost use Rattle.ot_text.specs.Rewriting.{with_runs, HasMore};
+ghost use Rattle.ot_text.specs.Rewriting.{with_runs, HasPushed};
 ghost use Rattle.ot_text.specs.Patch.{patched, FitsOn};
 ghost use Rattle.ot_text.specs.declared.TheConstants.{LIMIT};
 
@@ -57,7 +57,7 @@ fn begun<T: Element>(alloc: Global, count: usize) -> Result<TextOp<T>, AllocErro
 
 // One more splice behind the others, where it changes anything.
 fn add<T: Drop>(splices: &mut Vec<Splice<T>>, splice: Splice<T>) -> Result<(), AllocError>
-    ensures ok { OnOk result (HasMore splices.old.items splice splices.new.items) }
+    ensures ok { OnOk result (HasPushed splices.old.items splice splices.new.items) }
     ensures err { OnErr result (splices.new.items ≡ splices.old.items) }
 {
     if splice.start == splice.end && splice.part.is_empty() {
@@ -113,7 +113,8 @@ impl<'a, T: Element> Rewrite<'a, T> {
     }
 
     /// Lets the old components from `from` up to `to` stay where they are, and keeps `then` elements of the one that stands at `to`, which is a
-    /// retain, behind them. `Ok(false)`, and nothing has changed, where what is written so far may not stand directly before the one at `from`.
+    /// retain, behind them. `Ok(false)`, and nothing has changed, where `from` is `to`, so that none would stay as it is, or where what is written so
+    /// far may not stand directly before the one at `from`.
     pub fn keep(&mut self, from: usize, to: usize, then: usize) -> Result<bool, AllocError>
         requires behind { self.old.start ≤ from }
         requires order { from ≤ to }
@@ -122,8 +123,11 @@ impl<'a, T: Element> Rewrite<'a, T> {
         requires short { IsTooLong (with_retain (with_runs self.old.built (take (to - from) (drop from self.old.over))) then) → ⊥ }
         ensures kept { result ≡ Ok true → self.new ≡ record { over = self.old.over; start = to; built = with_retain (with_runs self.old.built (take (to - from) (drop from self.old.over))) then } }
         ensures same { result ≡ Ok false → self.new ≡ self.old }
-        ensures refused { result ≡ Ok false → Joins (normal_runs self.old.built) (drop from self.old.over) → ⊥ }
+        ensures refused { result ≡ Ok false → from < to → Joins (normal_runs self.old.built) (drop from self.old.over) → ⊥ }
     {
+        if from == to {
+            return Ok(false);
+        }
         if !joins(self.part.components(), &self.over[from..]) {
             return Ok(false);
         }

@@ -7,7 +7,7 @@ use Rattle.ot_text.proofs.Differing.{going_start, going_order, place_small, goin
 use Rattle.ot_text.proofs.difference.differences.Goals as goal
 
 pub loop-splice-init : goal.loop-splice-init
-loop-splice-init g c = rw c.in_ok-pieces.ensures.items (going_start c.args.splices.now (runs c.args.components.now) c.requires.order)
+loop-splice-init g c = rw c.in_ok-pieces.ensures.items (going_start c.args.splices.now (runs c.args.components.now) c.requires.order c.requires.apart)
 
 pub overflow_sub-place : goal.overflow_sub-place
 overflow_sub-place g c =

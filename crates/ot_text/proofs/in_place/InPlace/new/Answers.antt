@@ -18,6 +18,7 @@ invariant_of-result g c =
     let mine = ap runs c.reserve.ensures.items ∙ form in
     record {
       in_order = rw mine c.requires.fits_in.in_order;
+      apart = c.requires.fits_in.apart;
       before_is = rw c.reserve.ensures.items c.op.invariant;
       after_is = rw mine (rw c.as_slice.ensures.value at c.lengths_with-after.ensures);
       room = omega (arith, c.in-Ok.ensures.ok, c.added_components.ensures, ap growth c.as_slice-2.ensures.value, c.reserve.new.self.ok.0);
