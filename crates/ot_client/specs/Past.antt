@@ -12,7 +12,7 @@ abbrev pub phase_before : {A : Type 0} → Past A → Phase A → Phase A
 phase_before kept.Nothing phase = Synchronized
 phase_before (kept.Outstanding p) (AwaitingConfirm o) = AwaitingConfirm (patched p o)
 phase_before kept.Unbuffered (AwaitingWithBuffer o b) = AwaitingConfirm o
-phase_before (kept.Both p q) (AwaitingWithBuffer o b) = AwaitingWithBuffer (patched p.value o) (patched q.value b)
+phase_before (kept.Both ps) (AwaitingWithBuffer o b) = AwaitingWithBuffer (patched ps.value.0 o) (patched ps.value.1 b)
 phase_before (kept.Buffer q) (AwaitingWithBuffer o b) = AwaitingWithBuffer o (patched q b)
 phase_before (kept.Confirmed o) Synchronized = AwaitingConfirm o
 phase_before (kept.Confirmed o) (AwaitingConfirm b) = AwaitingWithBuffer o b
@@ -24,7 +24,7 @@ FitsPhase kept.Nothing Synchronized = Unit {0}
 FitsPhase kept.Nothing (AwaitingConfirm o) = Unit {0}
 FitsPhase (kept.Outstanding p) (AwaitingConfirm o) = LeadsFrom p o
 FitsPhase kept.Unbuffered (AwaitingWithBuffer o b) = Unit {0}
-FitsPhase (kept.Both p q) (AwaitingWithBuffer o b) = LeadsFrom p.value o × LeadsFrom q.value b × ((patched q.value b).base ≡ length (patched p.value o).image)
+FitsPhase (kept.Both ps) (AwaitingWithBuffer o b) = LeadsFrom ps.value.0 o × LeadsFrom ps.value.1 b × ((patched ps.value.1 b).base ≡ length (patched ps.value.0 o).image)
 FitsPhase (kept.Buffer q) (AwaitingWithBuffer o b) = LeadsFrom q b × ((patched q b).base ≡ length o.image)
 FitsPhase (kept.Confirmed o) Synchronized = Unit {0}
 FitsPhase (kept.Confirmed o) (AwaitingConfirm b) = b.base ≡ length o.image

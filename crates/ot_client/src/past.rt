@@ -20,8 +20,8 @@ pub enum Past<T> {
     Outstanding(Patch<T>),
     /// One operation, which is still outstanding: an edit began the buffer.
     Unbuffered,
-    /// Both operations, which went after another's.
-    Both(Box<Patch<T>>, Box<Patch<T>>),
+    /// Both operations, the outstanding one and the buffer, which went after another's.
+    Both(Box<(Patch<T>, Patch<T>)>),
     /// The outstanding operation, which still is, and the buffer, into which an edit was composed.
     Buffer(Patch<T>),
     /// This operation, which was confirmed, and then what is outstanding now, if anything is.
@@ -119,7 +119,8 @@ impl<T: Element> Past<T> {
                 Ok(buffer) => Ok(Waiting::Buffer(outstanding, buffer)),
                 Err(buffer) => Err((outstanding, buffer)),
             },
-            Past::Both(first, second) => {
+            Past::Both(both) => {
+                let (first, second) = &**both;
                 let outstanding = match first.prepare_back(outstanding) {
                     Ok(outstanding) => outstanding,
                     Err(outstanding) => return Err((outstanding, buffer)),

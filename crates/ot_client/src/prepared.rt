@@ -66,8 +66,7 @@ impl<T: Element> PreparedStep<T> {
             Waiting::Outstanding(outstanding) => Past::Outstanding(outstanding.patch()?),
             Waiting::Second(..) => Past::Unbuffered,
             Waiting::Both(outstanding, buffer) => {
-                let outstanding = Box::new(alloc, outstanding.patch()?)?;
-                Past::Both(outstanding, Box::new(alloc, buffer.patch()?)?)
+                Past::Both(Box::new(alloc, (outstanding.patch()?, buffer.patch()?))?)
             }
             Waiting::Buffer(_, buffer) => Past::Buffer(buffer.patch()?),
             Waiting::Unsent(_) | Waiting::Unbuffered(..) | Waiting::Unconfirmed(..) => {

@@ -7,6 +7,7 @@ ghost use Rattle.ot_model.specs.Table.{phase_in};
 ghost use Rattle.ot_machine.specs.Seats.{client_in, client_of, phase_of, revision_of, view_of};
 ghost use Rattle.ot_machine.specs.Undoing.{list_before, phase_before, queue_before, reverted, unsent, FitsBack, FitsPhase, IsBefore};
 
+use crate::inverse::Inverse;
 use crate::seat::Seat;
 use ot_client::{Past, PreparedStep};
 use ot_isa::Tagged;
@@ -19,14 +20,14 @@ use std::alloc::AllocError;
 pub(crate) struct Before {
     pub past: Past<Tagged>,
     pub revision: u32,
-    pub inverse: Option<TextOp<Tagged>>,
+    pub inverse: Option<Inverse>,
     pub count: u32,
     pub unsent: bool,
     pub received: bool,
 }
 
 // What takes the operation back from the list that it makes of this one.
-fn inverse_of(op: &TextOp<Tagged>, list: &Doc<Tagged>) -> Result<TextOp<Tagged>, AllocError>
+fn inverse_of(op: &TextOp<Tagged>, list: &Doc<Tagged>) -> Result<Inverse, AllocError>
     requires { op.now.base ≡ length list.now }
     ensures base { IfOk result (λ inverse. inverse.base ≡ length (apply op.now list.now)) }
     ensures back { IfOk result (λ inverse. apply inverse (apply op.now list.now) ≡ list.now) }
@@ -34,7 +35,7 @@ fn inverse_of(op: &TextOp<Tagged>, list: &Doc<Tagged>) -> Result<TextOp<Tagged>,
     if op.base_len() != list.len() {
         unreachable!();
     }
-    let inverse = op.invert(list)?;
+    let inverse = Inverse::of(op, list)?;
     Ok(inverse)
 }
 
@@ -127,7 +128,7 @@ fn revert_client(seat: &mut Seat, before: &Before) -> Result<(), AllocError>
         }
     };
     if let Some(inverse) = &before.inverse
-        && let Err(e) = seat.list.change(inverse)
+        && let Err(e) = inverse.change(&mut seat.list)
     {
         seat.client = Some(back.roll_back());
         return Err(e);

@@ -120,21 +120,35 @@ fn letters(text: &Option<Vec<char>>) -> Option<&[char]>
     }
 }
 
+// The same of the instruction that is this call, before which the machine is.
+fn explain_instr(
+    alloc: Global,
+    schedule: &Schedule,
+    machine: &Machine,
+    instr: &Instr,
+    call: &Call,
+    difference: Difference<'_>,
+) -> Result<String, AllocError>
+    ensures { IfOk result (λ lines. explained.IsExplained (explained.asked_of schedule.now machine.now instr.now (call_value call.now) (explained.difference_value difference.entry)) (string_bytes lines)) }
+{
+    let text = text_for(alloc, schedule, machine, instr, call, difference.field)?;
+    explain_call(alloc, call, letters(&text), difference)
+}
+
 // What is said of the instruction, which the machine is before, if it is performed.
 fn explain_step(
     alloc: Global,
     schedule: &Schedule,
-    mut machine: Machine,
+    machine: &mut Machine,
     instr: &Instr,
     difference: Difference<'_>,
 ) -> Result<String, AllocError>
-    ensures { IfOk result (λ lines. explained.IsStepExplained schedule.now machine instr.now (explained.difference_value difference.entry) (string_bytes lines)) }
+    ensures { IfOk result (λ lines. explained.IsStepExplained schedule.now machine.old instr.now (explained.difference_value difference.entry) (string_bytes lines)) }
 {
-    let Some(call) = call_of(alloc, &machine, instr)? else {
+    let Some(call) = call_of(alloc, machine, instr)? else {
         return Ok(String::new(alloc));
     };
-    let text = text_for(alloc, schedule, &machine, instr, &call, difference.field)?;
-    let lines = explain_call(alloc, &call, letters(&text), difference)?;
+    let lines = explain_instr(alloc, schedule, machine, instr, &call, difference)?;
     match machine.step(instr) {
         Ok(_) => Ok(lines),
         Err(refusal) => {
@@ -171,7 +185,7 @@ pub fn explain(
         return Ok(String::new(alloc));
     };
     match machine_at(alloc, schedule, place)? {
-        Some(machine) => explain_step(alloc, schedule, machine, instr, difference),
+        Some(mut machine) => explain_step(alloc, schedule, &mut machine, instr, difference),
         None => Ok(String::new(alloc)),
     }
 }

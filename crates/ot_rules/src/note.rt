@@ -117,7 +117,7 @@ fn wanted_in_units(
 fn said(alloc: Global, note: Note, asked: &Asked<'_>) -> Result<Option<TextOp<char>>, AllocError>
     ensures { IfOk result (λ op. op ≡ notes.said note (notes.asked_value asked.now)) }
 {
-    let made = match note {
+    let mut made = match note {
         Note::InUnits => return wanted_in_units(alloc, asked.wanted, asked.text),
         Note::Turned => made_turned(alloc, asked.call)?,
         Note::Untransformed => made_untransformed(asked.call)?,
@@ -126,7 +126,7 @@ fn said(alloc: Global, note: Note, asked: &Asked<'_>) -> Result<Option<TextOp<ch
         Note::WithoutEdit => made_without_edit(asked.call)?,
         _ => return Ok(None),
     };
-    Ok(in_field(made, asked.field))
+    Ok(in_field(&mut made, asked.field))
 }
 
 // The text is the operation's.

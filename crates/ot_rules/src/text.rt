@@ -11,7 +11,7 @@ ghost use Rattle.ot_rules.specs.Texts as texts;
 
 use crate::call::{Call, Waiting};
 use crate::field::Field;
-use crate::wrong::transformed;
+use crate::wrong::first_transformed;
 use ot_isa::{Instr, Schedule, Tagged, start_doc};
 use ot_machine::Machine;
 use ot_text::{Doc, TextOp};
@@ -121,10 +121,7 @@ fn outstanding_behind(alloc: Global, call: &Call) -> Result<Option<TextOp<char>>
         }
         Call::ApplyServer(Waiting::Outstanding(outstanding), op)
         | Call::ApplyServer(Waiting::Buffered(outstanding, _), op) => {
-            match transformed(alloc, outstanding, op)? {
-                Some((outstanding, _op)) => Ok(Some(outstanding)),
-                None => Ok(None),
-            }
+            first_transformed(alloc, outstanding, op)
         }
         Call::ServerAck(_, Waiting::Buffered(_, buffer)) => Ok(Some(buffer.copy()?)),
         _ => Ok(None),

@@ -1,6 +1,6 @@
 //! What typical wrong rules make of a call.
 
-ghost use Rattle.std.specs.Prelude.{◌≡◌, IfOk};
+ghost use Rattle.std.specs.Prelude.{◌≡◌, IfOk, Some};
 ghost use Rattle.ot_rules.specs.Call.{call_value};
 ghost use Rattle.ot_rules.specs.Wrong as wrong;
 
@@ -30,15 +30,39 @@ fn nothing() -> Made
     }
 }
 
-/// The operation of this field, if there is one.
-pub fn in_field(made: Made, field: Field) -> Option<TextOp<char>>
-    ensures { result ≡ wrong.in_field made field }
+// An operation in the buffer's place, and nothing else.
+fn in_buffer(op: &TextOp<char>) -> Result<Made, AllocError>
+    ensures { IfOk result (λ made. made ≡ record wrong.nothing { buffer = Some op.now }) }
+{
+    Ok(Made {
+        outstanding: None,
+        buffer: Some(op.copy()?),
+        applied: None,
+        appended: None,
+    })
+}
+
+// What is appended, and nothing else.
+fn in_log(appended: Option<TextOp<char>>) -> Made
+    ensures { result ≡ record wrong.nothing { appended = appended } }
+{
+    Made {
+        outstanding: None,
+        buffer: None,
+        applied: None,
+        appended,
+    }
+}
+
+/// Takes out the operation of this field, if there is one.
+pub fn in_field(made: &mut Made, field: Field) -> Option<TextOp<char>>
+    ensures { result ≡ wrong.in_field made.old field }
 {
     match field {
-        Field::Outstanding => made.outstanding,
-        Field::Buffer => made.buffer,
-        Field::Applied => made.applied,
-        Field::Appended => made.appended,
+        Field::Outstanding => made.outstanding.take(),
+        Field::Buffer => made.buffer.take(),
+        Field::Applied => made.applied.take(),
+        Field::Appended => made.appended.take(),
         _ => None,
     }
 }
@@ -60,7 +84,35 @@ pub fn transformed(
     Ok(Some(transform(alloc, a, b)?))
 }
 
-// The same, with the text of the second argument first where both insert at one place.
+/// Its first result.
+pub fn first_transformed(
+    alloc: Global,
+    a: &TextOp<char>,
+    b: &TextOp<char>,
+) -> Result<Option<TextOp<char>>, AllocError>
+    ensures { IfOk result (λ op. op ≡ wrong.first_of (wrong.transformed a.now b.now)) }
+{
+    match transformed(alloc, a, b)? {
+        Some((first, _second)) => Ok(Some(first)),
+        None => Ok(None),
+    }
+}
+
+// Its second result.
+fn second_transformed(
+    alloc: Global,
+    a: &TextOp<char>,
+    b: &TextOp<char>,
+) -> Result<Option<TextOp<char>>, AllocError>
+    ensures { IfOk result (λ op. op ≡ wrong.second_of (wrong.transformed a.now b.now)) }
+{
+    match transformed(alloc, a, b)? {
+        Some((_first, second)) => Ok(Some(second)),
+        None => Ok(None),
+    }
+}
+
+// Both, with the text of the second argument first where both insert at one place.
 fn turned(
     alloc: Global,
     a: &TextOp<char>,
@@ -141,69 +193,84 @@ pub fn made_turned(alloc: Global, call: &Call) -> Result<Made, AllocError>
     match call {
         Call::ApplyServer(waiting, op) => turned_delivery(alloc, waiting, op),
         Call::ReceiveOperation(_, op, concurrent) => {
-            let mut made = nothing();
-            made.appended = turned_over(alloc, op, concurrent.as_slice())?;
-            Ok(made)
+            Ok(in_log(turned_over(alloc, op, concurrent.as_slice())?))
         }
         Call::ApplyClient(..) | Call::ServerAck(..) => Ok(nothing()),
     }
+}
+
+// What waits, if it does, and the delivered operation.
+fn untransformed(waiting: &Waiting, op: &TextOp<char>) -> Result<Made, AllocError>
+    ensures { IfOk result (λ made. made ≡ wrong.untransformed waiting.now op.now) }
+{
+    let (outstanding, buffer) = match waiting {
+        Waiting::Nothing => return Ok(nothing()),
+        Waiting::Outstanding(outstanding) => (outstanding.copy()?, None),
+        Waiting::Buffered(outstanding, buffer) => {
+            let outstanding = outstanding.copy()?;
+            (outstanding, Some(buffer.copy()?))
+        }
+    };
+    Ok(Made {
+        outstanding: Some(outstanding),
+        buffer,
+        applied: Some(op.copy()?),
+        appended: None,
+    })
 }
 
 /// The rule without any transform: each operation as it was.
 pub fn made_untransformed(call: &Call) -> Result<Made, AllocError>
     ensures { IfOk result (λ made. made ≡ wrong.made_untransformed (call_value call.now)) }
 {
-    let mut made = nothing();
     match call {
-        Call::ApplyServer(Waiting::Outstanding(outstanding), op) => {
-            made.outstanding = Some(outstanding.copy()?);
-            made.applied = Some(op.copy()?);
-        }
-        Call::ApplyServer(Waiting::Buffered(outstanding, buffer), op) => {
-            made.outstanding = Some(outstanding.copy()?);
-            made.buffer = Some(buffer.copy()?);
-            made.applied = Some(op.copy()?);
-        }
-        Call::ReceiveOperation(_, op, _) => made.appended = Some(op.copy()?),
-        _ => {}
+        Call::ApplyServer(waiting, op) => untransformed(waiting, op),
+        Call::ReceiveOperation(_, op, _) => Ok(in_log(Some(op.copy()?))),
+        Call::ApplyClient(..) | Call::ServerAck(..) => Ok(nothing()),
     }
-    Ok(made)
+}
+
+fn by_half(alloc: Global, waiting: &Waiting, op: &TextOp<char>) -> Result<Made, AllocError>
+    ensures { IfOk result (λ made. made ≡ wrong.by_half waiting.now op.now) }
+{
+    let Waiting::Buffered(outstanding, buffer) = waiting else {
+        return Ok(nothing());
+    };
+    let buffer = first_transformed(alloc, buffer, op)?;
+    Ok(Made {
+        outstanding: None,
+        buffer,
+        applied: second_transformed(alloc, outstanding, op)?,
+        appended: None,
+    })
 }
 
 /// A delivery of which half is done: the buffer over the delivered operation itself, and that over the outstanding operation alone.
 pub fn made_by_half(alloc: Global, call: &Call) -> Result<Made, AllocError>
     ensures { IfOk result (λ made. made ≡ wrong.made_by_half (call_value call.now)) }
 {
-    let mut made = nothing();
-    if let Call::ApplyServer(Waiting::Buffered(outstanding, buffer), op) = call {
-        if let Some((buffer, _op)) = transformed(alloc, buffer, op)? {
-            made.buffer = Some(buffer);
-        }
-        if let Some((_outstanding, applied)) = transformed(alloc, outstanding, op)? {
-            made.applied = Some(applied);
-        }
+    match call {
+        Call::ApplyServer(waiting, op) => by_half(alloc, waiting, op),
+        _ => Ok(nothing()),
     }
-    Ok(made)
 }
 
 /// An edit that takes the buffer's place.
 pub fn made_by_edit_alone(call: &Call) -> Result<Made, AllocError>
     ensures { IfOk result (λ made. made ≡ wrong.made_by_edit_alone (call_value call.now)) }
 {
-    let mut made = nothing();
-    if let Call::ApplyClient(Waiting::Buffered(..), op) = call {
-        made.buffer = Some(op.copy()?);
+    match call {
+        Call::ApplyClient(Waiting::Buffered(..), op) => in_buffer(op),
+        _ => Ok(nothing()),
     }
-    Ok(made)
 }
 
 /// An edit that the buffer does not take up.
 pub fn made_without_edit(call: &Call) -> Result<Made, AllocError>
     ensures { IfOk result (λ made. made ≡ wrong.made_without_edit (call_value call.now)) }
 {
-    let mut made = nothing();
-    if let Call::ApplyClient(Waiting::Buffered(_, buffer), _) = call {
-        made.buffer = Some(buffer.copy()?);
+    match call {
+        Call::ApplyClient(Waiting::Buffered(_, buffer), _) => in_buffer(buffer),
+        _ => Ok(nothing()),
     }
-    Ok(made)
 }

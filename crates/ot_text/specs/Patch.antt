@@ -1,7 +1,7 @@
 -- What leads from one operation to another.
 use Rattle.std.specs.Prelude.{◌≡◌, ◌≢◌, ℕ, suc, ◌-◌, ◌<◌, ◌≤◌, List, [], ◌∷◌, length, take, drop, slice_get}
 use Rattle.ot_text.specs.declared.patch.Patch.{Patch}
-use Rattle.ot_text.specs.declared.patch.Patch.TheVariants.{Whole, Parts}
+use Rattle.ot_text.specs.declared.patch.Patch.TheVariants.{Whole, Part, Parts}
 use Rattle.ot_text.specs.Operation.{Operation, IsTooLong}
 use Rattle.ot_text.specs.Run.{Run, normal_runs, operation_of}
 use Rattle.ot_text.specs.Splices.{Piece, spliced, AreInOrder, StandApart, FitIn}
@@ -9,16 +9,19 @@ use Rattle.ot_text.specs.Splices.{Piece, spliced, AreInOrder, StandApart, FitIn}
 -- what a patch makes of an operation: another one, or itself with pieces in their places
 abbrev pub patched : {A : Type 0} → Patch A → Operation A → Operation A
 patched (Whole other) op = other
+patched (Part p) op = operation_of (spliced (p ∷ []) (normal_runs op))
 patched (Parts ps) op = operation_of (spliced ps.items (normal_runs op))
 
 -- its pieces have their places in the operation
 abbrev pub FitsOn : {A : Type 0} → Patch A → Operation A → Type 0
 FitsOn (Whole other) op = Unit {0}
+FitsOn (Part p) op = FitIn (p ∷ []) (normal_runs op)
 FitsOn (Parts ps) op = FitIn ps.items (normal_runs op)
 
 -- and what it makes is within the limits
 abbrev pub LeadsFrom : {A : Type 0} → Patch A → Operation A → Type 0
 LeadsFrom (Whole other) op = Unit {0}
+LeadsFrom (Part p) op = FitIn (p ∷ []) (normal_runs op) × (IsTooLong (operation_of (spliced (p ∷ []) (normal_runs op))) → ⊥)
 LeadsFrom (Parts ps) op = FitIn ps.items (normal_runs op) × (IsTooLong (operation_of (spliced ps.items (normal_runs op))) → ⊥)
 
 -- a piece stands for something, and shares nothing: where it has runs and others go for them, it neither begins nor ends as these
@@ -34,6 +37,7 @@ AreLeast (p ∷ ps) runs = IsLeastPiece p runs × AreLeast ps runs
 -- the patch is made of such pieces, and between two of them at least one run stays
 abbrev pub IsLeast : {A : Type 0} → Patch A → List (Run A) → Type 0
 IsLeast (Whole other) runs = ⊥
+IsLeast (Part p) runs = StandApart (p ∷ []) × AreLeast (p ∷ []) runs
 IsLeast (Parts ps) runs = StandApart ps.items × AreLeast ps.items runs
 
 -- pieces that lead from newer runs back to older ones, each apart from the next one, and none of which shares its ends with the runs that it stands for

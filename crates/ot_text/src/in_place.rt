@@ -11,7 +11,7 @@ ghost use Rattle.ot_text.specs.Patch.{patched, LeadsFrom, IsLeast};
 use crate::difference::differences;
 use crate::lengths::{Lengths, lengths_with};
 use crate::replace::put;
-use crate::splices::added_components;
+use crate::splices::{added_components, only_splice};
 use crate::{Component, Element, Patch, Splice, TextOp};
 use std::alloc::AllocError;
 use std::marker::Model;
@@ -106,6 +106,9 @@ impl<T: Element> InPlace<T> {
     {
         let alloc = *self.components.allocator();
         let pieces = differences(alloc, self.components.as_slice(), self.splices.as_slice())?;
-        Ok(Patch::Parts(pieces))
+        match only_splice(pieces) {
+            Ok(piece) => Ok(Patch::Part(piece)),
+            Err(pieces) => Ok(Patch::Parts(pieces)),
+        }
     }
 }

@@ -15,16 +15,18 @@ ghost use Rattle.ot_text.specs.Patch.{patched, FitsOn, LeadsFrom, IsLeast};
 
 use crate::difference::difference;
 use crate::in_place::InPlace;
-use crate::splices::copy_splices;
+use crate::splices::{copy_splices, one_splice};
 use crate::{Element, Prepared, Splice, TextOp};
 use std::alloc::AllocError;
 
-/// What leads from one operation to another: this other one altogether, or parts that take the place of some of its components, in order. As a
+/// What leads from one operation to another: this other one altogether, one part that takes the place of some of its components, or any number of
+/// such parts, in order. One part alone has no list around it where one is made here: what is kept of an edit is then one block of memory. As a
 /// `Rewrite` makes it, and, as what leads back from an operation to an older one, `Patch::between` and `Prepared::patch`. Between two parts of what
 /// these make at least one component stays.
 #[derive(Drop)]
 pub enum Patch<T> {
     Whole(TextOp<T>),
+    Part(Splice<T>),
     Parts(Vec<Splice<T>>),
 }
 
@@ -38,11 +40,10 @@ impl<T: Element> Patch<T> {
         ensures least { IfOk result (λ patch. IsLeast patch (normal_runs newer.now)) }
     {
         let alloc = older.allocator();
-        let mut pieces = Vec::with_capacity(alloc, 1)?;
-        if let Some(piece) = difference(alloc, older.components(), newer.components())? {
-            pieces.push(piece)?;
+        match difference(alloc, older.components(), newer.components())? {
+            Some(piece) => Ok(Patch::Part(piece)),
+            None => Ok(Patch::Parts(Vec::new(alloc))),
         }
-        Ok(Patch::Parts(pieces))
     }
 
     /// What leads from an operation back to itself: nothing differs. It takes no memory.
@@ -69,14 +70,10 @@ impl<T: Element> Patch<T> {
     {
         match self {
             Patch::Whole(older) => older.copy(),
-            Patch::Parts(pieces) => {
-                let alloc = newer.allocator();
-                let pieces = copy_splices(alloc, pieces.as_slice())?;
-                match InPlace::new(newer.copy()?, pieces) {
-                    Ok(change) => Ok(change.commit()),
-                    Err(_) => Err(AllocError),
-                }
-            }
+            _ => match self.prepare_back(newer.copy()?) {
+                Ok(change) => Ok(change.commit()),
+                Err(_) => Err(AllocError),
+            },
         }
     }
 
@@ -91,6 +88,10 @@ impl<T: Element> Patch<T> {
         match self {
             Patch::Whole(older) => match older.copy() {
                 Ok(older) => Ok(Prepared::new(newer, older)),
+                Err(_) => Err(newer),
+            },
+            Patch::Part(piece) => match piece.copy(newer.allocator()) {
+                Ok(piece) => newer.prepare(Patch::Part(piece)),
                 Err(_) => Err(newer),
             },
             Patch::Parts(pieces) => match copy_splices(newer.allocator(), pieces.as_slice()) {
@@ -113,6 +114,10 @@ impl<T: Element> TextOp<T> {
     {
         match patch {
             Patch::Whole(other) => Ok(Prepared::new(self, other)),
+            Patch::Part(splice) => match one_splice(self.allocator(), splice) {
+                Ok(splices) => Ok(Prepared::in_place(InPlace::new(self, splices)?)),
+                Err(_) => Err(self),
+            },
             Patch::Parts(splices) => Ok(Prepared::in_place(InPlace::new(self, splices)?)),
         }
     }

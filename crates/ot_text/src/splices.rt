@@ -9,7 +9,7 @@
 //!
 //! What stands between them stays where it is.
 
-ghost use Rattle.std.specs.Prelude.{◌≡◌, ◌+◌, ◌≤◌, length, slice_range, IfOk};
+ghost use Rattle.std.specs.Prelude.{◌≡◌, ◌+◌, ◌≤◌, [], ◌∷◌, length, slice_range, IfErr, IfOk};
 ghost use Rattle.ot_text.specs.Change.{growth};
 
 use crate::Component;
@@ -59,7 +59,7 @@ impl<T> Splice<T> {
 }
 
 impl<T: Copy> Splice<T> {
-    fn copy(&self, alloc: Global) -> Result<Splice<T>, AllocError>
+    pub(crate) fn copy(&self, alloc: Global) -> Result<Splice<T>, AllocError>
         ensures { IfOk result (λ splice. splice ≡ self.now) }
     {
         let part = copy_components(alloc, self.part.as_slice())?;
@@ -68,6 +68,29 @@ impl<T: Copy> Splice<T> {
             end: self.end,
             part,
         })
+    }
+}
+
+// The list of one part.
+pub fn one_splice<T: Drop>(alloc: Global, splice: Splice<T>) -> Result<Vec<Splice<T>>, AllocError>
+    ensures { IfOk result (λ v. v.items ≡ splice ∷ []) }
+{
+    let mut splices = Vec::with_capacity(alloc, 1)?;
+    splices.push(splice)?;
+    Ok(splices)
+}
+
+// The part that is alone in the list, or the list of any other number of them.
+pub fn only_splice<T: Drop>(mut splices: Vec<Splice<T>>) -> Result<Splice<T>, Vec<Splice<T>>>
+    ensures one { IfOk result (λ splice. splices.items ≡ splice ∷ []) }
+    ensures others { IfErr result (λ v. v.items ≡ splices.items) }
+{
+    if splices.len() != 1 {
+        return Err(splices);
+    }
+    match splices.pop() {
+        Some(splice) => Ok(splice),
+        None => Err(splices),
     }
 }
 
