@@ -158,7 +158,7 @@ SHAPES = {
     "long-message-fifteen-places": lambda: long_message_at_places(15),
     "buffers": buffers,
     "buffers-both-ends": lambda: edited_at_places(2),
-    "buffers-fifteen-places": lambda: edited_at_places(15, edits=1900),
+    "buffers-fifteen-places": lambda: edited_at_places(15, edits=400),
     "pending": pending,
     "both-ends": lambda: at_places(2),
     "five-places": lambda: at_places(5),
