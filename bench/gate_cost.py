@@ -122,9 +122,19 @@ def measured(name, part, jobs):
 
 
 @functools.lru_cache(maxsize=None)
-def waiting(name):
-    """How many crates the longest chain has that waits for this one."""
-    return max((1 + waiting(it.name) for it in crates().values() if name in {dep.name for dep in it.below()}), default=0)
+def size(name):
+    """The bytes of a crate's own sources, without its edits: about as its proof costs."""
+    found = 0
+    for at, folders, files in os.walk(crates()[name].folder):
+        folders[:] = [it for it in folders if it not in ("out", "must-fail")]
+        found += sum(os.path.getsize(f"{at}/{it}") for it in files)
+    return found
+
+
+@functools.lru_cache(maxsize=None)
+def chain_from(name):
+    """How much the longest chain has that begins with this crate: itself and what waits for it, by size."""
+    return size(name) + max((chain_from(it.name) for it in crates().values() if name in {dep.name for dep in it.below()}), default=0)
 
 
 def is_known(costs, name, part):
@@ -145,7 +155,7 @@ def measure(costs, names, parts, lanes, until, file):
     wanted = [(name, part) for name in names for part in parts]
     below = {it.name for name, _ in wanted for it in crates()[name].below()}
     wanted += [(name, "proof") for name in crates() if name in below and (name, "proof") not in wanted]
-    left = sorted((it for it in wanted if not is_known(costs, *it)), key=lambda it: (PARTS.index(it[1]), -waiting(it[0])))
+    left = sorted((it for it in wanted if not is_known(costs, *it)), key=lambda it: (PARTS.index(it[1]), -chain_from(it[0])))
     stands = {name for name in crates() if is_known(costs, name, "proof") and well(costs[f"{name} proof"]["found"])}
     running = {}
     # (each lane is a process, since processor time is counted by process)
@@ -156,7 +166,7 @@ def measure(costs, names, parts, lanes, until, file):
                 # (a proof that others wait for gets the lanes that would be idle, and two where the longest chain of all waits for it)
                 jobs = max(1, spare(running, lanes) // len(ready))
                 task = ready.pop(0)
-                if task[1] == "proof" and waiting(task[0]) == max(waiting(name) for name, part in left if part == "proof"):
+                if task[1] == "proof" and chain_from(task[0]) >= max((chain_from(name) for name, part in left if part == "proof"), default=0):
                     jobs = max(jobs, min(2, lanes))
                 left.remove(task)
                 running[pool.submit(measured, *task, jobs)] = (*task, jobs if task[1] != "edits" else 1)
