@@ -60,6 +60,19 @@ def pending(parts=7000, deliveries=22000):
     return [*lines, *["deliver 0"] * deliveries]
 
 
+def pending_crowd(clients=32, parts=7000, entries=2900):
+    """31 clients with 14,000 characters pending each, to which 2,900 operations are delivered by turns: `steps` and `explain` print all that is pending each time."""
+    length = 30000
+    first, second = waiting(parts, length)[-2:]
+    lines = opening(clients, length)
+    for c in range(1, clients):
+        lines += [first.replace("edit 0", f"edit {c}"), second.replace("edit 0", f"edit {c}")]
+    lines += typed(0, entries, length)
+    for _ in range(entries):
+        lines += [f"deliver {c}" for c in range(1, clients)]
+    return lines
+
+
 def places(count, length, gone):
     """An operation that puts a character in at so many places of a document of that length, or takes those characters out again."""
     step = (length - 14) // max(1, count - 1)
@@ -160,6 +173,7 @@ SHAPES = {
     "buffers-both-ends": lambda: edited_at_places(2),
     "buffers-fifteen-places": lambda: edited_at_places(15, edits=400),
     "pending": pending,
+    "pending-crowd": pending_crowd,
     "both-ends": lambda: at_places(2),
     "five-places": lambda: at_places(5),
     "fifteen-places": lambda: at_places(15),

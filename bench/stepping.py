@@ -1,7 +1,7 @@
 #!/usr/bin/env python3
 """otbench's debugger against a plain run of the same schedule.
 
-    python3 bench/stepping.py [--dir DIR] [--rounds N] [--place P] [--only a,b,c,d]
+    python3 bench/stepping.py [--dir DIR] [--rounds N] [--place P] [--only a,b,c,d] [--seed S]
 
 Writes the schedules of storms.py to DIR (a temporary folder by default). For each it takes turns, N times (25) on one core: `otbench run`, and
 `otbench debug` with a break at place P (90000, or the schedule's end where that is nearer) and `run`. It prints the medians of both sides'
@@ -35,9 +35,10 @@ def main():
     words.add_argument('--rounds', type=int, default=25)
     words.add_argument('--place', type=int, default=90000)
     words.add_argument('--only', default='a,b,c,d')
+    words.add_argument('--seed', type=int, default=1)
     words = words.parse_args()
     folder = words.dir or tempfile.mkdtemp()
-    subprocess.run([sys.executable, os.path.join(HERE, 'storms.py'), folder, '--only', words.only], check=True, stdout=subprocess.DEVNULL)
+    subprocess.run([sys.executable, os.path.join(HERE, 'storms.py'), folder, '--only', words.only, '--seed', str(words.seed)], check=True, stdout=subprocess.DEVNULL)
     subprocess.run([os.path.join(TOP, 'otbench'), 'run'], input=b'clients 1\n', stdout=subprocess.DEVNULL, check=True)
     os.sched_setaffinity(0, {max(os.sched_getaffinity(0))})
     print('%-14s %10s %10s %8s %14s %14s' % ('schedule', 'run s', 'debug s', 'ratio', 'run faults', 'debug faults'))

@@ -30,7 +30,7 @@ with_runs-add op text rs = same_operation _ _ _ _ refl (append_assoc op.image (m
 pub with_runs-skip : {A : Type 0} (op : Operation A) (m : ℕ) (rs : List (Run A)) → with_runs (with_delete op m) rs ≡ with_runs op (Skip m ∷ rs)
 with_runs-skip op m rs = same_operation _ _ _ _ (omega arith) refl
 
-retain-none : {A : Type 0} (op : Operation A) → with_retain op 0 ≡ op
+pub retain-none : {A : Type 0} (op : Operation A) → with_retain op 0 ≡ op
 retain-none op = same_operation _ _ _ _ (omega arith) (append-nil op.image)
 
 pub retain-more : {A : Type 0} (op : Operation A) (m n : ℕ) → with_retain (with_retain op m) n ≡ with_retain op (m + n)

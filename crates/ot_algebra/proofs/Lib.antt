@@ -19,6 +19,7 @@ pub mod ComposeProgress
 pub mod Places
 pub mod KeptRuns
 pub mod Staying
+pub mod OnePlace
 pub mod Written
 pub mod Composing
 pub mod Examples

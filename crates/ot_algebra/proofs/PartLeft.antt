@@ -10,27 +10,22 @@ use Rattle.ot_text.specs.Components.{run_of, runs}
 use Rattle.ot_text.specs.declared.Component.{Component}
 use Rattle.ot_algebra.specs.Merge.{first_after}
 use Rattle.ot_algebra.specs.Cursor.{appended, skipped, runs_left, runs_from, span_of, keeps_of, transformed_part}
+use Rattle.ot_algebra.specs.OnePlace.{left}
 use Rattle.ot_algebra.proofs.RunSlots.{StartsOtherwise}
 use Rattle.ot_algebra.proofs.SkippedLaws.{skipped_retain-whole, skipped_retain-part, skipped_delete-whole, skipped_delete-part}
 use Rattle.ot_algebra.proofs.TransformProgress.{Progress, progress_insert_first, progress_insert_second, progress_end_first}
 use Rattle.ot_algebra.proofs.TransformArms.{Whole, arm_part, otherwise_of, small}
-
--- `ahead` elements that the operation keeps or deletes, and the runs after them
-abbrev pub left : {A : Type 0} → Bool → ℕ → List (Run A) → List (Run A)
-left keeps zero xs = xs
-left true (suc more) xs = Keep (suc more) ∷ xs
-left false (suc more) xs = Skip (suc more) ∷ xs
 
 left_otherwise : {A : Type 0} (keeps : Bool) (ahead : ℕ) (xs : List (Run A)) → 0 < ahead → StartsOtherwise (left keeps ahead xs)
 left_otherwise keeps zero xs some = absurd (omega (arith, some))
 left_otherwise true (suc more) xs some = tt
 left_otherwise false (suc more) xs some = tt
 
-skipped_kept : {A : Type 0} (count all m : ℕ) (xs : List (Run A)) → all ≡ count + m → skipped count (Keep all ∷ xs) ≡ left true m xs
+pub skipped_kept : {A : Type 0} (count all m : ℕ) (xs : List (Run A)) → all ≡ count + m → skipped count (Keep all ∷ xs) ≡ left true m xs
 skipped_kept count all zero xs e = skipped_retain-whole count all xs e
 skipped_kept count all (suc m) xs e = skipped_retain-part count all m xs e
 
-skipped_gone : {A : Type 0} (count all m : ℕ) (xs : List (Run A)) → all ≡ count + m → skipped count (Skip all ∷ xs) ≡ left false m xs
+pub skipped_gone : {A : Type 0} (count all m : ℕ) (xs : List (Run A)) → all ≡ count + m → skipped count (Skip all ∷ xs) ≡ left false m xs
 skipped_gone count all zero xs e = skipped_delete-whole count all xs e
 skipped_gone count all (suc m) xs e = skipped_delete-part count all m xs e
 

@@ -67,8 +67,8 @@ pub(crate) fn reach(place: Place, by: Measure) -> usize
     }
 }
 
-// How many elements the component takes, and how many it makes.
-fn lengths<T>(component: &Component<T>) -> (usize, usize)
+/// How many elements the component takes, and how many it makes.
+pub(crate) fn lengths<T>(component: &Component<T>) -> (usize, usize)
     ensures taken { result.0 ≡ base_of (run_of component.now ∷ []) }
     ensures made { result.1 ≡ target_of (run_of component.now ∷ []) }
 {

@@ -29,15 +29,20 @@
 //! of parts, and to put it in place costs what is written and, for each part that changes the number of components, a move of all those behind it. So nothing
 //! stays where `b` has more than 32 components: then everything is written anew, and the cost is that of the components of both again.
 //!
+//! Most operations of a session are short, and change one place that lies within what a retain of the other one keeps. Then what the first becomes is itself
+//! with another count in that retain, which is all that `transform_first` writes (`one_place`).
+//!
 //! Contracts: `specs/Compose.antt` has `compose`, `specs/Merge.antt` has `merge`, `first_after` and `second_after`, and
 //! `specs/Laws.antt` the laws, each of which is the contract of a function in [`laws`]. `specs/Cursor.antt` serves the
-//! loops alone, `specs/Places.antt` the components that stay. To read: `composition::compose`, then `transformation::transform`, then `laws`.
+//! loops alone, `specs/Places.antt` the components that stay, `specs/OnePlace.antt` a change within one retain. To read:
+//! `composition::compose`, then `transformation::transform`, then `laws`.
 #![tactic(auto)]
 
 mod ahead;
 mod composition;
 mod cursor;
 pub mod laws;
+mod one_place;
 mod one_sided;
 mod prepared;
 mod transformation;

@@ -7,14 +7,17 @@ ghost use Rattle.ot_text.specs.declared.TheConstants.{LIMIT};
 
 use crate::ahead::{MANY, PLACES};
 use crate::cursor::{self, Front};
+use crate::one_place::one_retain;
 use crate::transformation::{SPLIT, add_part, changed, rewritten};
 use ot_text::{Component, Element, TextOp, only_memory};
 use std::alloc::AllocError;
 
 /// What `a` becomes after `b`: the first result of `transform`, under its conditions, for an `a` that is no longer wanted, as a server needs it that
-/// carries an operation over its log. Where `a` has fewer than 16 components, or `b` more than 32, the texts of `a` move, and it costs the components of
-/// both. Else the components of `a` that `b` touches are made anew, and the others stay where they are: it costs a look, or two, at those before the last
-/// that `b` touches, and for each place at which their number changes a move of those behind.
+/// carries an operation over its log. Where `a` has fewer than 16 components and `b` changes one place, within what one retain of `a` keeps, the count of this
+/// retain changes where it lies: no memory is taken, nothing moves, and it costs a look at the components up to that retain. Else, and where `b` has more than
+/// 32 components, the texts of `a` move, and it costs the components of both. Where `a` has 16 or more and `b` no more than 32, the components of `a` that `b`
+/// touches are made anew, and the others stay where they are: it costs a look, or two, at those before the last that `b` touches, and for each place at which
+/// their number changes a move of those behind.
 ///
 /// `Err` comes only where memory was refused, and `a` is gone then; `b` is only read.
 pub fn transform_first<T: Element>(a: TextOp<T>, b: &TextOp<T>) -> Result<TextOp<T>, AllocError>
@@ -22,11 +25,27 @@ pub fn transform_first<T: Element>(a: TextOp<T>, b: &TextOp<T>) -> Result<TextOp
     requires fits { a.base + length (news a.image) + length (news b.now.image) ≤ LIMIT }
     ensures { IfOk result (λ op. op ≡ first_after a b.now) }
 {
-    if a.components().len() < MANY || b.components().len() > PLACES {
+    if a.components().len() < MANY {
+        return carry_short(a, b);
+    }
+    if b.components().len() > PLACES {
         return carry(a, b);
     }
     let (change, _) = rewritten(a.allocator(), &a, b)?;
     changed(a, change)
+}
+
+// The first result of `transform`, for an `a` of few components.
+fn carry_short<T: Element>(mut a: TextOp<T>, b: &TextOp<T>) -> Result<TextOp<T>, AllocError>
+    requires same_base { a.base ≡ b.now.base }
+    requires fits { a.base + length (news a.image) + length (news b.now.image) ≤ LIMIT }
+    ensures { IfOk result (λ op. op ≡ first_after a b.now) }
+{
+    if let Some(retain) = one_retain(&a, b) {
+        a.set_retain(retain.at, retain.count);
+        return Ok(a);
+    }
+    carry(a, b)
 }
 
 // The first result of `transform`, step by step.

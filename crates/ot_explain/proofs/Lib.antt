@@ -1,4 +1,5 @@
 mod Clients
+mod Holding
 mod LineByLine
 mod Progress
 mod Texts

@@ -2,20 +2,21 @@
 
 ghost use Rattle.std.specs.Prelude.{◌≡◌, ◌++◌, ◌<◌, ◌-◌, length, IfOk, OnOk, string_bytes};
 ghost use Rattle.std.specs.Option.{option_copied, option_map};
-ghost use Rattle.ot_client.specs.Client.{message_of, state_of};
+ghost use Rattle.ot_client.specs.Client.{message_of};
 ghost use Rattle.ot_machine.specs.Readers.{ClientHas};
-ghost use Rattle.ot_model.specs.Table.{phase_in};
 ghost use Rattle.ot_steps.specs.Steps.{client_in, delivers};
+ghost use Rattle.ot_explain.specs.Held.{against_texts, confirmed_texts, IsHeld};
 ghost use Rattle.ot_explain.specs.Told as told;
 ghost use Rattle.ot_explain.specs.Words.{made_text, of_client};
 ghost use Rattle.ot_explain.specs.Told.{acknowledge_words, against_log, against_waiting, confirmed, deliver_words, edit_goes, edit_words, join_words, message_words, take_words};
 
+use crate::held::HeldTexts;
 use crate::values::{operation_text, push_entry, push_made};
-use ot_client::{Client, Sent};
+use ot_client::Sent;
 use ot_isa::{Instr, Tagged};
 use ot_json::write_op;
 use ot_machine::{Machine, Phase};
-use ot_steps::{applies, push_decimal, push_plain_array};
+use ot_steps::{applies, push_decimal};
 use ot_text::TextOp;
 use std::alloc::{AllocError, Global};
 
@@ -101,25 +102,26 @@ fn take_words(alloc: Global, machine: &Machine, client: u16) -> Result<String, A
     taken_words(alloc, client, machine.server_revision(), machine.up(client))
 }
 
-// What a client that has joined transforms another's operation against.
-fn push_against_state(
-    alloc: Global,
+// What a client in this phase transforms another's operation against, from the texts of what it waits for.
+fn push_against_texts(
     text: &mut String,
-    client: &Client<Tagged>,
+    phase: Phase,
+    outstanding: &str,
+    buffer: &str,
 ) -> Result<(), AllocError>
-    ensures { OnOk result (string_bytes text.new ≡ string_bytes text.old ++ against_waiting (phase_in (state_of client.now).phase)) }
+    ensures { OnOk result (string_bytes text.new ≡ string_bytes text.old ++ against_texts phase outstanding.now buffer.now) }
 {
-    match client {
-        Client::Synchronized(_) => Ok(()),
-        Client::AwaitingConfirm(client) => {
+    match phase {
+        Phase::NotJoined | Phase::Synchronized => Ok(()),
+        Phase::AwaitingConfirm => {
             text.push_str(", transforms it against its outstanding operation ")?;
-            push_plain_array(alloc, text, client.outstanding())
+            text.push_str(outstanding)
         }
-        Client::AwaitingWithBuffer(client) => {
+        Phase::AwaitingWithBuffer => {
             text.push_str(", transforms it against its outstanding operation ")?;
-            push_plain_array(alloc, text, client.outstanding())?;
+            text.push_str(outstanding)?;
             text.push_str(" and its buffer ")?;
-            push_plain_array(alloc, text, client.buffer())
+            text.push_str(buffer)
         }
     }
 }
@@ -127,16 +129,17 @@ fn push_against_state(
 fn push_against(
     alloc: Global,
     text: &mut String,
+    held: &mut HeldTexts,
     machine: &Machine,
     client: u16,
 ) -> Result<(), AllocError>
-    requires { client < length machine.now.clients }
+    requires inside { client < length machine.now.clients }
+    requires held { IsHeld held.old machine.now }
     ensures { OnOk result (string_bytes text.new ≡ string_bytes text.old ++ against_waiting (client_in machine.now client).phase) }
 {
-    if !machine.joined(client) {
-        return Ok(());
-    }
-    push_against_state(alloc, text, machine.client(client))
+    held.find(alloc, machine, client)?;
+    let phase = machine.phase(client);
+    push_against_texts(text, phase, held.outstanding.as_str(), held.buffer.as_str())
 }
 
 // What a delivery to the client would apply.
@@ -155,10 +158,12 @@ fn push_applied(
 fn push_delivery(
     alloc: Global,
     text: &mut String,
+    held: &mut HeldTexts,
     machine: &Machine,
     client: u16,
 ) -> Result<(), AllocError>
-    requires { client < length machine.now.clients }
+    requires inside { client < length machine.now.clients }
+    requires held { IsHeld held.old machine.now }
     ensures { OnOk result (string_bytes text.new ≡ string_bytes text.old ++ of_client machine.now client (deliver_words machine.now client)) }
 {
     let entry = machine.entry(machine.revision(client) as usize);
@@ -166,30 +171,31 @@ fn push_delivery(
     push_decimal(text, client as u64)?;
     text.push_str(" takes ")?;
     push_entry(alloc, text, entry)?;
-    push_against(alloc, text, machine, client)?;
+    push_against(alloc, text, held, machine, client)?;
     text.push_str(" and applies ")?;
     push_applied(alloc, text, machine, client)?;
     text.push_str("\n")
 }
 
-// What of a client that has joined is confirmed.
-fn push_confirmed_state(
-    alloc: Global,
+// What of a client in this phase is confirmed, from the texts of what it waits for.
+fn push_confirmed_texts(
     text: &mut String,
-    client: &Client<Tagged>,
+    phase: Phase,
+    outstanding: &str,
+    buffer: &str,
 ) -> Result<(), AllocError>
-    ensures { OnOk result (string_bytes text.new ≡ string_bytes text.old ++ confirmed (phase_in (state_of client.now).phase)) }
+    ensures { OnOk result (string_bytes text.new ≡ string_bytes text.old ++ confirmed_texts phase outstanding.now buffer.now) }
 {
-    match client {
-        Client::Synchronized(_) => text.push_str("nothing"),
-        Client::AwaitingConfirm(client) => {
-            push_plain_array(alloc, text, client.outstanding())?;
+    match phase {
+        Phase::NotJoined | Phase::Synchronized => text.push_str("nothing"),
+        Phase::AwaitingConfirm => {
+            text.push_str(outstanding)?;
             text.push_str("; it has no buffer")
         }
-        Client::AwaitingWithBuffer(client) => {
-            push_plain_array(alloc, text, client.outstanding())?;
+        Phase::AwaitingWithBuffer => {
+            text.push_str(outstanding)?;
             text.push_str("; it sends its buffer ")?;
-            push_plain_array(alloc, text, client.buffer())
+            text.push_str(buffer)
         }
     }
 }
@@ -197,31 +203,34 @@ fn push_confirmed_state(
 fn push_confirmed(
     alloc: Global,
     text: &mut String,
+    held: &mut HeldTexts,
     machine: &Machine,
     client: u16,
 ) -> Result<(), AllocError>
-    requires { client < length machine.now.clients }
+    requires inside { client < length machine.now.clients }
+    requires held { IsHeld held.old machine.now }
     ensures { OnOk result (string_bytes text.new ≡ string_bytes text.old ++ confirmed (client_in machine.now client).phase) }
 {
-    if !machine.joined(client) {
-        return text.push_str("nothing");
-    }
-    push_confirmed_state(alloc, text, machine.client(client))
+    held.find(alloc, machine, client)?;
+    let phase = machine.phase(client);
+    push_confirmed_texts(text, phase, held.outstanding.as_str(), held.buffer.as_str())
 }
 
 fn push_acknowledgement(
     alloc: Global,
     text: &mut String,
+    held: &mut HeldTexts,
     machine: &Machine,
     client: u16,
 ) -> Result<(), AllocError>
-    requires { client < length machine.now.clients }
+    requires inside { client < length machine.now.clients }
+    requires held { IsHeld held.old machine.now }
     ensures { OnOk result (string_bytes text.new ≡ string_bytes text.old ++ of_client machine.now client (acknowledge_words client)) }
 {
     text.push_str("  client ")?;
     push_decimal(text, client as u64)?;
     text.push_str(" has its outstanding operation confirmed, ")?;
-    push_confirmed(alloc, text, machine, client)?;
+    push_confirmed(alloc, text, held, machine, client)?;
     text.push_str("\n")?;
     Ok(())
 }
@@ -239,9 +248,11 @@ fn push_join(text: &mut String, client: u16) -> Result<(), AllocError>
 pub(crate) fn push_before(
     alloc: Global,
     text: &mut String,
+    held: &mut HeldTexts,
     machine: &Machine,
     instr: &Instr,
 ) -> Result<(), AllocError>
+    requires { IsHeld held.old machine.now }
     ensures { OnOk result (string_bytes text.new ≡ string_bytes text.old ++ told.before instr.now machine.now) }
 {
     match instr {
@@ -254,10 +265,10 @@ pub(crate) fn push_before(
             text.push_str(words.as_str())
         }
         Instr::Deliver(client) if *client < machine.clients() => {
-            push_delivery(alloc, text, machine, *client)
+            push_delivery(alloc, text, held, machine, *client)
         }
         Instr::Acknowledge(client) if *client < machine.clients() => {
-            push_acknowledgement(alloc, text, machine, *client)
+            push_acknowledgement(alloc, text, held, machine, *client)
         }
         Instr::Join(client) => push_join(text, *client),
         _ => Ok(()),

@@ -21,6 +21,7 @@
 mod after;
 mod before;
 mod causes;
+mod held;
 mod paragraphs;
 mod placing;
 mod reasons;

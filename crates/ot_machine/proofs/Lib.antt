@@ -11,7 +11,6 @@ pub mod Reading
 pub mod Stopping
 pub mod Ended
 pub mod RunLaws
-pub mod Inverses
 pub mod Undoing
 pub mod Reverting
 pub mod Keeping

@@ -4,7 +4,6 @@ pub mod Readers
 pub mod Reads
 pub mod Ended
 pub mod Laws
-pub mod Inverses
 pub mod Undoing
 pub mod Parts
 pub mod Orders

@@ -7,27 +7,27 @@ ghost use Rattle.ot_model.specs.Table.{phase_in};
 ghost use Rattle.ot_machine.specs.Seats.{client_in, client_of, phase_of, revision_of, view_of};
 ghost use Rattle.ot_machine.specs.Undoing.{list_before, phase_before, queue_before, reverted, unsent, FitsBack, FitsPhase, IsBefore};
 
-use crate::inverse::Inverse;
 use crate::seat::Seat;
 use ot_client::{Past, PreparedStep};
+use ot_inverse::Inverse;
 use ot_isa::Tagged;
 use ot_text::{Doc, TextOp};
 use std::alloc::AllocError;
 
-/// A client as it was before a step of its own, kept over the client after it: what it waited for, its revision, the inverse of what the step applied
-/// to its list, how much it had inserted, whether nothing was under way from it, and whether the step took a message off its downlink.
+/// A client as it was before a step of its own, kept over the client after it: what it waited for, the inverse of what the step applied to its list,
+/// its revision, how much it had inserted, whether nothing was under way from it, and whether the step took a message off its downlink.
 #[derive(Drop)]
 pub(crate) struct Before {
     pub past: Past<Tagged>,
+    pub inverse: Option<Inverse<Tagged>>,
     pub revision: u32,
-    pub inverse: Option<Inverse>,
     pub count: u32,
     pub unsent: bool,
     pub received: bool,
 }
 
 // What takes the operation back from the list that it makes of this one.
-fn inverse_of(op: &TextOp<Tagged>, list: &Doc<Tagged>) -> Result<Inverse, AllocError>
+fn inverse_of(op: &TextOp<Tagged>, list: &Doc<Tagged>) -> Result<Inverse<Tagged>, AllocError>
     requires { op.now.base ≡ length list.now }
     ensures base { IfOk result (λ inverse. inverse.base ≡ length (apply op.now list.now)) }
     ensures back { IfOk result (λ inverse. apply inverse (apply op.now list.now) ≡ list.now) }
@@ -56,8 +56,8 @@ pub(crate) fn before_change<const KEPT: bool>(
     let inverse = inverse_of(applied, &seat.list)?;
     Ok(Some(Before {
         past,
-        revision: step.revision(),
         inverse: Some(inverse),
+        revision: step.revision(),
         count: seat.count,
         unsent: seat.up.is_empty(),
         received,

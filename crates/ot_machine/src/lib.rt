@@ -40,7 +40,6 @@
 //! row changes one client; specs/Seats.antt says how the fields are the table's state.
 #![tactic(auto)]
 
-mod inverse;
 mod kept;
 pub mod laws;
 mod machine;

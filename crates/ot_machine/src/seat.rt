@@ -14,6 +14,7 @@ ghost use Rattle.ot_isa.specs.declared.tagging.TheConstants.{INSERTED_LIMIT};
 
 use crate::kept::{self, Before};
 use ot_client::{Client, PreparedStep, Sent, Synchronized};
+use ot_inverse::Inverse;
 use ot_isa::Tagged;
 use ot_links::{Downlink, Uplink};
 use ot_server::{Entry, Server, ServerFault};
@@ -291,8 +292,8 @@ pub(crate) fn acknowledge<const KEPT: bool>(seat: &mut Seat) -> Result<Option<Be
     }
     Ok(Some(Before {
         past,
-        revision,
         inverse: None,
+        revision,
         count: seat.count,
         unsent: true,
         received: true,
@@ -329,7 +330,7 @@ fn receive<const KEPT: bool>(
     client: u16,
     revision: u32,
     op: &TextOp<Tagged>,
-) -> Result<Option<TextOp<Tagged>>, AllocError>
+) -> Result<Option<Inverse<Tagged>>, AllocError>
     requires { fault_of server.old revision op.now ≡ None }
     ensures ok { OnOk result (server.new ≡ received server.old client revision op.now) }
     ensures err { OnErr result (server.new ≡ server.old) }
@@ -353,7 +354,7 @@ fn receive_outstanding<const KEPT: bool>(
     server: &mut Server<Tagged>,
     seat: &Seat,
     client: u16,
-) -> Result<Option<TextOp<Tagged>>, AllocError>
+) -> Result<Option<Inverse<Tagged>>, AllocError>
     requires { IsReceivable server.old (outstanding_of (revision_of seat.now.client) (phase_of seat.now.client)) }
     ensures ok { OnOk result (server.new ≡ received_from server.old client (outstanding_of (revision_of seat.now.client) (phase_of seat.now.client))) }
     ensures err { OnErr result (server.new ≡ server.old) }
@@ -376,7 +377,7 @@ pub(crate) fn take_in<const KEPT: bool>(
     server: &mut Server<Tagged>,
     seats: &mut Vec<Seat>,
     client: u16,
-) -> Result<(Sent<Tagged>, Option<TextOp<Tagged>>), AllocError>
+) -> Result<(Sent<Tagged>, Option<Inverse<Tagged>>), AllocError>
     requires accepts { IsReceivable server.old (outstanding_at (map view_of seats.old.items) client) }
     requires sends { message_at (map view_of seats.old.items) client ≡ None → ⊥ }
     ensures ok { OnOk result (server.new ≡ received_from server.old client (outstanding_at (map view_of seats.old.items) client)) }

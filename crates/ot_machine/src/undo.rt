@@ -11,9 +11,9 @@ use crate::kept::{self, Before};
 use crate::machine::Machine;
 use crate::seat;
 use ot_client::Sent;
+use ot_inverse::Inverse;
 use ot_isa::{Instr, Tagged};
 use ot_model::{Refusal, Shown};
-use ot_text::TextOp;
 use std::alloc::AllocError;
 
 /// What takes one step of a machine back: of the client's state what the step changed, inverse operations and the message taken, but no list.
@@ -27,7 +27,7 @@ pub struct Undo {
 #[derive(Drop)]
 pub(crate) enum Record {
     ClientStep(u16, Before),
-    Taken(u16, Sent<Tagged>, TextOp<Tagged>),
+    Taken(u16, Sent<Tagged>, Inverse<Tagged>),
     Joined(u16),
     Read,
 }
@@ -49,7 +49,7 @@ impl Record {
     pub(crate) fn of_take(
         client: u16,
         message: Sent<Tagged>,
-        inverse: Option<TextOp<Tagged>>,
+        inverse: Option<Inverse<Tagged>>,
     ) -> Option<Record>
         ensures { result ≡ option_map (Taken client message) inverse }
     {
@@ -142,8 +142,8 @@ impl Machine {
         &mut self,
         client: u16,
         message: Sent<Tagged>,
-        inverse: TextOp<Tagged>,
-    ) -> Result<(), (AllocError, Sent<Tagged>, TextOp<Tagged>)>
+        inverse: Inverse<Tagged>,
+    ) -> Result<(), (AllocError, Sent<Tagged>, Inverse<Tagged>)>
         requires { IsUndoableRecord self.old (Taken client message inverse) }
         ensures ok { (earlier : State) → IsRecord earlier self.old (Taken client message inverse) → OnOk result (self.new ≡ earlier) }
         ensures err { OnErr result (self.new ≡ self.old) }

@@ -30,6 +30,7 @@ mod later;
 pub use entry::Entry;
 pub use fault::ServerFault;
 use later::{base_length, has_room, transform_after};
+use ot_inverse::Inverse;
 use ot_text::{Doc, Element, TextOp};
 use std::alloc::AllocError;
 use std::marker::Model;
@@ -116,7 +117,7 @@ impl<T: Element> Server<T> {
         maker: u16,
         revision: u32,
         op: &TextOp<T>,
-    ) -> Result<TextOp<T>, ServerFault>
+    ) -> Result<Inverse<T>, ServerFault>
         ensures fault { Names result (fault_of self.old revision op.now) }
         ensures ok { OnOk result (self.new ≡ received self.old maker revision op.now) }
         ensures err { OnErr result (self.new ≡ self.old) }
@@ -124,18 +125,18 @@ impl<T: Element> Server<T> {
         ensures undo { IfOk result (λ undo. IsUndo self.old self.new undo) }
     {
         let passed = self.after_log(revision, op)?;
-        let inverse = passed.invert(&self.document)?;
+        let inverse = Inverse::of(&passed, &self.document)?;
         self.append(maker, passed)?;
         Ok(inverse)
     }
 
     /// Takes the last entry back: `undo` is its inverse over the document before it. Where memory is wanting the server is as it was.
-    pub fn retract(&mut self, undo: &TextOp<T>) -> Result<(), AllocError>
+    pub fn retract(&mut self, undo: &Inverse<T>) -> Result<(), AllocError>
         requires { IsRetractable self.old undo.now }
         ensures ok { (earlier : History T) → IsUndo earlier self.old undo.now → OnOk result (self.new ≡ earlier) }
         ensures err { OnErr result (self.new ≡ self.old) }
     {
-        self.document.change(undo)?;
+        undo.change(&mut self.document)?;
         self.log.pop();
         Ok(())
     }

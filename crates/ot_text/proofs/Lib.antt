@@ -29,3 +29,4 @@ pub mod Written
 pub mod Spliced
 pub mod Kept
 pub mod Finished
+pub mod Recounted

@@ -54,9 +54,9 @@
 //! leads back, and `rewrite.rt` writes an operation over an old one, of which long runs stay where they lie.
 #![tactic(auto)]
 
-ghost use Rattle.std.specs.Prelude.{◌≡◌, ◌+◌, ◌<◌, ◌≤◌, ◌↔◌, List, length, max, OnOk, OnErr, IfOk, IsErrOf, IsTrue};
+ghost use Rattle.std.specs.Prelude.{◌≡◌, ℕ, ◌+◌, ◌<◌, ◌≤◌, ◌↔◌, List, length, max, set, slice_get, Some, OnOk, OnErr, IfOk, IsErrOf, IsTrue};
 ghost use Rattle.ot_text.specs.Operation.{empty, identity, with_retain, with_insert, with_delete, IsTooLong, news, apply, invert, IsOperation};
-ghost use Rattle.ot_text.specs.Run.{operation_of, normal_runs, IsNormal};
+ghost use Rattle.ot_text.specs.Run.{Keep, operation_of, normal_runs, IsNormal};
 ghost use Rattle.ot_text.specs.Components.{runs};
 
 mod build;
@@ -241,6 +241,22 @@ impl<T: Element> TextOp<T> {
         add_delete(&mut self.components, count)?;
         self.base += count;
         Ok(())
+    }
+
+    /// Lets the retain at place `at` of the components keep `count` elements in place of as many as it did, where it lies: it takes no memory, and
+    /// no other component is looked at. The base and the target length are longer, or shorter, by the difference.
+    pub fn set_retain(&mut self, at: usize, count: usize)
+        requires retain { (n : ℕ) × (slice_get (normal_runs self.old) at ≡ Some (Keep n)) }
+        requires some { 0 < count }
+        requires short { IsTooLong (operation_of (set (normal_runs self.old) at (Keep count))) → ⊥ }
+        ensures { self.new ≡ operation_of (set (normal_runs self.old) at (Keep count)) }
+    {
+        let Component::Retain(before) = self.components[at] else {
+            unreachable!();
+        };
+        self.components[at] = Component::Retain(count);
+        self.base = self.base - before + count;
+        self.target = self.target - before + count;
     }
 
     /// Where the operation's memory comes from.

@@ -5,7 +5,7 @@ use Rattle.ot_text.specs.Components.{runs}
 use Rattle.ot_algebra.specs.Cursor.{runs_left}
 use Rattle.ot_algebra.proofs.TransformProgress.{Progress}
 use Rattle.ot_algebra.proofs.SkippedLaws.{runs_size}
-use Rattle.ot_algebra.proofs.PartLeft.{left}
+use Rattle.ot_algebra.specs.OnePlace.{left}
 use Rattle.ot_algebra.proofs.one_sided.carry.Given as goal
 
 -- `second` is what transform would have built beside it
