@@ -70,6 +70,29 @@ def deletions(count, readers=1):
     return made.whole()
 
 
+def insertions(count=500_000):
+    """One edit that inserts so much that another deletes, and readers that know both, at as many replicas as there may be."""
+    made = Trace(65, [])
+    inserted = [[0, i] for i in range(count)]
+    none = [0] * 65
+    made.events.append({"replica": 0, "kind": "edit", "seen": none, "list": inserted, "insert": [[0, i, i] for i in range(count)]})
+    made.counts[0] += 1
+    made.add(1, "edit", made.counts, [], delete=inserted)
+    for replica in range(2, 65):
+        made.add(replica, "read", made.counts, [])
+    return made.whole()
+
+
+def many_deleters(width=1000, reads=3800):
+    """A text that 64 replicas each delete without knowing of one another, and a reader that knows none of them."""
+    made = Trace(65, text_of(width))
+    for replica in range(64):
+        made.add(replica, "edit", [0] * 65, [], delete=made.start)
+    for _ in range(reads):
+        made.add(64, "read", [0] * 65, made.start)
+    return made.whole()
+
+
 def ring(made, text, front, seen):
     """Three elements at one end of a text, each before the next one around, no two lists with one pair in both orders; then deleted."""
     at = {r: [r, made.counts[r]] for r in (0, 1, 2)}
@@ -128,6 +151,8 @@ SHAPES = {
     "deletions": lambda: deletions(100_000),
     "more-deletions": lambda: deletions(500_000),
     "known-deletions": lambda: deletions(500_000, 64),
+    "known-insertions": insertions,
+    "deleted-by-many": many_deleters,
     "cycles": cycles,
     "long-cycle": long_cycle,
 }

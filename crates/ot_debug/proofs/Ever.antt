@@ -1,8 +1,8 @@
 -- There is a stop.
-use Rattle.std.proofs.Common.{◌≡◌, ℕ, zero, suc, ◌+◌, ◌-◌, ◌<◌, ◌≤◌, length, get_or, refl, ap, sym, ◌∙◌, subst, arith, inl, inr, Option, Some, None}
+use Rattle.std.proofs.Common.{◌≡◌, ℕ, zero, suc, ◌+◌, ◌-◌, ◌<◌, ◌≤◌, length, get_or, refl, subst, arith, inl, inr, Some}
 use Rattle.std.proofs.lemmas.Bool.{cases_eq, cases_lt}
 use Rattle.std.proofs.lemmas.Option.{slice_get_cases, slice_get_within, get_or_from_slice_get}
-use Rattle.std.specs.Prelude.{◌⊎◌, slice_get}
+use Rattle.std.specs.Prelude.{slice_get}
 use Rattle.ot_isa.specs.Program.{Program, IsProgram}
 use Rattle.ot_isa.specs.Program as isa
 use Rattle.ot_isa.specs.declared.instruction.Instr.{Instr}
@@ -15,8 +15,8 @@ use Rattle.ot_model.proofs.Steps.{step_sound}
 use Rattle.ot_machine.proofs.RunLaws.{runs_sound, instr_is}
 use Rattle.ot_debug.specs.declared.command.Why.{Why}
 use Rattle.ot_debug.specs.declared.command.Why.TheVariants as why
-use Rattle.ot_debug.specs.Session.{Session, IsSession}
-use Rattle.ot_debug.specs.Stops.{IsEnding, IsPassed, IsReason, IsRunStop, IsStepStop}
+use Rattle.ot_debug.specs.Session.{Session}
+use Rattle.ot_debug.specs.Stops.{IsEnding, IsPassed, IsReason, IsRunStop}
 use Rattle.ot_debug.specs.Stepping.{Advances}
 use Rattle.ot_debug.specs.Laws.{RunsStop, StepsStop}
 use Rattle.ot_debug.proofs.Places.{there, reached}

@@ -17,7 +17,8 @@ use Rattle.ot_model.specs.declared.shown.Refusal.TheVariants.{NoSuchClient, Step
 use Rattle.ot_machine.specs.Answers.{IsRefusal}
 use Rattle.ot_debug.specs.Stops.{IsRefusedAt}
 use Rattle.ot_debug.specs.declared.command.Watched.{Watched}
-use Rattle.ot_debug.specs.Stepping.{session_of, is_read, Advances, AreShownBefore, AreUndos, IsKept}
+use Rattle.ot_debug.specs.Session.{IsSession}
+use Rattle.ot_debug.specs.Stepping.{session_of, is_read, Advances, AreRecords, AreShownBefore, AreUndos, EachOrNone, GoOn, IsKept, OneMore}
 use Rattle.ot_debug.proofs.Rows.{row_leaves}
 
 -- the place is there as far as the run goes
@@ -55,7 +56,7 @@ led s p i q r here at next = go (step q.state i) refl (sym (ap (λ is. run is (b
     go NoRow e f = absurd (cc)
 
 -- a refusal for another reason than memory is the table's
-named : (o : Outcome) (r : Refusal) → IsRefusal o r → r ≢ Memory → o ≡ Refused r
+pub named : (o : Outcome) (r : Refusal) → IsRefusal o r → r ≢ Memory → o ≡ Refused r
 named o NoSuchClient is other = is
 named o StepsFull is other = is
 named o NotJoined is other = is
@@ -66,8 +67,15 @@ named o LinkEmpty is other = is
 named o WrongHead is other = is
 named o Memory is other = absurd (other refl)
 
-pub refused_at : (s : Program) (p : ℕ) (q : Place) (i : Instr) (r : Refusal) → place_at s p ≡ Some q → slice_get s.instrs p ≡ Some i → IsRefusal (step q.state i) r → r ≢ Memory → IsRefusedAt s p r
-refused_at s p q i r at here is other = record { place = q; instr = i; at = at; here = here; refused = named (step q.state i) r is other }
+pub refused_at : (s : Program) (p : ℕ) (q : Place) (i : Instr) (r : Refusal) → place_at s p ≡ Some q → slice_get s.instrs p ≡ Some i → step q.state i ≡ Refused r → IsRefusedAt s p r
+refused_at s p q i r at here is = record { place = q; instr = i; at = at; here = here; refused = is }
+
+-- where the run goes on the table does not refuse
+pub not_refused : (s : Program) (p : ℕ) (q : Place) (i : Instr) (r : Refusal) → suc p ≤ done s → place_at s p ≡ Some q → slice_get s.instrs p ≡ Some i → step q.state i ≡ Refused r → ⊥
+not_refused s p q i r le at here is =
+    let next = there s (suc p) le in
+    let on = led s p i q next.0 here at next.1 in
+    absurd (let e = sym is ∙ on.step in cc)
 
 -- one more record
 pub slice_get-push_less : {X : Type 0} (xs : List X) (x : X) (k : ℕ) → k < length xs → slice_get (xs ++ x ∷ []) k ≡ slice_get xs k
@@ -98,58 +106,90 @@ undos_push s undos undo q r are at next is k other before after here from to =
           are k other before after (sym (slice_get-push_less undos undo k less) ∙ here) from to
     ]
 
+-- none are the records of nothing
+no_undos : (s : Program) → AreUndos s []
+no_undos s k other before after here from to = let e : k < 0 = slice_get_within [] k other here in absurd (omega (arith, e))
+
+-- the records one instruction on
+records_more :
+    (s : Program) (p : ℕ) (q r : Place) (undos records : List Undo)
+    → AreRecords s p undos → place_at s p ≡ Some q → place_at s (suc p) ≡ Some r → OneMore q.state r.state undos records → AreRecords s (suc p) records
+records_more s p q r undos records are at next one =
+    record {
+      back = subst (AreUndos s) (sym one.more) (undos_push s undos one.undo q r are.back (ap (place_at s) are.many ∙ at) (ap (λ n. place_at s (suc n)) are.many ∙ next) one.undoes);
+      many = let e : length (undos ++ one.undo ∷ []) ≡ length undos + 1 = length-append undos (one.undo ∷ []) in let f = ap length one.more in let g = are.many in omega (arith, e, f, g);
+    }
+
+go_on :
+    (s : Program) (p : ℕ) (q r : Place) (undos records : List Undo) → AreUndos s undos → EachOrNone p undos → place_at s p ≡ Some q → place_at s (suc p) ≡ Some r → GoOn q.state r.state undos records
+    → AreUndos s records × EachOrNone (suc p) records
+go_on s p q r [] records are count at next none = (subst (AreUndos s) (sym none) (no_undos s), inr none)
+go_on s p q r (undo ∷ undos) records are (inl many) at next one = let m = records_more s p q r (undo ∷ undos) records (record { back = are; many = many }) at next one in (m.back, inl m.many)
+go_on s p q r (undo ∷ undos) records are (inr none) at next one = absurd (cc)
+
+-- the state is the run's after so many instructions, whatever lists they showed
+pub record IsStateAt (s : Program) (p : ℕ) (state : State) : Type 0 where
+  pub shown : List Shown
+  pub at : place_at s p ≡ Some (record { state = state; shown = shown })
+
+-- one more instruction performed again, with a record
+pub recorded_next :
+    (s : Program) (p q : ℕ) (state t : State) (undos records : List Undo) (i : Instr) (list : Option Shown)
+    → IsStateAt s p state → AreRecords s p undos → slice_get s.instrs p ≡ Some i → step state i ≡ Performed t list → OneMore state t undos records → q ≡ suc p
+    → IsStateAt s q t × AreRecords s q records
+recorded_next s p q state t undos records i list was are here performed one on =
+    subst (λ n. IsStateAt s n t × AreRecords s n records) (sym on)
+    (record { shown = with_shown was.shown list; at = next }, records_more s p (record { state = state; shown = was.shown }) (record { state = t; shown = with_shown was.shown list }) undos records are was.at next one)
+  where
+    next : place_at s (suc p) ≡ Some (record { state = t; shown = with_shown was.shown list })
+    next = place_at-next s p (record { state = state; shown = was.shown }) i t list was.at here performed
+
 -- the debugger one instruction on
 kept_next :
-    (s : Program) (state t : State) (shown : List Shown) (undos : List Undo) (breaks : List Bool) (watches : List Watched) (i : Instr) (list : Option Shown) (undo : Undo)
-    → IsKept s state shown undos breaks watches → slice_get s.instrs (length undos) ≡ Some i → step state i ≡ Performed t list → Undoes state t undo
-    → IsKept s t (with_shown shown list) (undos ++ undo ∷ []) breaks watches
-kept_next s state t shown undos breaks watches i list undo kept here performed is =
+    (s : Program) (p : ℕ) (state t : State) (shown : List Shown) (undos records : List Undo) (breaks : List Bool) (watches : List Watched) (i : Instr) (list : Option Shown)
+    → IsKept s p state shown undos breaks watches → slice_get s.instrs p ≡ Some i → step state i ≡ Performed t list → GoOn state t undos records
+    → IsKept s (suc p) t (with_shown shown list) records breaks watches
+kept_next s p state t shown undos records breaks watches i list kept here performed on =
     record {
       session = record {
         limits = kept.session.limits;
-        at = after;
-        reached = reached s _ _ inside after;
+        at = next;
+        reached = reached s _ _ inside next;
         within = inside;
         breaks = kept.session.breaks;
         watches = kept.session.watches;
       };
-      back = undos_push s undos undo _ _ kept.back kept.session.at next is;
+      back = more.0;
+      count = more.1;
     }
   where
-    next : place_at s (suc (length undos)) ≡ Some (record { state = t; shown = with_shown shown list })
-    next = place_at-next s (length undos) (record { state = state; shown = shown }) i t list kept.session.at here performed
+    next : place_at s (suc p) ≡ Some (record { state = t; shown = with_shown shown list })
+    next = place_at-next s p (record { state = state; shown = shown }) i t list kept.session.at here performed
 
-    many : length (undos ++ undo ∷ []) ≡ suc (length undos)
-    many = let e : length (undos ++ undo ∷ []) ≡ length undos + 1 = length-append undos (undo ∷ []) in omega (arith, e)
+    inside : suc p ≤ length s.instrs
+    inside = let e = slice_get_within s.instrs p i here in omega (arith, e)
 
-    after : place_at s (length (undos ++ undo ∷ [])) ≡ Some (record { state = t; shown = with_shown shown list })
-    after = ap (place_at s) many ∙ next
-
-    inside : length (undos ++ undo ∷ []) ≤ length s.instrs
-    inside = let e = slice_get_within s.instrs (length undos) i here in omega (arith, e, many)
+    more : AreUndos s records × EachOrNone (suc p) records
+    more = go_on s p _ _ undos records kept.back kept.count kept.session.at next on
 
 pub kept_forth :
-    (s : Program) (state t : State) (shown lists : List Shown) (undos records : List Undo) (breaks : List Bool) (watches : List Watched) (i : Instr) (list : Option Shown) (undo : Undo)
-    → IsKept s state shown undos breaks watches → slice_get s.instrs (length undos) ≡ Some i → step state i ≡ Performed t list → Undoes state t undo
-    → lists ≡ with_shown shown list → records ≡ undos ++ undo ∷ [] → IsKept s t lists records breaks watches
-kept_forth s state t shown lists undos records breaks watches i list undo kept here performed is lists_are records_are =
-    subst (λ xs. IsKept s t xs records breaks watches) (sym lists_are)
-    (subst (λ us. IsKept s t (with_shown shown list) us breaks watches) (sym records_are) (kept_next s state t shown undos breaks watches i list undo kept here performed is))
+    (s : Program) (p q : ℕ) (state t : State) (shown lists : List Shown) (undos records : List Undo) (breaks : List Bool) (watches : List Watched) (i : Instr) (list : Option Shown)
+    → IsKept s p state shown undos breaks watches → slice_get s.instrs p ≡ Some i → step state i ≡ Performed t list → GoOn state t undos records
+    → q ≡ suc p → lists ≡ with_shown shown list → IsKept s q t lists records breaks watches
+kept_forth s p q state t shown lists undos records breaks watches i list kept here performed on next lists_are =
+    subst (λ n. IsKept s n t lists records breaks watches) (sym next)
+    (subst (λ xs. IsKept s (suc p) t xs records breaks watches) (sym lists_are) (kept_next s p state t shown undos records breaks watches i list kept here performed on))
 
 pub advances :
-    (s : Program) (state t : State) (shown lists : List Shown) (undos records : List Undo) (breaks : List Bool) (watches : List Watched) (undo : Undo)
-    → IsKept s t lists records breaks watches → records ≡ undos ++ undo ∷ [] → Advances (session_of s state shown undos breaks watches) (session_of s t lists records breaks watches)
-advances s state t shown lists undos records breaks watches undo kept records_are =
-    record {
-      keeps = record { schedule = refl; breaks = refl; watches = refl };
-      next = let e : length (undos ++ undo ∷ []) ≡ length undos + 1 = length-append undos (undo ∷ []) in let f = ap length records_are in omega (arith, e, f);
-      reached = kept.session.reached;
-    }
+    (s : Program) (p q : ℕ) (state t : State) (shown lists : List Shown) (records : List Undo) (breaks : List Bool) (watches : List Watched)
+    → IsKept s q t lists records breaks watches → q ≡ suc p → Advances (session_of s p state shown breaks watches) (session_of s q t lists breaks watches)
+advances s p q state t shown lists records breaks watches kept next =
+    record { keeps = record { schedule = refl; breaks = refl; watches = refl }; next = next; reached = kept.session.reached }
 
 -- the place before the last instruction, and its record
-pub record IsBefore (s : Program) (state : State) (shown : List Shown) (undos : List Undo) (undo : Undo) : Type 0 where
+pub record IsBefore (s : Program) (state : State) (p : ℕ) (undo : Undo) : Type 0 where
   pub earlier : Place
-  pub at : place_at s (length undos) ≡ Some earlier
+  pub at : place_at s p ≡ Some earlier
   pub undoes : Undoes earlier.state state undo
 
 undos_front : (s : Program) (undos : List Undo) (undo : Undo) → AreUndos s (undos ++ undo ∷ []) → AreUndos s undos
@@ -157,30 +197,36 @@ undos_front s undos undo are k other before after here from to =
     let less : k < length undos = slice_get_within undos k other here in
     are k other before after (slice_get-push_less undos undo k less ∙ here) from to
 
-pub before_last :
-    (s : Program) (state : State) (shown : List Shown) (undos front : List Undo) (breaks : List Bool) (watches : List Watched) (undo : Undo)
-    → IsKept s state shown undos breaks watches → undos ≡ front ++ undo ∷ [] → IsBefore s state shown front undo
-before_last s state shown undos front breaks watches undo kept is =
-    record {
-      earlier = (there s (length front) few).0;
-      at = (there s (length front) few).1;
-      undoes = kept.back (length front) undo (there s (length front) few).0 (record { state = state; shown = shown }) last (there s (length front) few).1 (ap (place_at s) (sym many) ∙ kept.session.at);
-    }
-  where
-    many : length undos ≡ suc (length front)
-    many = let e : length (front ++ undo ∷ []) ≡ length front + 1 = length-append front (undo ∷ []) in let f = ap length is in omega (arith, e, f)
+counted : (p : ℕ) (undos front : List Undo) (undo : Undo) → length undos ≡ p → undos ≡ front ++ undo ∷ [] → p ≡ suc (length front)
+counted p undos front undo many is = let e : length (front ++ undo ∷ []) ≡ length front + 1 = length-append front (undo ∷ []) in let f = ap length is in omega (arith, e, f, many)
 
-    few : length front ≤ done s
-    few = let e = kept.session.reached in omega (arith, many, e)
+before_last :
+    (s : Program) (p : ℕ) (state : State) (shown : List Shown) (undos front : List Undo) (breaks : List Bool) (watches : List Watched) (undo : Undo)
+    → IsSession (session_of s p state shown breaks watches) → AreRecords s p undos → undos ≡ front ++ undo ∷ [] → IsBefore s state (length front) undo
+before_last s p state shown undos front breaks watches undo session are is =
+    record { earlier = first.0; at = first.1; undoes = are.back (length front) undo first.0 (record { state = state; shown = shown }) last first.1 (ap (place_at s) (sym many) ∙ session.at) }
+  where
+    many : p ≡ suc (length front)
+    many = counted p undos front undo are.many is
+
+    first : (q : Place) × (place_at s (length front) ≡ Some q)
+    first = let le : p ≤ done s = session.reached in there s (length front) (omega (arith, many, le))
 
     last : slice_get undos (length front) ≡ Some undo
     last = ap (λ us. slice_get us (length front)) is ∙ slice_get-push_same front undo
 
 pub undoable :
-    (s : Program) (state : State) (shown : List Shown) (undos front : List Undo) (breaks : List Bool) (watches : List Watched) (undo : Undo)
-    → IsKept s state shown undos breaks watches → undos ≡ front ++ undo ∷ [] → IsUndoable state undo
-undoable s state shown undos front breaks watches undo kept is =
-    let b = before_last s state shown undos front breaks watches undo kept is in (b.earlier.state, b.undoes)
+    (s : Program) (p : ℕ) (state : State) (shown : List Shown) (undos front : List Undo) (breaks : List Bool) (watches : List Watched) (undo : Undo)
+    → IsSession (session_of s p state shown breaks watches) → AreRecords s p undos → undos ≡ front ++ undo ∷ [] → IsUndoable state undo
+undoable s p state shown undos front breaks watches undo session are is =
+    let b = before_last s p state shown undos front breaks watches undo session are is in (b.earlier.state, b.undoes)
+
+-- the debugger where the last instruction is not taken back: its record is there still
+pub kept_still :
+    (s : Program) (p : ℕ) (state t : State) (shown : List Shown) (undos records : List Undo) (breaks : List Bool) (watches : List Watched)
+    → IsSession (session_of s p state shown breaks watches) → AreRecords s p undos → t ≡ state → records ≡ undos → IsKept s p t shown records breaks watches
+kept_still s p state t shown undos records breaks watches session are same stay =
+    subst (λ u. IsKept s p u shown records breaks watches) (sym same) (record { session = session; back = subst (AreUndos s) (sym stay) are.back; count = inl (ap length stay ∙ are.many) })
 
 -- the lists shown before the last instruction
 take_all : {X : Type 0} (xs : List X) (y : X) → take (length xs) (xs ++ y ∷ []) ≡ xs
@@ -201,43 +247,44 @@ shown_before false front shown before (Some l) some e is = absurd (cc)
 
 -- the debugger one instruction back
 pub kept_back :
-    (s : Program) (state t : State) (shown front : List Shown) (undos rest : List Undo) (breaks : List Bool) (watches : List Watched) (i : Instr) (undo : Undo)
-    → IsKept s state shown undos breaks watches → undos ≡ rest ++ undo ∷ [] → slice_get s.instrs (length rest) ≡ Some i
+    (s : Program) (p r : ℕ) (state t : State) (shown front : List Shown) (undos rest : List Undo) (breaks : List Bool) (watches : List Watched) (i : Instr) (undo : Undo)
+    → IsSession (session_of s p state shown breaks watches) → AreRecords s p undos → undos ≡ rest ++ undo ∷ [] → p ≡ suc r → slice_get s.instrs r ≡ Some i
     → ((earlier : State) → Undoes earlier state undo → t ≡ earlier) → AreShownBefore (is_read i) shown front
-    → IsKept s t front rest breaks watches
-kept_back s state t shown front undos rest breaks watches i undo kept is here back were =
+    → IsKept s r t front rest breaks watches
+kept_back s p r state t shown front undos rest breaks watches i undo session are is next here back were =
     record {
       session = record {
-        limits = kept.session.limits;
+        limits = session.limits;
         at = now;
         reached = reached s _ _ inside now;
         within = inside;
-        breaks = kept.session.breaks;
-        watches = kept.session.watches;
+        breaks = session.breaks;
+        watches = session.watches;
       };
-      back = undos_front s rest undo (subst (AreUndos s) is kept.back);
+      back = undos_front s rest undo (subst (AreUndos s) is are.back);
+      count = inl many;
     }
   where
-    b : IsBefore s state shown rest undo
-    b = before_last s state shown undos rest breaks watches undo kept is
+    many : length rest ≡ r
+    many = let e = counted p undos rest undo are.many is in omega (arith, e, next)
 
-    many : length undos ≡ suc (length rest)
-    many = let e : length (rest ++ undo ∷ []) ≡ length rest + 1 = length-append rest (undo ∷ []) in let f = ap length is in omega (arith, e, f)
+    b : IsBefore s state r undo
+    b = subst (λ n. IsBefore s state n undo) many (before_last s p state shown undos rest breaks watches undo session are is)
 
-    l : IsLed s (length rest) i b.earlier (record { state = state; shown = shown })
-    l = led s (length rest) i b.earlier (record { state = state; shown = shown }) here b.at (ap (place_at s) (sym many) ∙ kept.session.at)
+    l : IsLed s r i b.earlier (record { state = state; shown = shown })
+    l = led s r i b.earlier (record { state = state; shown = shown }) here b.at (ap (place_at s) (sym next) ∙ session.at)
 
     lists : front ≡ b.earlier.shown
-    lists = shown_before (is_read i) front shown b.earlier.shown l.list (row_leaves b.earlier.state i l.state l.list l.step).1 (ap (λ (p : Place). p.shown) l.is) were
+    lists = shown_before (is_read i) front shown b.earlier.shown l.list (row_leaves b.earlier.state i l.state l.list l.step).1 (ap (λ (q : Place). q.shown) l.is) were
 
     state_is : t ≡ b.earlier.state
     state_is = back b.earlier.state b.undoes
 
-    now : place_at s (length rest) ≡ Some (record { state = t; shown = front })
-    now = b.at ∙ ap (λ (p : Place). Some p) (same_place b.earlier t front (sym state_is) (sym lists))
+    now : place_at s r ≡ Some (record { state = t; shown = front })
+    now = b.at ∙ ap (λ (q : Place). Some q) (same_place b.earlier t front (sym state_is) (sym lists))
       where
-        same_place : (p : Place) (u : State) (xs : List Shown) → p.state ≡ u → p.shown ≡ xs → p ≡ record { state = u; shown = xs }
-        same_place p u xs e f = rw (← e, ← f) refl
+        same_place : (q : Place) (u : State) (xs : List Shown) → q.state ≡ u → q.shown ≡ xs → q ≡ record { state = u; shown = xs }
+        same_place q u xs e f = rw (← e, ← f) refl
 
-    inside : length rest ≤ length s.instrs
-    inside = let e = kept.session.within in omega (arith, many, e)
+    inside : r ≤ length s.instrs
+    inside = let e = session.within in omega (arith, next, e)

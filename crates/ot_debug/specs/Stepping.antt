@@ -1,10 +1,10 @@
 -- What a debugger keeps to step back, and what one step does.
-use Rattle.std.specs.Prelude.{◌≡◌, ◌≤◌, ℕ, suc, ◌-◌, List, Bool, true, false, length, slice_get, replicate, take, Some}
+use Rattle.std.specs.Prelude.{◌≡◌, ◌⊎◌, ◌≤◌, ℕ, suc, ◌-◌, List, [], ◌∷◌, ◌++◌, Bool, true, false, length, slice_get, take, Some}
 use Rattle.ot_isa.specs.Program.{Program}
 use Rattle.ot_isa.specs.declared.instruction.Instr.{Instr}
 use Rattle.ot_isa.specs.declared.instruction.Instr.TheVariants.{Edit, Take, Deliver, Acknowledge, Join, Read, ReadServer}
 use Rattle.ot_model.specs.declared.shown.Shown.{Shown}
-use Rattle.ot_model.specs.Table.{State, Place, opening}
+use Rattle.ot_model.specs.Table.{State, Place}
 use Rattle.ot_model.specs.Runs.{done, place_at}
 use Rattle.ot_machine.specs.declared.undo.Undo.{Undo}
 use Rattle.ot_machine.specs.Undoing.{Undoes}
@@ -12,10 +12,10 @@ use Rattle.ot_debug.specs.declared.command.Watched.{Watched}
 use Rattle.ot_debug.specs.Session.{Session, IsSession}
 use Rattle.ot_debug.specs.Answers.{Keeps}
 
--- the debugger's fields as a session: there is one record for each performed instruction
-abbrev pub session_of : Program → State → List Shown → List Undo → List Bool → List Watched → Session
-session_of schedule state shown undos breaks watches =
-    record { schedule = schedule; position = length undos; place = record { state = state; shown = shown }; breaks = breaks; watches = watches }
+-- the debugger's fields as a session; its records are seen by nobody
+abbrev pub session_of : Program → ℕ → State → List Shown → List Bool → List Watched → Session
+session_of schedule position state shown breaks watches =
+    record { schedule = schedule; position = position; place = record { state = state; shown = shown }; breaks = breaks; watches = watches }
 
 -- each of the records leads from the place after its instruction back to the place before it
 abbrev pub AreUndos : Program → List Undo → Type 0
@@ -23,15 +23,31 @@ AreUndos s undos =
     (p : ℕ) (undo : Undo) (before after : Place)
     → slice_get undos p ≡ Some undo → place_at s p ≡ Some before → place_at s (suc p) ≡ Some after → Undoes before.state after.state undo
 
--- what the debugger keeps
-pub record IsKept (schedule : Program) (state : State) (shown : List Shown) (undos : List Undo) (breaks : List Bool) (watches : List Watched) : Type 0 where
-  pub session : IsSession (session_of schedule state shown undos breaks watches)
-  pub back : AreUndos schedule undos
+-- there is a record of each performed instruction, or none at all
+abbrev pub EachOrNone : ℕ → List Undo → Type 0
+EachOrNone position undos = (length undos ≡ position) ⊎ (undos ≡ [])
 
--- what a session begins with
-pub record IsOpening (schedule : Program) (machine : State) (marks : List Bool) : Type 0 where
-  pub state : machine ≡ opening schedule.clients schedule.present schedule.start
-  pub breaks : marks ≡ replicate (suc (length schedule.instrs)) false
+-- what the debugger keeps
+pub record IsKept (schedule : Program) (position : ℕ) (state : State) (shown : List Shown) (undos : List Undo) (breaks : List Bool) (watches : List Watched) : Type 0 where
+  pub session : IsSession (session_of schedule position state shown breaks watches)
+  pub back : AreUndos schedule undos
+  pub count : EachOrNone position undos
+
+-- these are the records of the first instructions, one of each
+pub record AreRecords (schedule : Program) (count : ℕ) (undos : List Undo) : Type 0 where
+  pub back : AreUndos schedule undos
+  pub many : length undos ≡ count
+
+-- one record more, which takes a step back that led from the earlier state to this one
+pub record OneMore (earlier s : State) (undos records : List Undo) : Type 0 where
+  pub undo : Undo
+  pub more : records ≡ undos ++ undo ∷ []
+  pub undoes : Undoes earlier s undo
+
+-- the records after such a step: where there are some it has one too, where there are none it has none
+abbrev pub GoOn : State → State → List Undo → List Undo → Type 0
+GoOn earlier s [] records = records ≡ []
+GoOn earlier s (undo ∷ undos) records = OneMore earlier s (undo ∷ undos) records
 
 -- one more instruction is performed
 pub record Advances (x y : Session) : Type 0 where

@@ -21,7 +21,8 @@ pub enum Command {
     Run,
     /// Performs this many instructions, or those before the first refused one, or all that are left; breaks and watches do not count.
     Step(u32),
-    /// Takes this many instructions back, or all.
+    /// Takes this many instructions back, or all. The first time since the opening it performs once more what is performed, for the
+    /// records that take it back; these are kept, so from then on a `Back` costs what it takes back.
     Back(u32),
     /// Sets a break at a place, 0 to the schedule's length.
     Break(u32),

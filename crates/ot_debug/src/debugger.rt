@@ -3,7 +3,7 @@
 ghost use Rattle.std.specs.Prelude.{◌≡◌, IfErr, IfOk};
 ghost use Rattle.ot_debug.specs.Session.{started, IsSession};
 ghost use Rattle.ot_debug.specs.Answers.{Answers};
-ghost use Rattle.ot_debug.specs.Stepping.{IsOpening};
+ghost use Rattle.ot_model.specs.Runs.{opening_of};
 
 use crate::command::{Command, Reply, Watched};
 use ot_isa::Schedule;
@@ -16,6 +16,7 @@ use std::marker::Model;
 #[derive(Drop)]
 pub struct Debugger {
     pub(crate) schedule: Schedule,
+    pub(crate) position: usize,
     pub(crate) machine: Machine,
     pub(crate) shown: Vec<Shown>,
     pub(crate) undos: Vec<Undo>,
@@ -30,39 +31,37 @@ impl Model for Debugger {
 
     ghost use Rattle.ot_debug.specs.Stepping.{session_of, IsKept};
 
-    ghost view = { λ d. session_of d.schedule d.machine d.shown.items d.undos.items d.breaks.items d.watches.items };
+    ghost view = { λ d. session_of d.schedule d.position d.machine d.shown.items d.breaks.items d.watches.items };
 
-    ghost invariant = { λ d. IsKept d.schedule d.machine d.shown.items d.undos.items d.breaks.items d.watches.items };
+    ghost invariant = { λ d. IsKept d.schedule d.position d.machine d.shown.items d.undos.items d.breaks.items d.watches.items };
 }
 
-// The machine at the schedule's opening, and for each of its places that there is no break.
-fn opening(alloc: Global, schedule: &Schedule) -> Result<(Machine, Vec<bool>), AllocError>
-    ensures { IfOk result (λ made. IsOpening schedule.now made.0 made.1.items) }
+/// The machine at the schedule's opening.
+pub(crate) fn opening(alloc: Global, schedule: &Schedule) -> Result<Machine, AllocError>
+    ensures { IfOk result (λ machine. machine ≡ opening_of schedule.now) }
 {
     let clients = schedule.clients();
-    let machine = Machine::with_present(alloc, clients, schedule.present(), schedule.start())?;
-    let breaks = vec![in alloc; false; schedule.len() + 1]?;
-    Ok((machine, breaks))
+    Machine::with_present(alloc, clients, schedule.present(), schedule.start())
 }
 
 impl Debugger {
-    /// At the opening of the schedule, without breaks and watches, with room for one record an instruction. For want of memory the
-    /// schedule comes back.
+    /// At the opening of the schedule, without breaks and watches. For want of memory the schedule comes back.
     pub fn new(alloc: Global, schedule: Schedule) -> Result<Debugger, Schedule>
         ensures ok { IfOk result (λ debugger. debugger ≡ started schedule) }
         ensures err { IfErr result (λ back. back ≡ schedule) }
     {
-        let Ok((machine, breaks)) = opening(alloc, &schedule) else {
+        let Ok(machine) = opening(alloc, &schedule) else {
             return Err(schedule);
         };
-        let Ok(undos) = Vec::with_capacity(alloc, schedule.len()) else {
+        let Ok(breaks) = vec![in alloc; false; schedule.len() + 1] else {
             return Err(schedule);
         };
         Ok(Debugger {
             schedule,
+            position: 0,
             machine,
             shown: Vec::new(alloc),
-            undos,
+            undos: Vec::new(alloc),
             breaks,
             watches: Vec::new(alloc),
         })
@@ -72,7 +71,7 @@ impl Debugger {
     pub fn position(&self) -> usize
         ensures { result ≡ self.now.position }
     {
-        self.undos.len()
+        self.position
     }
 
     /// The machine after the performed instructions.

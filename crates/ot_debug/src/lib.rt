@@ -3,7 +3,7 @@
 //! ```text
 //!   place        0        1        2        3        4   ..   length
 //!   state    opening -i0-> s1 -i1-> s2 -i2-> s3 -i3-> s4
-//!   undos            u0       u1       u2        ^
+//!   undos            u0       u1       u2        ^                (or none at all)
 //!                                            position 3: the machine is in s3, shown are the reads of i0, i1, i2
 //!   breaks   -        -        -        -        *                (one mark a place)
 //!   watches  0: Doc(0)  1: ServerRevision  ..                    (numbered in the order of setting)
@@ -15,19 +15,22 @@
 //! - [`Debugger::command`] performs one [`Command`] and answers with a [`Reply`]; specs/Answers.antt says what each command answers
 //!   and what it leaves, specs/Stops.antt where a `Run` or a `Step` stops and why.
 //! - [`laws`] says that stops are exact: a run has one stop at most, for one reason.
-//! - Each performed instruction leaves a record that takes it back (`Machine::step_kept`), and the records are kept as a stack.
-//!   `Back` takes instructions back one by one and runs nothing again.
+//! - Going forth leaves no records, and costs what a run costs. Where an instruction is to be taken back and there are no records,
+//!   another machine performs all that is performed once more from the opening, and leaves a record of each (`Machine::step_kept`).
+//!   The records are a stack: `Back` takes them off one by one, and what is performed while there are some adds its own. So there is
+//!   a record of each performed instruction, or none, and between two visits of the opening the way is gone once more at most.
 //! - What grows does so before anything is changed. After `Memory` the debugger stands after a whole number of instructions,
 //!   between its old place and the one to which the command would have gone.
 //!
-//! Begin reading at `Debugger` in debugger.rt, then stepping.rt (one instruction back and forth), watching.rt (what watches see) and
-//! moving.rt (the commands that move); settings.rt has the others.
+//! Begin reading at `Debugger` in debugger.rt, then stepping.rt (one instruction back and forth), records.rt (what takes one back),
+//! watching.rt (what watches see) and moving.rt (the commands that move); settings.rt has the others.
 #![tactic(auto)]
 
 mod command;
 mod debugger;
 pub mod laws;
 mod moving;
+mod records;
 mod settings;
 mod stepping;
 mod watching;

@@ -7,6 +7,7 @@ ghost use Rattle.ot_debug.specs.Stops.{IsRefusedAt};
 ghost use Rattle.ot_debug.specs.Stepping.{is_read, Advances, AreShownBefore};
 
 use crate::debugger::Debugger;
+use crate::records::{perform, recall};
 use ot_isa::Instr;
 use ot_machine::{Refusal, Shown};
 use std::alloc::AllocError;
@@ -38,13 +39,12 @@ impl Debugger {
         ensures refused { IfErr result (λ r. r ≢ Memory → IsRefusedAt self.old.schedule self.old.position r) }
         ensures unchanged { OnErr result (self.new ≡ self.old) }
     {
-        self.undos.reserve(1)?;
         self.shown.reserve(1)?;
-        let Some(instr) = self.schedule.get(self.undos.len()) else {
+        let Some(instr) = self.schedule.get(self.position) else {
             unreachable!()
         };
-        let (list, undo) = self.machine.step_kept(instr)?;
-        self.undos.push_reserved(undo);
+        let list = perform(&mut self.machine, &mut self.undos, instr)?;
+        self.position += 1;
         keep_shown(&mut self.shown, list);
         Ok(())
     }
@@ -55,6 +55,7 @@ impl Debugger {
         ensures done { OnOk result (Advances self.new self.old) }
         ensures unchanged { OnErr result (self.new ≡ self.old) }
     {
+        recall(&self.schedule, self.position, &mut self.undos)?;
         let Some(undo) = self.undos.pop() else {
             unreachable!()
         };
@@ -62,7 +63,8 @@ impl Debugger {
             self.undos.push_reserved(undo);
             return Err(e);
         }
-        let Some(instr) = self.schedule.get(self.undos.len()) else {
+        self.position -= 1;
+        let Some(instr) = self.schedule.get(self.position) else {
             unreachable!()
         };
         drop_shown(&mut self.shown, instr);

@@ -1,4 +1,5 @@
 mod Clients
+mod Counting
 mod Holding
 mod LineByLine
 mod Progress

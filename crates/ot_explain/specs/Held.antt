@@ -1,4 +1,4 @@
--- The texts of the operations that a client waits for, and the words of specs/Told.antt for a client that waits for such texts.
+-- The JSON arrays of what a client waits for, which are held from one paragraph to the next, and the words of specs/Told.antt that are made of them.
 use Rattle.std.specs.Prelude.{◌≡◌, ℕ, List, [], ◌++◌, Option, Some, None, codes, IfSome, string_bytes}
 use Rattle.ot_json.specs.Writing.{text_of_operation}
 use Rattle.ot_model.specs.Operation.{Operation}

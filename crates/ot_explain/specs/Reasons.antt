@@ -1,7 +1,6 @@
 -- Why an instruction is refused, and what would repair it.
-use Rattle.std.specs.Prelude.{ℕ, List, [], ◌++◌, ◌==◌, length, nat_lt, slice_get, Option, Some, None, codes, decimal, if◌then◌else◌}
+use Rattle.std.specs.Prelude.{ℕ, List, [], ◌+◌, ◌++◌, ◌-◌, ◌==◌, length, nat_lt, slice_get, Option, Some, None, codes, decimal, if◌then◌else◌}
 use Rattle.std.specs.List.{count_by}
-use Rattle.ot_isa.specs.Tagging.{chars_of}
 use Rattle.ot_isa.specs.declared.elements.Tagged.{Tagged}
 use Rattle.ot_isa.specs.declared.instruction.Instr.{Instr}
 use Rattle.ot_isa.specs.declared.instruction.Instr.TheVariants.{Edit, Take, Deliver, Acknowledge, Join, Read, ReadServer}
@@ -11,22 +10,31 @@ use Rattle.ot_model.specs.Operation.{Operation, inserted}
 use Rattle.ot_model.specs.Table.{Client, Message, State}
 use Rattle.ot_values.specs.Values.{refusal_text}
 use Rattle.ot_explain.specs.Words.{entry_text, of_client}
-use Rattle.ot_explain.specs.Told.{heading}
+use Rattle.ot_explain.specs.Told.{edit_text, heading}
 
--- how many characters of a document are past U+FFFF: UTF-16 counts each of them twice
+-- how many characters of a document are past U+FFFF
 abbrev pub wide : List Tagged → ℕ
 wide list = count_by (λ (t : Tagged). nat_lt 65535 t.ch) list
 
--- what may repair an edit's lengths: in a document with such characters they are mostly UTF-16's, else the rest was left out
-abbrev pub wide_words : ℕ → List ℕ
-wide_words count =
-    if count == 0 then codes "; what an edit retains and deletes has to span the whole document"
-    else (codes "; lengths count Unicode scalars, UTF-16 counts 2 for each past U+FFFF, here " ++ decimal count)
+-- how far a base length is from the document's
+abbrev pub gap_words : ℕ → ℕ → List ℕ
+gap_words base count = if nat_lt base count then decimal (count - base) ++ codes " too few" else decimal (base - count) ++ codes " too many"
+
+-- a base length that is the document's in UTF-16, which counts so many units: two for each character past U+FFFF
+abbrev pub units_words : ℕ → ℕ → List ℕ
+units_words base units =
+    if base == units then codes "; lengths count Unicode scalars, and " ++ (decimal base ++ codes " is the document's length in UTF-16, which counts 2 for each past U+FFFF")
+    else []
+
+-- what repairs an edit's lengths, for a document of so many characters and so many of them past U+FFFF
+abbrev pub span_words : ℕ → ℕ → ℕ → List ℕ
+span_words base count past =
+    codes "; what an edit retains and deletes has to span the whole document: " ++ (gap_words base count ++ units_words base (count + past))
 
 -- an edit that is not over the whole document
 abbrev pub base_text : ℕ → ℕ → List Tagged → List ℕ
 base_text c base list =
-    codes "the edit takes documents of length " ++ (decimal base ++ (codes ", client " ++ (decimal c ++ (codes "'s has length " ++ (decimal (length list) ++ wide_words (wide list))))))
+    codes "the edit takes documents of length " ++ (decimal base ++ (codes ", client " ++ (decimal c ++ (codes "'s has length " ++ (decimal (length list) ++ span_words base (length list) (wide list))))))
 
 abbrev pub base_words : ℕ → Operation ℕ → Client → List ℕ
 base_words c op x = base_text c op.base x.list
@@ -89,6 +97,16 @@ reason LinkEmpty i s = empty_words i s
 reason WrongHead i s = head_words i s
 reason Memory i s = codes "no memory was found"
 
+-- the edit that was tried
+abbrev pub tried : Instr → List ℕ
+tried (Edit c op) = edit_text c op []
+tried (Take c) = []
+tried (Deliver c) = []
+tried (Acknowledge c) = []
+tried (Join c) = []
+tried (Read c) = []
+tried ReadServer = []
+
 -- a paragraph for an instruction that is refused
 abbrev pub refused_paragraph : ℕ → ℕ → Instr → State → Refusal → List ℕ
-refused_paragraph line number i s r = heading line number i ++ (codes "  refused: " ++ (refusal_text r ++ (codes ": " ++ (reason r i s ++ codes "\n"))))
+refused_paragraph line number i s r = heading line number i ++ (tried i ++ (codes "  refused: " ++ (refusal_text r ++ (codes ": " ++ (reason r i s ++ codes "\n")))))

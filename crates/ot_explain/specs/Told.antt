@@ -1,7 +1,6 @@
 -- What an instruction did, in words: what the state before it tells, and then what the state after it tells.
-use Rattle.std.specs.Prelude.{ℕ, List, [], ◌∷◌, ◌++◌, ◌-◌, ◌==◌, length, slice_get, Option, Some, None, codes, decimal, if◌then◌else◌}
+use Rattle.std.specs.Prelude.{ℕ, List, [], ◌++◌, ◌-◌, ◌==◌, length, slice_get, Option, Some, None, codes, decimal, if◌then◌else◌}
 use Rattle.ot_isa.specs.Program.{Program, client_of}
-use Rattle.ot_isa.specs.Tagging.{chars_of}
 use Rattle.ot_isa.specs.declared.instruction.Instr.{Instr}
 use Rattle.ot_isa.specs.declared.instruction.Instr.TheVariants.{Edit, Take, Deliver, Acknowledge, Join, Read, ReadServer}
 use Rattle.ot_json.specs.Writing.{text_of_operation}
@@ -24,9 +23,12 @@ edit_goes revision shown_phase.Synchronized = codes "; it is sent at revision " 
 edit_goes revision shown_phase.AwaitingConfirm = codes "; it becomes the buffer"
 edit_goes revision shown_phase.AwaitingWithBuffer = codes "; it is composed into the buffer"
 
+-- an edit of a client's user, and where it goes
+abbrev pub edit_text : ℕ → Operation ℕ → List ℕ → List ℕ
+edit_text c op goes = codes "  the user of client " ++ (decimal c ++ (codes " edits " ++ (text_of_operation op ++ (goes ++ codes "\n"))))
+
 abbrev pub edit_words : ℕ → Operation ℕ → Client → List ℕ
-edit_words c op x =
-    codes "  the user of client " ++ (decimal c ++ (codes " edits " ++ (text_of_operation op ++ (edit_goes x.revision (phase_name x.phase) ++ codes "\n"))))
+edit_words c op x = edit_text c op (edit_goes x.revision (phase_name x.phase))
 
 -- how many operations of the log the server transforms a message against: those that its client had not seen
 abbrev pub against_log : ℕ → List ℕ

@@ -1,5 +1,5 @@
 -- The words for values: operations, documents, entries of the log.
-use Rattle.std.specs.Prelude.{ℕ, List, [], ◌∷◌, ◌++◌, length, map, nat_lt, slice_get, unwrap_or, Option, Some, None, codes, decimal, if◌then◌else◌}
+use Rattle.std.specs.Prelude.{ℕ, List, [], ◌++◌, length, nat_lt, slice_get, unwrap_or, Option, Some, None, codes, decimal, if◌then◌else◌}
 use Rattle.std.specs.Option.{option_map}
 use Rattle.std.specs.Str.{encode_utf8_all}
 use Rattle.json.specs.Print.{quoted}

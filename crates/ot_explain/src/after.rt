@@ -52,7 +52,7 @@ fn push_waiting(
     ensures words { OnOk result (string_bytes text.new ≡ string_bytes text.old ++ waiting (client_in machine.now client).phase) }
     ensures held { OnOk result (IsHeld held.new machine.now) }
 {
-    held.print(alloc, machine, client)?;
+    held.hold_anew(alloc, machine, client)?;
     let phase = machine.phase(client);
     push_waiting_texts(text, phase, held.outstanding.as_str(), held.buffer.as_str())
 }

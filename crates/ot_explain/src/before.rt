@@ -8,7 +8,7 @@ ghost use Rattle.ot_steps.specs.Steps.{client_in, delivers};
 ghost use Rattle.ot_explain.specs.Held.{against_texts, confirmed_texts, IsHeld};
 ghost use Rattle.ot_explain.specs.Told as told;
 ghost use Rattle.ot_explain.specs.Words.{made_text, of_client};
-ghost use Rattle.ot_explain.specs.Told.{acknowledge_words, against_log, against_waiting, confirmed, deliver_words, edit_goes, edit_words, join_words, message_words, take_words};
+ghost use Rattle.ot_explain.specs.Told.{acknowledge_words, against_log, against_waiting, confirmed, deliver_words, edit_goes, edit_text, edit_words, join_words, message_words, take_words};
 
 use crate::held::HeldTexts;
 use crate::values::{operation_text, push_entry, push_made};
@@ -32,6 +32,19 @@ fn edit_goes(alloc: Global, revision: u32, phase: Phase) -> Result<String, Alloc
     }
 }
 
+/// An edit of a client's user, and where it goes, if that is said.
+pub(crate) fn edit_text(
+    alloc: Global,
+    client: u16,
+    op: &TextOp<char>,
+    goes: &str,
+) -> Result<String, AllocError>
+    ensures { IfOk result (λ s. string_bytes s ≡ edit_text client op.now goes.now) }
+{
+    let edit = write_op(alloc, op)?;
+    format!(in alloc; "  the user of client {client} edits {edit}{goes}\n")
+}
+
 fn edit_words(
     alloc: Global,
     machine: &Machine,
@@ -41,9 +54,8 @@ fn edit_words(
     requires { client < length machine.now.clients }
     ensures { IfOk result (λ s. ClientHas machine.now client (edit_words client op.now) (string_bytes s)) }
 {
-    let edit = write_op(alloc, op)?;
     let goes = edit_goes(alloc, machine.revision(client), machine.phase(client))?;
-    format!(in alloc; "  the user of client {client} edits {edit}{goes}\n")
+    edit_text(alloc, client, op, goes.as_str())
 }
 
 // How many operations of the log a message is transformed against.
@@ -137,7 +149,7 @@ fn push_against(
     requires held { IsHeld held.old machine.now }
     ensures { OnOk result (string_bytes text.new ≡ string_bytes text.old ++ against_waiting (client_in machine.now client).phase) }
 {
-    held.find(alloc, machine, client)?;
+    held.hold(alloc, machine, client)?;
     let phase = machine.phase(client);
     push_against_texts(text, phase, held.outstanding.as_str(), held.buffer.as_str())
 }
@@ -211,7 +223,7 @@ fn push_confirmed(
     requires held { IsHeld held.old machine.now }
     ensures { OnOk result (string_bytes text.new ≡ string_bytes text.old ++ confirmed (client_in machine.now client).phase) }
 {
-    held.find(alloc, machine, client)?;
+    held.hold(alloc, machine, client)?;
     let phase = machine.phase(client);
     push_confirmed_texts(text, phase, held.outstanding.as_str(), held.buffer.as_str())
 }

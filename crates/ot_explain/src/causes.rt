@@ -56,76 +56,162 @@ fn column(line: &[u8], at: usize) -> usize {
     characters.saturating_add(1)
 }
 
-// What is wrong with a byte outside of strings, the last one before it that is no blank being given.
-fn byte_cause(last: u8, byte: u8) -> Option<&'static str> {
-    match byte {
-        b' ' | b'\t' | b'-' | b'1'..=b'9' => None,
-        b'0' if last == b'[' || last == b',' || last == b'-' => {
-            Some("no component is 0, and no number begins with 0")
-        }
-        b'0' => None,
-        b',' if last == b'[' || last == b',' => Some("a component is missing before this comma"),
-        b',' => None,
-        b'\'' => Some("strings stand in double quotes"),
-        b'[' | b'{' => Some("a component is a string or a number: nothing is nested"),
-        b'.' | b'e' | b'E' => Some("numbers are whole"),
-        b'+' => Some("a number that retains has no sign"),
-        _ => Some("a component is a string in double quotes or a number"),
-    }
-}
-
-// What is wrong with a byte behind the bracket that ends an array.
-fn byte_behind(byte: u8) -> &'static str {
-    match byte {
-        b';' => "a comment stands on a line of its own",
-        b',' => "no comma stands behind the array",
-        _ => "nothing stands behind the array",
-    }
-}
-
-// Where it is wrong, and what is wrong there, if the array ends at this byte.
-fn closed_cause(json: &[u8], end: usize) -> (usize, &'static str) {
-    for (at, byte) in json.iter().enumerate() {
-        if at > end && !is_blank(*byte) {
-            return (at, byte_behind(*byte));
-        }
-    }
-    (0, "this is no JSON, or a half of a surrogate pair is in it")
-}
-
-// Within what of the array a byte stands.
+// What stands before a byte of an array.
 #[derive(Clone, Copy)]
-enum Within {
-    Array,
+enum Before {
+    // The bracket that opens it.
+    Opening,
+    Comma,
+    Minus,
+    // So many digits of a number.
+    Number(usize),
+    // A whole component, and what blanks are behind it.
+    Component,
+    // A part of a string.
     Text,
-    Escape,
+    // A part of an escape; so many bytes of it are left.
+    Escape(usize),
+    // The bracket that closes it.
+    Closing,
+}
+
+// Where a component has to begin.
+fn begin(byte: u8) -> Result<Before, &'static str> {
+    match byte {
+        b'"' => Ok(Before::Text),
+        b'-' => Ok(Before::Minus),
+        b'1'..=b'9' => Ok(Before::Number(1)),
+        b'0' => Err("no component is 0, and no number begins with 0"),
+        b',' => Err("a component is missing before this comma"),
+        b']' => Err("a component is missing behind the last comma"),
+        b'\'' => Err("strings stand in double quotes"),
+        b'[' | b'{' => Err("a component is a string or a number: nothing is nested"),
+        b'.' => Err("numbers are whole"),
+        b'+' => Err("a number that retains has no sign"),
+        _ => Err("a component is a string in double quotes or a number"),
+    }
+}
+
+// Behind a minus.
+fn go_on_behind_minus(byte: u8) -> Result<Before, &'static str> {
+    match byte {
+        b'1'..=b'9' => Ok(Before::Number(1)),
+        b'0' => begin(byte),
+        _ => Err("a number stands right behind its minus"),
+    }
+}
+
+// Behind a whole component.
+fn go_on_behind_component(byte: u8) -> Result<Before, &'static str> {
+    match byte {
+        b',' => Ok(Before::Comma),
+        b']' => Ok(Before::Closing),
+        b'"' | b'-' | b'0'..=b'9' => Err("a comma is missing before this component"),
+        _ => begin(byte),
+    }
+}
+
+// Behind so many digits of a number.
+fn go_on_in_number(digits: usize, byte: u8) -> Result<Before, &'static str> {
+    match byte {
+        b'0'..=b'9' if digits < 7 => Ok(Before::Number(digits + 1)),
+        b'0'..=b'9' => Err("no document has more than 1000000 characters"),
+        b'.' | b'e' | b'E' => Err("numbers are whole"),
+        _ => go_on_behind_component(byte),
+    }
+}
+
+// The number of an escape by four digits at the front of a text.
+fn unit(json: &[u8]) -> Option<u32> {
+    if !json.starts_with(b"\\u".as_slice()) {
+        return None;
+    }
+    let mut unit = 0;
+    for at in 2..6 {
+        let digit = char::from(*json.get(at)?).to_digit(16)?;
+        unit = (unit << 4) | digit;
+    }
+    Some(unit)
+}
+
+// How long an escape by four digits at the front of a text is, both halves of a surrogate pair together.
+fn unit_len(json: &[u8]) -> Result<usize, &'static str> {
+    let (_, behind) = json.split_at(json.len().min(6));
+    match (unit(json), unit(behind)) {
+        (Some(0xD800..=0xDBFF), Some(0xDC00..=0xDFFF)) => Ok(12),
+        (Some(0xD800..=0xDFFF), _) => {
+            Err("this is half of a surrogate pair: the other half is missing")
+        }
+        (Some(_), _) => Ok(6),
+        (None, _) => Err("\\u stands before four hexadecimal digits"),
+    }
+}
+
+// How long an escape at the front of a text is.
+fn escape_len(json: &[u8]) -> Result<usize, &'static str> {
+    match json.get(1) {
+        Some(b'"' | b'\\' | b'/' | b'b' | b'f' | b'n' | b'r' | b't') => Ok(2),
+        Some(b'u') => unit_len(json),
+        _ => Err("this is no escape of JSON; a backslash is written \\\\"),
+    }
+}
+
+// Within a string, at a byte with what is behind it.
+fn go_on_in_text(byte: u8, json: &[u8]) -> Result<Before, &'static str> {
+    match byte {
+        b'"' => Ok(Before::Component),
+        b'\\' => Ok(Before::Escape(escape_len(json)?.saturating_sub(1))),
+        0..=0x1F => Err("a control character in a string is written as an escape, such as \\t"),
+        _ => Ok(Before::Text),
+    }
+}
+
+// Behind the bracket that closes the array.
+fn go_on_behind_array(byte: u8) -> Result<Before, &'static str> {
+    match byte {
+        b';' => Err("a comment stands on a line of its own"),
+        b',' => Err("no comma stands behind the array"),
+        _ => Err("nothing stands behind the array"),
+    }
+}
+
+// What stands before the next byte, where that is right: `json` is the text from this byte on.
+fn go_on(before: Before, byte: u8, json: &[u8]) -> Result<Before, &'static str> {
+    match before {
+        Before::Text => go_on_in_text(byte, json),
+        Before::Escape(left) if left > 1 => Ok(Before::Escape(left - 1)),
+        Before::Escape(_) => Ok(Before::Text),
+        Before::Minus => go_on_behind_minus(byte),
+        Before::Number(_) if is_blank(byte) => Ok(Before::Component),
+        _ if is_blank(byte) => Ok(before),
+        Before::Opening if byte == b']' => Ok(Before::Closing),
+        Before::Opening | Before::Comma => begin(byte),
+        Before::Number(digits) => go_on_in_number(digits, byte),
+        Before::Component => go_on_behind_component(byte),
+        Before::Closing => go_on_behind_array(byte),
+    }
+}
+
+// Where an array that ends so is wrong, and what is wrong there.
+fn end_cause(json: &[u8], before: Before) -> (usize, &'static str) {
+    match before {
+        Before::Closing => (0, "this is no array of strings and numbers"),
+        Before::Text | Before::Escape(_) => (json.len(), "the string is not closed"),
+        _ => (json.len(), "the array is not closed"),
+    }
 }
 
 // Where an array that is no operation is wrong, and what is wrong there.
 fn array_cause(json: &[u8]) -> (usize, &'static str) {
-    let mut within = Within::Array;
-    let mut last = b'[';
+    let mut before = Before::Opening;
     for (at, byte) in json.iter().enumerate().skip(1) {
-        within = match (within, *byte) {
-            (Within::Escape, _) => Within::Text,
-            (Within::Text, b'\\') => Within::Escape,
-            (Within::Text, b'"') => Within::Array,
-            (Within::Text, _) => Within::Text,
-            (Within::Array, b'"') => Within::Text,
-            (Within::Array, b']') if last == b',' => {
-                return (at, "a component is missing behind the last comma");
-            }
-            (Within::Array, b']') => return closed_cause(json, at),
-            (Within::Array, byte) => match byte_cause(last, byte) {
-                Some(words) => return (at, words),
-                None => Within::Array,
-            },
-        };
-        if !is_blank(*byte) {
-            last = *byte;
+        let (_, rest) = json.split_at(at);
+        match go_on(before, *byte, rest) {
+            Ok(next) => before = next,
+            Err(words) => return (at, words),
         }
     }
-    (json.len(), "the array is not closed")
+    end_cause(json, before)
 }
 
 fn operation_cause(json: &[u8]) -> (usize, &'static str) {
@@ -154,6 +240,20 @@ fn word_cause(word: &[u8]) -> &'static str {
         Some(b'#' | b'/') => "a comment begins with `;`",
         Some(b'A'..=b'Z') => "words are in lower case",
         _ => "an instruction is edit, take, deliver, ack, join, read or read-server",
+    }
+}
+
+// Where a number is none, and what is wrong there.
+fn number_cause(line: &[u8]) -> (usize, &'static str) {
+    let start = start_of(line, 1);
+    let (_, rest) = line.split_at(start);
+    let digits = rest.iter().take_while(|byte| byte.is_ascii_digit()).count();
+    match rest.get(digits) {
+        Some(b'[') if digits > 0 => (
+            start.saturating_add(digits),
+            "a blank is missing behind the number",
+        ),
+        _ => (start, "a number of one to nine digits stands here"),
     }
 }
 
@@ -239,10 +339,7 @@ fn cause(line: &[u8], kind: Kind) -> (usize, &'static str) {
         ),
         Kind::NoClients => (start_of(line, 0), first_cause(line)),
         Kind::UnknownWord => (start_of(line, 0), word_cause(word)),
-        Kind::BadNumber => (
-            start_of(line, 1),
-            "a number of one to nine digits stands here",
-        ),
+        Kind::BadNumber => number_cause(line),
         Kind::BadClient => (start_of(line, 1), client_cause(word)),
         Kind::BadOperation => edit_cause(line),
         Kind::Extra => extra_cause(line, word),

@@ -80,8 +80,13 @@ impl HeldTexts {
         self.client = None;
     }
 
-    /// Prints what the client waits for, in place of what was held.
-    pub fn print(&mut self, alloc: Global, machine: &Machine, client: u16) -> Result<(), AllocError>
+    /// Holds what the client waits for, printed anew in place of what was held.
+    pub fn hold_anew(
+        &mut self,
+        alloc: Global,
+        machine: &Machine,
+        client: u16,
+    ) -> Result<(), AllocError>
         requires { client < length machine.now.clients }
         ensures texts { OnOk result (HoldsTexts self.new (client_in machine.now client).phase) }
         ensures held { OnOk result (IsHeld self.new machine.now) }
@@ -100,8 +105,8 @@ impl HeldTexts {
         Ok(())
     }
 
-    /// Prints what the client waits for, where that is not held.
-    pub fn find(&mut self, alloc: Global, machine: &Machine, client: u16) -> Result<(), AllocError>
+    /// Holds what the client waits for: it is printed only where it is not held already.
+    pub fn hold(&mut self, alloc: Global, machine: &Machine, client: u16) -> Result<(), AllocError>
         requires inside { client < length machine.now.clients }
         requires held { IsHeld self.old machine.now }
         ensures texts { OnOk result (HoldsTexts self.new (client_in machine.now client).phase) }
@@ -110,6 +115,6 @@ impl HeldTexts {
         if self.client == Some(client) {
             return Ok(());
         }
-        self.print(alloc, machine, client)
+        self.hold_anew(alloc, machine, client)
     }
 }

@@ -7,11 +7,11 @@ ghost use Rattle.ot_model.specs.Table as table;
 ghost use Rattle.ot_steps.specs.Steps as steps;
 ghost use Rattle.ot_explain.specs.Held.{IsHeld};
 ghost use Rattle.ot_explain.specs.Told.{heading, opening_words};
-ghost use Rattle.ot_explain.specs.Reasons.{refused_paragraph};
+ghost use Rattle.ot_explain.specs.Reasons.{refused_paragraph, tried};
 ghost use Rattle.ot_explain.specs.Explained.{IsMove, end_words, last_text, line_at, stop_text};
 
 use crate::after::push_after;
-use crate::before::push_before;
+use crate::before::{edit_text, push_before};
 use crate::held::HeldTexts;
 use crate::reasons::reason;
 use crate::values::letters_text;
@@ -82,6 +82,16 @@ pub(crate) fn opening_words(alloc: Global, schedule: &Schedule) -> Result<String
     )
 }
 
+// The edit that was tried, if the instruction is one.
+fn tried(alloc: Global, instr: &Instr) -> Result<String, AllocError>
+    ensures { IfOk result (λ s. string_bytes s ≡ tried instr.now) }
+{
+    match instr {
+        Instr::Edit(client, op) => edit_text(alloc, *client, op, ""),
+        _ => Ok(String::new(alloc)),
+    }
+}
+
 // The paragraph of an instruction that the machine as it is refuses.
 fn refused_paragraph(
     alloc: Global,
@@ -94,9 +104,10 @@ fn refused_paragraph(
     ensures { IfOk result (λ s. string_bytes s ≡ refused_paragraph line number instr.now machine.now refusal) }
 {
     let heading = heading(alloc, line, number, instr)?;
+    let tried = tried(alloc, instr)?;
     let name = refusal_name(refusal);
     let reason = reason(alloc, machine, instr, refusal)?;
-    format!(in alloc; "{heading}  refused: {name}: {reason}\n")
+    format!(in alloc; "{heading}{tried}  refused: {name}: {reason}\n")
 }
 
 // The paragraph of the instruction at which a run stopped, if it did.

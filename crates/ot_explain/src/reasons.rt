@@ -1,12 +1,12 @@
 //! Why an instruction is refused, and what would repair it.
 
-ghost use Rattle.std.specs.Prelude.{◌≡◌, ◌<◌, length, slice_get, IfOk, string_bytes};
+ghost use Rattle.std.specs.Prelude.{◌≡◌, ◌+◌, ◌<◌, ◌^◌, length, slice_get, IfOk, string_bytes};
 ghost use Rattle.std.specs.Option.{option_copied, option_map};
 ghost use Rattle.ot_client.specs.Client.{message_of};
 ghost use Rattle.ot_machine.specs.Readers.{ClientHas};
 ghost use Rattle.ot_explain.specs.Words.{entry_text};
 ghost use Rattle.ot_explain.specs.Reasons as words;
-ghost use Rattle.ot_explain.specs.Reasons.{base_words, empty_words, full_words, head_words, next_text, of_edit, unconfirmed, wide, wide_words};
+ghost use Rattle.ot_explain.specs.Reasons.{base_words, empty_words, full_words, gap_words, head_words, next_text, of_edit, span_words, unconfirmed, units_words, wide};
 
 use crate::values::entry_text;
 use ot_client::Sent;
@@ -16,25 +16,50 @@ use ot_text::{Doc, TextOp};
 use std::alloc::{AllocError, Global};
 
 // How many characters of a document are past U+FFFF.
-fn wide(list: &Doc<Tagged>) -> Result<usize, AllocError>
-    ensures { IfOk result (λ n. n ≡ wide list.now) }
+fn wide(list: &Doc<Tagged>) -> usize
+    requires { length list.now < 2 ^ 64 }
+    ensures { result ≡ wide list.now }
 {
-    let items = list.to_vec()?;
-    Ok(items.iter().filter(|item| 0xFFFF < item.ch as u32).count())
+    let mut ahead = list.pieces();
+    let mut count = 0;
+    while let Some(piece) = ahead.next() {
+        count += piece.iter().filter(|item| 0xFFFF < item.ch as u32).count();
+    }
+    count
 }
 
-// What may repair an edit's lengths.
-fn wide_words(alloc: Global, count: usize) -> Result<String, AllocError>
-    ensures { IfOk result (λ s. string_bytes s ≡ wide_words count) }
+// How far a base length is from the document's.
+fn gap_words(alloc: Global, base: usize, count: usize) -> Result<String, AllocError>
+    ensures { IfOk result (λ s. string_bytes s ≡ gap_words base count) }
 {
-    if count == 0 {
-        return String::from_str(
-            alloc,
-            "; what an edit retains and deletes has to span the whole document",
-        );
+    if base < count {
+        let few = count - base;
+        return format!(in alloc; "{few} too few");
+    }
+    let many = base - count;
+    format!(in alloc; "{many} too many")
+}
+
+// Of a base length that is the document's in UTF-16: by so many characters longer.
+fn units_words(alloc: Global, base: usize, count: usize, past: usize) -> Result<String, AllocError>
+    ensures { IfOk result (λ s. string_bytes s ≡ units_words base (count + past)) }
+{
+    if base < count || base - count != past {
+        return Ok(String::new(alloc));
     }
     format!(in alloc;
-        "; lengths count Unicode scalars, UTF-16 counts 2 for each past U+FFFF, here {count}"
+        "; lengths count Unicode scalars, and {base} is the document's length in UTF-16, which counts 2 for each past U+FFFF"
+    )
+}
+
+// What repairs an edit's lengths.
+fn span_words(alloc: Global, base: usize, count: usize, past: usize) -> Result<String, AllocError>
+    ensures { IfOk result (λ s. string_bytes s ≡ span_words base count past) }
+{
+    let gap = gap_words(alloc, base, count)?;
+    let units = units_words(alloc, base, count, past)?;
+    format!(in alloc;
+        "; what an edit retains and deletes has to span the whole document: {gap}{units}"
     )
 }
 
@@ -49,10 +74,9 @@ fn base_words(
     ensures { IfOk result (λ s. ClientHas machine.now client (base_words client op.now) (string_bytes s)) }
 {
     let list = machine.document(client);
-    let past = wide(list)?;
-    let words = wide_words(alloc, past)?;
     let base = op.base_len();
     let count = list.len();
+    let words = span_words(alloc, base, count, wide(list))?;
     format!(in alloc;
         "the edit takes documents of length {base}, client {client}'s has length {count}{words}"
     )

@@ -1,5 +1,5 @@
 -- What a list must hold, from the list before it.
-use Rattle.std.proofs.Common.{◌≡◌, ℕ, ◌+◌, ◌<◌, List, [], ◌∷◌, ◌++◌, length, get_or, set, take, drop, ap, sym, ◌∙◌, cond, arith, Bool, true, false, ◌||◌, ◌&&◌, inl, inr, subst, refl}
+use Rattle.std.proofs.Common.{◌≡◌, ℕ, ◌+◌, ◌<◌, ◌≤◌, List, [], ◌∷◌, ◌++◌, length, get_or, set, take, drop, ap, sym, ◌∙◌, cond, arith, Bool, true, false, ◌||◌, ◌&&◌, inl, inr, subst, refl}
 use Rattle.std.specs.Prelude.{Option, Some, None, All, filter, not}
 use Rattle.std.specs.List.{list_any}
 use Rattle.std.specs.HashSet.{HashSet, contains as set_contains}
@@ -15,8 +15,8 @@ use Rattle.ot_model.specs.WeakList.{EventHolds, from_known, known_deletions, kno
 use Rattle.ot_judge.specs.Contents.{first_misplaced}
 use Rattle.ot_judge.specs.Turns.{AreNews, given, given_before, HoldBefore, HoldsExactly, IsLastOf, IsTaken, list_before, ReadsOnly, StandsOnce}
 use Rattle.ot_judge.proofs.Faults.{exact-places, occurrences-present}
-use Rattle.ot_judge.proofs.Newly.{known-split, reads-give, same-bool}
-use Rattle.ot_judge.proofs.TagLemmas.{no_tag, occurrences-absent, occurrences-more, same_tag-symm, same_tag-true, set-more}
+use Rattle.ot_judge.proofs.Newly.{given-more, known-split, reads-give, same-bool}
+use Rattle.ot_judge.proofs.TagLemmas.{no_tag, contains-more, occurrences-absent, occurrences-more, same_tag-symm, same_tag-true, set-more}
 
 abbrev number_of : Bool → ℕ
 number_of b = cond b 1 0
@@ -56,6 +56,38 @@ or_and true true false = refl
 or_and true false true = refl
 or_and true false false = refl
 or_and false y z = refl
+
+-- taken one after another
+pub taken-start : (a gone : Tag → Bool) → IsTaken a a (λ q. contains [] q && not (gone q))
+taken-start a gone = taken-none a (λ q. false) (λ q. refl)
+
+pub taken-next : (a b c gone : Tag → Bool) (tags : List Tag) (i : ℕ) (x t : Tag) → i < length tags → x ≡ get_or tags i t → IsTaken a b (λ q. contains (take i tags) q && not (gone q)) → IsTaken b c (λ q. same_tag q x && not (gone q)) → IsTaken a c (λ q. contains (take (i + 1) tags) q && not (gone q))
+taken-next a b c gone tags i x t lt is first then =
+    taken-more a b c (λ q. contains (take i tags) q && not (gone q)) (λ q. same_tag q x && not (gone q)) (λ q. contains (take (i + 1) tags) q && not (gone q)) first then
+    (λ q. ap (λ (y : Bool). y && not (gone q)) (contains-more tags q i t lt ∙ ap (λ (y : Tag). contains (take i tags) q || same_tag q y) (sym is)) ∙ or_and (contains (take i tags) q) (same_tag q x) (not (gone q)))
+
+pub taken-given : (a b c gone : Tag → Bool) (events : List EventView) (news : List ℕ) (i : ℕ) (tags : List Tag) → i < length news → tags ≡ inserted_tags (event_at events (get_or news i 0)) → IsTaken a b (λ q. contains (given events inserted_tags (take i news)) q && not (gone q)) → IsTaken b c (λ q. contains tags q && not (gone q))
+    → IsTaken a c (λ q. contains (given events inserted_tags (take (i + 1) news)) q && not (gone q))
+taken-given a b c gone events news i tags lt are first then =
+    let front : List Tag = given events inserted_tags (take i news) in
+    taken-more a b c (λ q. contains front q && not (gone q)) (λ q. contains tags q && not (gone q)) (λ q. contains (given events inserted_tags (take (i + 1) news)) q && not (gone q)) first then
+    (λ q. ap (λ (y : Bool). y && not (gone q)) (ap (λ (xs : List Tag). contains xs q) (given-more events inserted_tags news i lt ∙ ap (λ (xs : List Tag). front ++ xs) (sym are)) ∙ list_any-append (same_tag q) front tags) ∙ or_and (contains front q) (contains tags q) (not (gone q)))
+
+pub taken-all : (a b gone : Tag → Bool) (tags : List Tag) (i : ℕ) → length tags ≤ i → IsTaken a b (λ q. contains (take i tags) q && not (gone q)) → IsTaken a b (λ q. contains tags q && not (gone q))
+taken-all a b gone tags i le = subst (λ (xs : List Tag). IsTaken a b (λ q. contains xs q && not (gone q))) (take_all i tags le)
+
+pub same-tags : (x a : Tag) → not (same_tag x a) ≡ false → x ≡ a
+same-tags x a h = elim (cases_Bool (same_tag x a)) [
+  | inl met ↦ same_tag-true x a met
+  | inr out ↦ absurd (both_ways true (sym (ap not out) ∙ h) refl)
+]
+
+-- what is gone is not taken
+pub take-gone : (old gone : Tag → Bool) (a : Tag) → gone a ≡ true → IsTaken old old (λ q. same_tag q a && not (gone q))
+take-gone old gone a h = taken-none old (λ q. same_tag q a && not (gone q)) (λ q. elim (cases_Bool (same_tag q a)) [
+  | inl met ↦ ap (λ (b : Bool). same_tag q a && not b) (ap gone (same_tag-true q a met) ∙ h) ∙ and_false (same_tag q a)
+  | inr not_met ↦ ap (λ (b : Bool). b && not (gone q)) not_met
+])
 
 -- what is left after all that is wanted was taken is nothing
 pub exactly-from : (list : List Tag) (s m e held inserted gone : Tag → Bool) → ((q : Tag) → StandsOnce list q (s q)) → IsTaken s m (λ q. held q && not (gone q)) → IsTaken m e (λ q. inserted q && not (gone q)) → ((q : Tag) → e q ≡ false) → HoldsExactly list (λ q. (held q || inserted q) && not (gone q))
@@ -101,9 +133,6 @@ once-more tags i q had here new lt before at out updates =
         | inr not_met ↦ omega (arith, more, before.few, ap number_of not_met)
       ];
     }
-
-pub exactly-along : (list list' held held' inserted inserted' : List Tag) (gone : Tag → Bool) → list ≡ list' → held ≡ held' → inserted ≡ inserted' → HoldsExactly list' (λ q. (contains held' q || contains inserted' q) && not (gone q)) → HoldsExactly list (λ q. (contains held q || contains inserted q) && not (gone q))
-exactly-along list list' held held' inserted inserted' gone a b d h = rw (a, b, d) h
 
 -- ---- from one list to the next
 
@@ -157,37 +186,31 @@ before-held start events e r None q lastof hold = sym (and_true _ ∙ or_false (
 before-held start events e r (Some p) q lastof hold = held-required start events p q (hold p lastof.before) ∙ required-is start events p q
 
 -- an event whose list is exactly what was held and what is new
-pub holds-next : (start : List Tag) (events : List EventView) (e : ℕ) (last : Option ℕ) (news : List ℕ) (before now : Tag → Bool) → e < length events → IsLastOf events e (event_at events e).replica last → All ReadsOnly events → SeesRightly events e → AreNews events e last news → HoldBefore start events e
-    → ((q : Tag) → before q ≡ contains (given_before events (λ x. x.deleted) last) q) → ((q : Tag) → now q ≡ (before q || contains (given events (λ x. x.deleted) news) q))
-    → HoldsExactly (event_at events e).list (λ q. (contains (list_before start events last) q || contains (given events inserted_tags news) q) && not (now q)) → first_misplaced (event_at events e) ≡ None
-    → EventHolds start events e × ((q : Tag) → now q ≡ contains (known_deletions events e) q)
-holds-next start events e last news before now within lastof reads visible are hold had added exact places = (
-  record { visibility = visible; contents = λ q. exact q ∙ ap number_of (wanted q); places = exact-places (event_at events e).list (event_at events e).inserted places },
-  gone,
-) where
-  no_inserts : (d : ℕ) → (event_at events d).edit ≡ false → inserted_tags (event_at events d) ≡ []
-  no_inserts = reads-give events inserted_tags (All-weaker ReadsOnly (λ x. x.edit ≡ false → inserted_tags x ≡ []) (λ x h read. ap (λ (ps : List Placed). inserted_tags (record x { inserted = ps })) (h.inserts read)) events reads) refl
+pub holds-next : (start : List Tag) (events : List EventView) (e : ℕ) (last : Option ℕ) (news : List ℕ) → e < length events → IsLastOf events e (event_at events e).replica last → All ReadsOnly events → SeesRightly events e → AreNews events e last news → HoldBefore start events e
+    → HoldsExactly (event_at events e).list (λ q. (contains (list_before start events last) q || contains (given events inserted_tags news) q) && not (contains (known_deletions events e) q)) → first_misplaced (event_at events e) ≡ None
+    → EventHolds start events e
+holds-next start events e last news within lastof reads visible are hold exact places = record { visibility = visible; contents = λ q. exact q ∙ ap number_of (wanted q); places = exact-places (event_at events e).list (event_at events e).inserted places }
+  where
+    no_inserts : (d : ℕ) → (event_at events d).edit ≡ false → inserted_tags (event_at events d) ≡ []
+    no_inserts = reads-give events inserted_tags (All-weaker ReadsOnly (λ x. x.edit ≡ false → inserted_tags x ≡ []) (λ x h read. ap (λ (ps : List Placed). inserted_tags (record x { inserted = ps })) (h.inserts read)) events reads) refl
 
-  no_deletes : (d : ℕ) → (event_at events d).edit ≡ false → (event_at events d).deleted ≡ []
-  no_deletes = reads-give events (λ x. x.deleted) (All-weaker ReadsOnly (λ x. x.edit ≡ false → x.deleted ≡ []) (λ x h. h.deletes) events reads) refl
+    no_deletes : (d : ℕ) → (event_at events d).edit ≡ false → (event_at events d).deleted ≡ []
+    no_deletes = reads-give events (λ x. x.deleted) (All-weaker ReadsOnly (λ x. x.edit ≡ false → x.deleted ≡ []) (λ x h. h.deletes) events reads) refl
 
-  gone : (q : Tag) → now q ≡ contains (known_deletions events e) q
-  gone q =
-      added q ∙ ap (λ (b : Bool). b || contains (given events (λ x. x.deleted) news) q) (had q) ∙ sym (known-split events e last news (λ x. x.deleted) q within lastof visible are no_deletes)
-
-  wanted : (q : Tag) → ((contains (list_before start events last) q || contains (given events inserted_tags news) q) && not (now q)) ≡ contains (required start events e) q
-  wanted q =
-      let s = contains start q in
-      let i = contains (given_before events inserted_tags last) q in
-      let j = contains (given events inserted_tags news) q in
-      let d = contains (given_before events (λ x. x.deleted) last) q in
-      let n = contains (given events (λ x. x.deleted) news) q in
-      ap (λ (b : Bool). (b || j) && not (now q)) (before-held start events e (event_at events e).replica last q lastof hold)
-      ∙ ap (λ (b : Bool). (((s || i) && not d) || j) && not b) (added q ∙ ap (λ (b : Bool). b || n) (had q))
-      ∙ next-wanted s i j d n
-      ∙ ap (λ (b : Bool). (s || (i || j)) && not b) (sym (known-split events e last news (λ x. x.deleted) q within lastof visible are no_deletes))
-      ∙ ap (λ (b : Bool). (s || b) && not (contains (known_deletions events e) q)) (sym (known-split events e last news inserted_tags q within lastof visible are no_inserts))
-      ∙ sym (required-is start events e q)
+    wanted : (q : Tag) → ((contains (list_before start events last) q || contains (given events inserted_tags news) q) && not (contains (known_deletions events e) q)) ≡ contains (required start events e) q
+    wanted q =
+        let s = contains start q in
+        let i = contains (given_before events inserted_tags last) q in
+        let j = contains (given events inserted_tags news) q in
+        let d = contains (given_before events (λ x. x.deleted) last) q in
+        let n = contains (given events (λ x. x.deleted) news) q in
+        let gone = known-split events e last news (λ x. x.deleted) q within lastof visible are no_deletes in
+        ap (λ (b : Bool). (b || j) && not (contains (known_deletions events e) q)) (before-held start events e (event_at events e).replica last q lastof hold)
+        ∙ ap (λ (b : Bool). (((s || i) && not d) || j) && not b) gone
+        ∙ next-wanted s i j d n
+        ∙ ap (λ (b : Bool). (s || (i || j)) && not b) (sym gone)
+        ∙ ap (λ (b : Bool). (s || b) && not (contains (known_deletions events e) q)) (sym (known-split events e last news inserted_tags q within lastof visible are no_inserts))
+        ∙ sym (required-is start events e q)
 
 -- ---- marks
 
@@ -198,6 +221,6 @@ marks-more P marks e here others k h = elim (cases_eq k e) [
 ]
 
 -- a list written back as a whole
-pub written : (n : ℕ) (now was : List Bool) → length now ≡ n → length was ≡ n → take n (now ++ drop (length now) was) ≡ now
+pub written : {X : Type 0} (n : ℕ) (now was : List X) → length now ≡ n → length was ≡ n → take n (now ++ drop (length now) was) ≡ now
 written n now was long same =
-    ap (λ (xs : List Bool). take n (now ++ xs)) (drop_all (length now) was (omega (arith, long, same))) ∙ ap (take n) (append-nil now) ∙ take_all n now (omega (arith, long))
+    ap (λ xs. take n (now ++ xs)) (drop_all (length now) was (omega (arith, long, same))) ∙ ap (take n) (append-nil now) ∙ take_all n now (omega (arith, long))

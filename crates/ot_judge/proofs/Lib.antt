@@ -4,6 +4,7 @@ pub mod Newly
 pub mod Exactly
 pub mod TagLemmas
 pub mod Known
+pub mod Deleters
 pub mod Rising
 pub mod Faults
 pub mod Whole

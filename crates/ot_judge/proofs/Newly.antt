@@ -39,7 +39,7 @@ same-bool false false f g = refl
 abbrev known_part : List EventView → ℕ → (EventView → List Tag) → ℕ → List Tag
 known_part events e part d = cond (knows events e d) (part (event_at events d)) []
 
-known-in : (events : List EventView) (e d : ℕ) (part : EventView → List Tag) (q : Tag) → d < length events → knows events e d ≡ true → contains (part (event_at events d)) q ≡ true → contains (from_known events e part) q ≡ true
+pub known-in : (events : List EventView) (e d : ℕ) (part : EventView → List Tag) (q : Tag) → d < length events → knows events e d ≡ true → contains (part (event_at events d)) q ≡ true → contains (from_known events e part) q ≡ true
 known-in events e d part q lt k h =
     let n : ℕ = length events in
     let at = get_or-range_with_len 0 n d 0 lt in
@@ -47,7 +47,7 @@ known-in events e d part q lt k h =
     let there = ap (λ (b : Bool). contains (cond b (part (event_at events d)) []) q) k ∙ h in
     flat-in (known_part events e part) (range_with_len 0 n) d 0 q (omega (arith, length-range_with_len 0 n, lt)) (ap (λ (i : ℕ). contains (known_part events e part i) q) here ∙ there)
 
-known-out : (events : List EventView) (e : ℕ) (part : EventView → List Tag) (q : Tag) → contains (from_known events e part) q ≡ true → (d : ℕ) × (d < length events) × (knows events e d ≡ true) × (contains (part (event_at events d)) q ≡ true)
+pub known-out : (events : List EventView) (e : ℕ) (part : EventView → List Tag) (q : Tag) → contains (from_known events e part) q ≡ true → (d : ℕ) × (d < length events) × (knows events e d ≡ true) × (contains (part (event_at events d)) q ≡ true)
 known-out events e part q h =
     let n : ℕ = length events in
     let w = flat-out (known_part events e part) (range_with_len 0 n) 0 q h in

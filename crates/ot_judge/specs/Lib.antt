@@ -2,6 +2,7 @@ pub mod Views
 pub mod Numbers
 pub mod Turns
 pub mod Contents
+pub mod Elements
 pub mod Places
 pub mod Ranks
 pub mod Making

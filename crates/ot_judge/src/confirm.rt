@@ -1,20 +1,26 @@
-//! Events confirmed, replica by replica, each from the list that its replica had before it: what the replica knows as deleted
-//! is kept, and only what an event newly knows is added.
+//! Events confirmed, replica by replica, each from the list that its replica had before it and from what newly known events
+//! insert, but for what it knows as deleted.
 
-ghost use Rattle.std.specs.Prelude.{◌≡◌, ◌<◌, ◌||◌, ◌&&◌, ℕ, IfOk, IfSome, OnOk, IsTrue, List, length, not, All, true, false, slice_index_or};
+ghost use Rattle.std.specs.Prelude.{◌≡◌, ◌<◌, ◌||◌, ◌&&◌, ◌++◌, ℕ, IfOk, IfSome, OnOk, IsTrue, List, length, map, not, All, true, false, slice_index_or};
+ghost use Rattle.std.specs.List.{flat_map};
 ghost use Rattle.std.specs.HashSet.{contains as set_contains};
 ghost use Rattle.ot_isa.specs.declared.elements.Tag.{Tag};
-ghost use Rattle.ot_model.specs.Trace.{contains, event_at, occurrences, same_tag};
-ghost use Rattle.ot_model.specs.WeakList.{EventHolds, known_deletions};
+ghost use Rattle.ot_model.specs.Trace.{contains, event_at, inserted_tags, occurrences, same_tag};
+ghost use Rattle.ot_model.specs.Visibility.{SeesRightly};
+ghost use Rattle.ot_model.specs.WeakList.{known_deletions};
+ghost use Rattle.ot_judge.specs.Elements.{IsElement};
 ghost use Rattle.ot_judge.specs.Numbers.{IsNumbered};
-ghost use Rattle.ot_judge.specs.Turns.{HoldBefore, HoldsAfter, HoldsExactly, IsLastOf, IsTaken, ReadsOnly, StandsOnce, given_before, list_before};
+ghost use Rattle.ot_judge.specs.Places.{IsDistinct};
+ghost use Rattle.ot_judge.specs.Turns.{HoldsAfter, HoldsExactly, IsLastOf, IsTaken, ReadsOnly, StandsOnce, given, list_before};
 ghost use Rattle.ot_judge.specs.Views.{views};
 
 use crate::contents::first_misplaced;
-use crate::news::{add_deleted, edits_of, inserted_by, news_of};
+use crate::elements::{Element, Elements, elements_of, first_of, is_gone};
+use crate::news::{edits_of, news_of};
 use crate::trace::Event;
 use crate::visibility::sees_after;
 use ot_isa::Tag;
+use ot_model::Placed;
 use std::alloc::{AllocError, Global};
 use std::collections::HashSet;
 
@@ -32,74 +38,210 @@ fn set_of(alloc: Global, list: &[Tag]) -> Result<Option<HashSet<Tag>>, AllocErro
     Ok(Some(set))
 }
 
-// Takes a tag that is not gone out of a set; false where it is not in it.
-fn take_one(set: &mut HashSet<Tag>, gone: &HashSet<Tag>, a: Tag) -> bool
-    ensures { IsTrue result → IsTaken (set_contains same_tag set.old) (set_contains same_tag set.new) (λ q. same_tag q a && not (set_contains same_tag gone.now q)) }
+// Takes the element with this number and tag, unless it is gone, out of a set; false where there is no such element, or where it
+// is not in the set.
+fn take_one(
+    set: &mut HashSet<Tag>,
+    all: &[Element],
+    events: &[Event],
+    numbers: &[usize],
+    e: usize,
+    n: usize,
+    a: Tag,
+) -> bool
+    requires numbered { IsNumbered (views events.now) numbers.now }
+    requires within { e < length events.now }
+    requires reads { All ReadsOnly (views events.now) }
+    requires elements { All (IsElement (views events.now) (length events.now)) all.now }
+    ensures { IsTrue result → SeesRightly (views events.now) e → IsTaken (set_contains same_tag set.old) (set_contains same_tag set.new) (λ q. same_tag q a && not (contains (known_deletions (views events.now) e) q)) }
 {
-    if gone.contains(&a) {
+    let Some(x) = all.get(n) else {
+        return false;
+    };
+    if x.tag != a {
+        return false;
+    }
+    if is_gone(x, events, numbers, e) {
         return true;
     }
     set.remove(&a)
 }
 
-// Takes each of these tags that is not gone out of a set; false where one is not in it.
-fn take_kept(set: &mut HashSet<Tag>, gone: &HashSet<Tag>, tags: &[Tag]) -> bool
-    ensures { IsTrue result → IsTaken (set_contains same_tag set.old) (set_contains same_tag set.new) (λ q. contains tags.now q && not (set_contains same_tag gone.now q)) }
+// Takes the elements that the start holds and that are not gone out of a set; false where one is not in it.
+fn take_start(
+    set: &mut HashSet<Tag>,
+    elements: &Elements,
+    events: &[Event],
+    numbers: &[usize],
+    e: usize,
+    start: &[Tag],
+) -> bool
+    requires numbered { IsNumbered (views events.now) numbers.now }
+    requires within { e < length events.now }
+    requires reads { All ReadsOnly (views events.now) }
+    requires elements { All (IsElement (views events.now) (length events.now)) elements.now.all.items }
+    ensures { IsTrue result → SeesRightly (views events.now) e → IsTaken (set_contains same_tag set.old) (set_contains same_tag set.new) (λ q. contains start.now q && not (contains (known_deletions (views events.now) e) q)) }
 {
-    for a in tags {
-        if !take_one(set, gone, *a) {
+    let all = elements.all.as_slice();
+    for n in 0..start.len() {
+        if !take_one(set, all, events, numbers, e, n, start[n]) {
             return false;
         }
     }
     true
 }
 
-// Whether a list holds once each what was held and what is inserted, but for what is gone, and nothing else.
+// Takes the elements that a list holds and that are not gone out of a set; false where one is not in it.
+fn take_listed(
+    set: &mut HashSet<Tag>,
+    elements: &Elements,
+    events: &[Event],
+    numbers: &[usize],
+    e: usize,
+    list: &[Tag],
+) -> bool
+    requires numbered { IsNumbered (views events.now) numbers.now }
+    requires within { e < length events.now }
+    requires reads { All ReadsOnly (views events.now) }
+    requires elements { All (IsElement (views events.now) (length events.now)) elements.now.all.items }
+    ensures { IsTrue result → SeesRightly (views events.now) e → IsTaken (set_contains same_tag set.old) (set_contains same_tag set.new) (λ q. contains list.now q && not (contains (known_deletions (views events.now) e) q)) }
+{
+    let all = elements.all.as_slice();
+    for i in 0..list.len() {
+        let Some(n) = elements.index.get(&list[i]) else {
+            return false;
+        };
+        if !take_one(set, all, events, numbers, e, *n, list[i]) {
+            return false;
+        }
+    }
+    true
+}
+
+// Takes inserted elements, numbered from `first` on, that are not gone out of a set; false where one is not in it.
+fn take_inserted(
+    set: &mut HashSet<Tag>,
+    all: &[Element],
+    events: &[Event],
+    numbers: &[usize],
+    e: usize,
+    inserted: &[Placed],
+    first: usize,
+) -> bool
+    requires numbered { IsNumbered (views events.now) numbers.now }
+    requires within { e < length events.now }
+    requires reads { All ReadsOnly (views events.now) }
+    requires elements { All (IsElement (views events.now) (length events.now)) all.now }
+    ensures { IsTrue result → SeesRightly (views events.now) e → IsTaken (set_contains same_tag set.old) (set_contains same_tag set.new) (λ q. contains (map (λ (p : Placed). p.tag) inserted.now) q && not (contains (known_deletions (views events.now) e) q)) }
+{
+    for i in 0..inserted.len() {
+        let n = first.saturating_add(i);
+        if !take_one(set, all, events, numbers, e, n, inserted[i].tag) {
+            return false;
+        }
+    }
+    true
+}
+
+// Takes what newly known events insert and is not gone out of a set; false where one is not in it.
+#[tactic(auto, using(crate::proofs::Views::view_steps))]
+fn take_news(
+    set: &mut HashSet<Tag>,
+    elements: &Elements,
+    events: &[Event],
+    numbers: &[usize],
+    e: usize,
+    news: &[usize],
+) -> bool
+    requires numbered { IsNumbered (views events.now) numbers.now }
+    requires within { e < length events.now }
+    requires reads { All ReadsOnly (views events.now) }
+    requires elements { All (IsElement (views events.now) (length events.now)) elements.now.all.items }
+    requires news { All (λ d. d < length events.now) news.now }
+    ensures { IsTrue result → SeesRightly (views events.now) e → IsTaken (set_contains same_tag set.old) (set_contains same_tag set.new) (λ q. contains (given (views events.now) inserted_tags news.now) q && not (contains (known_deletions (views events.now) e) q)) }
+{
+    let all = elements.all.as_slice();
+    for i in 0..news.len() {
+        let x = &events[news[i]];
+        let first = first_of(elements, news[i]);
+        let inserted = x.inserted.as_slice();
+        if !take_inserted(set, all, events, numbers, e, inserted, first) {
+            return false;
+        }
+    }
+    true
+}
+
+// Takes what the replica's list held before the event and is not gone out of a set; false where one is not in it.
+#[tactic(auto, using(crate::proofs::Views::view_steps))]
+fn take_held(
+    set: &mut HashSet<Tag>,
+    elements: &Elements,
+    start: &[Tag],
+    events: &[Event],
+    numbers: &[usize],
+    e: usize,
+    last: Option<usize>,
+) -> bool
+    requires numbered { IsNumbered (views events.now) numbers.now }
+    requires within { e < length events.now }
+    requires last { IfSome last (λ p. p < length events.now) }
+    requires reads { All ReadsOnly (views events.now) }
+    requires elements { All (IsElement (views events.now) (length events.now)) elements.now.all.items }
+    ensures { IsTrue result → SeesRightly (views events.now) e → IsTaken (set_contains same_tag set.old) (set_contains same_tag set.new) (λ q. contains (list_before start.now (views events.now) last) q && not (contains (known_deletions (views events.now) e) q)) }
+{
+    match last {
+        Some(p) => {
+            let x = &events[p];
+            let list = x.list.as_slice();
+            take_listed(set, elements, events, numbers, e, list)
+        }
+        None => take_start(set, elements, events, numbers, e, start),
+    }
+}
+
+// Whether the list of the event at `e` holds once each what the replica held and what newly known events insert, but for what
+// it knows as deleted, and nothing else.
+#[tactic(auto, using(crate::proofs::Views::view_steps))]
 fn holds_exactly(
     alloc: Global,
-    list: &[Tag],
-    gone: &HashSet<Tag>,
-    held: &[Tag],
-    inserted: &[Tag],
+    elements: &Elements,
+    start: &[Tag],
+    events: &[Event],
+    numbers: &[usize],
+    e: usize,
+    last: Option<usize>,
+    news: &[usize],
 ) -> Result<bool, AllocError>
-    ensures { IfOk result (λ b. IsTrue b → HoldsExactly list.now (λ q. (contains held.now q || contains inserted.now q) && not (set_contains same_tag gone.now q))) }
+    requires numbered { IsNumbered (views events.now) numbers.now }
+    requires within { e < length events.now }
+    requires last { IfSome last (λ p. p < length events.now) }
+    requires reads { All ReadsOnly (views events.now) }
+    requires elements { All (IsElement (views events.now) (length events.now)) elements.now.all.items }
+    requires news { All (λ d. d < length events.now) news.now }
+    ensures { IfOk result (λ b. IsTrue b → SeesRightly (views events.now) e → HoldsExactly (event_at (views events.now) e).list (λ q. (contains (list_before start.now (views events.now) last) q || contains (given (views events.now) inserted_tags news.now) q) && not (contains (known_deletions (views events.now) e) q))) }
 {
-    let Some(mut left) = set_of(alloc, list)? else {
+    let x = &events[e];
+    let Some(mut left) = set_of(alloc, x.list.as_slice())? else {
         return Ok(false);
     };
-    if !take_kept(&mut left, gone, held) {
+    if !take_held(&mut left, elements, start, events, numbers, e, last) {
         return Ok(false);
     }
-    if !take_kept(&mut left, gone, inserted) {
+    if !take_news(&mut left, elements, events, numbers, e, news) {
         return Ok(false);
     }
     Ok(left.is_empty())
 }
 
-// The list of the last event, or the start.
-#[tactic(auto, using(crate::proofs::Views::view_steps))]
-fn list_before<'a>(start: &'a [Tag], events: &'a [Event], last: Option<usize>) -> &'a [Tag]
-    requires { IfSome last (λ p. p < length events.now) }
-    ensures { result.now ≡ list_before start.now (views events.now) last }
-{
-    match last {
-        Some(p) => {
-            let x = &events[p];
-            x.list.as_slice()
-        }
-        None => start,
-    }
-}
-
-// Whether the event at `e` is seen to hold where all before it do, `gone` being what the last one of its replica knows as
-// deleted, and then what it knows itself.
+// Whether the event at `e` is seen to hold where all before it do.
 fn holds_after(
     alloc: Global,
+    elements: &Elements,
     start: &[Tag],
     events: &[Event],
     numbers: &[usize],
     table: &[Vec<usize>],
-    gone: &mut HashSet<Tag>,
     e: usize,
     last: Option<usize>,
 ) -> Result<bool, AllocError>
@@ -107,7 +249,8 @@ fn holds_after(
     requires within { e < length events.now }
     requires last { IsLastOf (views events.now) e (event_at (views events.now) e).replica last }
     requires reads { All ReadsOnly (views events.now) }
-    ensures { IfOk result (λ b. IsTrue b → HoldBefore start.now (views events.now) e → ((q : Tag) → set_contains same_tag gone.old q ≡ contains (given_before (views events.now) (λ x. x.deleted) last) q) → EventHolds start.now (views events.now) e × ((q : Tag) → set_contains same_tag gone.new q ≡ contains (known_deletions (views events.now) e) q)) }
+    requires elements { All (IsElement (views events.now) (length events.now)) elements.now.all.items }
+    ensures { IfOk result (λ b. IsTrue b → HoldsAfter start.now (views events.now) e) }
 {
     if !sees_after(events, numbers, table, e, last) {
         return Ok(false);
@@ -115,41 +258,37 @@ fn holds_after(
     let Some(news) = news_of(alloc, events, numbers, table, e, last)? else {
         return Ok(false);
     };
-    add_deleted(gone, events, news.as_slice())?;
-    let inserted = inserted_by(alloc, events, news.as_slice())?;
-    let x = &events[e];
-    let held = list_before(start, events, last);
-    if !holds_exactly(alloc, x.list.as_slice(), gone, held, inserted.as_slice())? {
+    let news = news.as_slice();
+    if !holds_exactly(alloc, elements, start, events, numbers, e, last, news)? {
         return Ok(false);
     }
-    if let Some(_) = first_misplaced(x) {
+    if let Some(_) = first_misplaced(&events[e]) {
         return Ok(false);
     }
     Ok(true)
 }
 
-// Marks the events of one replica that are seen to hold where all before them do, up to the first that is not; `gone` is used
-// anew.
+// Marks the events of one replica that are seen to hold where all before them do, up to the first that is not.
 fn confirm_replica(
     alloc: Global,
+    elements: &Elements,
     start: &[Tag],
     events: &[Event],
     numbers: &[usize],
     table: &[Vec<usize>],
-    gone: &mut HashSet<Tag>,
     marks: &mut [bool],
     replica: usize,
 ) -> Result<(), AllocError>
     requires numbered { IsNumbered (views events.now) numbers.now }
     requires reads { All ReadsOnly (views events.now) }
     requires long { length marks.old ≡ length events.now }
+    requires elements { All (IsElement (views events.now) (length events.now)) elements.now.all.items }
     ensures { OnOk result (((k : ℕ) → slice_index_or marks.old k false ≡ true → HoldsAfter start.now (views events.now) k) → (k : ℕ) → slice_index_or marks.new k false ≡ true → HoldsAfter start.now (views events.now) k) }
 {
-    gone.clear();
     let mut last = None;
     for e in 0..events.len() {
         if events[e].replica == replica {
-            if !holds_after(alloc, start, events, numbers, table, gone, e, last)? {
+            if !holds_after(alloc, elements, start, events, numbers, table, e, last)? {
                 return Ok(());
             }
             marks[e] = true;
@@ -168,8 +307,9 @@ fn no_marks(alloc: Global, count: usize) -> Result<Vec<bool>, AllocError>
     Ok(marks)
 }
 
-/// By event, whether it is seen to hold where all before it do. Each entry of a list takes two steps, each element of the start,
-/// insertion and deletion one for each replica, and each event one for each two replicas.
+/// By event, whether it is seen to hold where all before it do. Each entry of a list takes three looks into a hash table, each
+/// element of the start, insertion and deletion one; each element of the start and insertion takes a step for each replica, and
+/// each event one for each two replicas. An element is looked at once for each of its deleters, at most one of a replica.
 pub fn confirmed(
     alloc: Global,
     replicas: usize,
@@ -179,20 +319,21 @@ pub fn confirmed(
 ) -> Result<Vec<bool>, AllocError>
     requires numbered { IsNumbered (views events.now) numbers.now }
     requires reads { All ReadsOnly (views events.now) }
+    requires distinct { IsDistinct (start.now ++ flat_map inserted_tags (views events.now)) }
     ensures long { IfOk result (λ v. length v.items ≡ length events.now) }
     ensures holds { IfOk result (λ v. (k : ℕ) → slice_index_or v.items k false ≡ true → HoldsAfter start.now (views events.now) k) }
 {
+    let elements = elements_of(alloc, start, events)?;
     let table = edits_of(alloc, replicas, events)?;
     let mut marks = no_marks(alloc, events.len())?;
-    let mut gone = HashSet::new(alloc);
     for replica in 0..replicas {
         confirm_replica(
             alloc,
+            &elements,
             start,
             events,
             numbers,
             table.as_slice(),
-            &mut gone,
             marks.as_mut_slice(),
             replica,
         )?;

@@ -15,8 +15,8 @@ use ot_model::Placed;
 use std::alloc::{AllocError, Global};
 use std::collections::HashSet;
 
-// Whether the event at `e` knows the one at `d`: its own edit, or one that it sees.
-fn knows(events: &[Event], numbers: &[usize], e: usize, d: usize) -> bool
+/// Whether the event at `e` knows the one at `d`: its own edit, or one that it sees.
+pub fn knows(events: &[Event], numbers: &[usize], e: usize, d: usize) -> bool
     requires numbered { IsNumbered (views events.now) numbers.now }
     requires within { e < length events.now }
     requires other { d < length events.now }
@@ -27,7 +27,7 @@ fn knows(events: &[Event], numbers: &[usize], e: usize, d: usize) -> bool
 
 // Adds tags to a set.
 #[tactic(auto, using(crate::proofs::TagLemmas::tag_steps))]
-pub fn add_all(set: &mut HashSet<Tag>, tags: &[Tag]) -> Result<(), AllocError>
+fn add_all(set: &mut HashSet<Tag>, tags: &[Tag]) -> Result<(), AllocError>
     ensures { OnOk result ((q : Tag) → set_contains same_tag set.new q ≡ (set_contains same_tag set.old q || contains tags.now q)) }
 {
     for a in tags {

@@ -87,11 +87,12 @@ fn lists_of(alloc: Global, events: &[Event]) -> Result<Vec<Vec<Tag>>, AllocError
 /// The verdict of a trace: `Holds` exactly where it has the weak list property, else the first fault of the least event
 /// that has one, else two elements in both orders. Answers an error only for want of memory.
 ///
-/// Its time, each look into a hash table being one step, grows with the entries of all lists; with the elements of the start,
-/// the insertions and the deletions, times the replicas; and with the events, times the square of the replicas. An event that
-/// does not hold costs once more what it knows, and the events times the replicas. Where elements lie on cycles of the order
-/// there is more, for each list along which the places that were tried for them do not rise: the entries of all lists that lie
-/// on cycles. Memory grows with the entries, the start, the insertions and the deletions.
+/// Its time grows with the entries of all lists, the elements of the start, the insertions and the deletions, each of which takes
+/// a few looks into a hash table; with the elements of the start and the insertions, times the replicas, in steps along tables;
+/// with the entries and these steps, times the replicas that delete one element; and with the events, times the square of the
+/// replicas. An event that does not hold costs once more what it knows, and the events times the replicas. Where elements lie on
+/// cycles of the order there is more, for each list along which the places that were tried for them do not rise: the entries of
+/// all lists that lie on cycles. Memory grows with the entries, the start, the insertions and the deletions.
 pub fn judge(alloc: Global, trace: &Trace) -> Result<Verdict, AllocError>
     ensures verdict { IfOk result (λ v. IsVerdict trace.now v) }
     ensures property { IfOk result (λ v. (v ≡ Verdict.Holds) ↔ WeakListProperty trace.now) }

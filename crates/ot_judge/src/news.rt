@@ -2,20 +2,15 @@
 //! read and never trusted.
 
 ghost use Rattle.std.specs.Prelude.{◌≡◌, ◌<◌, ◌||◌, ℕ, IfOk, IfSome, OnOk, IsTrue, List, Some, length, All, true};
-ghost use Rattle.std.specs.HashSet.{contains as set_contains};
-ghost use Rattle.ot_isa.specs.declared.elements.Tag.{Tag};
 ghost use Rattle.ot_model.specs.Trace.{contains, event_at, inserted_tags, same_tag};
 ghost use Rattle.ot_model.specs.Visibility.{edits_before, is_edit_of, seen_of};
 ghost use Rattle.ot_judge.specs.Numbers.{IsNumbered};
 ghost use Rattle.ot_judge.specs.Turns.{Adds, AreNews, IsEdit, given, knew};
 ghost use Rattle.ot_judge.specs.Views.{views};
 
-use crate::contents::add_all;
-use crate::trace::{Event, push_tags};
+use crate::trace::Event;
 use crate::visibility::{is_edit_of, seen_of};
-use ot_isa::Tag;
 use std::alloc::{AllocError, Global};
-use std::collections::HashSet;
 
 // So many empty rows.
 fn empty_rows(alloc: Global, count: usize) -> Result<Vec<Vec<usize>>, AllocError> {
@@ -144,35 +139,4 @@ pub fn news_of(
         }
     }
     Ok(Some(news))
-}
-
-/// Adds what these events delete.
-#[tactic(auto, using(crate::proofs::Views::view_steps))]
-pub fn add_deleted(
-    gone: &mut HashSet<Tag>,
-    events: &[Event],
-    news: &[usize],
-) -> Result<(), AllocError>
-    requires { All (λ d. d < length events.now) news.now }
-    ensures { OnOk result ((q : Tag) → set_contains same_tag gone.new q ≡ (set_contains same_tag gone.old q || contains (given (views events.now) (λ x. x.deleted) news.now) q)) }
-{
-    for d in news {
-        let x = &events[*d];
-        add_all(gone, x.deleted.as_slice())?;
-    }
-    Ok(())
-}
-
-/// What these events insert.
-#[tactic(auto, using(crate::proofs::Views::view_steps))]
-pub fn inserted_by(alloc: Global, events: &[Event], news: &[usize]) -> Result<Vec<Tag>, AllocError>
-    requires { All (λ d. d < length events.now) news.now }
-    ensures { IfOk result (λ v. v.items ≡ given (views events.now) inserted_tags news.now) }
-{
-    let mut tags = Vec::new(alloc);
-    for d in news {
-        let x = &events[*d];
-        push_tags(&mut tags, x.inserted.as_slice())?;
-    }
-    Ok(tags)
 }

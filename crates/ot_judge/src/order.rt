@@ -20,8 +20,8 @@ pub struct Reversal {
     pub b: Tag,
 }
 
-// The place of each tag of a list.
-fn places_of(alloc: Global, xs: &[Tag]) -> Result<HashMap<Tag, usize>, AllocError>
+/// The place of each tag of a list.
+pub fn places_of(alloc: Global, xs: &[Tag]) -> Result<HashMap<Tag, usize>, AllocError>
     requires { IsDistinct xs.now }
     ensures { IfOk result (λ m. IsIndex m xs.now) }
 {

@@ -100,7 +100,11 @@ pub(crate) fn push_tags(tags: &mut Vec<Tag>, inserted: &[Placed]) -> Result<(), 
 }
 
 // The start and all that the events insert.
-fn named_tags(alloc: Global, start: &[Tag], events: &[Event]) -> Result<Vec<Tag>, AllocError>
+pub(crate) fn named_tags(
+    alloc: Global,
+    start: &[Tag],
+    events: &[Event],
+) -> Result<Vec<Tag>, AllocError>
     ensures { IfOk result (λ v. v.items ≡ start.now ++ flat_map inserted_tags (views events.now)) }
 {
     let mut tags = Vec::from_slice(alloc, start)?;

@@ -100,8 +100,3 @@ of everybody behind them, where all is quiet. The same words give the same text,
 Example:  otbench generate --seed 7 --clients 3 --instructions 40 | otbench check
 Status 0: it was printed. 1: a fault of writing or memory. 2: words that are not understood, or a number out of its range.
 What sessions have: docs/FORMATS.md, 'Generated sessions'.";
-
-/// Which numbers `generate` takes.
-pub const GENERATE_RANGES: &str = "\
-a number is none, or out of its range: --seed has 1 to 9 digits, --clients is 1 to 64, --present at most that,
---instructions at most 100000, and --start has at most 40000 characters";

@@ -370,9 +370,65 @@ fn request_in(alloc: Global, matches: &ArgMatches<'_>) -> Result<Option<Asked>, 
     }
 }
 
+// Whether what an option gives, if it is there, is a number from the least to the most.
+fn is_within(matches: &ArgMatches<'_>, id: &str, least: u32, most: u32) -> bool {
+    match matches.get_str(id) {
+        Some(text) => read_number(text.as_bytes()).is_some_and(|number| least <= number
+            && number <= most),
+        None => true,
+    }
+}
+
+// The option of `generate` whose value it does not take, as its usage names it, and what it takes.
+fn refused_option(matches: &ArgMatches<'_>) -> (&'static str, &'static str, &'static str) {
+    let clients = number_in(matches, "clients", 4).unwrap_or(0);
+    if !is_within(matches, "seed", 0, 999_999_999) {
+        return ("seed", "N", "one to nine digits");
+    }
+    if !is_within(matches, "clients", 1, 64) {
+        return ("clients", "C", "1 to 64");
+    }
+    if !is_within(matches, "present", 0, clients) {
+        return ("present", "P", "0 to the number of clients");
+    }
+    if !is_within(matches, "instructions", 0, 100_000) {
+        return ("instructions", "M", "0 to 100000");
+    }
+    ("start", "TEXT", "at most 40000 characters")
+}
+
+// The value that an option gives, in quotes, if it is short.
+fn quoted_value(
+    alloc: Global,
+    matches: &ArgMatches<'_>,
+    option: &str,
+) -> Result<String, AllocError> {
+    match matches.get_str(option) {
+        Some(value) if value.len() <= 40 => format!(in alloc; "value '{value}'"),
+        _ => String::from_str(alloc, "value"),
+    }
+}
+
+// Why the matches of `generate` ask for no session: `clap`'s error, with the usage of `generate`.
+fn refused_session(alloc: Global, matches: &ArgMatches<'_>) -> Result<Error, AllocError> {
+    let (option, name, takes) = refused_option(matches);
+    let value = quoted_value(alloc, matches, option)?;
+    let words = format!(in alloc; "invalid {value} for '--{option} <{name}>': it takes {takes}")?;
+    let mut command = generate_command(alloc)?.bin_name("otbench generate")?;
+    command.error(ErrorKind::ValueValidation, words.as_str())
+}
+
+// Why the matches ask for nothing that the program does.
+fn refused_request(alloc: Global, matches: &ArgMatches<'_>) -> Result<Error, AllocError> {
+    match matches.subcommand() {
+        Some((_, found)) => refused_session(alloc, found),
+        None => command(alloc)?.error(ErrorKind::MissingSubcommand, "a subcommand is missing"),
+    }
+}
+
 /// What the words ask for, the program's name being the first of them. Where they ask for nothing that the program does, for a session with
-/// a number out of its range, or for help, the
-/// answer is `clap`'s error with its text; `ErrorKind::OutOfMemory` stands for want of memory.
+/// a number out of its range, or for help, the answer is `clap`'s error with its text: of a number that is refused, the option, what it takes
+/// and the usage of `generate`. `ErrorKind::OutOfMemory` stands for want of memory.
 pub fn read_request<'a, S: AsStr>(alloc: Global, words: &'a [S]) -> Result<Asked, Error>
     ensures ok { IfOk result (λ r. request_of (map S.text words.entry.now) ≡ Some r) }
     ensures refused { IfErr result (λ e. takes otbench_app (map S.text words.entry.now) ≡ true
@@ -381,6 +437,6 @@ pub fn read_request<'a, S: AsStr>(alloc: Global, words: &'a [S]) -> Result<Asked
     let matches = command(alloc)?.try_get_matches_from(words)?;
     match request_in(alloc, &matches)? {
         Some(request) => Ok(request),
-        None => Err(command(alloc)?.error(ErrorKind::ValueValidation, help::GENERATE_RANGES)?),
+        None => Err(refused_request(alloc, &matches)?),
     }
 }

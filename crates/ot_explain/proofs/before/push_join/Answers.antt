@@ -1,4 +1,4 @@
-use Rattle.std.proofs.Common.{◌≡◌, ◌++◌, List, ℕ, string_bytes}
+use Rattle.std.proofs.Common.{string_bytes}
 use Rattle.std.specs.Prelude.{codes, decimal}
 use Rattle.ot_explain.proofs.Texts.{more, one}
 use Rattle.ot_explain.proofs.before.push_join.Goals as goal

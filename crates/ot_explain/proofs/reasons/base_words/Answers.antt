@@ -1,10 +1,8 @@
 use Rattle.std.proofs.Common.{◌≡◌, ◌∙◌, ◌++◌, ap, List, ℕ, rules, string_bytes}
 use Rattle.std.specs.Prelude.{IfOk, codes, decimal}
 use Rattle.std.proofs.lemmas.Result.{IfOk-weaker}
-use Rattle.ot_isa.specs.declared.elements.Tagged.{Tagged}
 use Rattle.ot_model.specs.Table.{Client}
-use Rattle.std.specs.Prelude.{length}
-use Rattle.ot_explain.specs.Reasons.{base_text, wide, wide_words}
+use Rattle.ot_explain.specs.Reasons.{base_text, span_words, wide}
 use Rattle.ot_explain.proofs.Clients.{said}
 use Rattle.ot_explain.proofs.reasons.base_words.Goals as goal
 
@@ -17,10 +15,12 @@ returns c =
     let m = c.args.machine.now in
     let n = c.args.client in
     let list = c.document-list.result.now in
+    let base = c.base_len-base.result in
+    let count = c.len-count.result in
     let words = string_bytes c.in_ok-words.words in
-    let made : IfOk c.format.result (λ s. string_bytes s ≡ edit_text n c.base_len-base.result c.len-count.result words) = search rules in
+    let made : IfOk c.format.result (λ s. string_bytes s ≡ edit_text n base count words) = search rules in
     IfOk-weaker c.format.result _ _ (λ s e.
     said m n (λ (x : Client). x.list) list (base_text n c.args.op.now.base) (string_bytes s) c.document-list.ensures
-    (e ∙ ap (λ (b : ℕ). edit_text n b c.len-count.result words) c.base_len-base.ensures.value
-    ∙ ap (λ (k : ℕ). edit_text n c.args.op.now.base k words) c.len-count.ensures.value
-    ∙ ap (edit_text n c.args.op.now.base (length list)) (c.in_ok-words.ensures ∙ ap wide_words c.in_ok-past.ensures))) made
+    (e ∙ ap (edit_text n base count) (c.in_ok-words.ensures ∙ ap (span_words base count) c.wide.ensures)
+    ∙ ap (λ (b : ℕ). edit_text n b count (span_words b count (wide list))) c.base_len-base.ensures.value
+    ∙ ap (λ (k : ℕ). edit_text n c.args.op.now.base k (span_words c.args.op.now.base k (wide list))) c.len-count.ensures.value)) made

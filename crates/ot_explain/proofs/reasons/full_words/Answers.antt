@@ -1,5 +1,5 @@
-use Rattle.std.proofs.Common.{◌≡◌, ◌∙◌, ◌++◌, ap, List, ℕ, rules, string_bytes}
-use Rattle.std.specs.Prelude.{IfOk, codes, decimal}
+use Rattle.std.proofs.Common.{◌≡◌, ◌∙◌, ap, ℕ, rules, string_bytes}
+use Rattle.std.specs.Prelude.{IfOk}
 use Rattle.std.proofs.lemmas.Result.{IfOk-weaker}
 use Rattle.ot_model.specs.Table.{Client}
 use Rattle.ot_model.specs.Operation.{inserted}

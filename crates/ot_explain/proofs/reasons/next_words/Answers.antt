@@ -1,4 +1,4 @@
-use Rattle.std.proofs.Common.{◌≡◌, List, ℕ, rules, string_bytes}
+use Rattle.std.proofs.Common.{◌≡◌, ℕ, rules, string_bytes}
 use Rattle.std.specs.Prelude.{IfOk, slice_get}
 use Rattle.std.proofs.lemmas.Result.{IfOk-weaker}
 use Rattle.ot_model.specs.Table.{Client}

@@ -1,6 +1,4 @@
-use Rattle.std.proofs.Common.{◌≡◌, ◌∙◌, subst, string_bytes, List, ℕ}
-use Rattle.std.specs.Io.KnownBytes.{Appends}
-use Rattle.streams.specs.Streams.{WritesPart}
+use Rattle.std.proofs.Common.{◌∙◌}
 use Rattle.ot_explain.specs.Explained.{WritesUpTo}
 use Rattle.ot_steps.specs.declared.writing.StepsFault.{StepsFault}
 use Rattle.ot_steps.specs.declared.writing.StepsFault.TheVariants.{Memory, WriteFault}

@@ -1,4 +1,4 @@
-use Rattle.std.proofs.Common.{◌∙◌, ◌∷◌, [], ◌++◌, ap, rules, subst}
+use Rattle.std.proofs.Common.{◌∙◌, ◌+◌, ap, arith, subst}
 use Rattle.std.proofs.lemmas.Result.{err_from_is_err_and}
 use Rattle.ot_model.specs.Table.{with_shown}
 use Rattle.ot_debug.specs.Session.{Session}
@@ -12,22 +12,20 @@ returns-in_err-list-clause-refused c =
     let p = err_from_is_err_and c.from_residual-in_err-list.result c.from_residual-in_err-list.ensures.1 in
     rw (p.1, p.2)
     (λ other. subst (λ (x : Session). IsRefusedAt x.schedule x.position c.in_err-list.field-0.0) c.self.view_is
-    (refused_at c.self.inside.schedule _ _ c.in-Some.instr.now c.in_err-list.field-0.0 c.self.invariant.session.at (search rules) c.in_err-list.ensures.refused other))
+    (refused_at c.self.inside.schedule _ _ c.in-Some.instr.now c.in_err-list.field-0.0 c.self.invariant.session.at c.in-Some.ensures.some (c.in_err-list.ensures.refused other)))
 
 pub invariant_of-self-2 : goal.invariant_of-self-2
 invariant_of-self-2 c =
-    kept_forth c.self.inside.schedule c.self.inside.machine c.step_kept.new.self c.self.inside.shown.items c.keep_shown.new.shown.items c.self.inside.undos.items c.push_reserved.new.self.items
-    c.self.inside.breaks.items c.self.inside.watches.items c.in-Some.instr.now c.in_ok-list.list c.in_ok-list.undo c.self.invariant (search rules) c.in_ok-list.ensures.done c.in_ok-list.ensures.undo
-    (c.keep_shown.ensures ∙ ap (λ xs. with_shown xs c.in_ok-list.list) c.in_ok-reserve-2.ensures.items)
-    (c.push_reserved.ensures.items ∙ ap (λ us. us ++ c.in_ok-list.undo ∷ []) c.in_ok-reserve.ensures.items)
+    kept_forth c.self.inside.schedule c.self.inside.position (c.self.inside.position + 1) c.self.inside.machine c.perform.new.machine c.self.inside.shown.items c.keep_shown.new.shown.items c.self.inside.undos.items
+    c.perform.new.undos.items c.self.inside.breaks.items c.self.inside.watches.items c.in-Some.instr.now c.in_ok-list.list c.self.invariant c.in-Some.ensures.some c.in_ok-list.ensures.done c.in_ok-list.ensures.records (omega arith)
+    (c.keep_shown.ensures ∙ ap (λ xs. with_shown xs c.in_ok-list.list) c.in_ok-reserve.ensures.items)
 
 pub returns-clause-done : goal.returns-clause-done
 returns-clause-done c =
-    subst (λ (x : Session). Advances x (session_of c.self.inside.schedule c.step_kept.new.self c.keep_shown.new.shown.items c.push_reserved.new.self.items c.self.inside.breaks.items c.self.inside.watches.items)) c.self.view_is
-    (advances c.self.inside.schedule c.self.inside.machine c.step_kept.new.self c.self.inside.shown.items c.keep_shown.new.shown.items c.self.inside.undos.items c.push_reserved.new.self.items
-    c.self.inside.breaks.items c.self.inside.watches.items c.in_ok-list.undo
-    (kept_forth c.self.inside.schedule c.self.inside.machine c.step_kept.new.self c.self.inside.shown.items c.keep_shown.new.shown.items c.self.inside.undos.items c.push_reserved.new.self.items
-    c.self.inside.breaks.items c.self.inside.watches.items c.in-Some.instr.now c.in_ok-list.list c.in_ok-list.undo c.self.invariant (search rules) c.in_ok-list.ensures.done c.in_ok-list.ensures.undo
-    (c.keep_shown.ensures ∙ ap (λ xs. with_shown xs c.in_ok-list.list) c.in_ok-reserve-2.ensures.items)
-    (c.push_reserved.ensures.items ∙ ap (λ us. us ++ c.in_ok-list.undo ∷ []) c.in_ok-reserve.ensures.items))
-    (c.push_reserved.ensures.items ∙ ap (λ us. us ++ c.in_ok-list.undo ∷ []) c.in_ok-reserve.ensures.items))
+    subst (λ (x : Session). Advances x (session_of c.self.inside.schedule (c.self.inside.position + 1) c.perform.new.machine c.keep_shown.new.shown.items c.self.inside.breaks.items c.self.inside.watches.items)) c.self.view_is
+    (advances c.self.inside.schedule c.self.inside.position (c.self.inside.position + 1) c.self.inside.machine c.perform.new.machine c.self.inside.shown.items c.keep_shown.new.shown.items c.perform.new.undos.items
+    c.self.inside.breaks.items c.self.inside.watches.items
+    (kept_forth c.self.inside.schedule c.self.inside.position (c.self.inside.position + 1) c.self.inside.machine c.perform.new.machine c.self.inside.shown.items c.keep_shown.new.shown.items c.self.inside.undos.items
+    c.perform.new.undos.items c.self.inside.breaks.items c.self.inside.watches.items c.in-Some.instr.now c.in_ok-list.list c.self.invariant c.in-Some.ensures.some c.in_ok-list.ensures.done c.in_ok-list.ensures.records (omega arith)
+    (c.keep_shown.ensures ∙ ap (λ xs. with_shown xs c.in_ok-list.list) c.in_ok-reserve.ensures.items))
+    (omega arith))

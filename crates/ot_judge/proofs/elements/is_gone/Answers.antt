@@ -1,0 +1,26 @@
+use Rattle.std.proofs.Common.{◌<◌, ◌∙◌, sym, arith, inl, inr, length}
+use Rattle.ot_judge.specs.Views.{views}
+use Rattle.ot_model.specs.WeakList.{knows}
+use Rattle.ot_judge.proofs.Deleters.{all-unknown, at-contains, gone-here, gone-nowhere, is-element}
+use Rattle.ot_judge.proofs.Views.{length-views}
+use Rattle.ot_judge.proofs.elements.is_gone.Goals as goal
+
+pub knows-requires-clause-other : goal.knows-requires-clause-other
+knows-requires-clause-other c = c.requires.deleters.within c.in-Some.d (inl c.in-Some.is)
+
+pub returns-then-knows : goal.returns-then-knows
+returns-then-knows c = λ visible.
+    gone-here (views c.args.events.now) c.args.e c.in-Some.d c.args.x.now (is-element c.args.events.now c.args.x.now c.requires.deleters) (inl c.in-Some.is) (sym c.knows.ensures ∙ c.if-knows.true)
+
+pub knows-requires-in-loop-d-clause-other : goal.knows-requires-in-loop-d-clause-other
+knows-requires-in-loop-d-clause-other c = c.requires.deleters.within _ (inr (at-contains c.args.x.now.others.items c.deref-d-items.result.now c.loop-d.d-index c.deref-d-items.ensures.value c.loop-d-test.true))
+
+pub returns-then-knows-2 : goal.returns-then-knows-2
+returns-then-knows-2 c = λ visible.
+    gone-here (views c.args.events.now) c.args.e _ c.args.x.now (is-element c.args.events.now c.args.x.now c.requires.deleters) (inr (at-contains c.args.x.now.others.items c.deref-d-items.result.now c.loop-d.d-index c.deref-d-items.ensures.value c.loop-d-test.true)) (sym c.knows-in-loop-d.ensures ∙ c.if-knows-2.true)
+
+pub returns : goal.returns
+returns c =
+    let within : c.args.e < length (views c.args.events.now) = omega (arith, c.requires.within, length-views c.args.events.now) in
+    gone-nowhere (views c.args.events.now) c.args.e c.args.x.now within c.requires.reads (is-element c.args.events.now c.args.x.now c.requires.deleters)
+    (all-unknown (knows (views c.args.events.now) c.args.e) c.args.x.now c.loop-d.d-index (omega arith) c.loop-d.invariant.first c.loop-d.invariant.others)
