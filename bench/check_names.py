@@ -45,8 +45,8 @@ def untried():
 
 
 def wrong_bodies():
-    """How many must-fail edits there are, where the README says another number."""
-    count = len(list(TOP.glob("crates/*/must-fail/*.edit")))
+    """How many wrong bodies there are, where the README says another number."""
+    count = len(list(TOP.glob("crates/*/must-fail/*.edit"))) + len(list(TOP.glob("wrong-bodies/*/*.edit")))
     said = re.search(r"(\d+) wrong bodies", (TOP / "README.md").read_text(encoding="utf-8"))
     return None if said and int(said.group(1)) == count else count
 
