@@ -1,7 +1,7 @@
 """Writes schedules within the limits that are hard to run or to debug, and times the program on each.
 
 `python3 bench/hostile_schedules.py [--program PATH] [SHAPE..]` times all shapes or those that are named, and prints processor time and peak memory
-of `run`, `check`, `steps` and `explain`; `--write FOLDER` writes them there. Those that are debugged carry a line `%%` and their commands.
+of `run`, `check`, `steps`, `explain`, and `conform` on the lines of a port that prints places alone; `--write FOLDER` writes them there. Those that are debugged carry a line `%%` and their commands.
 """
 import sys
 
@@ -61,7 +61,7 @@ def pending(parts=7000, deliveries=22000):
 
 
 def pending_crowd(clients=32, parts=7000, entries=2900):
-    """31 clients with 14,000 characters pending each, to which 2,900 operations are delivered by turns: `steps` and `explain` print all that is pending each time."""
+    """31 clients with 14,000 characters pending each, to which 2,900 operations are delivered by turns: `steps` prints all that is pending each time."""
     length = 30000
     first, second = waiting(parts, length)[-2:]
     lines = opening(clients, length)
@@ -156,6 +156,11 @@ def split_at_many_places(clients=64, groups=7000, places=700):
     return lines
 
 
+def reads(count=90000, length=40000):
+    """A text of 40,000, read 90,000 times: `run` and `steps` print 3.6 GB of it."""
+    return [*opening(1, length), *["read 0"] * count]
+
+
 def debugged(lines, *commands):
     return [*lines, "%%", *commands]
 
@@ -178,13 +183,14 @@ SHAPES = {
     "five-places": lambda: at_places(5),
     "fifteen-places": lambda: at_places(15),
     "split-deletion": split_deletion,
+    "reads": reads,
     "many-places-edited": split_at_many_places,
     "pending-debugged": lambda: debugged(pending(), "run", "back 1"),
     "going-back": lambda: debugged(pending(), "run", "back 20000"),
     "both-ends-debugged": lambda: debugged(at_places(2), "run", "back 14000"),
     "idle-watch": idle_watch,
 }
-WORDS = ("run", "check", "steps", "explain")
+WORDS = ("run", "check", "steps", "explain", "conform")
 
 
 def write(lines, path):
@@ -192,12 +198,18 @@ def write(lines, path):
         it.write("\n".join(lines) + "\n")
 
 
+def ported(lines):
+    """The schedule and the lines of a port that prints where it is, and nothing of what it has there."""
+    count = sum(line.split(" ")[0] not in ("clients", "present", "start") for line in lines)
+    return [*lines, "%%", *(f'{{"at":{at}}}' for at in range(1, count + 1)), f'{{"at":{count}}}']
+
+
 def measure(program, lines, room):
     """Of each subcommand: processor time, peak memory, and the status."""
     path = f"{room}/schedule.ots"
-    write(lines, path)
     told = []
     for word in ("debug",) if "%%" in lines else WORDS:
+        write(ported(lines) if word == "conform" else lines, path)
         seconds, memory, status, _ = run(program, word, path)
         told.append(f"{word} {seconds:.2f} s, {memory:.0f} MB, status {status}")
     return "; ".join(told)

@@ -266,7 +266,7 @@ impl Comparison {
         let _clients = schedule.clients();
         let sent = sends(&self.machine, instr);
         let delivered = applies(&self.machine, instr)?;
-        if let Err(refusal) = self.machine.step(instr) {
+        if let Err(refusal) = self.machine.perform(instr) {
             return self.take_stop(alloc, instr, refusal, line);
         }
         self.stage = Stage::Running;

@@ -188,6 +188,13 @@ fn buffer(machine: &Machine, client: u16) -> Option<&TextOp<Tagged>>
     }
 }
 
+fn component_count(op: Option<&TextOp<Tagged>>) -> usize {
+    match op {
+        Some(op) => op.components().len(),
+        None => 0,
+    }
+}
+
 fn outstanding_text(
     alloc: Global,
     machine: &Machine,
@@ -357,6 +364,33 @@ impl<'a> Step<'a> {
             self.delivered,
             documents,
         )
+    }
+
+    // How many components the client waits with.
+    fn waiting_components(&self) -> usize
+        requires { IsForClients (length self.now.machine.now.clients) self.now.instr.now }
+    {
+        match moved_client(self.instr) {
+            Some(client) => component_count(outstanding(self.machine, client)).saturating_add(
+                component_count(buffer(self.machine, client)),
+            ),
+            None => 0,
+        }
+    }
+
+    /// A number of bytes that this line has at least: two for each component that the client waits with, its comma or bracket among them, and one for
+    /// each character of a document that the line has in any case. It says when the line need not be printed, and no more hangs on it.
+    pub(crate) fn least_length(&self) -> usize
+        requires { IsForClients (length self.now.machine.now.clients) self.now.instr.now }
+    {
+        let document = if has_document(self.instr) {
+            self.document().len()
+        } else {
+            0
+        };
+        self.waiting_components()
+            .saturating_mul(2)
+            .saturating_add(document)
     }
 
     // Whether that line has what the client waits for.

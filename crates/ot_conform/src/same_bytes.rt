@@ -27,11 +27,14 @@ fn has_more(bytes: &[u8], line: &[u8]) -> bool {
 }
 
 /// Whether the bytes are the line of an instruction with its document or without; none where they are neither, or where no memory is
-/// found for that line.
+/// found for that line. The line is not printed where it would be longer than they are.
 pub(crate) fn printed_form(alloc: Global, step: &Step<'_>, bytes: &[u8]) -> Option<bool>
     requires { IsForClients (length step.now.machine.now.clients) step.now.instr.now }
     ensures { IfSome result (λ documents. IsPrinted (printed_line documents step.now) bytes.now) }
 {
+    if bytes.len() < step.least_length() {
+        return None;
+    }
     let line = step.line(alloc, false).ok()?;
     if is_line(bytes, line.as_bytes()) {
         return Some(false);

@@ -1,6 +1,6 @@
 mod Clients
 mod Counting
-mod Holding
 mod LineByLine
 mod Progress
+mod Sizes
 mod Texts

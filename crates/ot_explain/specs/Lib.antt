@@ -3,4 +3,3 @@ pub mod Told
 pub mod Reasons
 pub mod Placed
 pub mod Explained
-pub mod Held

@@ -3,7 +3,6 @@ use Rattle.std.specs.Prelude.{ℕ, List, [], ◌++◌, ◌-◌, ◌==◌, length
 use Rattle.ot_isa.specs.Program.{Program, client_of}
 use Rattle.ot_isa.specs.declared.instruction.Instr.{Instr}
 use Rattle.ot_isa.specs.declared.instruction.Instr.TheVariants.{Edit, Take, Deliver, Acknowledge, Join, Read, ReadServer}
-use Rattle.ot_json.specs.Writing.{text_of_operation}
 use Rattle.ot_model.specs.Operation.{Operation}
 use Rattle.ot_model.specs.Table.{Phase, NotJoined, Synchronized, AwaitingConfirm, AwaitingWithBuffer, Client, Message, State}
 use Rattle.ot_machine.specs.Readers.{phase_name}
@@ -12,7 +11,7 @@ use Rattle.ot_machine.specs.declared.state.Phase.TheVariants as shown_phase
 use Rattle.ot_steps.specs.Lines.{word_of}
 use Rattle.ot_steps.specs.Steps.{delivers, last_of}
 use Rattle.ot_steps.specs.Text.{word_text}
-use Rattle.ot_explain.specs.Words.{document_text, entry_text, list_text, made_text, of_client, operation_text}
+use Rattle.ot_explain.specs.Words.{document_text, entry_text, list_text, made_text, of_client, operation_text, operation_words}
 
 -- ---- what the state before it tells
 
@@ -25,7 +24,7 @@ edit_goes revision shown_phase.AwaitingWithBuffer = codes "; it is composed into
 
 -- an edit of a client's user, and where it goes
 abbrev pub edit_text : ℕ → Operation ℕ → List ℕ → List ℕ
-edit_text c op goes = codes "  the user of client " ++ (decimal c ++ (codes " edits " ++ (text_of_operation op ++ (goes ++ codes "\n"))))
+edit_text c op goes = codes "  the user of client " ++ (decimal c ++ (codes " edits " ++ (operation_words op ++ (goes ++ codes "\n"))))
 
 abbrev pub edit_words : ℕ → Operation ℕ → Client → List ℕ
 edit_words c op x = edit_text c op (edit_goes x.revision (phase_name x.phase))

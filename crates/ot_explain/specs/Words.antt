@@ -1,23 +1,40 @@
 -- The words for values: operations, documents, entries of the log.
-use Rattle.std.specs.Prelude.{ℕ, List, [], ◌++◌, length, nat_lt, slice_get, unwrap_or, Option, Some, None, codes, decimal, if◌then◌else◌}
+use Rattle.std.specs.Prelude.{ℕ, List, [], ◌++◌, ◌&&◌, ◌==◌, length, nat_le, nat_lt, slice_get, unwrap_or, Bool, Option, Some, None, codes, decimal, if◌then◌else◌}
 use Rattle.std.specs.Option.{option_map}
 use Rattle.std.specs.Str.{encode_utf8_all}
 use Rattle.json.specs.Print.{quoted}
+use Rattle.ot_text.specs.Run.{normal_runs}
 use Rattle.ot_isa.specs.declared.elements.Tagged.{Tagged}
 use Rattle.ot_isa.specs.Tagging.{chars_of}
 use Rattle.ot_json.specs.Writing.{text_of_operation}
-use Rattle.ot_model.specs.Operation.{Operation}
+use Rattle.ot_model.specs.Operation.{Operation, inserted}
 use Rattle.ot_model.specs.Table.{Client, Entry, State}
 use Rattle.ot_steps.specs.Lines.{plain_operation}
 
--- an operation as JSON, without tags
+-- whether an operation is shown whole: it has at most 40 components and inserts at most 200 characters in all
+abbrev pub is_short : {A : Type 0} → Operation A → Bool
+is_short op = nat_le (length (normal_runs op)) 40 && nat_le (inserted op) 200
+
+-- so many components, from a base length to a target length: [41 components, which make 60 characters of 20]
+abbrev pub size_words : ℕ → ℕ → ℕ → List ℕ
+size_words count base target =
+    codes "[" ++ (decimal count ++ ((if count == 1 then codes " component, which makes " else codes " components, which make ") ++ (decimal target ++ (codes " characters of " ++ (decimal base ++ codes "]")))))
+
+abbrev pub size_text : {A : Type 0} → Operation A → List ℕ
+size_text op = size_words (length (normal_runs op)) op.base (length op.image)
+
+-- a short operation as JSON, a long one by its size
+unfoldable pub operation_words : Operation ℕ → List ℕ
+operation_words op = if is_short op then text_of_operation op else size_text op
+
+-- the same of an operation without its tags
 abbrev pub operation_text : Operation Tagged → List ℕ
-operation_text op = text_of_operation (plain_operation op)
+operation_text op = operation_words (plain_operation op)
 
 -- an operation of the table, where there is one, as there always is for a performed instruction
 abbrev pub made_text : Option (Operation ℕ) → List ℕ
 made_text None = codes "nothing"
-made_text (Some op) = text_of_operation op
+made_text (Some op) = operation_words op
 
 -- an entry of the log, where there is one
 abbrev pub entry_text : Option Entry → List ℕ

@@ -2,19 +2,17 @@
 
 ghost use Rattle.std.specs.Prelude.{◌≡◌, ◌++◌, ◌<◌, ◌-◌, length, IfOk, OnOk, string_bytes};
 ghost use Rattle.std.specs.Option.{option_copied, option_map};
-ghost use Rattle.ot_client.specs.Client.{message_of};
+ghost use Rattle.ot_client.specs.Client.{message_of, state_of};
 ghost use Rattle.ot_machine.specs.Readers.{ClientHas};
+ghost use Rattle.ot_model.specs.Table.{phase_in};
 ghost use Rattle.ot_steps.specs.Steps.{client_in, delivers};
-ghost use Rattle.ot_explain.specs.Held.{against_texts, confirmed_texts, IsHeld};
 ghost use Rattle.ot_explain.specs.Told as told;
 ghost use Rattle.ot_explain.specs.Words.{made_text, of_client};
 ghost use Rattle.ot_explain.specs.Told.{acknowledge_words, against_log, against_waiting, confirmed, deliver_words, edit_goes, edit_text, edit_words, join_words, message_words, take_words};
 
-use crate::held::HeldTexts;
-use crate::values::{operation_text, push_entry, push_made};
-use ot_client::Sent;
+use crate::values::{operation_text, push_edit, push_entry, push_made, push_operation};
+use ot_client::{Client, Sent};
 use ot_isa::{Instr, Tagged};
-use ot_json::write_op;
 use ot_machine::{Machine, Phase};
 use ot_steps::{applies, push_decimal};
 use ot_text::TextOp;
@@ -41,7 +39,8 @@ pub(crate) fn edit_text(
 ) -> Result<String, AllocError>
     ensures { IfOk result (λ s. string_bytes s ≡ edit_text client op.now goes.now) }
 {
-    let edit = write_op(alloc, op)?;
+    let mut edit = String::new(alloc);
+    push_edit(alloc, &mut edit, op)?;
     format!(in alloc; "  the user of client {client} edits {edit}{goes}\n")
 }
 
@@ -114,26 +113,25 @@ fn take_words(alloc: Global, machine: &Machine, client: u16) -> Result<String, A
     taken_words(alloc, client, machine.server_revision(), machine.up(client))
 }
 
-// What a client in this phase transforms another's operation against, from the texts of what it waits for.
-fn push_against_texts(
+// What a client that has joined transforms another's operation against.
+fn push_against_state(
+    alloc: Global,
     text: &mut String,
-    phase: Phase,
-    outstanding: &str,
-    buffer: &str,
+    client: &Client<Tagged>,
 ) -> Result<(), AllocError>
-    ensures { OnOk result (string_bytes text.new ≡ string_bytes text.old ++ against_texts phase outstanding.now buffer.now) }
+    ensures { OnOk result (string_bytes text.new ≡ string_bytes text.old ++ against_waiting (phase_in (state_of client.now).phase)) }
 {
-    match phase {
-        Phase::NotJoined | Phase::Synchronized => Ok(()),
-        Phase::AwaitingConfirm => {
+    match client {
+        Client::Synchronized(_) => Ok(()),
+        Client::AwaitingConfirm(client) => {
             text.push_str(", transforms it against its outstanding operation ")?;
-            text.push_str(outstanding)
+            push_operation(alloc, text, client.outstanding())
         }
-        Phase::AwaitingWithBuffer => {
+        Client::AwaitingWithBuffer(client) => {
             text.push_str(", transforms it against its outstanding operation ")?;
-            text.push_str(outstanding)?;
+            push_operation(alloc, text, client.outstanding())?;
             text.push_str(" and its buffer ")?;
-            text.push_str(buffer)
+            push_operation(alloc, text, client.buffer())
         }
     }
 }
@@ -141,17 +139,16 @@ fn push_against_texts(
 fn push_against(
     alloc: Global,
     text: &mut String,
-    held: &mut HeldTexts,
     machine: &Machine,
     client: u16,
 ) -> Result<(), AllocError>
-    requires inside { client < length machine.now.clients }
-    requires held { IsHeld held.old machine.now }
+    requires { client < length machine.now.clients }
     ensures { OnOk result (string_bytes text.new ≡ string_bytes text.old ++ against_waiting (client_in machine.now client).phase) }
 {
-    held.hold(alloc, machine, client)?;
-    let phase = machine.phase(client);
-    push_against_texts(text, phase, held.outstanding.as_str(), held.buffer.as_str())
+    if !machine.joined(client) {
+        return Ok(());
+    }
+    push_against_state(alloc, text, machine.client(client))
 }
 
 // What a delivery to the client would apply.
@@ -170,12 +167,10 @@ fn push_applied(
 fn push_delivery(
     alloc: Global,
     text: &mut String,
-    held: &mut HeldTexts,
     machine: &Machine,
     client: u16,
 ) -> Result<(), AllocError>
-    requires inside { client < length machine.now.clients }
-    requires held { IsHeld held.old machine.now }
+    requires { client < length machine.now.clients }
     ensures { OnOk result (string_bytes text.new ≡ string_bytes text.old ++ of_client machine.now client (deliver_words machine.now client)) }
 {
     let entry = machine.entry(machine.revision(client) as usize);
@@ -183,31 +178,30 @@ fn push_delivery(
     push_decimal(text, client as u64)?;
     text.push_str(" takes ")?;
     push_entry(alloc, text, entry)?;
-    push_against(alloc, text, held, machine, client)?;
+    push_against(alloc, text, machine, client)?;
     text.push_str(" and applies ")?;
     push_applied(alloc, text, machine, client)?;
     text.push_str("\n")
 }
 
-// What of a client in this phase is confirmed, from the texts of what it waits for.
-fn push_confirmed_texts(
+// What of a client that has joined is confirmed.
+fn push_confirmed_state(
+    alloc: Global,
     text: &mut String,
-    phase: Phase,
-    outstanding: &str,
-    buffer: &str,
+    client: &Client<Tagged>,
 ) -> Result<(), AllocError>
-    ensures { OnOk result (string_bytes text.new ≡ string_bytes text.old ++ confirmed_texts phase outstanding.now buffer.now) }
+    ensures { OnOk result (string_bytes text.new ≡ string_bytes text.old ++ confirmed (phase_in (state_of client.now).phase)) }
 {
-    match phase {
-        Phase::NotJoined | Phase::Synchronized => text.push_str("nothing"),
-        Phase::AwaitingConfirm => {
-            text.push_str(outstanding)?;
+    match client {
+        Client::Synchronized(_) => text.push_str("nothing"),
+        Client::AwaitingConfirm(client) => {
+            push_operation(alloc, text, client.outstanding())?;
             text.push_str("; it has no buffer")
         }
-        Phase::AwaitingWithBuffer => {
-            text.push_str(outstanding)?;
+        Client::AwaitingWithBuffer(client) => {
+            push_operation(alloc, text, client.outstanding())?;
             text.push_str("; it sends its buffer ")?;
-            text.push_str(buffer)
+            push_operation(alloc, text, client.buffer())
         }
     }
 }
@@ -215,34 +209,31 @@ fn push_confirmed_texts(
 fn push_confirmed(
     alloc: Global,
     text: &mut String,
-    held: &mut HeldTexts,
     machine: &Machine,
     client: u16,
 ) -> Result<(), AllocError>
-    requires inside { client < length machine.now.clients }
-    requires held { IsHeld held.old machine.now }
+    requires { client < length machine.now.clients }
     ensures { OnOk result (string_bytes text.new ≡ string_bytes text.old ++ confirmed (client_in machine.now client).phase) }
 {
-    held.hold(alloc, machine, client)?;
-    let phase = machine.phase(client);
-    push_confirmed_texts(text, phase, held.outstanding.as_str(), held.buffer.as_str())
+    if !machine.joined(client) {
+        return text.push_str("nothing");
+    }
+    push_confirmed_state(alloc, text, machine.client(client))
 }
 
 fn push_acknowledgement(
     alloc: Global,
     text: &mut String,
-    held: &mut HeldTexts,
     machine: &Machine,
     client: u16,
 ) -> Result<(), AllocError>
-    requires inside { client < length machine.now.clients }
-    requires held { IsHeld held.old machine.now }
+    requires { client < length machine.now.clients }
     ensures { OnOk result (string_bytes text.new ≡ string_bytes text.old ++ of_client machine.now client (acknowledge_words client)) }
 {
     text.push_str("  client ")?;
     push_decimal(text, client as u64)?;
     text.push_str(" has its outstanding operation confirmed, ")?;
-    push_confirmed(alloc, text, held, machine, client)?;
+    push_confirmed(alloc, text, machine, client)?;
     text.push_str("\n")?;
     Ok(())
 }
@@ -260,11 +251,9 @@ fn push_join(text: &mut String, client: u16) -> Result<(), AllocError>
 pub(crate) fn push_before(
     alloc: Global,
     text: &mut String,
-    held: &mut HeldTexts,
     machine: &Machine,
     instr: &Instr,
 ) -> Result<(), AllocError>
-    requires { IsHeld held.old machine.now }
     ensures { OnOk result (string_bytes text.new ≡ string_bytes text.old ++ told.before instr.now machine.now) }
 {
     match instr {
@@ -277,10 +266,10 @@ pub(crate) fn push_before(
             text.push_str(words.as_str())
         }
         Instr::Deliver(client) if *client < machine.clients() => {
-            push_delivery(alloc, text, held, machine, *client)
+            push_delivery(alloc, text, machine, *client)
         }
         Instr::Acknowledge(client) if *client < machine.clients() => {
-            push_acknowledgement(alloc, text, held, machine, *client)
+            push_acknowledgement(alloc, text, machine, *client)
         }
         Instr::Join(client) => push_join(text, *client),
         _ => Ok(()),

@@ -21,7 +21,6 @@
 mod after;
 mod before;
 mod causes;
-mod held;
 mod paragraphs;
 mod placing;
 mod reasons;

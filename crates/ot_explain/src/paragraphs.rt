@@ -5,14 +5,12 @@ ghost use Rattle.ot_isa.specs.Program.{IsForClients};
 ghost use Rattle.ot_machine.specs.Answers.{IsRefusal};
 ghost use Rattle.ot_model.specs.Table as table;
 ghost use Rattle.ot_steps.specs.Steps as steps;
-ghost use Rattle.ot_explain.specs.Held.{IsHeld};
 ghost use Rattle.ot_explain.specs.Told.{heading, opening_words};
 ghost use Rattle.ot_explain.specs.Reasons.{refused_paragraph, tried};
 ghost use Rattle.ot_explain.specs.Explained.{IsMove, end_words, last_text, line_at, stop_text};
 
 use crate::after::push_after;
 use crate::before::{edit_text, push_before};
-use crate::held::HeldTexts;
 use crate::reasons::reason;
 use crate::values::letters_text;
 use ot_isa::{Instr, Schedule};
@@ -42,31 +40,28 @@ fn heading(alloc: Global, line: u64, number: usize, instr: &Instr) -> Result<Str
     }
 }
 
-/// Performs the instruction and writes its paragraph into the text, instead of what that held, or says why it was not performed. After
-/// a performed one the text holds its paragraph, and what texts are held are those of the state after it.
+/// Performs the instruction and writes its paragraph into the text, instead of what that held, or says why it was not performed. Only
+/// after a performed one the text holds a paragraph.
 pub(crate) fn perform(
     alloc: Global,
     text: &mut String,
-    held: &mut HeldTexts,
     machine: &mut Machine,
     lines: &[u64],
     number: usize,
     instr: &Instr,
 ) -> Result<Result<(), Refusal>, AllocError>
-    requires { IsHeld held.old machine.old }
     ensures paragraph { IfOk result (λ answer. OnOk answer (IsMove (line_at lines.now number) number instr.now machine.old machine.new (string_bytes text.new))) }
-    ensures held { IfOk result (λ answer. OnOk answer (IsHeld held.new machine.new)) }
     ensures refused { IfOk result (λ answer. IfErr answer (λ r. IsRefusal (table.step machine.old instr.now) r)) }
     ensures unchanged { IfOk result (λ answer. OnErr answer (machine.new ≡ machine.old)) }
 {
     let heading = heading(alloc, line_at(lines, number), number, instr)?;
     text.clear();
     text.push_str(heading.as_str())?;
-    push_before(alloc, text, held, machine, instr)?;
+    push_before(alloc, text, machine, instr)?;
     if let Err(refusal) = machine.perform(instr) {
         return Ok(Err(refusal));
     }
-    push_after(alloc, text, held, machine, instr)?;
+    push_after(alloc, text, machine, instr)?;
     Ok(Ok(()))
 }
 

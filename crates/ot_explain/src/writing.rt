@@ -4,7 +4,6 @@ ghost use Rattle.std.specs.Prelude.{◌≡◌, IfErr, IfOk};
 ghost use Rattle.ot_model.specs.Runs.{opening_of};
 ghost use Rattle.ot_explain.specs.Explained.{MovesUpTo, WritesMoves, WritesRun, WritesUpTo};
 
-use crate::held::HeldTexts;
 use crate::paragraphs::{last_words, opening_words, perform};
 use ot_isa::Schedule;
 use ot_machine::{Machine, Refusal};
@@ -26,20 +25,11 @@ fn write_moves<W: Write>(
     ensures err { IfErr result (λ f. MovesUpTo f lines.now schedule.now (W.contents output.old) (W.contents output.new)) }
 {
     let mut paragraph = String::new(alloc);
-    let mut held = HeldTexts::new(alloc);
     for number in 0..schedule.len() {
         let Some(instr) = schedule.get(number) else {
             unreachable!()
         };
-        match perform(
-            alloc,
-            &mut paragraph,
-            &mut held,
-            machine,
-            lines,
-            number,
-            instr,
-        )? {
+        match perform(alloc, &mut paragraph, machine, lines, number, instr)? {
             Ok(()) => put(output, paragraph.as_bytes())?,
             Err(refusal) => return Ok(Some((number, refusal))),
         }
@@ -52,7 +42,7 @@ fn write_moves<W: Write>(
 /// of the instructions, as [`places`](crate::places) of the schedule's text; an instruction without one has line 0.
 ///
 /// After a fault a first part of the text is written; for want of memory whole paragraphs. Memory does not grow with the text: each
-/// paragraph is written before the next instruction is performed, and no more is kept of it than the operations that one client waits for.
+/// paragraph is written before the next instruction is performed, and no more is kept than one paragraph.
 pub fn explain<W: Write>(
     alloc: Global,
     schedule: &Schedule,

@@ -62,7 +62,7 @@ fn machine_at(
         let Some(instr) = schedule.get(number) else {
             unreachable!()
         };
-        match machine.step(instr) {
+        match machine.perform(instr) {
             Ok(_) => {}
             Err(refusal) => {
                 only_refused(refusal)?;
@@ -149,7 +149,7 @@ fn explain_step(
         return Ok(String::new(alloc));
     };
     let lines = explain_instr(alloc, schedule, machine, instr, &call, difference)?;
-    match machine.step(instr) {
+    match machine.perform(instr) {
         Ok(_) => Ok(lines),
         Err(refusal) => {
             only_refused(refusal)?;

@@ -7,8 +7,8 @@ use Rattle.ot_explain.proofs.Clients.{client_told}
 use Rattle.ot_explain.proofs.Texts.{more, one}
 use Rattle.ot_explain.proofs.after.push_client.Goals as goal
 
-pub returns-clause-words : goal.returns-clause-words
-returns-clause-words c =
+pub returns : goal.returns
+returns c =
     let m = c.args.machine.now in
     let n = c.args.client in
     let old = string_bytes c.args.text.now in
@@ -25,5 +25,5 @@ returns-clause-words c =
     client_told m n r list old new c.requires c.revision.ensures c.document.ensures
     (more (one old a (codes "  client ") c.in_ok-push_str.ensures.bytes) (more (one a b (decimal n) c.in_ok-push_decimal.ensures)
     (more (one b d (codes " at revision ") c.in_ok-push_str-2.ensures.bytes) (more (one d f (decimal r) c.in_ok-push_decimal-2.ensures)
-    (more (one f g (waiting (client_in m n).phase) c.in_ok-push_waiting.ensures.words) (more (one g h (codes "; its document is ") c.in_ok-push_str-3.ensures.bytes)
+    (more (one f g (waiting (client_in m n).phase) c.in_ok-push_waiting.ensures) (more (one g h (codes "; its document is ") c.in_ok-push_str-3.ensures.bytes)
     (more (one h k (list_text list) (c.in_ok-push_str-4.ensures.bytes ∙ ap (λ (t : List ℕ). h ++ t) (c.as_str.ensures.value ∙ c.in_ok-document.ensures))) (one k new (codes "\n") c.in_ok-push_str-5.ensures.bytes)))))))).is

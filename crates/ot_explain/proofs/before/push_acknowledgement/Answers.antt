@@ -16,7 +16,7 @@ returns c =
     let b = string_bytes c.push_decimal.new.text in
     let d = string_bytes c.push_str-2.new.self in
     let f = string_bytes c.push_confirmed.new.text in
-    acknowledgement_told m n old new c.requires.inside
+    acknowledgement_told m n old new c.requires
     (more (one old a (codes "  client ") c.in_ok-push_str.ensures.bytes) (more (one a b (decimal n) c.in_ok-push_decimal.ensures)
     (more (one b d (codes " has its outstanding operation confirmed, ") c.in_ok-push_str-2.ensures.bytes)
     (more (one d f (confirmed (client_in m n).phase) c.in_ok-push_confirmed.ensures) (one f new (codes "\n") c.in_ok-push_str-3.ensures.bytes))))).is

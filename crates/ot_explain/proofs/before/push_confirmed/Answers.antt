@@ -1,12 +1,13 @@
 use Rattle.std.proofs.Common.{string_bytes}
 use Rattle.std.proofs.lemmas.Result.{on_ok_weaker}
-use Rattle.ot_explain.proofs.Holding.{confirmed_told}
+use Rattle.ot_client.specs.Client.{state_of}
+use Rattle.ot_model.specs.Table.{Client, phase_in}
+use Rattle.ot_explain.specs.Told.{confirmed}
+use Rattle.ot_explain.proofs.Clients.{follows}
 use Rattle.ot_explain.proofs.before.push_confirmed.Goals as goal
 
 pub returns : goal.returns
 returns c =
-    let made = c.push_confirmed_texts.ensures in
-    on_ok_weaker c.push_confirmed_texts.result
-    (confirmed_told c.args.machine.now c.args.client c.hold.new.self c.phase-phase.result c.as_str.result.now c.as_str-2.result.now (string_bytes c.args.text.now) (string_bytes c.push_confirmed_texts.new.text)
-    c.phase-phase.ensures c.in_ok-hold.ensures.texts c.as_str.ensures.value c.as_str-2.ensures.value)
-    made
+    on_ok_weaker c.push_confirmed_state.result
+    (follows c.args.machine.now c.args.client (λ (x : Client). x.phase) (phase_in (state_of c.client.result.now).phase) confirmed (string_bytes c.args.text.now) (string_bytes c.push_confirmed_state.new.text) c.client.ensures.phase)
+    c.push_confirmed_state.ensures

@@ -15,4 +15,4 @@ returns c =
     let new = string_bytes c.push_str-4.new.self in
     let r = c.revision.result in
     let made : OnOk c.push_str-4.result (new ≡ old ++ deliver_text n (entry_text (slice_get m.log r)) (against_waiting (client_in m n).phase) (made_text (delivers m n))) = search (rules, append_assoc) in
-    on_ok_weaker c.push_str-4.result (delivery_told m n r old new c.requires.inside c.revision.ensures) made
+    on_ok_weaker c.push_str-4.result (delivery_told m n r old new c.requires c.revision.ensures) made

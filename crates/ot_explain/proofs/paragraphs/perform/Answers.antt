@@ -19,4 +19,4 @@ returns-clause-paragraph c =
     let begun : start ≡ string_bytes c.in_ok-heading.heading = search (rules) in
     is_move line c.args.number c.args.instr.now s t text c.perform.result c.in_default.not-Err c.perform.ensures.done
     (paragraph_made line c.line_at.result c.args.number c.args.instr.now s t start (string_bytes c.push_before.new.text) text
-    c.line_at.ensures (begun ∙ c.in_ok-heading.ensures) c.in_ok-push_before.ensures c.in_ok-push_after.ensures.words)
+    c.line_at.ensures (begun ∙ c.in_ok-heading.ensures) c.in_ok-push_before.ensures c.in_ok-push_after.ensures)
