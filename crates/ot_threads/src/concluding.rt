@@ -43,18 +43,19 @@ fn receipts_of(alloc: Global, ends: Vec<WorkerEnd>) -> Result<Vec<Vec<Receipt>>,
 fn check(
     alloc: Global,
     plan: &Plan,
-    finished: &Finished,
+    finished: Finished,
     ends: Vec<WorkerEnd>,
 ) -> Result<Vec<u8>, ThreadsFault>
-    requires { RunsTo (opening_of finished.now.schedule) finished.now.schedule.instrs finished.now.machine }
-    ensures ok { IfOk result (λ text. IsChecked plan.now finished.now.schedule (receipts_of ends.items) text.items) }
-    ensures err { IfErr result (λ fault. IsCheckFault plan.now finished.now.schedule (receipts_of ends.items) fault) }
+    requires { RunsTo (opening_of finished.schedule) finished.schedule.instrs finished.machine }
+    ensures ok { IfOk result (λ text. IsChecked plan.now finished.schedule (receipts_of ends.items) text.items) }
+    ensures err { IfErr result (λ fault. IsCheckFault plan.now finished.schedule (receipts_of ends.items) fault) }
 {
     let receipts = receipts_of(alloc, ends)?;
-    if let Err(fault) = audit(alloc, finished, receipts.as_slice()) {
+    if let Err(fault) = audit(alloc, &finished, receipts.as_slice()) {
         return Err(ThreadsFault::Audit(fault));
     }
-    match print_record(alloc, plan, &finished.schedule, &finished.machine)? {
+    let Finished { schedule, machine } = finished;
+    match print_record(alloc, plan, &schedule, machine)? {
         Some(text) => Ok(text),
         None => Err(ThreadsFault::NotPlan),
     }
@@ -76,7 +77,7 @@ pub fn conclude(
         return Err(ThreadsFault::Work(fault));
     }
     match board.finish() {
-        Ok(finished) => check(alloc, plan, &finished, ends),
+        Ok(finished) => check(alloc, plan, finished, ends),
         Err((StillOut(client), _)) => Err(ThreadsFault::StillOut(client)),
     }
 }
