@@ -7,6 +7,9 @@ import tempfile
 import time
 
 
+ENDED = "the driver was ended: it"  # how what is said of a driver begins that took too long or printed too much
+
+
 class Driver:
     """A command that reads a schedule on standard input and prints lines."""
 
@@ -42,13 +45,13 @@ class Driver:
                     if not piece:
                         streams.unregister(key.fileobj)
                 if max(map(len, printed.values())) > self.most_bytes:
-                    return printed, f"the driver was ended: it printed more than {self.most_bytes:,} bytes"
+                    return printed, f"{ENDED} printed more than {self.most_bytes:,} bytes"
                 if time.monotonic() > until:
-                    return printed, f"the driver was ended: it took more than {self.seconds:g} s"
+                    return printed, f"{ENDED} took more than {self.seconds:g} s"
         try:
             child.wait(max(until - time.monotonic(), 0.1))
         except subprocess.TimeoutExpired:
-            return printed, f"the driver was ended: it took more than {self.seconds:g} s"
+            return printed, f"{ENDED} took more than {self.seconds:g} s"
         return printed, None
 
 

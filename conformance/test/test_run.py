@@ -63,6 +63,22 @@ class Runs(unittest.TestCase):
                 "clients 1\npresent 0\njoin 0\n\ndiffers at 99: deliver 0: line\nfound \"wrong 99\"\n")
         self.assertEqual((status, printed), (1, said))
 
+    def test_a_port_that_fails_once_is_shown_as_it_failed(self):
+        with tempfile.TemporaryDirectory() as room:
+            driver = ["sh", "-c", f"if grep -q join && mkdir {room}/seen 2>/dev/null; then echo wrong 99; fi"]
+            status, printed, _ = self.run_kit(driver, "--jobs", "1")
+        self.assertEqual(status, 1)
+        self.assertRegex(printed, r"^fails: join-an-emptied-document, 15 instructions of 2 clients; here reduced to 15 of 2\n\nclients 2\n")
+        self.assertTrue(printed.endswith("differs at 99: deliver 0: line\nfound \"wrong 99\"\nthe driver did not do this each time\n"), printed)
+
+    def test_a_port_that_differs_is_not_reduced_to_one_that_is_slow(self):
+        driver = ["sh", "-c", "text=$(cat); case $text in *join*) if [ $(echo \"$text\" | wc -l) -lt 12 ]; then sleep 60; fi; echo wrong 99;; esac"]
+        status, printed, _ = self.run_kit(driver, "--seconds", "3", "--reduce-seconds", "4", "--jobs", "8")
+        self.assertEqual(status, 1)
+        self.assertIn("differs at 99: deliver 0: line\n", printed)
+        self.assertNotIn("took more than", printed)
+        self.assertNotIn("each time", printed)
+
     def test_a_port_that_differs_in_a_session_made_at_random(self):
         driver = ["sh", "-c", "if grep -q 'clients 7'; then echo wrong 0; fi"]
         status, printed, _ = self.run_kit(driver, "--clients", "7", "--seed", "2")
