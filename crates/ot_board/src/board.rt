@@ -421,7 +421,7 @@ fn append_all(builder: &mut Builder, instrs: Vec<Instr>)
     }
 }
 
-// A session of the client, which has joined, without steps.
+// A session of the client, which has joined, without steps. What it has as its start and what it changes share their list.
 fn copy_out(alloc: Global, machine: &Machine, client: u16) -> Result<Lent, AllocError>
     requires { ClientHas machine.now client (λ x. is_joined x.phase) true }
     ensures { IfOk result (λ lent. IsBegun machine.now client (session_of lent)) }
@@ -429,12 +429,14 @@ fn copy_out(alloc: Global, machine: &Machine, client: u16) -> Result<Lent, Alloc
     // For the proof: what every machine keeps.
     let _sound = machine.clients();
     let steps = Vec::with_capacity(alloc, SESSION_LIMIT)?;
-    let start = machine.part(client)?;
+    let mut start = machine.part(client)?;
+    start.list.share()?;
     let now = machine.part(client)?;
+    let list = start.list.copy()?;
     let Part {
         number: _,
         client,
-        list,
+        list: _,
         count,
         incoming,
         sent,

@@ -1,23 +1,23 @@
 -- Lists in chunks: what stands at a place, what is left there, and the rule on neighbours.
 use Rattle.std.proofs.Common.{◌≡◌, ℕ, zero, suc, ◌+◌, ◌-◌, ◌*◌, ◌/◌, ◌<◌, ◌≤◌, List, [], ◌∷◌, ◌++◌, length, take, drop, get_or, refl, sym, ap, ◌∙◌, arith, append_assoc, length-append}
-use Rattle.std.specs.Prelude.{Vec, vec_items, slice_get, ◌↔◌}
-use Rattle.std.specs.declared.alloc.Global.{Global}
+use Rattle.std.specs.Prelude.{slice_get, ◌↔◌}
+use Rattle.ot_text.specs.declared.chunk.Chunk.{Chunk}
 use Rattle.std.proofs.lemmas.List.{length-map, drop-append-le, length-drop, drop-drop, take-take, length-take, append-nil, take-append-drop, nil_from_length}
 use Rattle.std.proofs.Math.Seq.{drop-nil, take-add}
-use Rattle.ot_text.specs.Chunks.{lists, concatenated, MayPrecede, IsChunked, MayEnd, rest_at, left_at, IsInside}
+use Rattle.ot_text.specs.Chunks.{items_in, lists, concatenated, MayPrecede, IsChunked, MayEnd, rest_at, left_at, IsInside}
 
-pub length-lists : {T : Type 0} (vs : List (Vec T Global)) → length (lists vs) ≡ length vs
-length-lists {T} vs = length-map vs (vec_items {X = T} {Z = Global})
+pub length-lists : {T : Type 0} (vs : List (Chunk T)) → length (lists vs) ≡ length vs
+length-lists {T} vs = length-map vs (items_in {T = T})
 
-pub list_at : {T : Type 0} (vs : List (Vec T Global)) (k : ℕ) (v : Vec T Global) → k < length vs → v ≡ get_or vs k v → get_or (lists vs) k [] ≡ v.items
+pub list_at : {T : Type 0} (vs : List (Chunk T)) (k : ℕ) (v : Chunk T) → k < length vs → v ≡ get_or vs k v → get_or (lists vs) k [] ≡ items_in v
 list_at [] k v h e = absurd (omega arith)
 list_at (w ∷ vs) zero v h e = rw e refl
 list_at (w ∷ vs) (suc k) v h e = list_at vs k v (omega arith) e
 
-pub lists_more : {T : Type 0} (vs : List (Vec T Global)) (i : ℕ) (v : Vec T Global) → i < length vs → v ≡ get_or vs i v → take (suc i) (lists vs) ≡ take i (lists vs) ++ v.items ∷ []
+pub lists_more : {T : Type 0} (vs : List (Chunk T)) (i : ℕ) (v : Chunk T) → i < length vs → v ≡ get_or vs i v → take (suc i) (lists vs) ≡ take i (lists vs) ++ items_in v ∷ []
 lists_more [] i v h e = absurd (omega arith)
 lists_more (w ∷ vs) zero v h e = rw e refl
-lists_more {T} (w ∷ vs) (suc i) v h e = ap (λ (t : List (List T)). w.items ∷ t) (lists_more vs i v (omega arith) e)
+lists_more {T} (w ∷ vs) (suc i) v h e = ap (λ (t : List (List T)). items_in w ∷ t) (lists_more vs i v (omega arith) e)
 
 pub concatenated-append : {A : Type 0} (cs ds : List (List A)) → concatenated (cs ++ ds) ≡ concatenated cs ++ concatenated ds
 concatenated-append [] ds = refl

@@ -5,10 +5,12 @@ use Rattle.std.proofs.lemmas.Bool.{ltb-true, lt-ltb}
 use Rattle.std.specs.declared.alloc.Global.{Global}
 use Rattle.std.proofs.lemmas.List.{append-nil, map-append, get_or-set_other, length-take, length-drop, drop-drop, take_all}
 use Rattle.std.proofs.Math.Seq.{take-add}
+use Rattle.ot_text.specs.declared.chunk.Chunk.{Chunk}
+use Rattle.ot_text.specs.declared.chunk.Chunk.TheVariants.{Own}
 use Rattle.ot_text.specs.declared.draft.Draft.{Draft}
 use Rattle.ot_text.specs.declared.draft.Piece.{Piece}
 use Rattle.ot_text.specs.declared.draft.Piece.TheVariants.{Moved, Made}
-use Rattle.ot_text.specs.Chunks.{lists, concatenated, IsChunked, MayEnd, left_at, IsInside}
+use Rattle.ot_text.specs.Chunks.{items_in, lists, concatenated, IsChunked, MayEnd, left_at, IsInside}
 use Rattle.ot_text.specs.Draft.{content, contents, IsInOrder, IsDraft, written, Continues}
 use Rattle.ot_text.proofs.Chunked.{concatenated-append, chunked_push, chunked_longer, may_end_last, last_may_end, chunk_filled, chunk_small}
 
@@ -45,41 +47,41 @@ contents_later {T} cs k d from end (Moved j ∷ ps) h o =
     rw (here, contents_later cs k d (j + 1) end ps (omega arith) o.2) refl
 contents_later cs k d from end (Made m ∷ ps) h o = rw (contents_later cs k d from end ps h o) refl
 
-pub lists_set : {T : Type 0} (vs : List (Vec T Global)) (k : ℕ) (v : Vec T Global) → lists (set vs k v) ≡ set (lists vs) k v.items
+pub lists_set : {T : Type 0} (vs : List (Chunk T)) (k : ℕ) (v : Chunk T) → lists (set vs k v) ≡ set (lists vs) k (items_in v)
 lists_set [] zero v = refl
 lists_set [] (suc k) v = refl
 lists_set (w ∷ vs) zero v = refl
-lists_set {T} (w ∷ vs) (suc k) v = ap (λ (t : List (List T)). w.items ∷ t) (lists_set vs k v)
+lists_set {T} (w ∷ vs) (suc k) v = ap (λ (t : List (List T)). items_in w ∷ t) (lists_set vs k v)
 
-length-set' : {T : Type 0} (vs : List (Vec T Global)) (k : ℕ) (v : Vec T Global) → length (set vs k v) ≡ length vs
+length-set' : {T : Type 0} (vs : List (Chunk T)) (k : ℕ) (v : Chunk T) → length (set vs k v) ≡ length vs
 length-set' [] zero v = refl
 length-set' [] (suc k) v = refl
 length-set' (w ∷ vs) zero v = refl
 length-set' (w ∷ vs) (suc k) v = rw (length-set' vs k v) refl
 
 -- what is made, with what the pieces that are left give, is the whole; there is room for them
-pub record IsAssembling {T : Type 0} (old made : List (Vec T Global)) (count room : ℕ) (ps : List (Piece T)) (whole : List (List T)) : Type 0 where
+pub record IsAssembling {T : Type 0} (old made : List (Chunk T)) (count room : ℕ) (ps : List (Piece T)) (whole : List (List T)) : Type 0 where
   pub made_is : lists made ++ contents (lists old) ps ≡ whole
   pub order : IsInOrder 0 (length old) ps
   pub enough : count + length ps ≤ room
 
-pub assembling_none : {T : Type 0} (old : List (Vec T Global)) (room : ℕ) (ps : List (Piece T)) → IsInOrder 0 (length old) ps → length ps ≤ room → IsAssembling old [] 0 room ps (contents (lists old) ps)
+pub assembling_none : {T : Type 0} (old : List (Chunk T)) (room : ℕ) (ps : List (Piece T)) → IsInOrder 0 (length old) ps → length ps ≤ room → IsAssembling old [] 0 room ps (contents (lists old) ps)
 assembling_none old room ps o h = record { made_is = refl; order = o; enough = omega arith }
 
-pub move_within : {T : Type 0} (old made : List (Vec T Global)) (count room k : ℕ) (ps : List (Piece T)) (whole : List (List T)) → IsAssembling old made count room (Moved k ∷ ps) whole → k < length old
+pub move_within : {T : Type 0} (old made : List (Chunk T)) (count room k : ℕ) (ps : List (Piece T)) (whole : List (List T)) → IsAssembling old made count room (Moved k ∷ ps) whole → k < length old
 move_within old made count room k ps whole a = a.order.1
 
-pub assembling_moved : {T : Type 0} (old made : List (Vec T Global)) (count room k : ℕ) (v w : Vec T Global) (ps : List (Piece T)) (whole : List (List T)) → v.items ≡ get_or (lists old) k [] → IsAssembling old made count room (Moved k ∷ ps) whole → IsAssembling (set old k w) (made ++ v ∷ []) (count + 1) room ps whole
+pub assembling_moved : {T : Type 0} (old made : List (Chunk T)) (count room k : ℕ) (v w : Chunk T) (ps : List (Piece T)) (whole : List (List T)) → items_in v ≡ get_or (lists old) k [] → IsAssembling old made count room (Moved k ∷ ps) whole → IsAssembling (set old k w) (made ++ v ∷ []) (count + 1) room ps whole
 assembling_moved old made count room k v w ps whole e a =
     let n = a.enough in
     let later = in_order_wider (k + 1) 0 (length old) (length old) ps (omega arith) (omega arith) a.order.2 in
     record {
-      made_is = rw (lists_set old k w, contents_later (lists old) k w.items (k + 1) (length old) ps (omega arith) a.order.2, map-append, append_assoc, e) a.made_is;
+      made_is = rw (lists_set old k w, contents_later (lists old) k (items_in w) (k + 1) (length old) ps (omega arith) a.order.2, map-append, append_assoc, e) a.made_is;
       order = rw (length-set' old k w) later;
       enough = omega arith;
     }
 
-pub assembling_made : {T : Type 0} (old made : List (Vec T Global)) (count room : ℕ) (v : Vec T Global) (ps : List (Piece T)) (whole : List (List T)) → IsAssembling old made count room (Made v ∷ ps) whole → IsAssembling old (made ++ v ∷ []) (count + 1) room ps whole
+pub assembling_made : {T : Type 0} (old made : List (Chunk T)) (count room : ℕ) (v : Vec T Global) (ps : List (Piece T)) (whole : List (List T)) → IsAssembling old made count room (Made v ∷ ps) whole → IsAssembling old (made ++ Own v ∷ []) (count + 1) room ps whole
 assembling_made old made count room v ps whole a =
     let n = a.enough in
     record {
@@ -89,7 +91,7 @@ assembling_made old made count room v ps whole a =
     }
 
 -- an old chunk that is copied stays where it is
-pub assembling_copied : {T : Type 0} (old made : List (Vec T Global)) (count room k : ℕ) (v : Vec T Global) (ps : List (Piece T)) (whole : List (List T)) → v.items ≡ get_or (lists old) k [] → IsAssembling old made count room (Moved k ∷ ps) whole → IsAssembling old (made ++ v ∷ []) (count + 1) room ps whole
+pub assembling_copied : {T : Type 0} (old made : List (Chunk T)) (count room k : ℕ) (v : Chunk T) (ps : List (Piece T)) (whole : List (List T)) → items_in v ≡ get_or (lists old) k [] → IsAssembling old made count room (Moved k ∷ ps) whole → IsAssembling old (made ++ v ∷ []) (count + 1) room ps whole
 assembling_copied old made count room k v ps whole e a =
     let n = a.enough in
     record {
@@ -98,7 +100,7 @@ assembling_copied old made count room k v ps whole e a =
       enough = omega arith;
     }
 
-pub assembling_all : {T : Type 0} (old made : List (Vec T Global)) (count room : ℕ) (ps : List (Piece T)) (whole : List (List T)) → length ps ≡ 0 → IsAssembling old made count room ps whole → lists made ≡ whole
+pub assembling_all : {T : Type 0} (old made : List (Chunk T)) (count room : ℕ) (ps : List (Piece T)) (whole : List (List T)) → length ps ≡ 0 → IsAssembling old made count room ps whole → lists made ≡ whole
 assembling_all old made count room [] whole h a = sym (append-nil (lists made)) ∙ a.made_is
 assembling_all old made count room (p ∷ ps) whole h a = absurd (omega arith)
 

@@ -1,13 +1,15 @@
 -- Places in chunks that are edited where they lie.
-use Rattle.std.proofs.Common.{◌≡◌, ◌≢◌, ℕ, zero, suc, ◌+◌, ◌-◌, ◌^◌, ◌<◌, ◌≤◌, lit<, List, [], ◌∷◌, ◌++◌, length, take, drop, set, get_or, refl, sym, ap, ◌∙◌, arith, add-one, length-append}
-use Rattle.std.specs.Prelude.{Vec, vec_capacity}
-use Rattle.std.specs.declared.alloc.Global.{Global}
+use Rattle.std.proofs.Common.{◌≡◌, ◌≢◌, ℕ, zero, suc, ◌+◌, ◌-◌, ◌^◌, ◌<◌, ◌≤◌, lit<, List, [], ◌∷◌, ◌++◌, length, take, drop, set, get_or, refl, sym, ap, ◌∙◌, arith, add-one, length-append, inl, inr}
+use Rattle.std.specs.Arc.{arc_value}
+use Rattle.ot_text.specs.declared.chunk.Chunk.{Chunk}
+use Rattle.ot_text.specs.declared.chunk.Chunk.TheVariants.{Own, Shared}
+use Rattle.std.proofs.lemmas.Bool.{cases_lt}
 use Rattle.std.proofs.lemmas.List.{take-append-drop, length-drop, length-take-le, drop-drop, take-set, drop-set-lt, get_or-set_same, get_or-set_other, set-get_or, length-set, map-set}
 use Rattle.std.proofs.Math.Seq.{take-add, take-suc, drop-cons, take-suc-set, take-append_seam, drop-append_seam}
 use Rattle.ot_text.specs.declared.edit.Place.{Place}
 use Rattle.ot_text.specs.Run.{Run, Keep, Add, Skip}
-use Rattle.ot_text.specs.Chunks.{lists, concatenated}
-use Rattle.ot_text.specs.Spots.{Spot, chunks_of, start, kept, step, capacities, HasMore, HasRoom, HaveRoom, IsPlace, spot_at, behind}
+use Rattle.ot_text.specs.Chunks.{items_in, room_in, lists, concatenated}
+use Rattle.ot_text.specs.Spots.{Spot, chunks_of, start, kept, skipped, step, rooms, AreOwn, HasMore, HasRoom, HaveRoom, IsPlace, spot_at, behind}
 use Rattle.ot_text.proofs.Chunked.{in_range, list_at}
 use Rattle.ot_text.proofs.Drafted.{lists_set}
 use Rattle.ot_text.proofs.Spotted.{kept_on, kept_here, skipped_on, skipped_here, keeps, left}
@@ -96,28 +98,61 @@ deleting_end cs k o ahead whole w h =
 pub deleting_place : {A : Type 0} (cs : List (List A)) (k o : ℕ) (r : List A) → IsPlace cs (record { chunk = k; at = o }) → IsPlace (set cs k (take o (get_or cs k []) ++ r)) (record { chunk = k; at = o })
 deleting_place cs k o r p = place_set cs k o (take o (get_or cs k [])) r p.there (sym (length-take-le o (get_or cs k []) p.inside))
 
+-- a walk goes to no chunk before its own
+skipped_later : {A : Type 0} (b : List (List A)) (d r : List A) (a : List (List A)) (n : ℕ) → length b ≤ length (skipped b d r a n).before
+skipped_later b d r [] n = omega arith
+skipped_later b d r (c ∷ a) n =
+    elim (cases_lt (length r) n) [
+      | inl h ↦ rw (skipped_on b d r c a n h) (let later = skipped_later (b ++ d ∷ []) [] c a (n - length r) in omega (arith, later, length-append b (d ∷ [])))
+      | inr h ↦ rw (skipped_here b d r (c ∷ a) n h) (omega arith)
+    ]
+
+-- so each chunk that it comes to is one of those that are to be own
+pub deleting_own : {A : Type 0} (cs : List (List A)) (place : Place) (ahead from : ℕ) (whole : Spot A) (rs later : List ℕ) → IsDeleting cs place ahead whole → from ≤ place.chunk → AreOwn from (length whole.before) rs → HasMore rs later → 0 < get_or later place.chunk 0
+deleting_own {A} cs place ahead from whole rs later w h own more =
+    let s : Spot A = spot_at cs place in
+    let there = w.place_is.there in
+    let at : length s.before ≡ place.chunk = length-take-le place.chunk cs (omega arith) in
+    let to : place.chunk ≤ length whole.before = rw w.leads at (rw at at (skipped_later s.before s.done s.rest s.after ahead)) in
+    let x = own place.chunk h to in
+    let y = more place.chunk in
+    omega arith
+
+-- the chunks from one on and before another are own
+abbrev pub AreOwnBefore : ℕ → ℕ → List ℕ → Type 0
+AreOwnBefore from to rs = (k : ℕ) → from ≤ k → k < to → 0 < get_or rs k 0
+
+pub own_more : (from to : ℕ) (rs later : List ℕ) → AreOwnBefore from to rs → HasMore rs later → 0 < get_or later to 0 → AreOwn from to later
+own_more from to rs later own more here k lo hi = elim (cases_lt k to) [
+  | inl h ↦ let x = own k lo h in let y = more k in omega arith
+  | inr h ↦ let e : k ≡ to = omega arith in rw e here
+]
+
+pub own_next : (from to : ℕ) (rs : List ℕ) → AreOwn from to rs → AreOwnBefore from (suc to) rs
+own_next from to rs own k lo hi = own k lo (omega arith)
+
 -- items that come
 pub inserting_size : {A : Type 0} (c t : List A) (o : ℕ) → o ≤ length c → o + length t ≡ length (take o c ++ t)
 inserting_size c t o h = omega (arith, length-append (take o c) t, length-take-le o c h)
 
 -- room
-pub capacity_at : {T : Type 0} (vs : List (Vec T Global)) (k : ℕ) (v : Vec T Global) → k < length vs → v ≡ get_or vs k v → get_or (capacities vs) k 0 ≡ vec_capacity v
-capacity_at [] k v h e = absurd (omega arith)
-capacity_at (w ∷ vs) zero v h e = rw e refl
-capacity_at (w ∷ vs) (suc k) v h e = capacity_at vs k v (omega arith) e
+pub room_at : {T : Type 0} (vs : List (Chunk T)) (k : ℕ) (v : Chunk T) → k < length vs → v ≡ get_or vs k v → get_or (rooms vs) k 0 ≡ room_in v
+room_at [] k v h e = absurd (omega arith)
+room_at (w ∷ vs) zero v h e = rw e refl
+room_at (w ∷ vs) (suc k) v h e = room_at vs k v (omega arith) e
 
-has_more_set : (caps : List ℕ) (k n : ℕ) → get_or caps k 0 ≤ n → HasMore caps (set caps k n)
+has_more_set : (rs : List ℕ) (k n : ℕ) → get_or rs k 0 ≤ n → HasMore rs (set rs k n)
 has_more_set [] zero n h j = omega arith
 has_more_set [] (suc k) n h j = omega arith
-has_more_set (x ∷ caps) zero n h zero = h
-has_more_set (x ∷ caps) zero n h (suc j) = omega arith
-has_more_set (x ∷ caps) (suc k) n h zero = omega arith
-has_more_set (x ∷ caps) (suc k) n h (suc j) = has_more_set caps k n h j
+has_more_set (x ∷ rs) zero n h zero = h
+has_more_set (x ∷ rs) zero n h (suc j) = omega arith
+has_more_set (x ∷ rs) (suc k) n h zero = omega arith
+has_more_set (x ∷ rs) (suc k) n h (suc j) = has_more_set rs k n h j
 
-pub more_set : {T : Type 0} (vs : List (Vec T Global)) (k : ℕ) (v w : Vec T Global) → k < length vs → v ≡ get_or vs k v → vec_capacity v ≤ vec_capacity w → HasMore (capacities vs) (capacities (set vs k w))
+pub more_set : {T : Type 0} (vs : List (Chunk T)) (k : ℕ) (v w : Chunk T) → k < length vs → v ≡ get_or vs k v → room_in v ≤ room_in w → HasMore (rooms vs) (rooms (set vs k w))
 more_set {T} vs k v w h e l =
-    let caps : capacities (set vs k w) ≡ set (capacities vs) k (vec_capacity w) = map-set vec_capacity vs k w in
-    rw caps (has_more_set (capacities vs) k (vec_capacity w) (rw (capacity_at vs k v h e) l))
+    let rs : rooms (set vs k w) ≡ set (rooms vs) k (room_in w) = map-set room_in vs k w in
+    rw rs (has_more_set (rooms vs) k (room_in w) (rw (room_at vs k v h e) l))
 
 pub more_then : (a b c : List ℕ) → HasMore a b → HasMore b c → HasMore a c
 more_then a b c h i = λ k. let x = h k in let y = i k in omega arith
@@ -125,29 +160,30 @@ more_then a b c h i = λ k. let x = h k in let y = i k in omega arith
 more_room : {A : Type 0} (r : Run A) (s : Spot A) (a b : List ℕ) → HasMore a b → HasRoom r s a → HasRoom r s b
 more_room (Keep n) s a b h room = tt
 more_room (Add t) s a b h room = let x = h (length s.before) in omega arith
-more_room (Skip n) s a b h room = tt
+more_room (Skip n) s a b h room = λ k from to. let x = room k from to in let y = h k in omega arith
 
 pub more_rooms : {A : Type 0} (rs : List (Run A)) (s : Spot A) (a b : List ℕ) → HasMore a b → HaveRoom rs s a → HaveRoom rs s b
 more_rooms [] s a b h room = tt
 more_rooms (r ∷ rs) s a b h room = (more_room r s a b h room.0, more_rooms rs (step r s) a b h room.1)
 
 -- a chunk of the program has fewer items than a number can count
-pub chunk_fits : {T : Type 0} (vs : List (Vec T Global)) (k : ℕ) → length (get_or (lists vs) k []) < 2 ^ 63
+pub chunk_fits : {T : Type 0} (vs : List (Chunk T)) (k : ℕ) → length (get_or (lists vs) k []) < 2 ^ 63
 chunk_fits [] zero = lit< tt
 chunk_fits [] (suc k) = lit< tt
-chunk_fits (v ∷ vs) zero = let ok = v.ok in let small = v.small in omega (arith, ok, small)
+chunk_fits (Own v ∷ vs) zero = let ok = v.ok in let small = v.small in omega (arith, ok, small)
+chunk_fits (Shared v ∷ vs) zero = let ok = (arc_value v).ok in let small = (arc_value v).small in omega (arith, ok, small)
 chunk_fits (v ∷ vs) (suc k) = chunk_fits vs k
 
 -- a chunk of the program that gets room, and no items
-pub same_set : {T : Type 0} (vs : List (Vec T Global)) (k : ℕ) (v w : Vec T Global) → k < length vs → v ≡ get_or vs k v → w.items ≡ v.items → lists (set vs k w) ≡ lists vs
+pub same_set : {T : Type 0} (vs : List (Chunk T)) (k : ℕ) (v w : Chunk T) → k < length vs → v ≡ get_or vs k v → items_in w ≡ items_in v → lists (set vs k w) ≡ lists vs
 same_set {T} vs k v w h e same =
-    let is : get_or (lists vs) k [] ≡ v.items = list_at vs k v h e in
+    let is : get_or (lists vs) k [] ≡ items_in v = list_at vs k v h e in
     rw (lists_set vs k w, same, ← is) (set-get_or (lists vs) k [])
 
-pub capacity_set : {T : Type 0} (vs : List (Vec T Global)) (k : ℕ) (w : Vec T Global) → k < length vs → get_or (capacities (set vs k w)) k 0 ≡ vec_capacity w
-capacity_set [] k w h = absurd (omega arith)
-capacity_set (v ∷ vs) zero w h = refl
-capacity_set (v ∷ vs) (suc k) w h = capacity_set vs k w (omega arith)
+pub room_set : {T : Type 0} (vs : List (Chunk T)) (k : ℕ) (w : Chunk T) → k < length vs → get_or (rooms (set vs k w)) k 0 ≡ room_in w
+room_set [] k w h = absurd (omega arith)
+room_set (v ∷ vs) zero w h = refl
+room_set (v ∷ vs) (suc k) w h = room_set vs k w (omega arith)
 
 pub spot_whole : {A : Type 0} (cs : List (List A)) (place : Place) → IsPlace cs place → cs ≡ chunks_of (spot_at cs place)
 spot_whole {A} cs place p =

@@ -1,10 +1,10 @@
 -- A spot in chunks, and what an operation makes of the chunks as it goes over them, each where it lies.
-use Rattle.std.specs.Prelude.{◌≡◌, ℕ, suc, ◌+◌, ◌-◌, ◌<◌, ◌≤◌, List, [], ◌∷◌, ◌++◌, map, length, take, drop, get_or, nat_lt, if◌then◌else◌, Vec, vec_capacity}
-use Rattle.std.specs.declared.alloc.Global.{Global}
+use Rattle.std.specs.Prelude.{◌≡◌, ℕ, suc, ◌+◌, ◌-◌, ◌<◌, ◌≤◌, List, [], ◌∷◌, ◌++◌, map, length, take, drop, get_or, nat_lt, if◌then◌else◌}
+use Rattle.ot_text.specs.declared.chunk.Chunk.{Chunk}
 use Rattle.ot_text.specs.declared.survey.Survey.{Survey}
 use Rattle.ot_text.specs.declared.edit.Place.{Place}
 use Rattle.ot_text.specs.Run.{Run, Keep, Add, Skip}
-use Rattle.ot_text.specs.Chunks.{concatenated, IsChunked, MayEnd}
+use Rattle.ot_text.specs.Chunks.{room_in, concatenated, IsChunked, MayEnd}
 
 -- the chunks before a spot, its own chunk up to it and from it on, and the chunks after it
 pub record Spot (A : Type 0) : Type 0 where
@@ -47,19 +47,23 @@ abbrev pub edited : {A : Type 0} → List (Run A) → Spot A → Spot A
 edited [] s = s
 edited (run ∷ runs) s = edited runs (step run s)
 
--- for how many items each chunk of the program has room
-abbrev pub capacities : {T : Type 0} → List (Vec T Global) → List ℕ
-capacities chunks = map vec_capacity chunks
+-- the room of each chunk of the program
+abbrev pub rooms : {T : Type 0} → List (Chunk T) → List ℕ
+rooms chunks = map room_in chunks
 
 -- no chunk has less room than before
 abbrev pub HasMore : List ℕ → List ℕ → Type 0
 HasMore old new = (k : ℕ) → get_or old k 0 ≤ get_or new k 0
 
--- the chunk at the spot has room for what a run makes of it
+-- the chunks from one to another have some room
+abbrev pub AreOwn : ℕ → ℕ → List ℕ → Type 0
+AreOwn from to room = (k : ℕ) → from ≤ k → k ≤ to → 0 < get_or room k 0
+
+-- the chunk at the spot has room for what comes, and those of which something goes are their own
 abbrev pub HasRoom : {A : Type 0} → Run A → Spot A → List ℕ → Type 0
 HasRoom (Keep count) s room = Unit {0}
-HasRoom (Add text) s room = length (s.done ++ text) + length s.rest ≤ get_or room (length s.before) 0
-HasRoom (Skip count) s room = Unit {0}
+HasRoom (Add text) s room = length (s.done ++ text) + length s.rest < get_or room (length s.before) 0
+HasRoom (Skip count) s room = AreOwn (length s.before) (length (step (Skip count) s).before) room
 
 -- so has each chunk, wherever the runs come
 abbrev pub HaveRoom : {A : Type 0} → List (Run A) → Spot A → List ℕ → Type 0

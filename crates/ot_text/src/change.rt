@@ -9,6 +9,7 @@ ghost use Rattle.ot_text.specs.Spots.{Spot, chunks_of, start, step, edited};
 ghost use Rattle.ot_text.specs.Draft.{IsInOrder, IsDraft, written};
 ghost use Rattle.ot_text.specs.declared.TheConstants.{LIMIT};
 
+use crate::chunk::Chunk;
 use crate::cursor::Cursor;
 use crate::draft::Draft;
 use crate::edit::{Place, edit_components};
@@ -43,7 +44,7 @@ fn split_front<T>(components: &[Component<T>]) -> (usize, &[Component<T>])
 // was made; else they are as they were.
 pub fn change_chunks<T: Copy>(
     components: &[Component<T>],
-    chunks: &mut Vec<Vec<T>>,
+    chunks: &mut Vec<Chunk<T>>,
 ) -> Result<bool, AllocError>
     requires chunked { IsChunked (lists chunks.old.items) }
     requires some { 0 < length chunks.old.items }
@@ -66,7 +67,7 @@ pub fn change_chunks<T: Copy>(
 pub fn draft_components<T: Copy>(
     alloc: Global,
     components: &[Component<T>],
-    chunks: &[Vec<T>],
+    chunks: &[Chunk<T>],
 ) -> Result<Draft<T>, AllocError>
     requires chunked { IsChunked (lists chunks.now) }
     requires base { base_of (runs components.now) ≤ length (concatenated (lists chunks.now)) }
@@ -93,7 +94,7 @@ pub fn draft_components<T: Copy>(
 pub fn apply_components<T: Copy>(
     alloc: Global,
     components: &[Component<T>],
-    chunks: &[Vec<T>],
+    chunks: &[Chunk<T>],
     room: usize,
 ) -> Result<Vec<T>, AllocError>
     requires chunked { IsChunked (lists chunks.now) }
@@ -116,7 +117,7 @@ pub fn apply_components<T: Copy>(
 pub fn invert_components<T: Element>(
     alloc: Global,
     components: &[Component<T>],
-    chunks: &[Vec<T>],
+    chunks: &[Chunk<T>],
 ) -> Result<TextOp<T>, AllocError>
     requires chunked { IsChunked (lists chunks.now) }
     requires base { base_of (runs components.now) ≡ length (concatenated (lists chunks.now)) }

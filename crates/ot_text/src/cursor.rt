@@ -3,6 +3,7 @@
 ghost use Rattle.std.specs.Prelude.{◌≡◌, ◌+◌, ◌<◌, ◌≤◌, ◌++◌, length, take, drop, OnOk};
 ghost use Rattle.ot_text.specs.Chunks.{lists, IsChunked, rest_at, left_at, IsInside};
 
+use crate::chunk::Chunk;
 use std::alloc::AllocError;
 
 #[derive(Drop)]
@@ -24,19 +25,19 @@ impl Cursor {
     }
 
     // What is left of the chunk there.
-    pub fn rest<'a, T>(&self, chunks: &'a [Vec<T>]) -> &'a [T]
+    pub fn rest<'a, T>(&self, chunks: &'a [Chunk<T>]) -> &'a [T]
         requires inside { IsInside (lists chunks.now) self.now.chunk self.now.offset }
         requires some { 0 < length (left_at (lists chunks.now) self.now.chunk self.now.offset) }
         ensures value { result.now ≡ rest_at (lists chunks.now) self.now.chunk self.now.offset }
         ensures filled { 0 < length result.now }
         ensures front { take (length result.now) (left_at (lists chunks.now) self.now.chunk self.now.offset) ≡ result.now }
     {
-        let chunk = chunks[self.chunk].as_slice();
+        let chunk = chunks[self.chunk].items();
         &chunk[self.offset..]
     }
 
     // Goes over items of one chunk.
-    pub fn advance<T>(&mut self, chunks: &[Vec<T>], count: usize)
+    pub fn advance<T>(&mut self, chunks: &[Chunk<T>], count: usize)
         requires chunked { IsChunked (lists chunks.now) }
         requires within { count ≤ length (rest_at (lists chunks.now) self.old.chunk self.old.offset) }
         requires some { self.old.chunk < length chunks.now }
@@ -54,7 +55,7 @@ impl Cursor {
     }
 
     // Goes over items of any chunks.
-    pub fn skip<T>(&mut self, chunks: &[Vec<T>], count: usize)
+    pub fn skip<T>(&mut self, chunks: &[Chunk<T>], count: usize)
         requires chunked { IsChunked (lists chunks.now) }
         requires within { count ≤ length (left_at (lists chunks.now) self.old.chunk self.old.offset) }
         requires inside { IsInside (lists chunks.now) self.old.chunk self.old.offset }
@@ -73,7 +74,7 @@ impl Cursor {
     // Reads items of any chunks: they are copied to the end of `items`.
     pub fn read<T: Copy>(
         &mut self,
-        chunks: &[Vec<T>],
+        chunks: &[Chunk<T>],
         count: usize,
         items: &mut Vec<T>,
     ) -> Result<(), AllocError>

@@ -6,19 +6,20 @@ ghost use Rattle.ot_text.specs.Chunks.{lists, concatenated, IsChunked};
 ghost use Rattle.ot_text.specs.declared.TheConstants.{LIMIT};
 
 use crate::change::{apply_components, change_chunks, draft_components, without_last_retain};
+use crate::chunk::{CHUNK, Chunk};
 use crate::compare::same_items;
 use crate::cursor::Cursor;
-use crate::draft::{CHUNK, Draft, FILL, assemble, copy_pieces};
+use crate::draft::{Draft, FILL, assemble, copy_pieces};
 use crate::pieces::Pieces;
 use crate::{Element, TextOp};
 use std::alloc::{AllocError, Global};
 use std::marker::Model;
 
 /// A list of at most 1,000,000 elements, in chunks of 1 to 512 elements of which each two neighbours together have more
-/// than 512. A contract sees the list alone.
+/// than 512. Documents can share chunks (`share`). A contract sees the list alone.
 #[derive(Drop)]
 pub struct Doc<T> {
-    pub(crate) chunks: Vec<Vec<T>>,
+    pub(crate) chunks: Vec<Chunk<T>>,
     count: usize,
 }
 
@@ -34,15 +35,25 @@ impl<T> Model for Doc<T> {
     ghost invariant = { λ d. IsHeld (lists d.chunks.items) d.count };
 }
 
-fn copy_chunks<T: Copy>(alloc: Global, chunks: &[Vec<T>]) -> Result<Vec<Vec<T>>, AllocError>
+fn copy_chunks<T: Copy>(alloc: Global, chunks: &[Chunk<T>]) -> Result<Vec<Chunk<T>>, AllocError>
     ensures { IfOk result (λ v. lists v.items ≡ lists chunks.now) }
 {
     let mut copied = Vec::with_capacity(alloc, chunks.len())?;
     for chunk in chunks {
-        let next = Vec::from_slice(alloc, chunk.as_slice())?;
+        let next = chunk.copy()?;
         copied.push(next)?;
     }
     Ok(copied)
+}
+
+// Makes the chunks shared.
+fn share_chunks<T: Copy>(chunks: &mut Vec<Chunk<T>>) -> Result<(), AllocError>
+    ensures { lists chunks.new.items ≡ lists chunks.old.items }
+{
+    for place in 0..chunks.len() {
+        chunks[place].share()?;
+    }
+    Ok(())
 }
 
 impl<T: Element> Doc<T> {
@@ -127,7 +138,7 @@ impl<T: Element> Doc<T> {
         same_lists(self.chunks.as_slice(), other.chunks.as_slice(), self.count)
     }
 
-    /// A document of the same elements, or `AllocError` where a growth was refused.
+    /// A document of the same elements, or `AllocError` where a growth was refused. Shared chunks are shared by it too, the others are copied.
     pub fn copy(&self) -> Result<Doc<T>, AllocError>
         ensures { IfOk result (λ d. d ≡ self.now) }
     {
@@ -138,12 +149,21 @@ impl<T: Element> Doc<T> {
         })
     }
 
+    /// Makes all chunks shared: copies have them in common from then on, and each document copies a shared chunk before it changes it. A chunk that
+    /// was not shared is copied for it. The elements stay what they are; `AllocError` where a growth was refused, with some chunks shared and
+    /// others not.
+    pub fn share(&mut self) -> Result<(), AllocError>
+        ensures { self.new ≡ self.old }
+    {
+        share_chunks(&mut self.chunks)
+    }
+
     /// Makes this document what the operation makes of it, which has to fit.
     ///
     /// Chunks are edited where they lie, where each still has 1 to 512 elements then, and more than 512 with its neighbour: what is
     /// copied is the text that comes and what stands behind it in its chunk, and chunks that are not touched are counted alone.
-    /// Else the touched chunks are copied, and a chunk beside them where it would be too short; the others move. `AllocError` where
-    /// a growth was refused: every growth comes first, so the document is then as it was.
+    /// Else the touched chunks are copied, and a chunk beside them where it would be too short; the others move. A shared chunk that is
+    /// touched is copied first. `AllocError` where a growth was refused: every growth comes first, so the document is then as it was.
     pub fn change(&mut self, op: &TextOp<T>) -> Result<(), AllocError>
         requires { op.now.base ≡ length self.old }
         ensures ok { OnOk result (self.new ≡ apply op.now self.old) }
@@ -195,7 +215,7 @@ impl<T: Element> Doc<T> {
         self.chunks.clear();
         self.count = count;
         if count > 0 {
-            self.chunks.push_reserved(items);
+            self.chunks.push_reserved(Chunk::Own(items));
         }
         Ok(())
     }
@@ -235,7 +255,7 @@ impl<T: Element> Doc<T> {
 }
 
 // Do chunks of `count` items hold one list?
-fn same_lists<T: Element>(a: &[Vec<T>], b: &[Vec<T>], count: usize) -> bool
+fn same_lists<T: Element>(a: &[Chunk<T>], b: &[Chunk<T>], count: usize) -> bool
     requires a { IsChunked (lists a.now) }
     requires b { IsChunked (lists b.now) }
     requires a_count { length (concatenated (lists a.now)) ≡ count }

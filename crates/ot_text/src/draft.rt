@@ -4,11 +4,9 @@ ghost use Rattle.std.specs.Prelude.{◌≡◌, ◌↔◌, ◌+◌, ◌<◌, ◌�
 ghost use Rattle.ot_text.specs.Chunks.{lists, concatenated, IsChunked, MayEnd, rest_at, left_at, IsInside};
 ghost use Rattle.ot_text.specs.Draft.{content, contents, IsInOrder, IsDraft, written, Continues};
 
+use crate::chunk::{CHUNK, Chunk};
 use crate::cursor::Cursor;
 use std::alloc::{AllocError, Global};
-
-/// The greatest length of a chunk.
-pub const CHUNK: usize = 512;
 
 /// How far a chunk is filled when it is written anew: what comes later then finds room.
 pub const FILL: usize = 384;
@@ -28,12 +26,12 @@ pub struct Draft<T> {
 }
 
 // What a piece holds.
-fn content<'a, T>(chunks: &'a [Vec<T>], piece: &'a Piece<T>) -> &'a [T]
+fn content<'a, T>(chunks: &'a [Chunk<T>], piece: &'a Piece<T>) -> &'a [T]
     ensures { result.now ≡ content (lists chunks.now) piece.now }
 {
     match piece {
         Piece::Moved(place) => match chunks.get(*place) {
-            Some(chunk) => chunk.as_slice(),
+            Some(chunk) => chunk.items(),
             None => &[],
         },
         Piece::Made(made) => made.as_slice(),
@@ -52,7 +50,7 @@ impl<T: Copy> Draft<T> {
     }
 
     // May a chunk of that length stand after the pieces?
-    fn may_end(&self, chunks: &[Vec<T>], count: usize) -> bool
+    fn may_end(&self, chunks: &[Chunk<T>], count: usize) -> bool
         requires small { count ≤ 512 }
         requires chunked { IsChunked (contents (lists chunks.now) self.now.pieces.items) }
         ensures { IsTrue result ↔ MayEnd (contents (lists chunks.now) self.now.pieces.items) count }
@@ -65,7 +63,7 @@ impl<T: Copy> Draft<T> {
     }
 
     // Makes a piece of what is pending, or of the last piece and what is pending.
-    pub fn flush(&mut self, chunks: &[Vec<T>]) -> Result<(), AllocError>
+    pub fn flush(&mut self, chunks: &[Chunk<T>]) -> Result<(), AllocError>
         requires { IsDraft (lists chunks.now) self.old }
         ensures ok { OnOk result (Continues (lists chunks.now) self.old self.new []) }
         ensures empty { OnOk result (self.new.pending.items ≡ []) }
@@ -89,7 +87,7 @@ impl<T: Copy> Draft<T> {
     }
 
     // Makes room for that many items in what is pending.
-    fn make_room(&mut self, chunks: &[Vec<T>], count: usize) -> Result<(), AllocError>
+    fn make_room(&mut self, chunks: &[Chunk<T>], count: usize) -> Result<(), AllocError>
         requires draft { IsDraft (lists chunks.now) self.old }
         requires small { count ≤ 512 }
         ensures ok { OnOk result (Continues (lists chunks.now) self.old self.new []) }
@@ -102,15 +100,18 @@ impl<T: Copy> Draft<T> {
     }
 
     // Writes items, which are copied.
-    pub fn append(&mut self, chunks: &[Vec<T>], text: &[T]) -> Result<(), AllocError>
+    pub fn append(&mut self, chunks: &[Chunk<T>], text: &[T]) -> Result<(), AllocError>
         requires { IsDraft (lists chunks.now) self.old }
         ensures { OnOk result (Continues (lists chunks.now) self.old self.new text.now) }
     {
         let mut at = 0;
         while at < text.len() {
             self.make_room(chunks, 1)?;
-            let step = (text.len() - at).min(FILL - self.pending.len());
-            self.pending.reserve(CHUNK - self.pending.len())?;
+            let ahead = text.len() - at;
+            let step = ahead.min(FILL - self.pending.len());
+            // (a chunk in the midst of a long text gets no room for more)
+            let room = if ahead < FILL { CHUNK } else { FILL };
+            self.pending.reserve(room - self.pending.len())?;
             self.pending.extend_from_slice(&text[at..at + step])?;
             at += step;
         }
@@ -118,7 +119,7 @@ impl<T: Copy> Draft<T> {
     }
 
     // Writes an old chunk: it moves, unless it has to be concatenated with what stands before it.
-    fn keep(&mut self, chunks: &[Vec<T>], place: usize) -> Result<(), AllocError>
+    fn keep(&mut self, chunks: &[Chunk<T>], place: usize) -> Result<(), AllocError>
         requires draft { IsDraft (lists chunks.now) self.old }
         requires order { IsInOrder 0 place self.old.pieces.items }
         requires chunked { IsChunked (lists chunks.now) }
@@ -127,7 +128,7 @@ impl<T: Copy> Draft<T> {
         ensures text { OnOk result (written (lists chunks.now) self.new ≡ written (lists chunks.now) self.old ++ get_or (lists chunks.now) place []) }
         ensures order { OnOk result (IsInOrder 0 (place + 1) self.new.pieces.items) }
     {
-        let chunk = chunks[place].as_slice();
+        let chunk = chunks[place].items();
         self.make_room(chunks, chunk.len())?;
         if self.pending.is_empty() && self.may_end(chunks, chunk.len()) {
             self.pieces.push(Piece::Moved(place))?;
@@ -139,7 +140,7 @@ impl<T: Copy> Draft<T> {
     // Writes the next items of one old chunk.
     fn retain_some(
         &mut self,
-        chunks: &[Vec<T>],
+        chunks: &[Chunk<T>],
         cursor: &mut Cursor,
         count: usize,
     ) -> Result<(), AllocError>
@@ -168,7 +169,7 @@ impl<T: Copy> Draft<T> {
     // Writes the next items of the old chunks.
     pub fn retain(
         &mut self,
-        chunks: &[Vec<T>],
+        chunks: &[Chunk<T>],
         cursor: &mut Cursor,
         count: usize,
     ) -> Result<(), AllocError>
@@ -196,10 +197,10 @@ impl<T: Copy> Draft<T> {
 // The chunks that the pieces say: the old ones are moved, and nothing is allocated.
 pub fn assemble<T: Drop>(
     alloc: Global,
-    mut chunks: Vec<Vec<T>>,
+    mut chunks: Vec<Chunk<T>>,
     pieces: Vec<Piece<T>>,
-    room: Vec<Vec<T>>,
-) -> Vec<Vec<T>>
+    room: Vec<Chunk<T>>,
+) -> Vec<Chunk<T>>
     requires order { IsInOrder 0 (length chunks.items) pieces.items }
     requires empty { room.items ≡ [] }
     requires enough { length pieces.items ≤ vec_capacity room }
@@ -208,8 +209,11 @@ pub fn assemble<T: Drop>(
     let mut made = room;
     for piece in pieces {
         let chunk = match piece {
-            Piece::Moved(place) => std::mem::replace(&mut chunks[place], Vec::new(alloc)),
-            Piece::Made(chunk) => chunk,
+            Piece::Moved(place) => std::mem::replace(
+                &mut chunks[place],
+                Chunk::Own(Vec::new(alloc)),
+            ),
+            Piece::Made(items) => Chunk::Own(items),
         };
         made.push_reserved(chunk);
     }
@@ -219,17 +223,17 @@ pub fn assemble<T: Drop>(
 // The chunks that the pieces say, where the old ones stay: they are copied.
 pub fn copy_pieces<T: Copy>(
     alloc: Global,
-    chunks: &[Vec<T>],
+    chunks: &[Chunk<T>],
     pieces: Vec<Piece<T>>,
-) -> Result<Vec<Vec<T>>, AllocError>
+) -> Result<Vec<Chunk<T>>, AllocError>
     requires { IsInOrder 0 (length chunks.now) pieces.items }
     ensures { IfOk result (λ v. lists v.items ≡ contents (lists chunks.now) pieces.items) }
 {
     let mut made = Vec::with_capacity(alloc, pieces.len())?;
     for piece in pieces {
         let chunk = match piece {
-            Piece::Moved(place) => Vec::from_slice(alloc, chunks[place].as_slice())?,
-            Piece::Made(chunk) => chunk,
+            Piece::Moved(place) => chunks[place].copy()?,
+            Piece::Made(items) => Chunk::Own(items),
         };
         made.push_reserved(chunk);
     }

@@ -61,6 +61,7 @@ ghost use Rattle.ot_text.specs.Components.{runs};
 
 mod build;
 mod change;
+mod chunk;
 mod compare;
 mod copy;
 mod cursor;

@@ -2,12 +2,13 @@
 
 ghost use Rattle.std.specs.Prelude.{◌≡◌, [], ◌++◌, ◌<◌, length, IfSome, MatchOption};
 
+use crate::chunk::Chunk;
 use std::marker::Model;
 
 /// What is left to be looked at of a document. A contract sees the elements that are left.
 #[derive(Drop)]
 pub struct Pieces<'a, T> {
-    pub(crate) chunks: &'a [Vec<T>],
+    pub(crate) chunks: &'a [Chunk<T>],
 }
 
 impl<'a, T> Model for Pieces<'a, T> {
@@ -30,6 +31,6 @@ impl<'a, T> Pieces<'a, T> {
     {
         let (first, others) = self.chunks.split_first()?;
         self.chunks = others;
-        Some(first.as_slice())
+        Some(first.items())
     }
 }

@@ -1,13 +1,13 @@
 //! Looks whether a change can be made in the chunks where they lie, and makes room in them.
 
-ghost use Rattle.std.specs.Prelude.{◌≡◌, ◌↔◌, ℕ, ◌+◌, ◌<◌, ◌≤◌, suc, ◌++◌, ◌∷◌, [], length, take, drop, get_or, map, OnOk, IfOk, IsTrue, vec_capacity};
+ghost use Rattle.std.specs.Prelude.{◌≡◌, ◌↔◌, ℕ, ◌+◌, ◌<◌, ◌≤◌, suc, ◌++◌, ◌∷◌, [], length, take, drop, get_or, map, OnOk, IfOk, IsTrue};
 ghost use Rattle.ot_text.specs.Run.{Keep, Add, Skip, base_of};
 ghost use Rattle.ot_text.specs.Components.{runs};
 ghost use Rattle.ot_text.specs.Chunks.{lists, IsChunked, MayEnd};
-ghost use Rattle.ot_text.specs.Spots.{Spot, chunks_of, step, edited, capacities, HasMore, HaveRoom, behind, IsPlace, spot_at, IsSurvey, Sees, HasLeft};
+ghost use Rattle.ot_text.specs.Spots.{Spot, chunks_of, step, edited, rooms, AreOwn, HasMore, HaveRoom, behind, IsPlace, spot_at, IsSurvey, Sees, HasLeft};
 
 use crate::Component;
-use crate::draft::CHUNK;
+use crate::chunk::{CHUNK, Chunk};
 use crate::edit::Place;
 use std::alloc::AllocError;
 
@@ -23,7 +23,7 @@ pub struct Survey {
 
 impl Survey {
     // A place in chunks before which nothing has changed.
-    fn start<T>(chunks: &[Vec<T>], place: &Place) -> Survey
+    fn start<T>(chunks: &[Chunk<T>], place: &Place) -> Survey
         requires chunked { IsChunked (lists chunks.now) }
         requires place { IsPlace (lists chunks.now) place.now }
         ensures survey { IsSurvey (lists chunks.now) result }
@@ -39,7 +39,7 @@ impl Survey {
     }
 
     // May the chunk, as it will be, stand after the one before it?
-    fn may_stand<T>(&self, chunks: &[Vec<T>]) -> bool
+    fn may_stand<T>(&self, chunks: &[Chunk<T>]) -> bool
         requires { IsSurvey (lists chunks.now) self.now }
         ensures { IsTrue result ↔ ((0 < self.now.done + self.now.rest) × (512 < self.now.before + (self.now.done + self.now.rest))) }
     {
@@ -48,7 +48,7 @@ impl Survey {
     }
 
     // Goes on to the next chunk. May the chunk that is left stand as it will be?
-    fn leave<T>(&mut self, chunks: &[Vec<T>]) -> bool
+    fn leave<T>(&mut self, chunks: &[Chunk<T>]) -> bool
         requires chunked { IsChunked (lists chunks.now) }
         requires survey { IsSurvey (lists chunks.now) self.old }
         requires next { suc self.old.chunk < length chunks.now }
@@ -66,7 +66,7 @@ impl Survey {
     }
 
     // Goes over items that stay, unless a chunk on the way may not stand.
-    fn keep<T>(&mut self, chunks: &[Vec<T>], count: usize) -> bool
+    fn keep<T>(&mut self, chunks: &[Chunk<T>], count: usize) -> bool
         requires chunked { IsChunked (lists chunks.now) }
         requires survey { IsSurvey (lists chunks.now) self.old }
         requires within { count ≤ self.old.rest + behind (lists chunks.now) self.old.chunk }
@@ -86,46 +86,70 @@ impl Survey {
         true
     }
 
+    // Gives its chunk room for `size` items, which are the chunk's own then.
+    fn make_room<T: Copy>(&self, chunks: &mut Vec<Chunk<T>>, size: usize) -> Result<(), AllocError>
+        requires there { self.now.chunk < length (lists chunks.old.items) }
+        requires small { size ≤ 512 }
+        ensures same { lists chunks.new.items ≡ lists chunks.old.items }
+        ensures more { HasMore (rooms chunks.old.items) (rooms chunks.new.items) }
+        ensures room { OnOk result (size < get_or (rooms chunks.new.items) self.now.chunk 0) }
+    {
+        chunks[self.chunk].make_room(size)
+    }
+
     // Goes over items that go, unless a chunk on the way may not stand.
-    fn delete<T>(&mut self, chunks: &[Vec<T>], count: usize) -> bool
-        requires chunked { IsChunked (lists chunks.now) }
-        requires survey { IsSurvey (lists chunks.now) self.old }
-        requires within { count ≤ self.old.rest + behind (lists chunks.now) self.old.chunk }
-        ensures survey { IsSurvey (lists chunks.now) self.new }
-        ensures ahead { IsTrue result → self.new.rest + behind (lists chunks.now) self.new.chunk + count ≡ self.old.rest + behind (lists chunks.now) self.old.chunk }
-        ensures spot { IsTrue result → (s : Spot T) → Sees (lists chunks.now) self.old s → Sees (lists chunks.now) self.new (step (Skip count) s) }
+    fn delete<T: Copy>(
+        &mut self,
+        chunks: &mut Vec<Chunk<T>>,
+        count: usize,
+    ) -> Result<bool, AllocError>
+        requires chunked { IsChunked (lists chunks.old.items) }
+        requires survey { IsSurvey (lists chunks.old.items) self.old }
+        requires within { count ≤ self.old.rest + behind (lists chunks.old.items) self.old.chunk }
+        ensures same { lists chunks.new.items ≡ lists chunks.old.items }
+        ensures more { HasMore (rooms chunks.old.items) (rooms chunks.new.items) }
+        ensures survey { IsSurvey (lists chunks.old.items) self.new }
+        ensures ahead { IfOk result (λ fits. IsTrue fits → self.new.rest + behind (lists chunks.old.items) self.new.chunk + count ≡ self.old.rest + behind (lists chunks.old.items) self.old.chunk) }
+        ensures spot { IfOk result (λ fits. IsTrue fits → (s : Spot T) → Sees (lists chunks.old.items) self.old s → Sees (lists chunks.old.items) self.new (step (Skip count) s)) }
+        ensures own { IfOk result (λ fits. IsTrue fits → AreOwn self.old.chunk self.new.chunk (rooms chunks.new.items)) }
     {
         let mut ahead = count;
         while ahead > self.rest {
             ahead -= self.rest;
+            self.make_room(chunks, self.done + self.rest)?;
             self.rest = 0;
-            if !self.leave(chunks) {
-                return false;
+            if !self.leave(chunks.as_slice()) {
+                return Ok(false);
             }
         }
+        self.make_room(chunks, self.done + self.rest)?;
         self.rest -= ahead;
-        true
+        Ok(true)
     }
 
     // Lets items come, where the chunk can hold them.
-    fn insert<T>(&mut self, chunks: &mut Vec<Vec<T>>, count: usize) -> Result<bool, AllocError>
+    fn insert<T: Copy>(
+        &mut self,
+        chunks: &mut Vec<Chunk<T>>,
+        count: usize,
+    ) -> Result<bool, AllocError>
         requires survey { IsSurvey (lists chunks.old.items) self.old }
         ensures same { lists chunks.new.items ≡ lists chunks.old.items }
-        ensures more { HasMore (capacities chunks.old.items) (capacities chunks.new.items) }
+        ensures more { HasMore (rooms chunks.old.items) (rooms chunks.new.items) }
         ensures survey { IsSurvey (lists chunks.old.items) self.new }
         ensures added { IfOk result (λ fits. IsTrue fits → (self.new ≡ record self.old { done = self.old.done + count })) }
-        ensures room { IfOk result (λ fits. IsTrue fits → self.new.done + self.new.rest ≤ get_or (capacities chunks.new.items) self.old.chunk 0) }
+        ensures room { IfOk result (λ fits. IsTrue fits → self.new.done + self.new.rest < get_or (rooms chunks.new.items) self.old.chunk 0) }
     {
         if count > CHUNK - (self.done + self.rest) {
             return Ok(false);
         }
-        make_room(&mut chunks[self.chunk], self.done + count + self.rest)?;
+        self.make_room(chunks, self.done + count + self.rest)?;
         self.done += count;
         Ok(true)
     }
 
     // May the chunk, as it will be, stand between the one before it and the one after it?
-    fn may_end<T>(&self, chunks: &[Vec<T>]) -> bool
+    fn may_end<T>(&self, chunks: &[Chunk<T>]) -> bool
         requires chunked { IsChunked (lists chunks.now) }
         requires survey { IsSurvey (lists chunks.now) self.now }
         ensures { IsTrue result → (s : Spot T) → Sees (lists chunks.now) self.now s → IsChunked (chunks_of s) }
@@ -139,7 +163,7 @@ impl Survey {
 }
 
 // How many items the chunk before one has; 512 where there is none.
-fn size_before<T>(chunks: &[Vec<T>], chunk: usize) -> usize
+fn size_before<T>(chunks: &[Chunk<T>], chunk: usize) -> usize
     requires chunked { IsChunked (lists chunks.now) }
     requires within { chunk ≤ length chunks.now }
     ensures small { result ≤ 512 }
@@ -151,25 +175,11 @@ fn size_before<T>(chunks: &[Vec<T>], chunk: usize) -> usize
     chunks[chunk - 1].len()
 }
 
-// Gives the chunk room for `size` items: for twice as many, where that is no more than a chunk may have.
-fn make_room<T>(chunk: &mut Vec<T>, size: usize) -> Result<(), AllocError>
-    requires { size ≤ 512 }
-    ensures items { chunk.new.items ≡ chunk.old.items }
-    ensures more { vec_capacity chunk.old ≤ vec_capacity chunk.new }
-    ensures room { OnOk result (size ≤ vec_capacity chunk.new) }
-{
-    let length = chunk.len();
-    if chunk.capacity() < size {
-        chunk.reserve_exact((size * 2).min(CHUNK) - length)?;
-    }
-    Ok(())
-}
-
 // Can the components be made of the chunks where they lie, from a place on, so that they are chunks of 1 to 512 items, each two
 // neighbours with more than 512? Makes room for all that comes, so that it can then be made with no memory.
-pub fn survey_components<T>(
+pub fn survey_components<T: Copy>(
     components: &[Component<T>],
-    chunks: &mut Vec<Vec<T>>,
+    chunks: &mut Vec<Chunk<T>>,
     from: &Place,
 ) -> Result<bool, AllocError>
     requires chunked { IsChunked (lists chunks.old.items) }
@@ -177,14 +187,14 @@ pub fn survey_components<T>(
     requires base { base_of (runs components.now) ≤ length (spot_at (lists chunks.old.items) from.now).rest + behind (lists chunks.old.items) from.now.chunk }
     ensures same { lists chunks.new.items ≡ lists chunks.old.items }
     ensures chunked { IfOk result (λ fits. IsTrue fits → IsChunked (chunks_of (edited (runs components.now) (spot_at (lists chunks.old.items) from.now)))) }
-    ensures room { IfOk result (λ fits. IsTrue fits → HaveRoom (runs components.now) (spot_at (lists chunks.old.items) from.now) (capacities chunks.new.items)) }
+    ensures room { IfOk result (λ fits. IsTrue fits → HaveRoom (runs components.now) (spot_at (lists chunks.old.items) from.now) (rooms chunks.new.items)) }
 {
     let mut survey = Survey::start(chunks.as_slice(), from);
     for component in components {
         let fits = match component {
             Component::Retain(count) => survey.keep(chunks.as_slice(), *count),
             Component::Insert(text) => survey.insert(chunks, text.len())?,
-            Component::Delete(count) => survey.delete(chunks.as_slice(), *count),
+            Component::Delete(count) => survey.delete(chunks, *count)?,
         };
         if !fits {
             return Ok(false);

@@ -1,5 +1,5 @@
 use Rattle.std.proofs.Common.{◌≡◌, ◌<◌, length, sym, ◌∙◌, arith, ap}
-use Rattle.std.specs.Vec.{vec_items}
+use Rattle.ot_text.specs.Chunks.{items_in}
 use Rattle.ot_text.proofs.Chunked.{list_at}
 use Rattle.ot_text.proofs.Drafted.{assembling_none, assembling_copied, assembling_made, assembling_all}
 use Rattle.ot_text.proofs.draft.copy_pieces.Goals as goal
@@ -25,13 +25,13 @@ loop-piece-preserved g c =
       | in-Moved+in_ok-chunk-in-Moved w ↦
           let a = rw (c.in-Some.ensures.steps.0, w.in-Moved.is) at c.loop-piece.invariant in
           let within : w.in-Moved.place < length c.args.chunks.now = a.order.1 in
-          let is : c.match-piece.chunk.items ≡ w.index-chunks-place.result.items = ap vec_items w.chunk-is ∙ w.in_ok-chunk-in-Moved.ensures.items ∙ w.as_slice.ensures.value in
+          let is : items_in c.match-piece.chunk ≡ items_in w.index-chunks-place.result = ap items_in w.chunk-is ∙ w.in_ok-chunk-in-Moved.ensures in
           let there = list_at c.args.chunks.now w.in-Moved.place w.index-chunks-place.result within w.index-chunks-place.is in
           rw (c.push_reserved.ensures.items, c.push_reserved.ensures.len, c.push_reserved.ensures.capacity)
           (assembling_copied _ _ _ _ w.in-Moved.place c.match-piece.chunk _ _ (is ∙ sym there) a)
       | in-Made w ↦
-          let a = rw (c.in-Some.ensures.steps.0, w.in-Made.is, ← w.chunk-is) at c.loop-piece.invariant in
-          rw (c.push_reserved.ensures.items, c.push_reserved.ensures.len, c.push_reserved.ensures.capacity)
+          let a = rw (c.in-Some.ensures.steps.0, w.in-Made.is) at c.loop-piece.invariant in
+          rw (c.push_reserved.ensures.items, c.push_reserved.ensures.len, c.push_reserved.ensures.capacity, w.chunk-is)
           (assembling_made _ _ _ _ _ _ _ a)
     ]
 

@@ -1,5 +1,5 @@
 use Rattle.std.proofs.Common.{◌≡◌, suc, ◌-◌, ◌<◌, [], length, take, get_or, ap, arith}
-use Rattle.ot_text.specs.Chunks.{lists, MayEnd}
+use Rattle.ot_text.specs.Chunks.{items_in, lists, MayEnd}
 use Rattle.ot_text.proofs.Chunked.{list_at, length-lists, chunk_small}
 use Rattle.ot_text.proofs.Surveyed.{may_end_take}
 use Rattle.ot_text.proofs.survey.size_before.Goals as goal
@@ -10,9 +10,8 @@ returns-clause-small g c =
     let k = c.args.chunk - 1 in
     let v = c.index-chunks-chunk.result in
     let there : k < length vs = omega arith in
-    let is : length (get_or (lists vs) k []) ≡ length v.items = ap length (list_at vs k v there c.index-chunks-chunk.is) in
-    let ok = v.ok in
-    omega (arith, is, ok, c.len.ensures, chunk_small (lists vs) k c.requires.chunked)
+    let is : length (get_or (lists vs) k []) ≡ length (items_in v) = ap length (list_at vs k v there c.index-chunks-chunk.is) in
+    omega (arith, is, c.len.ensures, chunk_small (lists vs) k c.requires.chunked)
 
 pub returns-clause-may_end : goal.returns-clause-may_end
 returns-clause-may_end g c = λ n more.
@@ -20,8 +19,7 @@ returns-clause-may_end g c = λ n more.
     let k = c.args.chunk - 1 in
     let v = c.index-chunks-chunk.result in
     let there : k < length vs = omega arith in
-    let is : length (get_or (lists vs) k []) ≡ length v.items = ap length (list_at vs k v there c.index-chunks-chunk.is) in
-    let ok = v.ok in
+    let is : length (get_or (lists vs) k []) ≡ length (items_in v) = ap length (list_at vs k v there c.index-chunks-chunk.is) in
     let next : suc k ≡ c.args.chunk = omega arith in
-    let ends : MayEnd (take (suc k) (lists vs)) n = may_end_take (lists vs) k n (omega (arith, there, length-lists vs)) (omega (arith, is, ok, c.len.ensures, more)) in
+    let ends : MayEnd (take (suc k) (lists vs)) n = may_end_take (lists vs) k n (omega (arith, there, length-lists vs)) (omega (arith, is, c.len.ensures, more)) in
     rw next at ends
