@@ -22,8 +22,6 @@ fn printed(alloc: Global, schedule: &Schedule, machine: Machine) -> Result<Vec<u
     let text = disassemble(alloc, schedule)?;
     let end = print_end(alloc, &machine)?;
     let mut bytes = Vec::from_slice(alloc, text.as_bytes())?;
-    // (room for the state, and for the beginnings of its 66 comment lines)
-    bytes.reserve(end.len().saturating_add(1_024))?;
     push_comment(&mut bytes, end.as_bytes())?;
     Ok(bytes)
 }
