@@ -2,6 +2,7 @@ pub mod Lists
 pub mod RunLemmas
 pub mod Built
 pub mod Refused
+mod Moved
 pub mod Normal
 pub mod Compared
 pub mod ApplyLaws

@@ -3,6 +3,7 @@
 ghost use Rattle.std.specs.Prelude.{◌≡◌, ◌+◌, ◌<◌, ◌≤◌, ◌++◌, length, take, drop, IfOk, OnOk, vec_capacity};
 ghost use Rattle.ot_text.specs.Chunks.{items_in, room_in};
 
+use crate::moves::{move_down, move_up};
 use std::alloc::{AllocError, Global};
 use std::sync::Arc;
 
@@ -91,7 +92,7 @@ impl<T: Copy> Chunk<T> {
             unreachable!();
         }
         let end = at + text.len();
-        items.copy_within(at..length, end);
+        move_up(items.as_mut_slice(), at, end, length - at);
         items.slice_mut(at..end).copy_from_slice(text);
     }
 
@@ -106,7 +107,7 @@ impl<T: Copy> Chunk<T> {
             unreachable!()
         };
         let length = items.len();
-        items.copy_within(at + count..length, at);
+        move_down(items.as_mut_slice(), at + count, at, length - at - count);
         items.truncate(length - count);
     }
 

@@ -72,6 +72,7 @@ mod edit;
 mod element;
 mod in_place;
 mod lengths;
+mod moves;
 mod patch;
 mod pieces;
 mod prepared;

@@ -27,6 +27,14 @@ put_more code letters i x c bytes inside at is room printable ascii unquoted une
           ∙ sym (front_more code letters i x inside at);
     }
 
+-- with the letter's lowest byte
+pub put_byte :
+    {A : Type 0} (code : A → ℕ) (letters : List A) (i n : ℕ) (x : A) (c b : ℕ) (bytes : List ℕ) → n ≡ i + 1 → i < length letters → x ≡ get_or letters i x → c ≡ code x → i < length bytes
+    → 32 ≤ c → c < 128 → (c ≡ 34 → ⊥) → (c ≡ 92 → ⊥) → (c < 128 → b ≡ c) → IsPutTo code letters i bytes → IsPutTo code letters n (set bytes i b)
+put_byte code letters i n x c b bytes next inside at is room printable ascii unquoted unescaped low so_far =
+    let more = put_more code letters i x c bytes inside at is room printable ascii unquoted unescaped so_far in
+    subst (λ m. IsPutTo code letters m (set bytes i b)) (sym next) (subst (λ y. IsPutTo code letters (i + 1) (set bytes i y)) (sym (low ascii)) more)
+
 -- all of them
 module _ {A : Type 0} (code : A → ℕ) (letters : List A) (i : ℕ) (bytes : List ℕ) (put : IsPutTo code letters i bytes) (le : length letters ≤ i) (ge : i ≤ length letters) where
   all_letters : take i letters ≡ letters

@@ -1,6 +1,6 @@
 //! Letters as the text of a JSON string.
 
-ghost use Rattle.std.specs.Prelude.{◌≡◌, ◌++◌, ◌≤◌, ℕ, map, length, take, true, false, IfOk, OnOk, string_bytes};
+ghost use Rattle.std.specs.Prelude.{◌≡◌, ◌++◌, ◌<◌, ◌≤◌, ℕ, map, length, take, true, false, IfOk, OnOk, string_bytes};
 ghost use Rattle.std.specs.Bool.{OnTrue};
 ghost use Rattle.std.specs.Str.{encode_utf8_all};
 ghost use Rattle.json.specs.Print.{escape, quoted};
@@ -14,6 +14,9 @@ use std::alloc::{AllocError, Global};
 
 /// So many letters a piece of a document has at most.
 const PIECE: usize = 512;
+
+/// So many letters are looked at before there is a way out.
+const STEP: usize = 8;
 
 /// What is printed as a character.
 pub trait Letter {
@@ -62,6 +65,23 @@ fn push_plain<T: Letter>(text: &mut String, letters: &[T]) -> Result<(), AllocEr
     Ok(())
 }
 
+// Whether JSON escapes the letter, or it is beyond `~`.
+fn is_odd(letter: char) -> bool
+    ensures printable { result ≡ false → 32 ≤ letter }
+    ensures ascii { result ≡ false → letter ≤ 126 }
+    ensures unquoted { result ≡ false → letter ≡ 34 → ⊥ }
+    ensures unescaped { result ≡ false → letter ≡ 92 → ⊥ }
+{
+    (letter < ' ') | (letter > '~') | (letter == '"') | (letter == '\\')
+}
+
+// The lowest byte of a letter.
+fn low_byte(letter: char) -> u8
+    ensures { letter < 128 → result ≡ letter }
+{
+    (letter as u32 % 256) as u8
+}
+
 // Puts the letters into the front of `bytes`, where each is one byte, which JSON writes as it is.
 fn put_ascii<T: Letter>(letters: &[T], bytes: &mut [u8]) -> bool
     requires { length letters.now ≤ length bytes.old }
@@ -69,12 +89,25 @@ fn put_ascii<T: Letter>(letters: &[T], bytes: &mut [u8]) -> bool
     ensures plain { OnTrue result (escape (encode_utf8_all (map T.code letters.now)) ≡ encode_utf8_all (map T.code letters.now)) }
     ensures length { length bytes.new ≡ length bytes.old }
 {
-    for place in 0..letters.len() {
-        let letter = letters[place].letter();
-        if letter < ' ' || letter == '"' || letter == '\\' || letter > '~' {
+    let mut place = 0;
+    while letters.len() - place >= STEP {
+        let mut odd = false;
+        for step in 0..STEP {
+            let letter = letters[place + step].letter();
+            odd |= is_odd(letter);
+            bytes[place + step] = low_byte(letter);
+        }
+        if odd {
             return false;
         }
-        bytes[place] = letter as u8;
+        place += STEP;
+    }
+    for at in place..letters.len() {
+        let letter = letters[at].letter();
+        if is_odd(letter) {
+            return false;
+        }
+        bytes[at] = low_byte(letter);
     }
     true
 }

@@ -1,8 +1,8 @@
 //! Workers under one lock.
 //!
-//! Workers are threads that take turns with the clients of one board, as users type. What a turn does under the lock is short: the server
-//! takes what is under way, a client is chosen and lent (or picked up), and later its session is settled (or parked). What it does off the
-//! lock, the session's steps with their transforms, runs beside the other workers' turns.
+//! Workers are threads, the caller's own among them, that take turns with the clients of one board, as users type. What a turn does under
+//! the lock is short: the server takes what is under way, a client is chosen and lent (or picked up), and later its session is settled (or
+//! parked). What it does off the lock, the session's steps with their transforms, runs beside the other workers' turns.
 //!
 //! ```text
 //!   under the lock        off the lock                          under the lock

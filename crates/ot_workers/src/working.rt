@@ -117,8 +117,8 @@ fn join_all<R: Threads>(
     ends
 }
 
-/// The ends of so many workers, 1 to 8, in order. Where a thread or the list of them cannot be made, the workers that were started are stopped
-/// and joined first.
+/// The ends of so many workers, 1 to 8, in order. Worker 0 is the caller's own thread, and each other one a thread that is started for it. Where
+/// a thread or the list of them cannot be made, the workers that were started are stopped and joined first.
 pub fn run_workers<R: Threads + Wait + Sync, G: Gate>(
     rt: &R,
     alloc: Global,
@@ -144,7 +144,7 @@ pub fn run_workers<R: Threads + Wait + Sync, G: Gate>(
                 shared.stop(rt);
                 return Err(AllocError);
             };
-            for worker in 0..count {
+            for worker in 1..count {
                 match scope.spawn(move || work(rt, alloc, shared, worker, gate)) {
                     Ok(handle) => handles.push_reserved(handle),
                     Err(_) => {
@@ -153,10 +153,11 @@ pub fn run_workers<R: Threads + Wait + Sync, G: Gate>(
                     }
                 }
             }
-            if handles.len() != count {
+            if handles.len() + 1 != count {
                 drop(join_all(rt, handles, ends));
                 return Err(AllocError);
             }
+            ends.push_reserved(work(rt, alloc, shared, 0, gate));
             Ok(join_all(rt, handles, ends))
         },
     )
