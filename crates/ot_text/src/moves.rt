@@ -7,6 +7,17 @@ ghost use Rattle.std.specs.List.{copy_within};
 /// So many items a block has.
 const BLOCK: usize = 8;
 
+// Puts a block into the place of as many items.
+fn put_block<T: Copy>(items: &mut [T], block: [T; BLOCK])
+    requires { length items.old ≡ 8 }
+    ensures { items.new ≡ block }
+{
+    let Some(all) = items.as_mut_array::<BLOCK>() else {
+        unreachable!()
+    };
+    *all = block;
+}
+
 // Copies a block of items to another place; the two places may lie over one another.
 fn move_block<T: Copy>(items: &mut [T], from: usize, to: usize)
     requires from { from + 8 ≤ length items.old }
@@ -17,7 +28,7 @@ fn move_block<T: Copy>(items: &mut [T], from: usize, to: usize)
         unreachable!()
     };
     let block = *first;
-    items[to..to + BLOCK].copy_from_slice(&block[..]);
+    put_block(&mut items[to..to + BLOCK], block);
 }
 
 // Moves items up within the list, the last ones first: `slice::copy_within`, by blocks.

@@ -7,16 +7,13 @@ ghost use Rattle.json.specs.Print.{escape, quoted};
 ghost use Rattle.ot_values.specs.Values.{text_of};
 ghost use Rattle.ot_values.specs.Values.{Continues};
 
-use ot_isa::{Tagged, plain};
+use ot_isa::Tagged;
 use ot_text::{Doc, Pieces};
 use serde_json::Value;
 use std::alloc::{AllocError, Global};
 
 /// So many letters a piece of a document has at most.
 const PIECE: usize = 512;
-
-/// So many letters are looked at before there is a way out.
-const STEP: usize = 8;
 
 /// What is printed as a character.
 pub trait Letter {
@@ -65,16 +62,6 @@ fn push_plain<T: Letter>(text: &mut String, letters: &[T]) -> Result<(), AllocEr
     Ok(())
 }
 
-// Whether JSON escapes the letter, or it is beyond `~`.
-fn is_odd(letter: char) -> bool
-    ensures printable { result ≡ false → 32 ≤ letter }
-    ensures ascii { result ≡ false → letter ≤ 126 }
-    ensures unquoted { result ≡ false → letter ≡ 34 → ⊥ }
-    ensures unescaped { result ≡ false → letter ≡ 92 → ⊥ }
-{
-    (letter < ' ') | (letter > '~') | (letter == '"') | (letter == '\\')
-}
-
 // The lowest byte of a letter.
 fn low_byte(letter: char) -> u8
     ensures { letter < 128 → result ≡ letter }
@@ -82,34 +69,81 @@ fn low_byte(letter: char) -> u8
     (letter as u32 % 256) as u8
 }
 
-// Puts the letters into the front of `bytes`, where each is one byte, which JSON writes as it is.
+// Whether the letter is beyond `~`, the last one of one byte that can be printed.
+fn is_beyond(letter: char) -> bool
+    ensures { result ≡ false → letter < 128 }
+{
+    letter > '~'
+}
+
+// Puts the lowest byte of each letter into the front of `bytes`. Says whether no letter is beyond `~`: then these bytes are their text.
+fn put_low<T: Letter>(letters: &[T], bytes: &mut [u8]) -> bool
+    requires { length letters.now ≤ length bytes.old }
+    ensures bytes { OnTrue result (take (length letters.now) bytes.new ≡ encode_utf8_all (map T.code letters.now)) }
+    ensures length { length bytes.new ≡ length bytes.old }
+{
+    let mut beyond = false;
+    for place in 0..letters.len() {
+        let letter = letters[place].letter();
+        beyond |= is_beyond(letter);
+        bytes[place] = low_byte(letter);
+    }
+    !beyond
+}
+
+// Whether JSON writes the byte in another way.
+fn is_escaped(byte: u8) -> bool
+    ensures printable { result ≡ false → 32 ≤ byte }
+    ensures unquoted { result ≡ false → byte ≡ 34 → ⊥ }
+    ensures unescaped { result ≡ false → byte ≡ 92 → ⊥ }
+{
+    (byte < b' ') | (byte == b'"') | (byte == b'\\')
+}
+
+// Whether JSON writes the bytes as they are.
+fn are_free(bytes: &[u8]) -> bool
+    ensures { OnTrue result (escape bytes.now ≡ bytes.now) }
+{
+    let mut escaped = false;
+    for place in 0..bytes.len() {
+        escaped |= is_escaped(bytes[place]);
+    }
+    !escaped
+}
+
+// Puts the letters into the front of `bytes`, where each is one byte, which JSON writes as it is. All are looked at, with no way out between
+// them, so that the compiler can look at many at a time.
 fn put_ascii<T: Letter>(letters: &[T], bytes: &mut [u8]) -> bool
     requires { length letters.now ≤ length bytes.old }
     ensures bytes { OnTrue result (take (length letters.now) bytes.new ≡ encode_utf8_all (map T.code letters.now)) }
     ensures plain { OnTrue result (escape (encode_utf8_all (map T.code letters.now)) ≡ encode_utf8_all (map T.code letters.now)) }
     ensures length { length bytes.new ≡ length bytes.old }
 {
-    let mut place = 0;
-    while letters.len() - place >= STEP {
-        let mut odd = false;
-        for step in 0..STEP {
-            let letter = letters[place + step].letter();
-            odd |= is_odd(letter);
-            bytes[place + step] = low_byte(letter);
+    put_low(letters, bytes) && are_free(&bytes[..letters.len()])
+}
+
+// Adds the letters as they are: at once, where each is one byte.
+fn push_text<T: Letter>(text: &mut String, letters: &[T]) -> Result<(), AllocError>
+    ensures { OnOk result (string_bytes text.new ≡ string_bytes text.old ++ encode_utf8_all (map T.code letters.now)) }
+{
+    let mut bytes = [0u8; PIECE];
+    if letters.len() <= PIECE && put_low(letters, &mut bytes[..]) {
+        if let Ok(ascii) = std::str::from_utf8(&bytes[..letters.len()]) {
+            return text.push_str(ascii);
         }
-        if odd {
-            return false;
-        }
-        place += STEP;
     }
-    for at in place..letters.len() {
-        let letter = letters[at].letter();
-        if is_odd(letter) {
-            return false;
-        }
-        bytes[at] = low_byte(letter);
+    push_plain(text, letters)
+}
+
+// Adds all letters that are left, as they are.
+fn push_texts<T: Letter>(text: &mut String, pieces: Pieces<'_, T>) -> Result<(), AllocError>
+    ensures { OnOk result (string_bytes text.new ≡ string_bytes text.old ++ encode_utf8_all (map T.code pieces.entry)) }
+{
+    let mut ahead = pieces;
+    while let Some(piece) = ahead.next() {
+        push_text(text, piece)?;
     }
-    true
+    Ok(())
 }
 
 // Adds the letters, if JSON writes them as they are.
@@ -184,5 +218,7 @@ pub fn push_quoted(alloc: Global, text: &mut String, list: &Doc<Tagged>) -> Resu
         return text.push('"');
     }
     text.truncate(start);
-    push_escaped(alloc, text, plain(alloc, list)?)
+    let mut plain = String::new(alloc);
+    push_texts(&mut plain, list.pieces())?;
+    push_escaped(alloc, text, plain)
 }
