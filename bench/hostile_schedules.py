@@ -145,6 +145,22 @@ def split_deletion(clients=64, groups=7000, places=700):
     return [*lines, *["deliver 0"] * (entries + 1)]
 
 
+def split_crowd(waiting=32, clients=64, groups=7000, places=330):
+    """32 clients that delete all, and take an operation that splits each one's deletion into 14,000 components; then as many deliveries as there can be, some 90,000, of
+    operations that change it at 330 more places, from 31 clients that join one after the other."""
+    length = 30000
+    lines = [f"clients {clients}", f"present {waiting + 1}", 'start "' + "a" * length + '"', *(f"edit {c} [-{length}]" for c in range(waiting))]
+    lines += [f"edit {waiting} {grid(1, 4, groups, length, False)}", f"take {waiting}", f"ack {waiting}"]
+    length, entries = length + groups, 1
+    for c in range(waiting + 1, clients):
+        lines.append(f"join {c}")
+        for k in range(2 * (15000 // places)):
+            lines += [f"edit {c} {grid(3, 100, places, length, k % 2)}", f"take {c}", f"ack {c}"]
+            entries += 1
+    entries = min(entries, (100000 - len(lines)) // waiting)
+    return [*lines, *[f"deliver {c}" for _ in range(entries) for c in range(waiting)]]
+
+
 def split_at_many_places(clients=64, groups=7000, places=700):
     """64 clients that delete all of a text but what splits the deletion into 14,000 components, and then put characters in at 700 places and take them out again."""
     length = 30000
@@ -170,6 +186,16 @@ def idle_watch(edits=20000, length=40000):
     return [*opening(2, length), *typed(1, edits, length), "%%", "watch doc 0", "run"]
 
 
+def many_watches(watches=50000, edits=14500):
+    """A watch on the server, set 50,000 times, and a run of 29,000 edits none of which it sees."""
+    return [*opening(1, 0), *['edit 0 ["x"]', "edit 0 [-1]"] * edits, "%%", *["watch server"] * watches, "run"]
+
+
+def unchanged_watched(edits=99000, length=40000):
+    """A watch on a text of 40,000, and 99,000 edits that change nothing of it."""
+    return [*opening(1, length), *[f"edit 0 [{length}]"] * edits, "%%", "watch doc 0", "run"]
+
+
 SHAPES = {
     "long-message": long_message,
     "long-message-both-ends": lambda: long_message_at_places(2),
@@ -183,12 +209,16 @@ SHAPES = {
     "five-places": lambda: at_places(5),
     "fifteen-places": lambda: at_places(15),
     "split-deletion": split_deletion,
+    "split-crowd": split_crowd,
     "reads": reads,
     "many-places-edited": split_at_many_places,
     "pending-debugged": lambda: debugged(pending(), "run", "back 1"),
     "going-back": lambda: debugged(pending(), "run", "back 20000"),
     "both-ends-debugged": lambda: debugged(at_places(2), "run", "back 14000"),
     "idle-watch": idle_watch,
+    "many-watches": many_watches,
+    "unchanged-watched": unchanged_watched,
+    "reads-debugged": lambda: debugged(reads(), "run", "back 100000", "run"),
 }
 WORDS = ("run", "check", "steps", "explain", "conform")
 

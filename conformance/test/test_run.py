@@ -1,7 +1,6 @@
 """The runner: drivers of every kind, and what is printed of them."""
 import os
 import subprocess
-import sys
 import tempfile
 import time
 import unittest
@@ -12,24 +11,18 @@ from port import Driver
 BUILT = KIT.parent / "crates" / "otbench" / "out" / "otbench"
 
 
-def python(text):
-    """A driver in a line."""
-    return [sys.executable, "-c", text]
-
-
 class Drivers(unittest.TestCase):
     def test_what_is_printed_and_how_it_ended(self):
-        read = "import sys, os, time; text = sys.stdin.read(); "
         rows = [
-            (read + "print(text)", b"clients 1\n\n", None),
-            ("print(1)", b"1\n", None),
-            (read + "sys.exit('at the end')", b"", "the driver ended with status 1: at the end"),
-            (read + "print(2, flush=True); os.kill(os.getpid(), 11)", b"2\n", "the driver was ended by signal 11"),
-            ("import time; print(3, flush=True); time.sleep(60)", b"3\n", "the driver was ended: it took more than 2 s"),
-            ("import os, time; os.close(1); os.close(2); time.sleep(60)", b"", "the driver was ended: it took more than 2 s"),
+            (["cat"], 60, b"clients 1\n", None),
+            (["echo", "1"], 60, b"1\n", None),
+            (["sh", "-c", "cat; echo at the end >&2; exit 1"], 60, b"clients 1\n", "the driver ended with status 1: at the end"),
+            (["sh", "-c", "cat >/dev/null; echo 2; kill -SEGV $$"], 60, b"2\n", "the driver was ended by signal 11"),
+            (["sh", "-c", "echo 3; sleep 60"], 5, b"3\n", "the driver was ended: it took more than 5 s"),
+            (["sh", "-c", "exec >&- 2>&-; sleep 60"], 5, b"", "the driver was ended: it took more than 5 s"),
         ]
-        for text, printed, trouble in rows:
-            self.assertEqual(Driver(python(text), 2, 1000).perform("clients 1\n"), (printed, trouble), text)
+        for command, seconds, printed, trouble in rows:
+            self.assertEqual(Driver(command, seconds, 1000).perform("clients 1\n"), (printed, trouble), command)
 
     def test_one_that_prints_without_end(self):
         printed, trouble = Driver(["yes"], 60, 100_000).perform("clients 1\n")

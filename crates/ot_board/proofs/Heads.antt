@@ -1,13 +1,13 @@
 -- The next message of a session, and the rows that look at it.
-use Rattle.std.proofs.Common.{◌≡◌, ℕ, ◌<◌, List, [], ◌∷◌, length, map, refl, sym, ap, ◌∙◌, subst, Some, None, true, arith, Bool}
+use Rattle.std.proofs.Common.{◌≡◌, ℕ, ◌<◌, List, [], ◌∷◌, length, map, refl, sym, ap, ◌∙◌, Some, true, arith}
 use Rattle.std.proofs.lemmas.Bool.Decides.{nat_tests}
 use Rattle.std.proofs.lemmas.Option.{same_Some}
-use Rattle.std.specs.Prelude.{slice_get, ◌==◌, if◌then◌else◌}
+use Rattle.std.specs.Prelude.{slice_get, ◌==◌}
 use Rattle.ot_isa.specs.declared.instruction.Instr.TheVariants.{Deliver, Acknowledge}
 use Rattle.ot_model.specs.declared.shown.Refusal.TheVariants as table
 use Rattle.ot_model.specs.Operation.{Operation}
 use Rattle.ot_isa.specs.declared.elements.Tagged.{Tagged}
-use Rattle.ot_model.specs.Table.{Head, Ack, Op}
+use Rattle.ot_model.specs.Table.{Ack, Op}
 use Rattle.ot_model.specs.Part.{Part, PartOutcome, PartRefused, if_own, part_row, part_deliver, part_acknowledge}
 use Rattle.ot_model.specs.Session.{Session}
 use Rattle.ot_machine.specs.declared.part.Message.{Message}

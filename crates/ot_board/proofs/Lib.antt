@@ -3,4 +3,5 @@ mod Heads
 mod Moves
 mod Boarding
 mod Owning
+mod Performing
 pub mod Replaying

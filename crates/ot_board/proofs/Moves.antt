@@ -1,5 +1,5 @@
 -- What a session's call finds and leaves.
-use Rattle.std.proofs.Common.{◌≡◌, ℕ, zero, suc, ◌+◌, ◌<◌, ◌≤◌, ◌≢◌, List, [], ◌∷◌, ◌++◌, length, map, take, drop, refl, sym, ap, ◌∙◌, subst, Option, Some, None, true, false, arith, Bool}
+use Rattle.std.proofs.Common.{◌≡◌, ℕ, zero, suc, ◌+◌, ◌<◌, ◌≤◌, List, [], ◌∷◌, ◌++◌, length, map, take, drop, refl, sym, ap, ◌∙◌, subst, Option, Some, None, true, false, arith, Bool}
 use Rattle.std.proofs.lemmas.Bool.{eqb-false, eqb-true}
 use Rattle.std.proofs.lemmas.List.{length-append}
 use Rattle.std.specs.Prelude.{slice_get, ◌==◌, nat_lt, if◌then◌else◌}
@@ -14,9 +14,9 @@ use Rattle.ot_model.specs.declared.shown.Shown.{Shown}
 use Rattle.ot_model.specs.Operation.{Operation, apply, inserted}
 use Rattle.ot_model.proofs.States.{length-news-tag_items}
 use Rattle.std.proofs.lemmas.Bool.Decides.{nat_tests}
-use Rattle.ot_model.specs.Table.{Client, Phase, Entry, Head, Ack, Op, Message, acknowledged, head_for, is_joined, NotJoined, Synchronized, AwaitingConfirm, AwaitingWithBuffer, phase_in, carried, delivered, phase_delivered, edited, phase_edited, message_edited, tag_operation}
+use Rattle.ot_model.specs.Table.{Client, Phase, Entry, Head, Ack, Op, Message, acknowledged, head_for, Synchronized, AwaitingConfirm, phase_in, carried, delivered, phase_delivered, edited, phase_edited, message_edited, tag_operation}
 use Rattle.ot_model.specs.Laws.{IsDeliverable, MayDeliver}
-use Rattle.ot_model.specs.Sound.{IsInstr, AreInstrs, IsPhaseSound, IsSynchronizedSound, IsSoundFrom, NoneBy, apply_entries}
+use Rattle.ot_model.specs.Sound.{IsInstr, AreInstrs, IsPhaseSound, IsSynchronizedSound, NoneBy, apply_entries}
 use Rattle.ot_model.specs.Part.{Part, PartPerformed, part_row, part_acknowledge, part_deliver, part_edit, part_with, part_read, with_part}
 use Rattle.ot_model.specs.Session.{Session, IsAllowed, installed, or_else}
 use Rattle.ot_model.proofs.Fitting.{deliverable}

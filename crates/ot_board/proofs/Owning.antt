@@ -1,7 +1,6 @@
 -- The steps of a session are of its own client.
-use Rattle.std.proofs.Common.{◌≡◌, ℕ, ◌+◌, ◌<◌, List, [], ◌∷◌, refl, sym, ap, ◌∙◌, subst, Option, Some, None, true, false, Bool, arith}
+use Rattle.std.proofs.Common.{◌≡◌, ℕ, ◌+◌, ◌<◌, List, [], ◌∷◌, refl, sym, ap, ◌∙◌, subst, Option, Some, None, true, false, Bool}
 use Rattle.std.proofs.lemmas.Bool.{eqb-true}
-use Rattle.std.proofs.lemmas.Option.{same_Some}
 use Rattle.std.proofs.lemmas.List.Elements.{All-nil, All-cons}
 use Rattle.std.specs.Prelude.{◌==◌, nat_lt, not, length, if◌then◌else◌}
 use Rattle.std.specs.List.{All}
@@ -10,7 +9,7 @@ use Rattle.ot_isa.specs.declared.instruction.Instr.TheVariants.{Edit, Take, Deli
 use Rattle.ot_isa.specs.Program.{IsForClients}
 use Rattle.ot_model.specs.declared.shown.Shown.{Shown}
 use Rattle.ot_model.specs.declared.shown.Refusal.TheVariants.{BadBase, ClientFull}
-use Rattle.ot_model.specs.Operation.{Operation, inserted}
+use Rattle.ot_model.specs.Operation.{inserted}
 use Rattle.ot_model.specs.Table.{Client, Head, Ack, Op, acknowledged, delivered, edited, tag_operation, with_shown}
 use Rattle.ot_model.specs.Part.{Part, PartOutcome, PartPerformed, PartRefused, PartNoRow, PartPlace, part_row, part_edit, part_deliver, part_acknowledge, part_with, part_read, if_own, run_part, with_part}
 

@@ -1,5 +1,5 @@
 -- A recorded schedule, run again.
-use Rattle.std.proofs.Common.{◌≡◌, ℕ, ◌+◌, ◌<◌, List, [], ◌++◌, length, take, refl, sym, ap, ◌∙◌, arith, Option, Some, None}
+use Rattle.std.proofs.Common.{◌≡◌, ℕ, ◌+◌, List, [], ◌++◌, length, take, refl, sym, ap, ◌∙◌, arith, Option, Some, None}
 use Rattle.std.proofs.lemmas.List.{append-nil, take_all}
 use Rattle.std.proofs.lemmas.Option.{same_Some, slice_get_within}
 use Rattle.ot_isa.specs.declared.instruction.Instr.{Instr}
@@ -11,7 +11,7 @@ use Rattle.ot_model.specs.Table.{State, Place, begin, run, performed}
 use Rattle.ot_model.specs.Runs.{done, opening_of, place_at}
 use Rattle.ot_model.specs.Session.{RunsTo}
 use Rattle.ot_model.proofs.Runs.{performed-append}
-use Rattle.ot_machine.specs.Ended.{reached, IsRefusedIn, IsRun, IsStop, IsStopAt}
+use Rattle.ot_machine.specs.Ended.{reached, IsRefusedIn, IsStop, IsStopAt}
 use Rattle.ot_board.specs.Boards.{EndsIn, RunsEndIn}
 
 module _ (s : Program) (state : State) (shown : List Shown) (ran : run s.instrs (begin s.clients s.present s.start) ≡ Some (record { state = state; shown = shown })) where

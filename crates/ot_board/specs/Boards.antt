@@ -1,5 +1,5 @@
 -- What a board keeps, and what its calls make of it.
-use Rattle.std.specs.Prelude.{◌≡◌, ℕ, ◌+◌, ◌*◌, ◌<◌, ◌≤◌, Bool, true, false, List, [], ◌∷◌, ◌++◌, length, map, set, replicate, slice_get, count_by, Option, Some, None}
+use Rattle.std.specs.Prelude.{◌≡◌, ℕ, ◌+◌, ◌*◌, ◌<◌, ◌≤◌, Bool, true, false, List, ◌++◌, length, map, set, take, replicate, slice_get, count_by, Option, Some, None}
 use Rattle.std.specs.Option.{option_map}
 use Rattle.ot_isa.specs.declared.instruction.Instr.{Instr}
 use Rattle.ot_isa.specs.declared.instruction.Instr.TheVariants.{Take, Join}
@@ -7,7 +7,7 @@ use Rattle.ot_isa.specs.Program.{Program}
 use Rattle.ot_isa.specs.Program as program
 use Rattle.ot_model.specs.declared.shown.Refusal.{Refusal}
 use Rattle.ot_model.specs.declared.shown.Refusal.TheVariants as table
-use Rattle.ot_model.specs.Table.{Client, State, is_joined, opening, step, Refused}
+use Rattle.ot_model.specs.Table.{State, is_joined, opening, step, Refused}
 use Rattle.ot_model.specs.Runs.{opening_of}
 use Rattle.ot_model.specs.Session.{Session, Begins, IsPartIn, RunsTo}
 use Rattle.ot_machine.specs.Answers.{IsPerformed}
@@ -16,6 +16,7 @@ use Rattle.ot_machine.specs.Readers.{ClientHas}
 use Rattle.ot_machine.specs.declared.outcome.Replay.{Replay}
 use Rattle.ot_board.specs.declared.lent.Lent.{Lent}
 use Rattle.ot_board.specs.declared.receipt.Receipt.{Receipt}
+use Rattle.ot_board.specs.declared.receipt.Replayed.{Replayed}
 use Rattle.ot_board.specs.declared.refusal.BoardRefusal.{BoardRefusal}
 use Rattle.ot_board.specs.declared.refusal.BoardRefusal.TheVariants.{NoSuchClient, NotJoined, AlreadyJoined, Out, NotParked, RecordFull, LinkEmpty, Memory}
 use Rattle.ot_board.specs.declared.refusal.SettleRefusal.{SettleRefusal}
@@ -135,6 +136,43 @@ IsHere b x = (slice_get b.out x.start.number ≡ Some true) × (slice_get b.park
 abbrev pub IsSettleRefusal : BoardView → Session → SettleRefusal → Type 0
 IsSettleRefusal b x settle.Stranger = IsHere b x → ⊥
 IsSettleRefusal b x settle.Memory = IsHere b x
+
+-- the session's client is out here and is not parked
+abbrev pub IsAwaited : BoardView → Session → Type 0
+IsAwaited b x = (slice_get b.out x.start.number ≡ Some true) × (slice_get b.parked x.start.number ≡ Some None)
+
+-- why none of a session's steps is performed here
+abbrev pub IsReplayRefusal : BoardView → Session → SettleRefusal → Type 0
+IsReplayRefusal b x settle.Stranger = IsAwaited b x → ⊥
+IsReplayRefusal b x settle.Memory = IsAwaited b x
+
+-- the machine's refusal of a step: want of memory, or the table's
+abbrev pub stop_of : Refusal → SettleRefusal
+stop_of table.NoSuchClient = settle.Stranger
+stop_of table.StepsFull = settle.Stranger
+stop_of table.NotJoined = settle.Stranger
+stop_of table.AlreadyJoined = settle.Stranger
+stop_of table.BadBase = settle.Stranger
+stop_of table.ClientFull = settle.Stranger
+stop_of table.LinkEmpty = settle.Stranger
+stop_of table.WrongHead = settle.Stranger
+stop_of table.Memory = settle.Memory
+
+-- the steps from one on are not performed: the table refuses it, or would perform it and memory was wanting
+abbrev pub IsStopAt : State → List Instr → ℕ → SettleRefusal → Type 0
+IsStopAt s steps count settle.Stranger = (i : Instr) × (r : Refusal) × (slice_get steps count ≡ Some i) × (step s i ≡ Refused r)
+IsStopAt s steps count settle.Memory = (i : Instr) × (slice_get steps count ≡ Some i) × IsPerformed (step s i)
+
+-- after so many of the steps, in this state, none is left, or the next one is not performed
+abbrev pub IsStop : State → List Instr → ℕ → Option SettleRefusal → Type 0
+IsStop s steps count None = count ≡ length steps
+IsStop s steps count (Some refusal) = IsStopAt s steps count refusal
+
+-- the first of the session's steps are performed and recorded, as many as the machine performs, and the client is in
+pub record IsReplayed (b : BoardView) (x : Session) (a : BoardView) (r : Replayed) : Type 0 where
+  pub count : ℕ
+  pub recorded : IsRecorded b (take count x.steps) (set b.out x.start.number false) a r.receipt
+  pub stop : IsStop a.state x.steps count r.stopped
 
 -- why no session is picked up
 abbrev pub IsPickUpRefusal : BoardView → ℕ → BoardRefusal → Type 0

@@ -1,5 +1,5 @@
 -- How receipts, listed by worker, tile a record: each step of the record stands in exactly one block.
-use Rattle.std.specs.Prelude.{◌≡◌, ℕ, suc, ◌+◌, ◌<◌, ◌≤◌, ◌⊎◌, ◌&&◌, min, nat_le, nat_lt, slice_index, Bool, List, length, map, take, drop, slice_get, count_by, sum_by, Option, Some}
+use Rattle.std.specs.Prelude.{◌≡◌, ℕ, suc, ◌+◌, ◌<◌, ◌≤◌, ◌&&◌, min, nat_le, nat_lt, slice_index, Bool, List, length, map, take, drop, slice_get, count_by, sum_by, Some}
 use Rattle.std.specs.List.{All}
 use Rattle.std.specs.Prelude.{Vec, vec_items}
 use Rattle.std.specs.declared.alloc.Global.{Global}

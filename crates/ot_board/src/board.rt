@@ -1,6 +1,6 @@
 //! The board: what it lends, what it takes back, and what it records.
 
-ghost use Rattle.std.specs.Prelude.{◌≡◌, ◌+◌, ◌*◌, ◌<◌, ◌≤◌, ◌↔◌, true, false, None, Some, length, map, replicate, set, slice_get, [], ◌∷◌, ◌++◌, IfErr, IfNone, IfOk, IfSome, IsTrue, OnErr, OnOk};
+ghost use Rattle.std.specs.Prelude.{◌≡◌, ◌≢◌, ◌+◌, ◌*◌, ◌<◌, ◌≤◌, ◌↔◌, true, false, None, Some, length, map, replicate, set, slice_get, take, [], ◌∷◌, ◌++◌, IfErr, IfNone, IfOk, IfSome, IsTrue, OnErr, OnOk};
 ghost use Rattle.ot_isa.specs.Program.{with_instr, AreClients, IsForClients};
 ghost use Rattle.ot_isa.specs.declared.instruction.Instr.TheVariants.{Join, Take};
 ghost use Rattle.ot_model.specs.Table.{step};
@@ -10,17 +10,17 @@ ghost use Rattle.ot_machine.specs.Answers.{IsPerformed};
 ghost use Rattle.std.specs.List.{All};
 ghost use Rattle.ot_model.specs.Table.{is_joined};
 ghost use Rattle.ot_machine.specs.Readers.{ClientHas};
-ghost use Rattle.ot_board.specs.Boards.{IsBegun, with_steps};
+ghost use Rattle.ot_board.specs.Boards.{IsBegun, IsStop, stop_of, with_steps};
 ghost use Rattle.ot_board.specs.Lents.{session_of};
 ghost use Rattle.ot_isa.specs.declared.builder.TheConstants.{START_LIMIT};
 
 use crate::lent::Lent;
-use crate::receipt::Receipt;
+use crate::receipt::{Receipt, Replayed};
 use crate::refusal::{BoardRefusal, SettleRefusal};
 use crate::session::{Remains, SESSION_LIMIT, Session};
 use ot_client::Client;
 use ot_isa::{Builder, INSTR_LIMIT, Instr, PushFault, Schedule};
-use ot_machine::{Machine, Part};
+use ot_machine::{Machine, Part, Refusal};
 use std::alloc::{AllocError, Global};
 use std::marker::Model;
 
@@ -93,8 +93,33 @@ fn perform(machine: &mut Machine, instr: &Instr) -> Result<(), AllocError>
     }
 }
 
+// Why the machine does not perform a step, as a session's refusal.
+fn stop_of(refusal: Refusal) -> SettleRefusal
+    ensures { result ≡ stop_of refusal }
+{
+    match refusal {
+        Refusal::Memory => SettleRefusal::Memory,
+        _ => SettleRefusal::Stranger,
+    }
+}
+
+// Performs the steps up to the first that the machine does not perform: how many it performs, and why no more.
+fn perform_first(machine: &mut Machine, steps: &[Instr]) -> (usize, Option<SettleRefusal>)
+    ensures within { result.0 ≤ length steps.now }
+    ensures ran { RunsTo machine.old (take result.0 steps.now) machine.new }
+    ensures stop { IsStop machine.new steps.now result.0 result.1 }
+{
+    for place in 0..steps.len() {
+        match machine.perform(&steps[place]) {
+            Ok(_reader) => {}
+            Err(refusal) => return (place, Some(stop_of(refusal))),
+        }
+    }
+    (steps.len(), None)
+}
+
 impl Board {
-    ghost use Rattle.ot_board.specs.Boards.{board_in, fresh, outside, with_out, with_parked, HasRoomFor, IsBoard, IsHere, IsJoinRefusal, IsLendRefusal, IsPickUpRefusal, IsRecorded, IsSettleRefusal, IsTakeRefusal, AreIn, IsFinished, IsLeastOut, RunsEndIn};
+    ghost use Rattle.ot_board.specs.Boards.{board_in, fresh, outside, with_out, with_parked, HasRoomFor, IsBoard, IsHere, IsJoinRefusal, IsLendRefusal, IsAwaited, IsPickUpRefusal, IsRecorded, IsReplayed, IsReplayRefusal, IsSettleRefusal, IsTakeRefusal, AreIn, IsFinished, IsLeastOut, RunsEndIn};
 
     /// The board at the opening, with all of its 1 to 64 clients joined, nothing recorded and nobody out. The start text has at most 40,000 scalars.
     pub fn new(alloc: Global, clients: u16, start: &[char]) -> Result<Board, AllocError>
@@ -258,20 +283,25 @@ impl Board {
         if !self.has_room_for(SESSION_LIMIT) {
             return Err(BoardRefusal::RecordFull);
         }
+        self.machine.share(client)?;
         let lent = copy_out(self.alloc, &self.machine, client)?;
         self.out[client as usize] = true;
         Ok(lent)
+    }
+
+    // Whether the session's client is out here and not parked.
+    fn is_awaited(&self, lent: &Lent) -> bool
+        ensures { IsTrue result ↔ IsAwaited self.now (session_of lent.now) }
+    {
+        let client = lent.client() as usize;
+        client < self.out.len() && self.out[client] && self.slots[client].is_none()
     }
 
     // Whether the session's client is out here and not parked, and is as the session's start.
     fn is_here(&self, lent: &Lent) -> bool
         ensures { IsTrue result ↔ IsHere self.now (session_of lent.now) }
     {
-        let client = lent.client() as usize;
-        client < self.out.len()
-            && self.out[client]
-            && self.slots[client].is_none()
-            && self.machine.begins(lent.start())
+        self.is_awaited(lent) && self.machine.begins(lent.start())
     }
 
     /// Puts the session into its client's slot, where it waits. `Stranger` where the session's client is not out here, or is parked, or the
@@ -284,6 +314,21 @@ impl Board {
         ensures unchanged { OnErr result (self.new ≡ self.old) }
     {
         if !self.is_here(&lent) {
+            return Err((SettleRefusal::Stranger, lent));
+        }
+        self.hold(lent)
+    }
+
+    /// Puts the session into its client's slot, as [`Board::park`] does, whether or not the session's start begins the board's client: nothing
+    /// is compared. `Stranger` where the session's client is not out here, or is parked; the session then comes back. It takes no memory.
+    pub fn hold(&mut self, lent: Lent) -> Result<(), (SettleRefusal, Lent)>
+        ensures ok { OnOk result (self.new ≡ with_parked self.old (session_of lent).start.number (Some (session_of lent))) }
+        ensures refused { IfErr result (λ e. e.0 ≡ SettleRefusal.Stranger) }
+        ensures stranger { IfErr result (λ e. IsReplayRefusal self.old (session_of lent) e.0) }
+        ensures back { IfErr result (λ e. e.1 ≡ lent) }
+        ensures unchanged { OnErr result (self.new ≡ self.old) }
+    {
+        if !self.is_awaited(&lent) {
             return Err((SettleRefusal::Stranger, lent));
         }
         let client = lent.client() as usize;
@@ -335,6 +380,42 @@ impl Board {
         append_all(&mut self.recorded, copies);
         self.out[client] = false;
         Ok(Receipt { first, steps })
+    }
+
+    /// Has the machine perform the session's steps, one after the other at this moment, and records those that it performs. What the session
+    /// made off the machine is dropped, so nothing is compared. Refused at once, in order: `Stranger` where the session's client is not out
+    /// here, or is parked, and `Memory` where the record or the copies of the steps find no room; the session then comes back. Else the client
+    /// is in again, and the answer says which steps were performed and why no more: none of a session that is as `settle` wants it is refused,
+    /// want of memory aside.
+    pub fn replay(&mut self, lent: Lent) -> Result<Replayed, (SettleRefusal, Lent)>
+        ensures ok { IfOk result (λ r. IsReplayed self.old (session_of lent) self.new r) }
+        ensures here { IsHere self.old (session_of lent) → IfOk result (λ r. r.stopped ≢ Some SettleRefusal.Stranger) }
+        ensures refused { IfErr result (λ e. IsReplayRefusal self.old (session_of lent) e.0) }
+        ensures back { IfErr result (λ e. e.1 ≡ lent) }
+        ensures unchanged { OnErr result (self.new ≡ self.old) }
+    {
+        if !self.is_awaited(&lent) {
+            return Err((SettleRefusal::Stranger, lent));
+        }
+        let Ok(mut performed) = copy_instrs(self.alloc, lent.steps()) else {
+            return Err((SettleRefusal::Memory, lent));
+        };
+        match self.recorded.reserve(performed.len()) {
+            Ok(()) => {}
+            Err(_) => return Err((SettleRefusal::Memory, lent)),
+        }
+        let first = self.recorded.instrs().len();
+        let client = lent.client() as usize;
+        let mut steps = lent.into_steps();
+        let (count, stopped) = perform_first(&mut self.machine, steps.as_slice());
+        steps.truncate(count);
+        performed.truncate(count);
+        append_all(&mut self.recorded, performed);
+        self.out[client] = false;
+        Ok(Replayed {
+            receipt: Receipt { first, steps },
+            stopped,
+        })
     }
 
     // The least client that is out.
@@ -429,14 +510,12 @@ fn copy_out(alloc: Global, machine: &Machine, client: u16) -> Result<Lent, Alloc
     // For the proof: what every machine keeps.
     let _sound = machine.clients();
     let steps = Vec::with_capacity(alloc, SESSION_LIMIT)?;
-    let mut start = machine.part(client)?;
-    start.list.share()?;
-    let now = machine.part(client)?;
-    let list = start.list.copy()?;
+    let start = machine.part(client)?;
+    let now = start.copy()?;
     let Part {
         number: _,
         client,
-        list: _,
+        list,
         count,
         incoming,
         sent,

@@ -91,4 +91,16 @@ impl Lent {
             Lent::AwaitingWithBuffer(session) => session.into_remains(),
         }
     }
+
+    // Its steps alone.
+    pub(crate) fn into_steps(self) -> Vec<Instr>
+        ensures steps { result.items ≡ (session_of self).steps }
+        ensures allowed { IsAllowed (session_of self) }
+    {
+        match self {
+            Lent::Synchronized(session) => session.into_steps(),
+            Lent::AwaitingConfirm(session) => session.into_steps(),
+            Lent::AwaitingWithBuffer(session) => session.into_steps(),
+        }
+    }
 }

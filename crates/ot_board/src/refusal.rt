@@ -42,12 +42,13 @@ pub enum BoardRefusal {
     Memory,
 }
 
-/// Why a session is not settled. It comes back, and the board is as it was.
+/// Why a session is not settled: it comes back, and the board is as it was. Also why `Board::replay` performs no further step of one.
 #[derive(Clone, Copy, Debug, PartialEq, Eq)]
 pub enum SettleRefusal {
-    /// The session's client is not out here, or is parked, or the session's start does not begin the board's client.
+    /// The session's client is not out here, or is parked, or the session's start does not begin the board's client (settle, park), or the table
+    /// refuses the next step (replay).
     Stranger,
-    /// A growth was refused, and the session would be settled otherwise.
+    /// A growth was refused, and the session would be settled otherwise, or the step performed.
     Memory,
 }
 

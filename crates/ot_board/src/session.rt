@@ -257,6 +257,16 @@ impl<S: ClientState> Session<S> {
     }
 }
 
+impl<S: ClientState> Session<S> {
+    // The steps alone.
+    pub(crate) fn into_steps(self) -> Vec<Instr>
+        ensures steps { result.items ≡ self.steps }
+        ensures allowed { IsAllowed self }
+    {
+        self.steps
+    }
+}
+
 impl<S: EditedState> Session<S> {
     // The client after the edit, what it sends, and the edit with its tags.
     fn edited(

@@ -8,7 +8,7 @@ ghost use Rattle.ot_commands.specs.Debugged.{talk_status, Debugs, MayConverse, T
 use line_reader::ReadAhead;
 use ot_asm::{AsmFault, Kind, assemble_until_mark};
 use ot_console::{TalkStop, talk};
-use ot_debug::Debugger;
+use ot_debug::Stepper;
 use ot_input::complain_of_line;
 use ot_isa::Schedule;
 use outcomes::complain_of_memory;
@@ -59,7 +59,7 @@ fn converse<I: Read, O: Write, F: Write>(
 ) -> u8
     ensures { IfSome (before ahead.old (I.remaining input.old)) (λ rest. MayConverse schedule (lines_of rest) earlier result (record { output = O.contents output.old; output' = O.contents output.new; faults = F.contents faults.old; faults' = F.contents faults.new })) }
 {
-    let Ok(mut debugger) = Debugger::new(alloc, schedule) else {
+    let Ok(mut debugger) = Stepper::new(alloc, schedule) else {
         complain_of_memory(faults);
         return 1;
     };

@@ -1,7 +1,7 @@
 //! The debugger's commands as lines of text, its replies as printed lines, and the talk between the two.
 //!
 //! ```text
-//!    line ── trimmed, split into words ──▶ Command ──▶ Debugger ──▶ Reply ──▶ line
+//!    line ── trimmed, split into words ──▶ Command ──▶ Stepper  ──▶ Reply ──▶ line
 //!    "back 1"                              Back(1)                  Stopped     "at 2: count"
 //! ```
 //!

@@ -4,7 +4,7 @@ ghost use Rattle.std.specs.Prelude.{◌≡◌, IfOk, IsErr, string_bytes};
 ghost use Rattle.std.specs.Cow.{cow_str_bytes};
 ghost use Rattle.ot_console.specs.Replies.{is_fault, is_refused, place_line, stopped_line, IsMade, IsReplyText};
 
-use ot_debug::{Debugger, Reply, Why};
+use ot_debug::{Reply, Stepper, Why};
 use ot_report::print_end;
 use ot_values::refusal_name;
 use std::alloc::{AllocError, Global};
@@ -37,7 +37,7 @@ fn place_line(alloc: Global, at: usize) -> Result<String, AllocError>
 /// with a number or a state takes memory.
 pub fn print_reply(
     alloc: Global,
-    debugger: &Debugger,
+    debugger: &Stepper,
     reply: &Reply,
 ) -> Result<CowStr<'static>, AllocError>
     ensures ok { IfOk result (λ text. IsReplyText debugger.now reply.now (cow_str_bytes text)) }

@@ -7,7 +7,7 @@ ghost use Rattle.ot_console.specs.Talking.{IsReadFault, TalksAll, TalksPart, Wri
 
 use crate::turns::respond;
 use line_reader::{LineFault, ReadAhead};
-use ot_debug::Debugger;
+use ot_debug::Stepper;
 use std::alloc::Global;
 use std::io::{Read, Write};
 use streams::{WriteFault, put};
@@ -26,7 +26,7 @@ pub enum TalkStop {
 // Answers one line and writes what it is answered with. Says whether that is a fault.
 fn answer<W: Write>(
     alloc: Global,
-    debugger: &mut Debugger,
+    debugger: &mut Stepper,
     line: &[u8],
     writer: &mut W,
 ) -> Result<bool, WriteFault>
@@ -49,7 +49,7 @@ fn answer<W: Write>(
 /// case the debugger is as the answered lines leave it.
 pub fn talk<R: Read, W: Write>(
     alloc: Global,
-    debugger: &mut Debugger,
+    debugger: &mut Stepper,
     ahead: &mut ReadAhead,
     reader: &mut R,
     writer: &mut W,

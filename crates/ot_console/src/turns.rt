@@ -8,7 +8,7 @@ ghost use Rattle.ot_console.specs.Talking.{IsCommandTurn, IsPrinted, IsTurn};
 use crate::commands::read_command;
 use crate::replies::{is_fault, print_reply};
 use ot_asm::trimmed;
-use ot_debug::{Command, Debugger, Reply};
+use ot_debug::{Command, Reply, Stepper};
 use std::alloc::Global;
 use std::borrow::CowStr;
 
@@ -22,7 +22,7 @@ pub struct Response {
 }
 
 // What is printed of a reply.
-fn printed(alloc: Global, debugger: &Debugger, reply: &Reply) -> Response
+fn printed(alloc: Global, debugger: &Stepper, reply: &Reply) -> Response
     ensures { IsPrinted debugger.now reply.now (cow_str_bytes result.text) result.faulted }
 {
     match print_reply(alloc, debugger, reply) {
@@ -38,7 +38,7 @@ fn printed(alloc: Global, debugger: &Debugger, reply: &Reply) -> Response
 }
 
 // Performs a command, where the line is one.
-fn perform(alloc: Global, debugger: &mut Debugger, command: Option<Command>) -> Response
+fn perform(alloc: Global, debugger: &mut Stepper, command: Option<Command>) -> Response
     ensures { IsCommandTurn debugger.old command debugger.new (cow_str_bytes result.text) result.faulted }
 {
     match command {
@@ -56,7 +56,7 @@ fn perform(alloc: Global, debugger: &mut Debugger, command: Option<Command>) -> 
 /// Performs the command that a line is, and says what is printed. An empty line is passed over, and one that is no
 /// command is answered with `bad command`; both leave the debugger as it is. Where memory for the lines of a reply is
 /// wanting, `no memory` is printed in their place, and the command was performed.
-pub fn respond(alloc: Global, debugger: &mut Debugger, line: &[u8]) -> Response
+pub fn respond(alloc: Global, debugger: &mut Stepper, line: &[u8]) -> Response
     ensures { IsTurn debugger.old line.now debugger.new (cow_str_bytes result.text) result.faulted }
 {
     if trimmed(line).is_empty() {

@@ -1,8 +1,9 @@
 pub mod Rows
 pub mod Places
-pub mod WatchedSteps
+pub mod Compared
+pub mod Foretelling
+pub mod Firsts
 pub mod Stopping
 pub mod Once
 pub mod Deciding
 pub mod Ever
-pub mod Untouched

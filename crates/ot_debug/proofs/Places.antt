@@ -2,7 +2,8 @@
 use Rattle.std.proofs.Common.{◌≡◌, ℕ, zero, suc, ◌+◌, ◌-◌, ◌<◌, ◌≤◌, ◌≢◌, List, [], ◌∷◌, ◌++◌, length, take, refl, ap, sym, ◌∙◌, subst, arith, Option, Some, None, Bool, true, false, length-append, inl, inr}
 use Rattle.std.proofs.lemmas.Option.{same_Some, slice_get_within}
 use Rattle.std.proofs.lemmas.Bool.{cases_eq}
-use Rattle.std.specs.Prelude.{is_some, slice_get, IsSome}
+use Rattle.std.specs.Prelude.{is_some, slice_get, unwrap_or, IsSome, MatchBool}
+use Rattle.std.specs.Option.{option_map}
 use Rattle.ot_isa.specs.Program.{Program}
 use Rattle.ot_isa.specs.declared.instruction.Instr.{Instr}
 use Rattle.ot_model.specs.declared.shown.Shown.{Shown}
@@ -18,7 +19,7 @@ use Rattle.ot_machine.specs.Answers.{IsRefusal}
 use Rattle.ot_debug.specs.Stops.{IsRefusedAt}
 use Rattle.ot_debug.specs.declared.command.Watched.{Watched}
 use Rattle.ot_debug.specs.Session.{IsSession}
-use Rattle.ot_debug.specs.Stepping.{session_of, is_read, Advances, AreRecords, AreShownBefore, AreUndos, EachOrNone, GoOn, IsKept, OneMore}
+use Rattle.ot_debug.specs.Stepping.{session_of, is_read, Advances, AreRecords, AreShownBefore, AreUndos, EachOrNone, GoOn, IsKept, OneMore, shown_at, AreLists}
 use Rattle.ot_debug.proofs.Rows.{row_leaves}
 
 -- the place is there as far as the run goes
@@ -245,13 +246,46 @@ shown_before true front shown before (Some l) some e is = is ∙ ap (λ xs. take
 shown_before false front shown before None some e is = is ∙ e
 shown_before false front shown before (Some l) some e is = absurd (cc)
 
+-- the lists that the run has shown at a place
+pub shown_is : (s : Program) (p : ℕ) (q : Place) → place_at s p ≡ Some q → shown_at s p ≡ q.shown
+shown_is s p q at = ap (λ (o : Option Place). unwrap_or (option_map (λ (r : Place). r.shown) o) []) at
+
+pub shown_next :
+    (s : Program) (p q : ℕ) (state t : State) (i : Instr) (list : Option Shown) → place_at s p ≡ Some (record { state = state; shown = shown_at s p }) → slice_get s.instrs p ≡ Some i → step state i ≡ Performed t list
+    → q ≡ suc p → shown_at s q ≡ with_shown (shown_at s p) list
+shown_next s p q state t i list at here performed next =
+    ap (shown_at s) next ∙ shown_is s (suc p) (record { state = t; shown = with_shown (shown_at s p) list }) (place_at-next s p (record { state = state; shown = shown_at s p }) i t list at here performed)
+
+-- those that are kept, one instruction on
+pub lists_forth :
+    (kept : Bool) (shown later lists more : List Shown) (given list : Option Shown) → AreLists kept shown lists → MatchBool kept (given ≡ list) (given ≡ None) → later ≡ with_shown shown list → more ≡ with_shown lists given
+    → AreLists kept later more
+lists_forth true shown later lists more given list are is later_is more_is = more_is ∙ ap (λ xs. with_shown xs given) are ∙ ap (with_shown shown) is ∙ sym later_is
+lists_forth false shown later lists more given list are is later_is more_is = more_is ∙ ap (λ xs. with_shown xs given) are ∙ ap (with_shown []) is
+
+none_before : (b : Bool) (lists front : List Shown) → lists ≡ [] → AreShownBefore b lists front → front ≡ []
+none_before true lists front none is = is ∙ ap (λ xs. take (length xs - 1) xs) none
+none_before false lists front none is = is ∙ none
+
+-- and one instruction back
+pub lists_back :
+    (kept : Bool) (s : Program) (p r : ℕ) (state : State) (lists front : List Shown) (breaks : List Bool) (watches : List Watched) (i : Instr)
+    → IsSession (session_of s p state (shown_at s p) breaks watches) → p ≡ suc r → slice_get s.instrs r ≡ Some i → AreLists kept (shown_at s p) lists → AreShownBefore (is_read i) lists front
+    → AreLists kept (shown_at s r) front
+lists_back false s p r state lists front breaks watches i session next here are were = none_before (is_read i) lists front are were
+lists_back true s p r state lists front breaks watches i session next here are were =
+    let earlier = there s r (let le : p ≤ done s = session.reached in omega (arith, le, next)) in
+    let l = led s r i earlier.0 (record { state = state; shown = shown_at s p }) here earlier.1 (ap (place_at s) (sym next) ∙ session.at) in
+    shown_before (is_read i) front lists earlier.0.shown l.list (row_leaves earlier.0.state i l.state l.list l.step).1 (are ∙ ap (λ (q : Place). q.shown) l.is) were
+    ∙ sym (shown_is s r earlier.0 earlier.1)
+
 -- the debugger one instruction back
 pub kept_back :
-    (s : Program) (p r : ℕ) (state t : State) (shown front : List Shown) (undos rest : List Undo) (breaks : List Bool) (watches : List Watched) (i : Instr) (undo : Undo)
-    → IsSession (session_of s p state shown breaks watches) → AreRecords s p undos → undos ≡ rest ++ undo ∷ [] → p ≡ suc r → slice_get s.instrs r ≡ Some i
-    → ((earlier : State) → Undoes earlier state undo → t ≡ earlier) → AreShownBefore (is_read i) shown front
-    → IsKept s r t front rest breaks watches
-kept_back s p r state t shown front undos rest breaks watches i undo session are is next here back were =
+    (s : Program) (p r : ℕ) (state t : State) (undos rest : List Undo) (breaks : List Bool) (watches : List Watched) (i : Instr) (undo : Undo)
+    → IsSession (session_of s p state (shown_at s p) breaks watches) → AreRecords s p undos → undos ≡ rest ++ undo ∷ [] → p ≡ suc r → slice_get s.instrs r ≡ Some i
+    → ((earlier : State) → Undoes earlier state undo → t ≡ earlier)
+    → IsKept s r t (shown_at s r) rest breaks watches
+kept_back s p r state t undos rest breaks watches i undo session are is next here back =
     record {
       session = record {
         limits = session.limits;
@@ -269,19 +303,10 @@ kept_back s p r state t shown front undos rest breaks watches i undo session are
     many = let e = counted p undos rest undo are.many is in omega (arith, e, next)
 
     b : IsBefore s state r undo
-    b = subst (λ n. IsBefore s state n undo) many (before_last s p state shown undos rest breaks watches undo session are is)
+    b = subst (λ n. IsBefore s state n undo) many (before_last s p state (shown_at s p) undos rest breaks watches undo session are is)
 
-    l : IsLed s r i b.earlier (record { state = state; shown = shown })
-    l = led s r i b.earlier (record { state = state; shown = shown }) here b.at (ap (place_at s) (sym next) ∙ session.at)
-
-    lists : front ≡ b.earlier.shown
-    lists = shown_before (is_read i) front shown b.earlier.shown l.list (row_leaves b.earlier.state i l.state l.list l.step).1 (ap (λ (q : Place). q.shown) l.is) were
-
-    state_is : t ≡ b.earlier.state
-    state_is = back b.earlier.state b.undoes
-
-    now : place_at s r ≡ Some (record { state = t; shown = front })
-    now = b.at ∙ ap (λ (q : Place). Some q) (same_place b.earlier t front (sym state_is) (sym lists))
+    now : place_at s r ≡ Some (record { state = t; shown = shown_at s r })
+    now = b.at ∙ ap (λ (q : Place). Some q) (same_place b.earlier t (shown_at s r) (sym (back b.earlier.state b.undoes)) (sym (shown_is s r b.earlier b.at)))
       where
         same_place : (q : Place) (u : State) (xs : List Shown) → q.state ≡ u → q.shown ≡ xs → q ≡ record { state = u; shown = xs }
         same_place q u xs e f = rw (← e, ← f) refl

@@ -3,4 +3,4 @@ pub mod Stops
 pub mod Answers
 pub mod Laws
 pub mod Stepping
-pub mod Sights
+pub mod Changes

@@ -1,10 +1,11 @@
 -- What a debugger keeps to step back, and what one step does.
-use Rattle.std.specs.Prelude.{◌≡◌, ◌⊎◌, ◌≤◌, ℕ, suc, ◌-◌, List, [], ◌∷◌, ◌++◌, Bool, true, false, length, slice_get, take, Some}
+use Rattle.std.specs.Prelude.{◌≡◌, ◌⊎◌, ◌≤◌, ℕ, suc, ◌-◌, List, [], ◌∷◌, ◌++◌, Bool, true, false, length, slice_get, take, unwrap_or, Option, Some, None, MatchBool}
+use Rattle.std.specs.Option.{option_map}
 use Rattle.ot_isa.specs.Program.{Program}
 use Rattle.ot_isa.specs.declared.instruction.Instr.{Instr}
 use Rattle.ot_isa.specs.declared.instruction.Instr.TheVariants.{Edit, Take, Deliver, Acknowledge, Join, Read, ReadServer}
 use Rattle.ot_model.specs.declared.shown.Shown.{Shown}
-use Rattle.ot_model.specs.Table.{State, Place}
+use Rattle.ot_model.specs.Table.{State, Place, Performed, step}
 use Rattle.ot_model.specs.Runs.{done, place_at}
 use Rattle.ot_machine.specs.declared.undo.Undo.{Undo}
 use Rattle.ot_machine.specs.Undoing.{Undoes}
@@ -16,6 +17,18 @@ use Rattle.ot_debug.specs.Answers.{Keeps}
 abbrev pub session_of : Program → ℕ → State → List Shown → List Bool → List Watched → Session
 session_of schedule position state shown breaks watches =
     record { schedule = schedule; position = position; place = record { state = state; shown = shown }; breaks = breaks; watches = watches }
+
+-- the lists that the run has shown where it has come to a place
+abbrev pub shown_at : Program → ℕ → List Shown
+shown_at s p = unwrap_or (option_map (λ (q : Place). q.shown) (place_at s p)) []
+
+-- these are all of them where lists are kept, and else none
+abbrev pub AreLists : Bool → List Shown → List Shown → Type 0
+AreLists kept shown lists = MatchBool kept (lists ≡ shown) (lists ≡ [])
+
+-- the table performs the instruction; what it shows is given where lists are kept, and else nothing
+abbrev pub Gives : Bool → State → Instr → State → Option Shown → Type 0
+Gives kept s i t given = (shown : Option Shown) × (step s i ≡ Performed t shown) × MatchBool kept (given ≡ shown) (given ≡ None)
 
 -- each of the records leads from the place after its instruction back to the place before it
 abbrev pub AreUndos : Program → List Undo → Type 0

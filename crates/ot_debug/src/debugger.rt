@@ -12,29 +12,42 @@ use std::alloc::{AllocError, Global};
 use std::marker::Model;
 
 /// A schedule, and a machine that stands after some of its instructions. Its value is a session: wherever commands have led, the machine
-/// and the shown lists are those of the schedule's run after as many instructions.
+/// and the shown lists are those of the schedule's run after as many instructions. The lists themselves are kept where `LISTS` is 1; where it is 0, none is,
+/// nor is one copied for a read.
 #[derive(Drop)]
-pub struct Debugger {
+pub struct Debugging<const LISTS: u8> {
     pub(crate) schedule: Schedule,
     pub(crate) position: usize,
     pub(crate) machine: Machine,
+    // the lists that the performed reads showed, or none
     pub(crate) shown: Vec<Shown>,
     pub(crate) undos: Vec<Undo>,
     pub(crate) breaks: Vec<bool>,
     pub(crate) watches: Vec<Watched>,
+    // the numbers of the watches that no equal one stands before, in order
+    pub(crate) firsts: Vec<usize>,
 }
 
-impl Model for Debugger {
+impl<const LISTS: u8> Model for Debugging<LISTS> {
     ghost use Rattle.ot_debug.specs.Session.{Session};
 
     ghost Value = { Session };
 
-    ghost use Rattle.ot_debug.specs.Stepping.{session_of, IsKept};
+    ghost use Rattle.std.specs.Prelude.{◌==◌};
+    ghost use Rattle.ot_debug.specs.Changes.{AreFirsts};
+    ghost use Rattle.ot_debug.specs.Stepping.{session_of, shown_at, AreLists, IsKept};
 
-    ghost view = { λ d. session_of d.schedule d.position d.machine d.shown.items d.breaks.items d.watches.items };
+    ghost view = { λ d. session_of d.schedule d.position d.machine (shown_at d.schedule d.position) d.breaks.items d.watches.items };
 
-    ghost invariant = { λ d. IsKept d.schedule d.position d.machine d.shown.items d.undos.items d.breaks.items d.watches.items };
+    ghost invariant = { λ d. IsKept d.schedule d.position d.machine (shown_at d.schedule d.position) d.undos.items d.breaks.items d.watches.items × AreFirsts d.watches.items d.firsts.items × AreLists (LISTS == 1) (shown_at d.schedule d.position) d.shown.items };
 }
+
+/// A debugger that keeps the lists which the performed reads showed.
+pub type Debugger = Debugging<1>;
+
+/// A debugger that keeps none of these lists: it takes the memory of the machine, and, where somebody goes back, of what takes the performed
+/// instructions back.
+pub type Stepper = Debugging<0>;
 
 /// The machine at the schedule's opening.
 pub(crate) fn opening(alloc: Global, schedule: &Schedule) -> Result<Machine, AllocError>
@@ -44,9 +57,9 @@ pub(crate) fn opening(alloc: Global, schedule: &Schedule) -> Result<Machine, All
     Machine::with_present(alloc, clients, schedule.present(), schedule.start())
 }
 
-impl Debugger {
+impl<const LISTS: u8> Debugging<LISTS> {
     /// At the opening of the schedule, without breaks and watches. For want of memory the schedule comes back.
-    pub fn new(alloc: Global, schedule: Schedule) -> Result<Debugger, Schedule>
+    pub fn new(alloc: Global, schedule: Schedule) -> Result<Self, Schedule>
         ensures ok { IfOk result (λ debugger. debugger ≡ started schedule) }
         ensures err { IfErr result (λ back. back ≡ schedule) }
     {
@@ -56,7 +69,7 @@ impl Debugger {
         let Ok(breaks) = vec![in alloc; false; schedule.len() + 1] else {
             return Err(schedule);
         };
-        Ok(Debugger {
+        Ok(Debugging {
             schedule,
             position: 0,
             machine,
@@ -64,6 +77,7 @@ impl Debugger {
             undos: Vec::new(alloc),
             breaks,
             watches: Vec::new(alloc),
+            firsts: Vec::new(alloc),
         })
     }
 
@@ -79,13 +93,6 @@ impl Debugger {
         ensures { result.now ≡ self.now.place.state }
     {
         &self.machine
-    }
-
-    /// The lists that the performed reads showed, in order.
-    pub fn shown(&self) -> &[Shown]
-        ensures { result.now ≡ self.now.place.shown }
-    {
-        self.shown.as_slice()
     }
 
     /// The schedule. The call also tells its caller what every debugger keeps.
@@ -117,5 +124,14 @@ impl Debugger {
             Command::Position => Reply::Place(self.position()),
             Command::Show => self.show(),
         }
+    }
+}
+
+impl Debugger {
+    /// The lists that the performed reads showed, in order.
+    pub fn shown(&self) -> &[Shown]
+        ensures { result.now ≡ self.now.place.shown }
+    {
+        self.shown.as_slice()
     }
 }

@@ -9,23 +9,28 @@
 //!   watches  0: Doc(0)  1: ServerRevision  ..                    (numbered in the order of setting)
 //! ```
 //!
-//! - A [`Debugger`] is seen by contracts as a `Session` (specs/Session.antt): the schedule, the position, which is the number of
+//! - A [`Debugger`], and a [`Stepper`], is seen by contracts as a `Session` (specs/Session.antt): the schedule, the position, which is the number of
 //!   performed instructions, the state and the shown lists there, breaks and watches. Its type keeps that the state and the lists are
 //!   those of the schedule's run after as many instructions (`place_at` of `ot_model`), whatever commands came before.
-//! - [`Debugger::command`] performs one [`Command`] and answers with a [`Reply`]; specs/Answers.antt says what each command answers
+//! - The two are one type, [`Debugging`]. A `Debugger` keeps the lists that reads showed, and gives them by [`Debugger::shown`]; a `Stepper`
+//!   keeps none, and copies none for a read: its memory is that of the machine, and of the records where somebody goes back.
+//! - [`Debugging::command`] performs one [`Command`] and answers with a [`Reply`]; specs/Answers.antt says what each command answers
 //!   and what it leaves, specs/Stops.antt where a `Run` or a `Step` stops and why.
+//! - What watches see of an instruction is told before it is performed (specs/Changes.antt): so no list is copied or compared for them.
+//!   Of equal watches the first alone is looked at.
 //! - [`laws`] says that stops are exact: a run has one stop at most, for one reason.
 //! - Going forth leaves no records, and costs what a run costs. Where an instruction is to be taken back and there are no records,
-//!   another machine performs all that is performed once more from the opening, and leaves a record of each (`Machine::step_kept`).
+//!   another machine performs all that is performed once more from the opening, and leaves a record of each (`Machine::perform_kept`).
 //!   The records are a stack: `Back` takes them off one by one, and what is performed while there are some adds its own. So there is
 //!   a record of each performed instruction, or none, and between two visits of the opening the way is gone once more at most.
 //! - What grows does so before anything is changed. After `Memory` the debugger stands after a whole number of instructions,
 //!   between its old place and the one to which the command would have gone.
 //!
-//! Begin reading at `Debugger` in debugger.rt, then stepping.rt (one instruction back and forth), records.rt (what takes one back),
-//! watching.rt (what watches see) and moving.rt (the commands that move); settings.rt has the others.
+//! Begin reading at `Debugging` in debugger.rt, then stepping.rt (one instruction back and forth), records.rt (what takes one back),
+//! watching.rt (what watches see), changing.rt (whether an operation changes a list) and moving.rt (the commands that move); settings.rt has the others.
 #![tactic(auto)]
 
+mod changing;
 mod command;
 mod debugger;
 pub mod laws;
@@ -36,4 +41,4 @@ mod stepping;
 mod watching;
 
 pub use command::{Command, Reply, Watched, Why};
-pub use debugger::Debugger;
+pub use debugger::{Debugger, Debugging, Stepper};

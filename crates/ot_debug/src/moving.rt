@@ -8,8 +8,8 @@ ghost use Rattle.ot_debug.specs.Answers.{MovesBack, MovesForth};
 ghost use Rattle.ot_debug.specs.Stepping.{Advances};
 
 use crate::command::{Reply, Why};
-use crate::debugger::Debugger;
-use crate::watching::{first_other, look};
+use crate::debugger::Debugging;
+use crate::watching::first_changed;
 use ot_machine::Refusal;
 
 // The answer where the next instruction is not performed.
@@ -26,7 +26,7 @@ fn halted(at: usize, refusal: Refusal) -> Reply
     }
 }
 
-impl Debugger {
+impl<const LISTS: u8> Debugging<LISTS> {
     // Performs the next instruction, and gives the first watch that it changed.
     fn forward_watched(&mut self) -> Result<Option<usize>, Refusal>
         requires { self.old.position < length self.old.schedule.instrs }
@@ -39,22 +39,16 @@ impl Debugger {
         let Some(instr) = self.schedule.get(place) else {
             unreachable!()
         };
-        let seen = look(
-            *self.watches.allocator(),
+        let changed = first_changed(
             &self.machine,
             instr,
             self.watches.as_slice(),
+            self.firsts.as_slice(),
         )?;
         self.forward()?;
-        let Some(instr) = self.schedule.get(place) else {
-            unreachable!()
-        };
-        Ok(first_other(
-            &self.machine,
-            instr,
-            self.watches.as_slice(),
-            seen.as_slice(),
-        ))
+        // For the proof: what every debugger keeps.
+        let _kept = self.schedule();
+        Ok(changed)
     }
 
     // There is a break at the place.

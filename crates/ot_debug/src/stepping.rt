@@ -6,7 +6,7 @@ ghost use Rattle.ot_model.specs.Table.{with_shown};
 ghost use Rattle.ot_debug.specs.Stops.{IsRefusedAt};
 ghost use Rattle.ot_debug.specs.Stepping.{is_read, Advances, AreShownBefore};
 
-use crate::debugger::Debugger;
+use crate::debugger::Debugging;
 use crate::records::{perform, recall};
 use ot_isa::Instr;
 use ot_machine::{Refusal, Shown};
@@ -31,7 +31,7 @@ fn drop_shown(shown: &mut Vec<Shown>, instr: &Instr)
     }
 }
 
-impl Debugger {
+impl<const LISTS: u8> Debugging<LISTS> {
     // Performs the next instruction. `Memory` leaves all as it was, as every refusal does.
     pub(crate) fn forward(&mut self) -> Result<(), Refusal>
         requires { self.old.position < length self.old.schedule.instrs }
@@ -43,7 +43,7 @@ impl Debugger {
         let Some(instr) = self.schedule.get(self.position) else {
             unreachable!()
         };
-        let list = perform(&mut self.machine, &mut self.undos, instr)?;
+        let list = perform::<LISTS>(&mut self.machine, &mut self.undos, instr)?;
         self.position += 1;
         keep_shown(&mut self.shown, list);
         Ok(())

@@ -1,108 +1,148 @@
-//! What watches see.
+//! What watches see of an instruction. It is told before the instruction is performed: so nothing is kept of the state before it, and no
+//! list is copied, nor compared as a whole.
 
-ghost use Rattle.std.specs.Prelude.{◌≡◌, ◌≢◌, length, map, slice_get, IfOk, MatchBool, MatchOption};
+ghost use Rattle.std.specs.Prelude.{ℕ, ◌<◌, ◌↔◌, length, IfOk, IsTrue, MatchOption, false};
 ghost use Rattle.std.specs.List.{All};
+ghost use Rattle.ot_isa.specs.declared.instruction.Instr.TheVariants.{Deliver, Edit, Join};
+ghost use Rattle.ot_model.specs.Operation.{Operation};
+ghost use Rattle.ot_model.specs.Table.{step};
 ghost use Rattle.ot_debug.specs.Session.{IsOfClients};
-ghost use Rattle.ot_debug.specs.Sights.{may_touch, sight, AreSame, IsFirstOther};
+ghost use Rattle.ot_debug.specs.Changes.{AreFirsts, Foretells, ForetellsFirst, ForetellsOf, IsAmong};
 
+use crate::changing::changes;
 use crate::command::Watched;
-use ot_isa::{Instr, Tagged};
-use ot_machine::{Machine, Phase};
-use ot_text::Doc;
-use std::alloc::{AllocError, Global};
+use ot_isa::{Instr, tagged};
+use ot_machine::{INSERTED_LIMIT, Machine, Phase};
+use ot_text::TextOp;
+use std::alloc::AllocError;
 
-/// What a watch saw before an instruction.
-#[derive(Drop)]
-pub(crate) enum Seen {
-    List(Doc<Tagged>),
-    /// A list that the instruction does not change.
-    Untouched,
-    Phase(Phase),
-    Revision(usize),
+// The client's edit changes the list of the client that is watched. An edit that the table refuses is not looked at.
+fn edit_changes(
+    machine: &Machine,
+    own: u16,
+    op: &TextOp<char>,
+    client: u32,
+) -> Result<bool, AllocError>
+    requires { client < length machine.now.clients }
+    ensures { IfOk result (λ changed. Foretells (step machine.now (Edit own op.now)) machine.now (Watched.Doc client) changed) }
+{
+    if u32::from(own) != client {
+        return Ok(false);
+    }
+    // For the proof: what every machine keeps.
+    let _sound = machine.clients();
+    let list = machine.document(own);
+    let first = machine.inserted(own);
+    if op.base_len() != list.len() || first as usize + op.inserted() > INSERTED_LIMIT {
+        return Ok(false);
+    }
+    let op = tagged(op.allocator(), op, own, first)?;
+    Ok(changes(&op, list))
 }
 
-// The instruction may change the client's list. So no list is copied and compared around the others.
-fn touches(instr: &Instr, client: u32) -> bool
-    ensures { result ≡ may_touch instr.now client }
+// So does a delivery.
+fn delivery_changes(machine: &Machine, own: u16, client: u32) -> Result<bool, AllocError>
+    requires { client < length machine.now.clients }
+    ensures { IfOk result (λ changed. Foretells (step machine.now (Deliver own)) machine.now (Watched.Doc client) changed) }
+{
+    if u32::from(own) != client {
+        return Ok(false);
+    }
+    match machine.delivery(own)? {
+        Some(op) => Ok(changes(&op, machine.document(own))),
+        None => Ok(false),
+    }
+}
+
+// So does a Join, where the server's list is another.
+fn join_changes(machine: &Machine, own: u16, client: u32) -> bool
+    requires { client < length machine.now.clients }
+    ensures { Foretells (step machine.now (Join own)) machine.now (Watched.Doc client) result }
+{
+    if u32::from(own) != client {
+        return false;
+    }
+    !machine.server_document().equals(machine.document(own))
+}
+
+// The instruction changes the client's list.
+fn changes_list(machine: &Machine, instr: &Instr, client: u32) -> Result<bool, AllocError>
+    requires { client < length machine.now.clients }
+    ensures { IfOk result (λ changed. Foretells (step machine.now instr.now) machine.now (Watched.Doc client) changed) }
 {
     match instr {
-        Instr::Edit(own, _) => u32::from(*own) == client,
-        Instr::Deliver(own) | Instr::Join(own) => u32::from(*own) == client,
+        Instr::Edit(own, op) => edit_changes(machine, *own, op, client),
+        Instr::Deliver(own) => delivery_changes(machine, *own, client),
+        Instr::Join(own) => Ok(join_changes(machine, *own, client)),
+        _ => Ok(false),
+    }
+}
+
+// The client's edit leads the client that is watched to another state. It does not where a buffer waits already.
+fn edit_moves(machine: &Machine, own: u16, client: u32) -> bool
+    requires { client < length machine.now.clients }
+    ensures { (op : Operation ℕ) → Foretells (step machine.now (Edit own op)) machine.now (Watched.State client) result }
+{
+    if u32::from(own) != client {
+        return false;
+    }
+    !matches!(machine.phase(own), Phase::AwaitingWithBuffer)
+}
+
+// The instruction leads the client to another state.
+fn changes_phase(machine: &Machine, instr: &Instr, client: u32) -> bool
+    requires { client < length machine.now.clients }
+    ensures { Foretells (step machine.now instr.now) machine.now (Watched.State client) result }
+{
+    match instr {
+        Instr::Edit(own, _) => edit_moves(machine, *own, client),
+        Instr::Acknowledge(own) => u32::from(*own) == client,
+        Instr::Join(own) => u32::from(*own) == client,
         _ => false,
     }
 }
 
-// What the watch sees before the instruction. A list that it may change is copied.
-fn see(machine: &Machine, instr: &Instr, watch: Watched) -> Result<Seen, AllocError>
+// The instruction changes what the watch looks at.
+fn changes_seen(machine: &Machine, instr: &Instr, watch: Watched) -> Result<bool, AllocError>
     requires { IsOfClients (length machine.now.clients) watch }
-    ensures { IfOk result (λ seen. seen ≡ sight instr.now machine.now watch) }
+    ensures { IfOk result (λ changed. Foretells (step machine.now instr.now) machine.now watch changed) }
 {
-    // For the proof: what every machine keeps.
-    let _clients = machine.clients();
     match watch {
-        Watched::Doc(client) => {
-            if !touches(instr, client) {
-                return Ok(Seen::Untouched);
-            }
-            Ok(Seen::List(machine.document(client as u16).copy()?))
-        }
-        Watched::State(client) => Ok(Seen::Phase(machine.phase(client as u16))),
-        Watched::ServerRevision => Ok(Seen::Revision(machine.server_revision())),
+        Watched::Doc(client) => changes_list(machine, instr, client),
+        Watched::State(client) => Ok(changes_phase(machine, instr, client)),
+        Watched::ServerRevision => Ok(matches!(instr, Instr::Take(_))),
     }
 }
 
-// What the watch sees after the instruction is not what was seen before it.
-fn is_other(machine: &Machine, instr: &Instr, watch: Watched, seen: &Seen) -> bool
-    requires { IsOfClients (length machine.now.clients) watch }
-    ensures { MatchBool result (seen.now ≢ sight instr.now machine.now watch) (seen.now ≡ sight instr.now machine.now watch) }
-{
-    // For the proof: what every machine keeps.
-    let _clients = machine.clients();
-    match (watch, seen) {
-        (Watched::Doc(client), Seen::Untouched) => touches(instr, client),
-        (Watched::Doc(client), Seen::List(list)) => {
-            !touches(instr, client) || !machine.document(client as u16).equals(list)
-        }
-        (Watched::State(client), Seen::Phase(phase)) => machine.phase(client as u16) != *phase,
-        (Watched::ServerRevision, Seen::Revision(revision)) => {
-            machine.server_revision() != *revision
-        }
-        _ => true,
-    }
-}
-
-/// What the watches see before the instruction, in order.
-pub(crate) fn look(
-    alloc: Global,
+/// The first watch that the instruction, where it is performed, changes something for. Of equal watches only the first one is looked at,
+/// by the numbers of these, of which there are at most two for each client and one for the server.
+pub(crate) fn first_changed(
     machine: &Machine,
     instr: &Instr,
     watches: &[Watched],
-) -> Result<Vec<Seen>, AllocError>
-    requires { All (IsOfClients (length machine.now.clients)) watches.now }
-    ensures { IfOk result (λ seen. seen.items ≡ map (sight instr.now machine.now) watches.now) }
-{
-    let mut seen = Vec::new(alloc);
-    for watch in watches {
-        seen.push(see(machine, instr, *watch)?)?;
-    }
-    Ok(seen)
-}
-
-/// The first watch that sees other after the instruction than it saw before it.
-pub(crate) fn first_other(
-    machine: &Machine,
-    instr: &Instr,
-    watches: &[Watched],
-    seen: &[Seen],
-) -> Option<usize>
+    firsts: &[usize],
+) -> Result<Option<usize>, AllocError>
     requires clients { All (IsOfClients (length machine.now.clients)) watches.now }
-    requires sizes { length seen.now ≡ length watches.now }
-    ensures { MatchOption result (AreSame seen.now (map (sight instr.now machine.now) watches.now) (length watches.now)) (λ number. IsFirstOther seen.now (map (sight instr.now machine.now) watches.now) number) }
+    requires firsts { AreFirsts watches.now firsts.now }
+    ensures { IfOk result (λ found. MatchOption found ((number : ℕ) → ForetellsOf (step machine.now instr.now) machine.now watches.now number false) (λ number. ForetellsFirst (step machine.now instr.now) machine.now watches.now number)) }
 {
-    for number in 0..watches.len() {
-        if is_other(machine, instr, watches[number], &seen[number]) {
-            return Some(number);
+    for number in firsts {
+        if changes_seen(machine, instr, watches[*number])? {
+            return Ok(Some(*number));
         }
     }
-    None
+    Ok(None)
+}
+
+/// One of the first watches is this one.
+pub(crate) fn is_among(watches: &[Watched], firsts: &[usize], watch: Watched) -> bool
+    requires { AreFirsts watches.now firsts.now }
+    ensures { IsTrue result ↔ IsAmong watches.now firsts.now (length watches.now) watch }
+{
+    for number in firsts {
+        if watches[*number] == watch {
+            return true;
+        }
+    }
+    false
 }

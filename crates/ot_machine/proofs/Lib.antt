@@ -4,6 +4,7 @@ pub mod Carrying
 pub mod Taking
 pub mod Accepting
 pub mod Delivering
+pub mod Receiving
 pub mod Acknowledging
 pub mod Joining
 pub mod Opening
@@ -19,3 +20,4 @@ pub mod Determined
 pub mod Parting
 pub mod Installing
 pub mod Orders
+mod Waited

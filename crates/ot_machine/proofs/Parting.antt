@@ -1,9 +1,10 @@
 -- A part's messages beside a downlink.
 use Rattle.std.proofs.Common.{◌≡◌, ℕ, zero, suc, ◌+◌, ◌<◌, ◌≤◌, List, [], ◌∷◌, ◌++◌, length, take, drop, map, get_or, sym, ap, ◌∙◌, arith, Some}
-use Rattle.std.proofs.lemmas.List.{take-append-drop, take_all}
+use Rattle.std.proofs.lemmas.List.{map-append, take-append-drop, take_all}
 use Rattle.std.proofs.lemmas.Option.{same_Some, slice_get-map, slice_get_read}
 use Rattle.std.specs.Prelude.{slice_get}
 use Rattle.std.specs.Option.{option_map}
+use Rattle.ot_isa.proofs.Lists.{take_got}
 use Rattle.ot_model.specs.Table.{Head, Entry, head_for}
 use Rattle.ot_model.proofs.States.{take_entry}
 use Rattle.ot_machine.specs.declared.part.Message.{Message}
@@ -55,3 +56,12 @@ pub first_all :
     (xs ys : List Head) (k : ℕ) → take k xs ≡ take k ys → length xs ≤ k → AreFirst xs ys
 first_all xs ys k so_far all =
     (drop k ys, sym (take-append-drop k ys) ∙ ap (λ (w : List Head). w ++ drop k ys) (sym so_far ∙ take_all k xs all))
+
+-- copies of the first messages, and of one more
+pub copied_next :
+    (messages copies : List Message) (k : ℕ) (m copy : Message)
+    → map head_in copies ≡ map head_in (take k messages) → slice_get messages k ≡ Some m → head_in copy ≡ head_in m
+    → map head_in (copies ++ copy ∷ []) ≡ map head_in (take (k + 1) messages)
+copied_next messages copies k m copy same at one =
+    map-append head_in copies (copy ∷ []) ∙ ap (λ hs. hs ++ head_in copy ∷ []) same ∙ ap (λ h. map head_in (take k messages) ++ h ∷ []) one
+    ∙ sym (map-append head_in (take k messages) (m ∷ [])) ∙ ap (map head_in) (sym (take_got messages k m at))

@@ -2,6 +2,7 @@ pub mod Seats
 pub mod Answers
 pub mod Readers
 pub mod Reads
+pub mod Delivery
 pub mod Ended
 pub mod Laws
 pub mod Undoing

@@ -1,12 +1,12 @@
 -- Who is read, and what a read shows.
-use Rattle.std.specs.Prelude.{◌<◌, List, length, get_or, Option, Some, None}
+use Rattle.std.specs.Prelude.{◌≡◌, ◌<◌, List, length, get_or, Option, Some, None}
 use Rattle.ot_isa.specs.declared.elements.Tagged.{Tagged}
 use Rattle.ot_isa.specs.declared.instruction.Instr.{Instr}
 use Rattle.ot_isa.specs.declared.instruction.Instr.TheVariants.{Edit, Take, Deliver, Acknowledge, Join, Read, ReadServer}
 use Rattle.ot_model.specs.declared.shown.Reader.{Reader}
 use Rattle.ot_model.specs.declared.shown.Reader.TheVariants.{Client, Server}
 use Rattle.ot_model.specs.declared.shown.Shown.{Shown}
-use Rattle.ot_model.specs.Table.{State, absent}
+use Rattle.ot_model.specs.Table.{State, Performed, absent, step}
 
 -- who is read by an instruction
 abbrev pub reader_of : Instr → Option Reader
@@ -31,3 +31,7 @@ list_of s Server = s.server
 -- a read shows it
 abbrev pub shown_by : State → Reader → Shown
 shown_by s who = record { who = who; list = list_of s who }
+
+-- the table performs the instruction, whatever it shows, and this is the state after it
+abbrev pub Leads : State → Instr → State → Type 0
+Leads s i t = (shown : Option Shown) × (step s i ≡ Performed t shown)

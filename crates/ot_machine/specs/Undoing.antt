@@ -1,5 +1,5 @@
 -- What a step keeps so that it can be taken back.
-use Rattle.std.specs.Prelude.{◌≡◌, ◌↔◌, ℕ, suc, ◌-◌, Bool, true, IsTrue, List, ◌∷◌, Option, Some, None, length, slice_get, take, if◌then◌else◌}
+use Rattle.std.specs.Prelude.{◌≡◌, ◌↔◌, ℕ, suc, ◌-◌, Bool, true, IsTrue, List, ◌∷◌, Option, Some, None, length, slice_get, take, ◌==◌, if◌then◌else◌}
 use Rattle.ot_isa.specs.declared.elements.Tagged.{Tagged}
 use Rattle.ot_text.specs.Operation.{Operation, apply}
 use Rattle.ot_client.specs.Past as client
@@ -123,6 +123,22 @@ pub record IsRecord (earlier s : State) (kept : Record) : Type 0 where
 -- this takes the step back that led from the earlier state, which is sound, to this one
 abbrev pub Undoes : State → State → Undo → Type 0
 Undoes earlier s undo = IsRecord earlier s undo.step
+
+-- what a record keeps of what this client waited for, if its step was the client's own
+abbrev pub past_of : ℕ → Record → Option (Past Tagged)
+past_of c (ClientStep d before) = if d == c then Some before.past else None
+past_of c (Taken d message inverse) = None
+past_of c (Joined d) = None
+past_of c Read = None
+
+-- a step of client c led from the earlier state to this one, and of what the client waited for before it this is kept, over what it waits for after it
+pub record WaitedBefore (c : ℕ) (past : Past Tagged) (earlier s : State) : Type 0 where
+  pub was : Client
+  pub is : Client
+  pub at : slice_get earlier.clients c ≡ Some was
+  pub led : s ≡ with_client earlier c is
+  pub waited : phase_before past is.phase ≡ was.phase
+  pub fits : FitsPhase past is.phase
 
 -- there is such an earlier state
 abbrev pub IsUndoable : State → Undo → Type 0

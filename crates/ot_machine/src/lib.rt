@@ -22,9 +22,10 @@
 //!   (its maker's) or another's operation. A client that has not joined has no client state at all.
 //! - [`Machine::clients`] and the calls beside it read the fields of the state
 //!   (specs/Readers.antt); [`Machine::state`] copies what a user looks at.
+//! - [`Machine::delivery`] is what a delivery would apply (specs/Delivery.antt), and changes nothing.
 //! - [`Machine::perform`] performs an instruction too and says who is read by it; [`Machine::document_of`] shows that
 //!   list, where `step` copies it, and [`end_of_run`] runs a schedule so (specs/Reads.antt).
-//! - [`Machine::part`] copies a joined client with its downlink, [`Machine::begins`] says whether such a
+//! - [`Machine::part`] copies a joined client with its downlink, and no element of its list after [`Machine::share`]; [`Machine::begins`] says whether such a
 //!   part still begins the client that is here, and [`Machine::install`] puts a client back that made
 //!   steps off the machine (specs/Parts.antt, over specs/Part.antt and specs/Session.antt of `ot_model`).
 //! - [`laws`] has the theorems of all runs: every state is sound, and where a run is quiet, all lists
@@ -40,6 +41,7 @@
 //! row changes one client; specs/Seats.antt says how the fields are the table's state.
 #![tactic(auto)]
 
+mod delivery;
 mod kept;
 pub mod laws;
 mod machine;

@@ -1,7 +1,8 @@
 //! Clients off the machine: a copy of one, and how it comes back.
 
-ghost use Rattle.std.specs.Prelude.{◌≡◌, ◌+◌, ◌-◌, ◌≤◌, ◌↔◌, drop, length, map, IfOk, IsTrue, None, true};
-ghost use Rattle.ot_client.specs.Client.{state_of};
+ghost use Rattle.std.specs.Prelude.{◌≡◌, ◌+◌, ◌-◌, ◌≤◌, ◌↔◌, ◌<◌, drop, length, map, IfOk, IsTrue, None, true};
+ghost use Rattle.std.specs.Option.{option_map};
+ghost use Rattle.ot_client.specs.Client.{message_of, state_of};
 ghost use Rattle.ot_model.specs.Part.{Leads};
 ghost use Rattle.ot_model.specs.Session.{installed, Begins, IsPartIn, RunsTo};
 ghost use Rattle.ot_model.specs.Sound.{AreInstrs};
@@ -70,6 +71,61 @@ fn messages_to(
         incoming.push(message);
     }
     Ok(incoming)
+}
+
+// An equal message.
+fn copy_message(message: &Message) -> Result<Message, AllocError>
+    ensures { IfOk result (λ copy. head_in copy ≡ head_in message.now) }
+{
+    match message {
+        Message::Ack => Ok(Message::Ack),
+        Message::Op(op) => Ok(Message::Op(op.copy()?)),
+    }
+}
+
+// Equal messages.
+fn copy_messages(
+    alloc: Global,
+    messages: &Downlink<Message>,
+) -> Result<Downlink<Message>, AllocError>
+    ensures { IfOk result (λ copies. map head_in copies.items ≡ map head_in messages.now.items) }
+{
+    let mut copies = Downlink::new(alloc);
+    for place in 0..messages.len() {
+        let Some(message) = messages.get(place) else {
+            unreachable!()
+        };
+        let copy = copy_message(message)?;
+        copies.reserve_one()?;
+        copies.push(copy);
+    }
+    Ok(copies)
+}
+
+// What was sent, if anything was, once more.
+fn copy_sent(sent: &Option<Sent<Tagged>>) -> Result<Option<Sent<Tagged>>, AllocError>
+    ensures { IfOk result (λ copy. option_map message_of copy ≡ option_map message_of sent.now) }
+{
+    match sent {
+        None => Ok(None),
+        Some(sent) => Ok(Some(sent.copy()?)),
+    }
+}
+
+impl Part {
+    /// An equal part, whose list has its shared chunks in common with this one's.
+    pub fn copy(&self) -> Result<Part, AllocError>
+        ensures { IfOk result (λ copy. part_in copy ≡ part_in self.now) }
+    {
+        Ok(Part {
+            number: self.number,
+            client: self.client.copy()?,
+            list: self.list.copy()?,
+            count: self.count,
+            incoming: copy_messages(self.list.allocator(), &self.incoming)?,
+            sent: copy_sent(&self.sent)?,
+        })
+    }
 }
 
 // The message is what the entry is to the client.
@@ -177,6 +233,15 @@ impl Machine {
             incoming,
             sent: None,
         })
+    }
+
+    /// Makes the chunks of the client's list shared ([`Doc::share`]): copies of the list, as those of [`Machine::part`], have them in common from
+    /// then on and copy no elements. Nothing else changes, also where a growth was refused.
+    pub fn share(&mut self, client: u16) -> Result<(), AllocError>
+        requires { client < length self.old.clients }
+        ensures { self.new ≡ self.old }
+    {
+        self.seats[client as usize].list.share()
     }
 
     /// The part's client is here and as in the part (revision, state with its operations, list and count, tags included), and the part's messages

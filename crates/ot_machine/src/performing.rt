@@ -7,10 +7,12 @@ ghost use Rattle.ot_model.specs.declared.shown.Reader.TheVariants.{Client, Serve
 ghost use Rattle.ot_model.specs.Table.{step, Performed, Refused};
 ghost use Rattle.ot_machine.specs.Answers.{IsRefusal};
 ghost use Rattle.ot_machine.specs.Ended.{IsEnding};
-ghost use Rattle.ot_machine.specs.Reads.{reader_of, shown_by, IsThere};
+ghost use Rattle.ot_machine.specs.Reads.{reader_of, shown_by, IsThere, Leads};
+ghost use Rattle.ot_machine.specs.Undoing.{IsRecord, Undoes};
 
 use crate::machine::Machine;
 use crate::outcome::Ending;
+use crate::undo::{Record, Undo};
 use ot_isa::{Instr, Schedule};
 use ot_model::{Reader, Refusal};
 use std::alloc::{AllocError, Global};
@@ -22,6 +24,7 @@ impl Machine {
         ensures there { OnOk result (IsThere self.new (Client client)) }
         ensures refused { IfErr result (λ r. step self.old (Read client) ≡ Refused r) }
         ensures unchanged { OnErr result (self.new ≡ self.old) }
+        ensures kept { OnOk result (IsRecord self.old self.new Record.Read) }
     {
         let _list = self.shown_at(client)?;
         self.steps += 1;
@@ -32,6 +35,7 @@ impl Machine {
         ensures done { OnOk result (step self.old ReadServer ≡ Performed self.new (Some (shown_by self.new Server))) }
         ensures refused { IfErr result (λ r. step self.old ReadServer ≡ Refused r) }
         ensures unchanged { OnErr result (self.new ≡ self.old) }
+        ensures kept { OnOk result (IsRecord self.old self.new Record.Read) }
     {
         let _list = self.shown_at_server()?;
         self.steps += 1;
@@ -77,6 +81,32 @@ impl Machine {
             Instr::ReadServer => {
                 self.pass_read_server()?;
                 Ok(Some(Reader::Server))
+            }
+        }
+    }
+
+    /// Performs the instruction as [`Machine::perform`] does, and gives what takes it back, as [`Machine::step_kept`] does: for `undo`, on
+    /// the machine as it is then. A read copies no list.
+    ///
+    /// The refusals are those of `step`; `Memory` is none of a read's. After an error nothing has changed.
+    pub fn perform_kept(&mut self, instr: &Instr) -> Result<Undo, Refusal>
+        ensures done { OnOk result (Leads self.old instr.now self.new) }
+        ensures refused { IfErr result (λ r. IsRefusal (step self.old instr.now) r) }
+        ensures unchanged { OnErr result (self.new ≡ self.old) }
+        ensures undo { IfOk result (λ undo. Undoes self.old self.new undo) }
+    {
+        match instr {
+            Instr::Read(client) => {
+                self.pass_read(*client)?;
+                Ok(Undo { step: Record::Read })
+            }
+            Instr::ReadServer => {
+                self.pass_read_server()?;
+                Ok(Undo { step: Record::Read })
+            }
+            _ => {
+                let (_none, undo) = self.step_kept(instr)?;
+                Ok(undo)
             }
         }
     }

@@ -1,16 +1,16 @@
 //! Steps with what takes them back, and taking them back.
 
-ghost use Rattle.std.specs.Prelude.{◌≡◌, IfErr, IfOk, None, OnErr, OnOk, Some};
-ghost use Rattle.std.specs.Option.{option_map};
+ghost use Rattle.std.specs.Prelude.{◌≡◌, IfErr, IfOk, IfSome, None, OnErr, OnOk, Some};
+ghost use Rattle.std.specs.Option.{option_copied, option_map};
 ghost use Rattle.ot_model.specs.Table.{step, Performed, State};
 ghost use Rattle.ot_machine.specs.Answers.{IsRefusal};
 ghost use Rattle.ot_machine.specs.declared.undo.Record.TheVariants.{ClientStep, Joined, Read, Taken};
-ghost use Rattle.ot_machine.specs.Undoing.{IsRecord, IsUndoable, IsUndoableRecord, Undoes};
+ghost use Rattle.ot_machine.specs.Undoing.{past_of, IsRecord, IsUndoable, IsUndoableRecord, Undoes, WaitedBefore};
 
 use crate::kept::{self, Before};
 use crate::machine::Machine;
 use crate::seat;
-use ot_client::Sent;
+use ot_client::{Past, Sent};
 use ot_inverse::Inverse;
 use ot_isa::{Instr, Tagged};
 use ot_model::{Refusal, Shown};
@@ -74,6 +74,18 @@ impl Undo {
         ensures { result.step ≡ made }
     {
         Undo { step: made }
+    }
+
+    /// Of what the client waited for before the step what is kept, over what it waits for after it, where the step was its own: an edit, a
+    /// delivery or an acknowledgement. None of a step of another client, of a Take, a Join or a read.
+    pub fn past(&self, client: u16) -> Option<&Past<Tagged>>
+        ensures is { option_copied result ≡ past_of client self.now.step }
+        ensures waited { IfSome result (λ past. (earlier s : State) → Undoes earlier s self.now → WaitedBefore client past.now earlier s) }
+    {
+        match &self.step {
+            Record::ClientStep(moved, before) if *moved == client => Some(&before.past),
+            _ => None,
+        }
     }
 }
 

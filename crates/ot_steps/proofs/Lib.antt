@@ -9,3 +9,5 @@ mod Short
 mod Texts
 pub mod Progress
 pub mod Quiet
+mod Holding
+mod Keeping

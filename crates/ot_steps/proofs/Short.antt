@@ -1,13 +1,13 @@
 -- Short items, gathered in bytes.
-use Rattle.std.proofs.Common.{◌≡◌, ℕ, zero, suc, ◌+◌, ◌-◌, ◌<◌, ◌≤◌, List, [], ◌∷◌, ◌++◌, length, map, set, take, get_or, sym, ap, ◌∙◌, arith, append_assoc, length-set, refl, Vec, Global, Result, Ok, Err, MatchResult, IsOk, IsUtf8}
-use Rattle.std.specs.Prelude.{true, decimal}
+use Rattle.std.proofs.Common.{◌≡◌, ℕ, zero, suc, ◌+◌, ◌-◌, ◌*◌, ◌<◌, ◌≤◌, List, [], ◌∷◌, ◌++◌, length, map, set, take, get_or, sym, ap, ◌∙◌, arith, append_assoc, length-set, Vec, Global, Option, Some, None}
+use Rattle.std.specs.Prelude.{true, IfSome, ◌/◌, ◌%◌, decimal}
 use Rattle.std.specs.Char.{encode_utf8}
 use Rattle.std.specs.Str.{IsAscii, encode_utf8_all}
-use Rattle.std.proofs.lemmas.Fmt.{decimal_digit}
+use Rattle.std.proofs.lemmas.Fmt.{decimal_digit, decimal_step}
 use Rattle.std.proofs.lemmas.Grind.{take-set_at}
 use Rattle.std.proofs.lemmas.List.{append-nil}
-use Rattle.std.proofs.lemmas.Str.{encode_ascii, IsAscii-append, IsUtf8-from_ascii}
-use Rattle.std.proofs.lemmas.Str.Ascii.{IsAscii-nil, IsAscii-cons}
+use Rattle.std.proofs.lemmas.Str.{encode_ascii, IsAscii-append}
+use Rattle.std.proofs.lemmas.Str.Ascii.{IsAscii-cons}
 use Rattle.json.specs.Print.{quoted}
 use Rattle.json.proofs.Printed.Strings.{escape_byte_plain}
 use Rattle.serde_json.specs.Written.{compact_text}
@@ -16,7 +16,8 @@ use Rattle.ot_text.specs.declared.Component.TheVariants.{Retain, Insert, Delete}
 use Rattle.ot_text.specs.Components.{run_of}
 use Rattle.ot_text.specs.Run.{IsFilled, Skip}
 use Rattle.ot_json.specs.Writing.{data_of}
-use Rattle.ot_steps.proofs.Arrays.{part, rest, rest_one}
+use Rattle.ot_steps.specs.Lettered.{items_from}
+use Rattle.ot_steps.proofs.Arrays.{part, rest_one}
 
 -- ---- bytes put one behind the other
 
@@ -45,17 +46,22 @@ put_four bytes at a b c d room =
 
 -- ---- the text of a short component
 
-pub retained : {A : Type 0} (code : A → ℕ) (c : Component A) (n : ℕ) → c ≡ Retain n → n ≤ 9 → part code c ≡ (48 + n) ∷ []
-retained code c n is low = ap (part code) is ∙ decimal_digit n (omega (arith, low))
+-- the digits of a number of two
+pub two_digits : (n : ℕ) → 10 ≤ n → n < 100 → decimal n ≡ (48 + n / 10) ∷ (48 + n % 10) ∷ []
+two_digits n ten low =
+    decimal_step n ten (omega (arith, low)) ∙ ap (λ (t : List ℕ). t ++ (48 + n % 10) ∷ []) (decimal_digit (n / 10) (omega (arith, low)))
 
-skipped : (n : ℕ) → 0 < n → n ≤ 9 → compact_text (data_of (Skip n)) ≡ 45 ∷ (48 + n) ∷ []
-skipped zero some low = absurd (omega (arith, some))
-skipped (suc n) some low =
+pub retained : {A : Type 0} (code : A → ℕ) (c : Component A) (n : ℕ) → c ≡ Retain n → part code c ≡ decimal n
+retained code c n is = ap (part code) is
+
+skipped : (n : ℕ) → 0 < n → compact_text (data_of (Skip n)) ≡ 45 ∷ decimal n
+skipped zero some = absurd (omega (arith, some))
+skipped (suc n) some =
     let less : suc n - 1 ≡ n = omega arith in
-    ap (λ (m : ℕ). 45 ∷ decimal (suc m)) less ∙ ap (λ (t : List ℕ). 45 ∷ t) (decimal_digit (suc n) (omega (arith, low)))
+    ap (λ (m : ℕ). 45 ∷ decimal (suc m)) less
 
-pub deleted : {A : Type 0} (code : A → ℕ) (c : Component A) (n : ℕ) → c ≡ Delete n → IsFilled (run_of c) → n ≤ 9 → part code c ≡ 45 ∷ (48 + n) ∷ []
-deleted code c n is some low = ap (part code) is ∙ skipped n (rw is at some) low
+pub deleted : {A : Type 0} (code : A → ℕ) (c : Component A) (n : ℕ) → c ≡ Delete n → IsFilled (run_of c) → part code c ≡ 45 ∷ decimal n
+deleted code c n is some = ap (part code) is ∙ skipped n (rw is at some)
 
 one_letter : {A : Type 0} (code : A → ℕ) (letters : List A) (x : A) (c : ℕ) → length letters ≡ 1 → x ≡ get_or letters 0 x → c ≡ code x → c < 128 → encode_utf8_all (map code letters) ≡ c ∷ []
 one_letter code [] x c one at is ascii = absurd (omega (arith, one))
@@ -69,49 +75,35 @@ inserted code component letters x c component_is one at is printable ascii unquo
     ∙ ap quoted (one_letter code letters.items x c one at is ascii)
     ∙ ap (λ (t : List ℕ). 34 ∷ ((t ++ []) ++ 34 ∷ [])) (escape_byte_plain c unquoted unescaped printable)
 
--- ---- gathered bytes are a text
-
-pub reads : {T E : Type 0} (r : Result T E) (P : T → Type 0) (Q : E → Type 0) (bytes : List ℕ) → IsAscii bytes → MatchResult r P (λ e. (IsUtf8 bytes → ⊥) × Q e) → IsOk r
-reads (Ok text) P Q bytes ascii read = refl
-reads (Err fault) P Q bytes ascii read = absurd (read.0 (IsUtf8-from_ascii bytes ascii))
+-- what is so is so where something is answered
+pub ascii_if : (r : Option ℕ) (bytes : List ℕ) → IsAscii bytes → IfSome r (λ end. IsAscii bytes)
+ascii_if (Some end) bytes ascii = ascii
+ascii_if None bytes ascii = tt
 
 -- ---- items that are gathered
 
--- the text, the gathered bytes and what is still to be written are all items behind what stood before
-pub record IsGathered {A : Type 0} (code : A → ℕ) (cs : List (Component A)) (i : ℕ) (old text bytes : List ℕ) (filled : ℕ) : Type 0 where
+-- the bytes that were put are ASCII, leave room for more, and are the items up to the next one
+pub record IsGathered {A : Type 0} (code : A → ℕ) (cs : List (Component A)) (start i : ℕ) (bytes : List ℕ) (filled : ℕ) : Type 0 where
   pub ascii : IsAscii (take filled bytes)
-  pub within : filled ≤ length bytes
-  pub whole : (text ++ take filled bytes) ++ rest code cs true i ≡ old ++ rest code cs true 0
+  pub room : filled + start * 4 ≤ i * 4
+  pub whole : take filled bytes ++ items_from code cs i ≡ items_from code cs start
 
--- a short one
-pub gathered_more : {A : Type 0} (code : A → ℕ) (cs : List (Component A)) (i : ℕ) (c : Component A) (old text bytes more : List ℕ) (filled end : ℕ) → i < length cs → c ≡ get_or cs i c
-    → take end more ≡ take filled bytes ++ 44 ∷ part code c → IsAscii (part code c) → end ≤ length more → IsGathered code cs i old text bytes filled → IsGathered code cs (i + 1) old text more end
-gathered_more code cs i c old text bytes more filled end inside at put ascii within so_far =
+-- one more
+pub gathered_more : {A : Type 0} (code : A → ℕ) (cs : List (Component A)) (start i : ℕ) (c : Component A) (bytes more : List ℕ) (filled end : ℕ) → i < length cs → c ≡ get_or cs i c
+    → take end more ≡ take filled bytes ++ 44 ∷ part code c → IsAscii (part code c) → end ≤ filled + 4 → IsGathered code cs start i bytes filled → IsGathered code cs start (i + 1) more end
+gathered_more code cs start i c bytes more filled end inside at put ascii short so_far =
     let before = take filled bytes in
-    let behind = rest code cs true (i + 1) in
+    let behind = items_from code cs (i + 1) in
     record {
       ascii = rw put (IsAscii-append before (44 ∷ part code c) so_far.ascii (IsAscii-cons 44 (part code c) (omega arith) ascii));
-      within = within;
-      whole = ap (λ (t : List ℕ). (text ++ t) ++ behind) put
-          ∙ ap (λ (t : List ℕ). t ++ behind) (sym (append_assoc text before (44 ∷ part code c)))
-          ∙ append_assoc (text ++ before) (44 ∷ part code c) behind
-          ∙ ap (λ (t : List ℕ). (text ++ before) ++ t) (sym (rest_one code cs true i c inside at))
-          ∙ so_far.whole;
-    }
-
--- one that is not
-pub gathered_long : {A : Type 0} (code : A → ℕ) (cs : List (Component A)) (i : ℕ) (c : Component A) (old text bytes more flushed comma next : List ℕ) (filled : ℕ) → i < length cs → c ≡ get_or cs i c
-    → more ≡ bytes → flushed ≡ text ++ take filled more → comma ≡ flushed ++ 44 ∷ [] → next ≡ comma ++ part code c → IsGathered code cs i old text bytes filled → IsGathered code cs (i + 1) old next more 0
-gathered_long code cs i c old text bytes more flushed comma next filled inside at same pushed separated written so_far =
-    let before = text ++ take filled bytes in
-    let behind = rest code cs true (i + 1) in
-    record {
-      ascii = IsAscii-nil;
-      within = omega arith;
-      whole = ap (λ (t : List ℕ). t ++ behind) (append-nil next ∙ written)
-          ∙ append_assoc comma (part code c) behind
-          ∙ ap (λ (t : List ℕ). t ++ (part code c ++ behind)) (separated ∙ ap (λ (t : List ℕ). t ++ 44 ∷ []) (pushed ∙ ap (λ (t : List ℕ). text ++ take filled t) same))
-          ∙ append_assoc before (44 ∷ []) (part code c ++ behind)
+      room = omega (arith, short, so_far.room);
+      whole = ap (λ (t : List ℕ). t ++ behind) put
+          ∙ append_assoc before (44 ∷ part code c) behind
           ∙ ap (λ (t : List ℕ). before ++ t) (sym (rest_one code cs true i c inside at))
           ∙ so_far.whole;
     }
+
+-- ---- the text, and the items that are still to be written
+
+pub record IsWrittenTo {A : Type 0} (code : A → ℕ) (cs : List (Component A)) (i : ℕ) (old text : List ℕ) : Type 0 where
+  pub whole : text ++ items_from code cs i ≡ old ++ items_from code cs 0

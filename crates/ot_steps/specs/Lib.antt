@@ -5,4 +5,5 @@ pub mod Lettered
 pub mod Fold
 pub mod Written
 pub mod Gathered
+pub mod Kept
 pub mod Laws

@@ -1,12 +1,14 @@
 //! Keys with their values, as text.
 
-ghost use Rattle.std.specs.Prelude.{◌≡◌, ◌++◌, ◌∷◌, [], IfOk, OnOk, string_bytes};
+ghost use Rattle.std.specs.Prelude.{◌≡◌, ◌++◌, ◌∷◌, [], IfOk, OnOk, Some, string_bytes};
 ghost use Rattle.ot_client.specs.Client.{message_of};
 ghost use Rattle.ot_isa.specs.Tagging.{chars_of};
+ghost use Rattle.ot_steps.specs.Kept.{HoldsOf};
 ghost use Rattle.ot_steps.specs.Lines.{plain_message, plain_operation};
 ghost use Rattle.ot_steps.specs.Text.{field_text, message_text, Name, Number, Op, Sent as SentValue, Text};
 ghost use Rattle.ot_json.specs.Writing.{text_of_operation};
 
+use crate::items::Items;
 use crate::operations::{push_components, push_decimal};
 use ot_client::Sent;
 use ot_isa::Tagged;
@@ -117,6 +119,28 @@ pub(crate) fn push_operation(
 {
     push_key(text, key)?;
     push_plain_array(alloc, text, op)
+}
+
+/// The operation's key and array, whose items may be kept.
+pub(crate) fn push_kept(
+    alloc: Global,
+    text: &mut String,
+    key: &str,
+    op: &TextOp<Tagged>,
+    kept: &Option<Items>,
+) -> Result<(), AllocError>
+    requires { HoldsOf kept.now (Some op.now) }
+    ensures { OnOk result (string_bytes text.new ≡ string_bytes text.old ++ field_text (record { key = key.now; value = Op (plain_operation op.now) })) }
+{
+    match kept {
+        Some(items) => {
+            // For the proof: what every operation keeps.
+            let _components = op.components();
+            push_key(text, key)?;
+            items.push(text)
+        }
+        None => push_operation(alloc, text, key, op),
+    }
 }
 
 // A message: `{"revision":R,"operation":[..]}`.

@@ -13,12 +13,16 @@
 //!   laws (`specs/Laws.antt`) that this is the run.
 //! - *Writing* (`specs/Written.antt`): [`print_steps`] writes the lines while the run goes, 64 KiB of them at a time (`specs/Gathered.antt`), and after a
 //!   fault a first part of them stands.
+//! - *Keeping* (`specs/Kept.antt`): of operations of some hundred components and more that a client waits for, the text is kept from one line to the
+//!   next, and what a step changes of it is written anew (items.rt, kept.rt).
 //!
 //! What a delivery applies is not kept by a machine: a copy of the client takes the operation first ([`applies`]), so a delivery is
 //! transformed twice. Begin reading at `step_line` in specs/Steps.antt, then at [`print_steps`].
 #![tactic(auto)]
 
 mod fields;
+mod items;
+mod kept;
 mod laws;
 mod lines;
 mod moving;

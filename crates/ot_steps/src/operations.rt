@@ -1,6 +1,6 @@
 //! Operations as the text of their JSON arrays, component by component.
 
-ghost use Rattle.std.specs.Prelude.{◌≡◌, ◌≤◌, ◌∷◌, ◌++◌, decimal, length, map, take, true, IfNone, IfSome, OnOk, string_bytes};
+ghost use Rattle.std.specs.Prelude.{◌≡◌, ◌≤◌, ◌+◌, ◌∷◌, ◌++◌, decimal, length, map, take, true, IfNone, IfSome, OnOk, string_bytes};
 ghost use Rattle.std.specs.Char.{encode_utf8};
 ghost use Rattle.std.specs.Str.{IsAscii};
 ghost use Rattle.serde_json.specs.View.{items_of};
@@ -8,21 +8,24 @@ ghost use Rattle.serde_json.specs.Written.{comma_if, compact_text, items_text};
 ghost use Rattle.ot_json.specs.Writing.{array_of, data_of};
 ghost use Rattle.ot_text.specs.Components.{run_of, runs};
 ghost use Rattle.ot_text.specs.Run.{IsFilled, IsNormal};
-ghost use Rattle.ot_steps.specs.Lettered.{lettered};
+ghost use Rattle.ot_steps.specs.Lettered.{items_from, lettered};
 
 use itoa::Buffer;
 use ot_text::Component;
-use ot_values::{Letter, push_letters};
+use ot_values::{Letter, ascii_text, push_letters};
 use std::alloc::{AllocError, Global};
 
 /// So many components, and more, are gathered before they are added.
 const MANY: usize = 16;
 
-/// So many bytes are gathered at most.
-const GATHERED: usize = 512;
+/// So many components are gathered at most before they are added.
+const AT_ONCE: usize = 128;
 
 /// So many bytes a short item has at most, with its comma: `,"x"`.
 const SHORT: usize = 4;
+
+/// So many bytes there is room for: for so many short items, so that no item looks whether there is.
+const GATHERED: usize = AT_ONCE * SHORT;
 
 // The digit of a number below 10: most counts are one, and a character is added for less than a string.
 fn digit_of(number: u64) -> Option<char>
@@ -62,7 +65,7 @@ pub fn push_decimal(text: &mut String, number: u64) -> Result<(), AllocError>
 }
 
 // A component as an item of the array.
-fn push_component<T: Letter>(
+pub(crate) fn push_component<T: Letter>(
     alloc: Global,
     text: &mut String,
     component: &Component<T>,
@@ -81,41 +84,54 @@ fn push_component<T: Letter>(
 }
 
 // What stands between two items.
-fn push_comma(text: &mut String, later: bool) -> Result<(), AllocError>
+pub(crate) fn push_comma(text: &mut String, later: bool) -> Result<(), AllocError>
     ensures { OnOk result (string_bytes text.new ≡ string_bytes text.old ++ comma_if later) }
 {
     if later { text.push(',') } else { Ok(()) }
 }
 
-// Puts a comma and the component behind the first `at` bytes, if there is room and it is short: a count of one digit, or one letter of
-// one byte that JSON writes as it is. Answers where it ends.
-fn put_short<T: Letter>(component: &Component<T>, bytes: &mut [u8], at: usize) -> Option<usize>
-    requires filled { IsFilled (run_of component.now) }
-    requires within { at ≤ length bytes.old }
-    ensures put { IfSome result (λ end. take end bytes.new ≡ take at bytes.old ++ 44 ∷ compact_text (data_of (lettered T.code (run_of component.now)))) }
-    ensures ascii { IfSome result (λ end. IsAscii (compact_text (data_of (lettered T.code (run_of component.now))))) }
-    ensures within { IfSome result (λ end. end ≤ length bytes.old) }
+// Puts the digits of a number of at most two behind the first `at` bytes. Answers where they end.
+fn put_digits(number: usize, bytes: &mut [u8], at: usize) -> Option<usize>
+    requires { at + 2 ≤ length bytes.old }
+    ensures put { IfSome result (λ end. take end bytes.new ≡ take at bytes.old ++ decimal number) }
+    ensures short { IfSome result (λ end. end ≤ at + 2) }
     ensures not { IfNone result (bytes.new ≡ bytes.old) }
     ensures length { length bytes.new ≡ length bytes.old }
 {
-    if bytes.len() - at < SHORT {
-        return None;
+    if number < 10 {
+        bytes[at] = b'0' + number as u8;
+        return Some(at + 1);
     }
+    if number < 100 {
+        bytes[at] = b'0' + (number / 10) as u8;
+        bytes[at + 1] = b'0' + (number % 10) as u8;
+        return Some(at + 2);
+    }
+    None
+}
+
+// Puts a comma and the component behind the first `at` bytes, if it is short: a count of at most two digits, or one letter of one byte that
+// JSON writes as it is. Answers where it ends.
+fn put_item<T: Letter>(component: &Component<T>, bytes: &mut [u8], at: usize) -> Option<usize>
+    requires filled { IsFilled (run_of component.now) }
+    requires room { at + SHORT ≤ length bytes.old }
+    ensures put { IfSome result (λ end. take end bytes.new ≡ take at bytes.old ++ 44 ∷ compact_text (data_of (lettered T.code (run_of component.now)))) }
+    ensures ascii { IfSome result (λ end. IsAscii (compact_text (data_of (lettered T.code (run_of component.now))))) }
+    ensures short { IfSome result (λ end. end ≤ at + SHORT) }
+    ensures not { IfNone result (take at bytes.new ≡ take at bytes.old) }
+    ensures length { length bytes.new ≡ length bytes.old }
+{
     match component {
         Component::Retain(count) => {
-            if *count > 9 {
-                return None;
-            }
             bytes[at] = b',';
-            bytes[at + 1] = b'0' + *count as u8;
-            Some(at + 2)
+            put_digits(*count, bytes, at + 1)
         }
         Component::Insert(letters) => {
             if letters.len() != 1 {
                 return None;
             }
             let letter = letters[0].letter();
-            if letter < ' ' || letter == '"' || letter == '\\' || letter > '~' {
+            if letter < ' ' || letter > '~' || letter == '"' || letter == '\\' {
                 return None;
             }
             bytes[at] = b',';
@@ -125,26 +141,38 @@ fn put_short<T: Letter>(component: &Component<T>, bytes: &mut [u8], at: usize) -
             Some(at + 4)
         }
         Component::Delete(count) => {
-            if *count > 9 {
-                return None;
-            }
             bytes[at] = b',';
             bytes[at + 1] = b'-';
-            bytes[at + 2] = b'0' + *count as u8;
-            Some(at + 3)
+            put_digits(*count, bytes, at + 2)
         }
     }
 }
 
-// Adds what was gathered.
-fn push_gathered(text: &mut String, bytes: &[u8]) -> Result<(), AllocError>
-    requires { IsAscii bytes.now }
-    ensures { OnOk result (string_bytes text.new ≡ string_bytes text.old ++ bytes.now) }
+// Puts the components from `start` on into the bytes, up to one that is not short, and as many as there is room for. Answers which comes next,
+// and how many bytes they are.
+fn put_items<T: Letter>(
+    components: &[Component<T>],
+    start: usize,
+    bytes: &mut [u8],
+) -> (usize, usize)
+    requires normal { IsNormal (runs components.now) }
+    requires within { start ≤ length components.now }
+    requires room { length bytes.old ≡ GATHERED }
+    ensures next { (start ≤ result.0) × (result.0 ≤ length components.now) }
+    ensures put { take result.1 bytes.new ++ items_from T.code components.now result.0 ≡ items_from T.code components.now start }
+    ensures filled { result.1 ≤ length bytes.new }
+    ensures ascii { IsAscii (take result.1 bytes.new) }
+    ensures length { length bytes.new ≡ length bytes.old }
 {
-    if bytes.is_empty() {
-        return Ok(());
+    let stop = components.len().min(start.saturating_add(AT_ONCE));
+    let mut filled = 0;
+    for place in start..stop {
+        match put_item(&components[place], bytes, filled) {
+            Some(end) => filled = end,
+            None => return (place, filled),
+        }
     }
-    text.push_str(std::str::from_utf8(bytes).unwrap())
+    (stop, filled)
 }
 
 // The items behind the first, and the closing bracket.
@@ -157,19 +185,18 @@ fn push_later<T: Letter>(
     ensures { OnOk result (string_bytes text.new ≡ string_bytes text.old ++ items_text true (items_of (map data_of (map (lettered T.code) (runs components.now))))) }
 {
     let mut bytes = [0u8; GATHERED];
-    let mut filled = 0;
-    for component in components {
-        match put_short(component, &mut bytes[..], filled) {
-            Some(end) => filled = end,
-            None => {
-                push_gathered(text, &bytes[..filled])?;
-                filled = 0;
-                text.push(',')?;
-                push_component(alloc, text, component)?;
-            }
+    let mut place = 0;
+    while place < components.len() {
+        let (next, filled) = put_items(components, place, &mut bytes[..]);
+        if next > place {
+            text.push_str(ascii_text(&bytes[..filled]))?;
+            place = next;
+        } else {
+            text.push(',')?;
+            push_component(alloc, text, &components[place])?;
+            place += 1;
         }
     }
-    push_gathered(text, &bytes[..filled])?;
     text.push(']')
 }
 

@@ -4,11 +4,13 @@ ghost use Rattle.std.specs.Prelude.{◌≡◌, IfErr, IfOk, OnErr, OnOk, string_
 ghost use Rattle.ot_model.specs.Runs.{opening_of};
 ghost use Rattle.ot_model.specs.Table as table;
 ghost use Rattle.ot_machine.specs.Answers.{IsRefusal};
+ghost use Rattle.ot_steps.specs.Kept.{AreKept};
 ghost use Rattle.ot_steps.specs.Steps.{last_lines};
 ghost use Rattle.ot_steps.specs.Text.{lines_text};
 ghost use Rattle.ot_steps.specs.Gathered.{Gathers, GathersMoves, GathersRun, GathersUpTo, MovesUpTo, RunUpTo};
 ghost use Rattle.ot_steps.specs.Written.{IsMove, WritesRun, WritesUpTo};
 
+use crate::kept::{Kept, kept_of, nothing_kept, perform_keeping};
 use crate::lines::{print_end, print_opening, print_stop, write_step};
 use crate::moving::{applies, sends};
 use ot_isa::{Instr, Schedule};
@@ -58,19 +60,26 @@ fn perform(
     at: usize,
     instr: &Instr,
     documents: bool,
+    kept: &mut Vec<Kept>,
     line: &mut String,
 ) -> Result<Result<(), Refusal>, AllocError>
+    requires { AreKept kept.old.items machine.old.clients }
     ensures line { IfOk result (λ answer. OnOk answer (IsMove documents at instr.now machine.old machine.new (string_bytes line.new))) }
     ensures refused { IfOk result (λ answer. IfErr answer (λ r. IsRefusal (table.step machine.old instr.now) r)) }
     ensures unchanged { IfOk result (λ answer. OnErr answer (machine.new ≡ machine.old)) }
+    ensures kept { IfOk result (λ answer. OnOk answer (AreKept kept.new.items machine.new.clients)) }
 {
     let sent = sends(machine, instr);
     let applied = applies(machine, instr)?;
-    if let Err(refusal) = machine.perform(instr) {
+    let applied = applied.as_ref();
+    if let Err(refusal) = perform_keeping(alloc, machine, instr, applied, kept)? {
         return Ok(Err(refusal));
     }
-    let applied = applied.as_ref();
-    write_step(alloc, line, machine, at, instr, sent, applied, documents)?;
+    let nothing = Kept::nothing();
+    let own = kept_of(kept.as_slice(), &nothing, instr);
+    write_step(
+        alloc, line, machine, at, instr, sent, applied, own, documents,
+    )?;
     Ok(Ok(()))
 }
 
@@ -102,11 +111,20 @@ fn gather_moves<W: Write>(
     ensures err { IfErr result (λ f. MovesUpTo f documents schedule.now (W.contents output.old) (W.contents output.new) held.old.items held.new.items) }
 {
     let mut line = String::new(alloc);
+    let mut kept = nothing_kept(alloc, machine.clients())?;
     for place in 0..schedule.len() {
         let Some(instr) = schedule.get(place) else {
             unreachable!()
         };
-        match perform(alloc, machine, place + 1, instr, documents, &mut line)? {
+        match perform(
+            alloc,
+            machine,
+            place + 1,
+            instr,
+            documents,
+            &mut kept,
+            &mut line,
+        )? {
             Ok(()) => gather(held, line.as_str(), output)?,
             Err(refusal) => return Ok(Some((place, refusal))),
         }
@@ -161,7 +179,8 @@ fn gather_run<W: Write>(
 /// performed instruction's line has the document of the one that moved.
 ///
 /// After a fault a first part of the lines is written; for want of memory for a line these are whole lines, all that were made before it. Memory does
-/// not grow with the lines: they are written wherever 64 KiB of them are held.
+/// not grow with the lines: they are written wherever 64 KiB of them are held. Beside the machine stand the texts of the long operations for which clients
+/// wait, in less than twice their bytes.
 pub fn print_steps<W: Write>(
     alloc: Global,
     schedule: &Schedule,

@@ -31,3 +31,4 @@ pub mod Spliced
 pub mod Kept
 pub mod Finished
 pub mod Recounted
+pub mod Ends

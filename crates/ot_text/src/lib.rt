@@ -79,6 +79,7 @@ mod prepared;
 mod refusal;
 mod replace;
 mod rewrite;
+mod shared;
 mod splices;
 mod survey;
 

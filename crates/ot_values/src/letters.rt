@@ -2,11 +2,12 @@
 
 ghost use Rattle.std.specs.Prelude.{◌≡◌, ◌++◌, ◌<◌, ◌≤◌, ℕ, map, length, take, true, false, IfOk, OnOk, string_bytes};
 ghost use Rattle.std.specs.Bool.{OnTrue};
-ghost use Rattle.std.specs.Str.{encode_utf8_all};
+ghost use Rattle.std.specs.Str.{encode_utf8_all, IsAscii};
 ghost use Rattle.json.specs.Print.{escape, quoted};
 ghost use Rattle.ot_values.specs.Values.{text_of};
 ghost use Rattle.ot_values.specs.Values.{Continues};
 
+use crate::bytes::ascii_text;
 use ot_isa::Tagged;
 use ot_text::{Doc, Pieces};
 use serde_json::Value;
@@ -62,33 +63,28 @@ fn push_plain<T: Letter>(text: &mut String, letters: &[T]) -> Result<(), AllocEr
     Ok(())
 }
 
-// The lowest byte of a letter.
-fn low_byte(letter: char) -> u8
-    ensures { letter < 128 → result ≡ letter }
+// The lowest byte of a letter's number.
+fn low_byte(number: u32) -> u8
+    ensures { number < 128 → result ≡ number }
 {
-    (letter as u32 % 256) as u8
+    (number % 256) as u8
 }
 
-// Whether the letter is beyond `~`, the last one of one byte that can be printed.
-fn is_beyond(letter: char) -> bool
-    ensures { result ≡ false → letter < 128 }
-{
-    letter > '~'
-}
-
-// Puts the lowest byte of each letter into the front of `bytes`. Says whether no letter is beyond `~`: then these bytes are their text.
+// Puts the lowest byte of each letter into the front of `bytes`. Says whether each letter is one byte: then these bytes are their text. The bits
+// of all letters are gathered, which is less than to compare each.
 fn put_low<T: Letter>(letters: &[T], bytes: &mut [u8]) -> bool
     requires { length letters.now ≤ length bytes.old }
     ensures bytes { OnTrue result (take (length letters.now) bytes.new ≡ encode_utf8_all (map T.code letters.now)) }
+    ensures ascii { OnTrue result (IsAscii (take (length letters.now) bytes.new)) }
     ensures length { length bytes.new ≡ length bytes.old }
 {
-    let mut beyond = false;
+    let mut bits = 0;
     for place in 0..letters.len() {
-        let letter = letters[place].letter();
-        beyond |= is_beyond(letter);
-        bytes[place] = low_byte(letter);
+        let number = letters[place].letter() as u32;
+        bits |= number;
+        bytes[place] = low_byte(number);
     }
-    !beyond
+    bits < 128
 }
 
 // Whether JSON writes the byte in another way.
@@ -116,6 +112,7 @@ fn are_free(bytes: &[u8]) -> bool
 fn put_ascii<T: Letter>(letters: &[T], bytes: &mut [u8]) -> bool
     requires { length letters.now ≤ length bytes.old }
     ensures bytes { OnTrue result (take (length letters.now) bytes.new ≡ encode_utf8_all (map T.code letters.now)) }
+    ensures ascii { OnTrue result (IsAscii (take (length letters.now) bytes.new)) }
     ensures plain { OnTrue result (escape (encode_utf8_all (map T.code letters.now)) ≡ encode_utf8_all (map T.code letters.now)) }
     ensures length { length bytes.new ≡ length bytes.old }
 {
@@ -128,9 +125,7 @@ fn push_text<T: Letter>(text: &mut String, letters: &[T]) -> Result<(), AllocErr
 {
     let mut bytes = [0u8; PIECE];
     if letters.len() <= PIECE && put_low(letters, &mut bytes[..]) {
-        if let Ok(ascii) = std::str::from_utf8(&bytes[..letters.len()]) {
-            return text.push_str(ascii);
-        }
+        return text.push_str(ascii_text(&bytes[..letters.len()]));
     }
     push_plain(text, letters)
 }
@@ -154,10 +149,8 @@ fn push_piece<T: Letter>(text: &mut String, letters: &[T]) -> Result<bool, Alloc
 {
     let mut bytes = [0u8; PIECE];
     if letters.len() <= PIECE && put_ascii(letters, &mut bytes[..]) {
-        if let Ok(ascii) = std::str::from_utf8(&bytes[..letters.len()]) {
-            text.push_str(ascii)?;
-            return Ok(true);
-        }
+        text.push_str(ascii_text(&bytes[..letters.len()]))?;
+        return Ok(true);
     }
     if !are_plain(letters) {
         return Ok(false);

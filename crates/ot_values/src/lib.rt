@@ -4,8 +4,10 @@
 //! [`refusal_name`].
 #![tactic(auto)]
 
+mod bytes;
 mod letters;
 mod names;
 
+pub use bytes::ascii_text;
 pub use letters::{Letter, push_letters, push_quoted};
 pub use names::{phase_name, refusal_name};

@@ -2,11 +2,12 @@
 //!
 //! Workers are threads, the caller's own among them, that take turns with the clients of one board, as users type. What a turn does under
 //! the lock is short: the server takes what is under way, a client is chosen and lent (or picked up), and later its session is settled (or
-//! parked). What it does off the lock, the session's steps with their transforms, runs beside the other workers' turns.
+//! parked). What it does off the lock, the session's steps with their transforms, runs beside the other workers' turns. To settle a session, the
+//! board's machine performs its steps once more (`ot_board`'s `replay`): that costs what they change, and no list is compared, however long.
 //!
 //! ```text
 //!   under the lock        off the lock                          under the lock
-//!   stopped? take, ..     deliver, acknowledge, .. edit         settle, or park (each fourth turn)
+//!   stopped? take, ..     deliver, acknowledge, .. edit         replay, or hold (each fourth turn)
 //!   choose, join, lend    or read, where it was picked up       wake all
 //! ```
 //!

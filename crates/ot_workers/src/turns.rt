@@ -10,7 +10,7 @@ use crate::fault::WorkFault;
 use crate::held::{Held, in_hand};
 use crate::playing::Task;
 use crate::shared::Inside;
-use ot_board::{Lent, Receipt};
+use ot_board::{Lent, Receipt, Replayed};
 use ot_typing::Typing;
 
 /// What a turn comes to under the lock.
@@ -162,14 +162,18 @@ pub(crate) fn begin_turn<'a>(
     }
 }
 
-// Settles the session, for whose receipt there is room.
+// Settles the session, for whose receipt there is room: the board's machine performs its steps. Where it stops before the last one, what was
+// performed has its receipt all the same.
 fn settle(inside: &mut Inside, receipts: &mut Vec<Receipt>, lent: Lent) -> Result<(), WorkFault>
     requires { vec_len receipts.old < vec_capacity receipts.old }
 {
-    match inside.board.settle(lent) {
-        Ok(receipt) => {
+    match inside.board.replay(lent) {
+        Ok(Replayed { receipt, stopped }) => {
             receipts.push_reserved(receipt);
-            Ok(())
+            match stopped {
+                Some(refusal) => Err(WorkFault::from(refusal)),
+                None => Ok(()),
+            }
         }
         Err((refusal, _lost)) => Err(WorkFault::from(refusal)),
     }
@@ -179,7 +183,7 @@ fn settle(inside: &mut Inside, receipts: &mut Vec<Receipt>, lent: Lent) -> Resul
 fn park(inside: &mut Inside, receipts: &mut Vec<Receipt>, lent: Lent) -> Result<(), WorkFault>
     requires { vec_len receipts.old < vec_capacity receipts.old }
 {
-    match inside.board.park(lent) {
+    match inside.board.hold(lent) {
         Ok(()) => Ok(()),
         Err((refusal, lent)) => {
             let _ = settle(inside, receipts, lent);

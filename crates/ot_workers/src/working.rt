@@ -52,10 +52,11 @@ fn go_on<R: Wait, G: Gate>(
 ///    that is not out and has a message or an action to type is lent, and joined before where it has not joined. Where there is none and
 ///    nobody is out, it ends; where somebody is out, it waits for another's turn to end and begins its turn again.
 /// 3. Off the lock it plays: `play`, with `Read` for a session that was picked up.
-/// 4. Under the lock it parks the session, where it was lent and k mod 4 is 3, or settles it, and wakes the others.
+/// 4. Under the lock it parks the session (`Board::hold`), where it was lent and k mod 4 is 3, or settles it (`Board::replay`), and wakes the others.
 ///
-/// A worker that meets a refusal settles the session that it holds, if that can be done, and stops the others. Room for a receipt is made
-/// before the call that gives it. It may wait, so nothing says that it returns.
+/// A worker that meets a refusal settles the session that it holds, if that can be done, and stops the others. Where memory is wanting in the
+/// midst of settling, the steps that were performed until then have their receipt. Room for a receipt is made before the call that gives it. It
+/// may wait, so nothing says that it returns.
 pub fn work<R: Wait, G: Gate>(
     rt: &R,
     alloc: Global,

@@ -1,5 +1,4 @@
 use Rattle.std.proofs.Common.{subst}
-use Rattle.std.specs.List.{All}
 use Rattle.ot_board.specs.Tiling.{AreRising}
 use Rattle.ot_board.proofs.Tiles.{all_workers, one_more_worker}
 use Rattle.ot_board.proofs.auditing.check_rising.Goals as goal

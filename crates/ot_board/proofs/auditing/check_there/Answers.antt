@@ -1,4 +1,4 @@
-use Rattle.std.proofs.Common.{rules, arith}
+use Rattle.std.proofs.Common.{rules}
 use Rattle.std.specs.List.{All}
 use Rattle.ot_board.specs.Tiling.{IsThere}
 use Rattle.ot_board.proofs.Tiles.{all_workers, one_more_worker}

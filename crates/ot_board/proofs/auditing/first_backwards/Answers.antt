@@ -1,5 +1,4 @@
-use Rattle.std.proofs.Common.{rules, arith, below_more}
-use Rattle.ot_board.specs.Tiling.{IsBackwards}
+use Rattle.std.proofs.Common.{rules, below_more}
 use Rattle.ot_board.proofs.Tiles.{overlap, no_overlap, rising}
 use Rattle.ot_board.proofs.auditing.first_backwards.Goals as goal
 

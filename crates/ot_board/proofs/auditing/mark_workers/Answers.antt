@@ -1,4 +1,4 @@
-use Rattle.std.proofs.Common.{◌≡◌, ◌+◌, ◌<◌, ◌≤◌, length, arith, subst, sym, ap, ◌∙◌, List, ℕ, take}
+use Rattle.std.proofs.Common.{◌+◌, ◌<◌, ◌≤◌, length, arith, subst, sym, ap, ◌∙◌, List, ℕ, take}
 use Rattle.std.specs.List.{All}
 use Rattle.ot_board.specs.declared.receipt.Receipt.{Receipt}
 use Rattle.ot_board.specs.Tiling.{end_of, capped, times_in, times_covered, lists}

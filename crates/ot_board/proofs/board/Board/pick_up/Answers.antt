@@ -1,4 +1,4 @@
-use Rattle.std.proofs.Common.{◌≡◌, map, refl, sym, ap, ◌∙◌, Some, None, Option, List}
+use Rattle.std.proofs.Common.{map, sym, ap, ◌∙◌, Some, None, Option, List}
 use Rattle.std.specs.Option.{option_map}
 use Rattle.std.specs.Prelude.{slice_get}
 use Rattle.ot_model.specs.Session.{Session}

@@ -1,4 +1,4 @@
-use Rattle.std.proofs.Common.{◌≡◌, ℕ, rules, arith, refl, sym, ap, ◌∙◌, subst, [], ◌∷◌, length, List}
+use Rattle.std.proofs.Common.{◌≡◌, arith, refl, sym, ap, ◌∙◌, subst, [], ◌∷◌, length}
 use Rattle.ot_isa.specs.Program.{Program, with_instr}
 use Rattle.ot_board.specs.declared.receipt.Receipt.{Receipt}
 use Rattle.ot_board.specs.Boards.{BoardView, HasRoomFor, IsRecorded, board_in, with_steps}

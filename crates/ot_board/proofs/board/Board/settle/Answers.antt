@@ -1,12 +1,12 @@
-use Rattle.std.proofs.Common.{◌≡◌, ℕ, ◌+◌, ◌*◌, ◌<◌, ◌≤◌, List, [], length, set, rules, arith, refl, sym, ap, ◌∙◌, subst, Some, true, false}
+use Rattle.std.proofs.Common.{◌≡◌, ℕ, ◌<◌, List, [], length, set, rules, arith, refl, sym, ap, ◌∙◌, subst, Some, true, false}
 use Rattle.std.specs.Prelude.{slice_get}
 use Rattle.std.specs.List.{All}
 use Rattle.std.proofs.lemmas.Option.{slice_get_within}
 use Rattle.ot_isa.specs.declared.instruction.Instr.{Instr}
 use Rattle.ot_isa.specs.Program.{Program, IsForClients}
-use Rattle.ot_model.specs.Session.{Session, RunsTo}
+use Rattle.ot_model.specs.Session.{RunsTo}
 use Rattle.ot_board.specs.Lents.{session_of}
-use Rattle.ot_board.specs.Boards.{BoardView, IsHere, board_in, outside, with_steps}
+use Rattle.ot_board.specs.Boards.{BoardView, IsHere, board_in, with_steps}
 use Rattle.ot_board.proofs.Owning.{all_own}
 use Rattle.ot_board.proofs.Boarding.{kept, outside_less, waiting_less}
 use Rattle.std.proofs.Common.{length-set}

@@ -1,4 +1,4 @@
-use Rattle.std.proofs.Common.{rules, arith}
+use Rattle.std.proofs.Common.{rules}
 use Rattle.ot_board.proofs.Moves.{moved_read}
 use Rattle.ot_board.proofs.session.Session.read.Goals as goal
 

@@ -1,5 +1,0 @@
-use Rattle.ot_debug.proofs.Stopping.{IsOnWay}
-use Rattle.ot_debug.proofs.debugger.Debugger.run.Given as goal
-
-abbrev pub invariant-loop-place : goal.invariant-loop-place
-invariant-loop-place l = IsOnWay l.fn.self l.self l.place

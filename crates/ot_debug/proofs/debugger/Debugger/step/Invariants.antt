@@ -1,5 +1,0 @@
-use Rattle.ot_debug.proofs.Stopping.{IsStepped}
-use Rattle.ot_debug.proofs.debugger.Debugger.step.Given as goal
-
-abbrev pub invariant-loop : goal.invariant-loop
-invariant-loop l = IsStepped l.fn.self l.self l.counter

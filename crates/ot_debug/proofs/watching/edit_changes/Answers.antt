@@ -1,0 +1,8 @@
+use Rattle.std.proofs.Common.{◌∙◌, sym}
+use Rattle.ot_debug.proofs.Foretelling.{edit_changes}
+use Rattle.ot_debug.proofs.watching.edit_changes.Goals as goal
+
+pub returns : goal.returns
+returns c =
+    edit_changes c.args.machine.now c.args.own c.args.client c.inserted-first.result c.args.op.now c.in_ok-op.op c.document-list.result.now c.changes.result (sym c.from.ensures ∙ c.if-from-client.false)
+    c.document-list.ensures c.inserted-first.ensures c.in_ok-op.ensures c.changes.ensures

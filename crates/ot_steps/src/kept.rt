@@ -1,0 +1,283 @@
+//! The texts of what clients wait for, kept from one line to the next.
+//!
+//! ```text
+//!    instruction ── Machine::step_kept ──▶ Undo::past ── Patch::shared ──▶ Items::renew
+//!                                          (what the client waited for)    (the blocks between what is shared at both ends)
+//! ```
+
+ghost use Rattle.std.specs.Prelude.{◌≡◌, ◌<◌, IfErr, IfOk, OnErr, OnOk, Some, length, replicate};
+ghost use Rattle.ot_text.specs.Patch.{patched, LeadsFrom};
+ghost use Rattle.ot_isa.specs.Program.{client_of, IsForClients};
+ghost use Rattle.ot_client.specs.Client.{state_of};
+ghost use Rattle.ot_client.specs.Past.{phase_before, FitsPhase};
+ghost use Rattle.ot_client.specs.State as state;
+ghost use Rattle.ot_model.specs.Table as table;
+ghost use Rattle.ot_model.specs.Table.{phase_in, State};
+ghost use Rattle.ot_machine.specs.Answers.{IsRefusal};
+ghost use Rattle.ot_steps.specs.Kept.{AreKept, HoldsOf, IsKeptAt, IsKeptOf, LeadsTo, nothing};
+ghost use Rattle.ot_steps.specs.Steps.{client_in};
+
+use crate::items::Items;
+use ot_client::{Client, Past};
+use ot_isa::{Instr, Tagged};
+use ot_machine::{Machine, Refusal};
+use ot_text::{Patch, TextOp};
+use std::alloc::{AllocError, Global};
+
+/// The text of an operation of fewer components is not kept.
+const LONG: usize = 512;
+
+/// Of a step that applies an operation of more components nothing is kept.
+const FEW: usize = 16;
+
+/// Of what a client waits for the texts that are kept.
+#[derive(Drop)]
+pub(crate) struct Kept {
+    pub outstanding: Option<Items>,
+    pub buffer: Option<Items>,
+}
+
+// The text of `op`, from that of the operation that the patch makes of it, where that was kept. None where more than half of the components have changed,
+// or where these are few.
+fn renewed(
+    alloc: Global,
+    kept: Option<Items>,
+    patch: &Patch<Tagged>,
+    op: &TextOp<Tagged>,
+) -> Result<Option<Items>, AllocError>
+    requires { LeadsFrom patch.now op.now }
+    ensures { HoldsOf kept (Some (patched patch.now op.now)) → IfOk result (λ items. HoldsOf items (Some op.now)) }
+{
+    let components = op.components();
+    let (front, back) = patch.shared(op);
+    if components.len() < LONG || front + back < components.len() / 2 {
+        return Ok(None);
+    }
+    let items = match kept {
+        Some(items) => items.renew(alloc, components, front, back)?,
+        None => Items::of(alloc, components)?,
+    };
+    Ok(Some(items))
+}
+
+// Whether the client waits for an operation whose text may be kept.
+fn waits_for_much(client: &Client<Tagged>) -> bool {
+    match client {
+        Client::Synchronized(_) => false,
+        Client::AwaitingConfirm(client) => client.outstanding().components().len() >= LONG,
+        Client::AwaitingWithBuffer(client) => {
+            client.outstanding().components().len() >= LONG
+                || client.buffer().components().len() >= LONG
+        }
+    }
+}
+
+// Whether the instruction, by which a client may apply this operation, is a step of a client that changes few places.
+fn changes_little(instr: &Instr, applied: Option<&TextOp<Tagged>>) -> bool {
+    match instr {
+        Instr::Edit(_, op) => op.components().len() <= FEW,
+        Instr::Deliver(_) => match applied {
+            Some(op) => op.components().len() <= FEW,
+            None => false,
+        },
+        Instr::Acknowledge(_) => true,
+        _ => false,
+    }
+}
+
+impl Kept {
+    pub(crate) fn nothing() -> Kept
+        ensures { result ≡ nothing }
+    {
+        Kept {
+            outstanding: None,
+            buffer: None,
+        }
+    }
+
+    // Where this operation is outstanding after a step.
+    fn follow_outstanding(
+        self,
+        alloc: Global,
+        past: &Past<Tagged>,
+        op: &TextOp<Tagged>,
+    ) -> Result<Kept, AllocError>
+        requires { FitsPhase past.now (state.AwaitingConfirm op.now) }
+        ensures { IsKeptOf self (phase_in (phase_before past.now (state.AwaitingConfirm op.now))) → IfOk result (λ kept. IsKeptOf kept (table.AwaitingConfirm op.now)) }
+    {
+        match past {
+            Past::Outstanding(patch) => {
+                let outstanding = renewed(alloc, self.outstanding, patch, op)?;
+                Ok(Kept {
+                    outstanding,
+                    buffer: None,
+                })
+            }
+            Past::Confirmed(_) => Ok(Kept {
+                outstanding: self.buffer,
+                buffer: None,
+            }),
+            _ => Ok(Kept::nothing()),
+        }
+    }
+
+    // Where there is a buffer after a step.
+    fn follow_both(
+        self,
+        alloc: Global,
+        past: &Past<Tagged>,
+        op: &TextOp<Tagged>,
+        buffer: &TextOp<Tagged>,
+    ) -> Result<Kept, AllocError>
+        requires { FitsPhase past.now (state.AwaitingWithBuffer op.now buffer.now) }
+        ensures { IsKeptOf self (phase_in (phase_before past.now (state.AwaitingWithBuffer op.now buffer.now))) → IfOk result (λ kept. IsKeptOf kept (table.AwaitingWithBuffer op.now buffer.now)) }
+    {
+        match past {
+            Past::Both(both) => {
+                let (first, second) = &**both;
+                let outstanding = renewed(alloc, self.outstanding, first, op)?;
+                let buffer = renewed(alloc, self.buffer, second, buffer)?;
+                Ok(Kept {
+                    outstanding,
+                    buffer,
+                })
+            }
+            Past::Unbuffered => Ok(Kept {
+                outstanding: self.outstanding,
+                buffer: None,
+            }),
+            Past::Buffer(patch) => {
+                let buffer = renewed(alloc, self.buffer, patch, buffer)?;
+                Ok(Kept {
+                    outstanding: self.outstanding,
+                    buffer,
+                })
+            }
+            _ => Ok(Kept::nothing()),
+        }
+    }
+
+    // What is kept of the client after a step of its own, from what was kept before it.
+    fn follow(
+        self,
+        alloc: Global,
+        past: &Past<Tagged>,
+        client: &Client<Tagged>,
+    ) -> Result<Kept, AllocError>
+        requires { FitsPhase past.now (state_of client.now).phase }
+        ensures { IsKeptOf self (phase_in (phase_before past.now (state_of client.now).phase)) → IfOk result (λ kept. IsKeptOf kept (phase_in (state_of client.now).phase)) }
+    {
+        match client {
+            Client::Synchronized(_) => Ok(Kept::nothing()),
+            Client::AwaitingConfirm(client) => {
+                self.follow_outstanding(alloc, past, client.outstanding())
+            }
+            Client::AwaitingWithBuffer(client) => {
+                self.follow_both(alloc, past, client.outstanding(), client.buffer())
+            }
+        }
+    }
+}
+
+// Performs the instruction, and shows no list.
+fn perform_only(machine: &mut Machine, instr: &Instr) -> Result<(), Refusal>
+    ensures done { OnOk result (LeadsTo instr.now machine.old machine.new) }
+    ensures refused { IfErr result (λ r. IsRefusal (table.step machine.old instr.now) r) }
+    ensures unchanged { OnErr result (machine.new ≡ machine.old) }
+{
+    machine.perform(instr)?;
+    Ok(())
+}
+
+// Performs the instruction. Gives what is kept of the client after it, from what was kept before it.
+fn perform_from(
+    alloc: Global,
+    machine: &mut Machine,
+    instr: &Instr,
+    applied: Option<&TextOp<Tagged>>,
+    client: u16,
+    before: Kept,
+) -> Result<Result<Kept, Refusal>, AllocError>
+    requires there { client < length machine.old.clients }
+    requires kept { IsKeptOf before (client_in machine.old client).phase }
+    ensures done { IfOk result (λ answer. OnOk answer (LeadsTo instr.now machine.old machine.new)) }
+    ensures refused { IfOk result (λ answer. IfErr answer (λ r. IsRefusal (table.step machine.old instr.now) r)) }
+    ensures unchanged { IfOk result (λ answer. OnErr answer (machine.new ≡ machine.old)) }
+    ensures kept { IfOk result (λ answer. IfOk answer (λ after. IsKeptOf after (client_in machine.new client).phase)) }
+{
+    if !changes_little(instr, applied)
+        || !machine.joined(client)
+        || !waits_for_much(machine.client(client))
+    {
+        return match perform_only(machine, instr) {
+            Ok(()) => Ok(Ok(Kept::nothing())),
+            Err(refusal) => Ok(Err(refusal)),
+        };
+    }
+    let (_, undo) = match machine.step_kept(instr) {
+        Ok(given) => given,
+        Err(refusal) => return Ok(Err(refusal)),
+    };
+    let Some(past) = undo.past(client) else {
+        return Ok(Ok(Kept::nothing()));
+    };
+    let after = before.follow(alloc, past, machine.client(client))?;
+    Ok(Ok(after))
+}
+
+/// Nothing is kept of so many clients.
+pub(crate) fn nothing_kept(alloc: Global, clients: u16) -> Result<Vec<Kept>, AllocError>
+    ensures { IfOk result (λ kept. kept.items ≡ replicate clients nothing) }
+{
+    let mut kept = Vec::new(alloc);
+    for _client in 0..clients {
+        kept.push(Kept::nothing())?;
+    }
+    Ok(kept)
+}
+
+/// What is kept of the client that the instruction names, if it names one.
+pub(crate) fn kept_of<'a>(kept: &'a [Kept], nothing: &'a Kept, instr: &Instr) -> &'a Kept
+    requires { IsForClients (length kept.now) instr.now }
+    ensures { (s : State) → AreKept kept.now s.clients → IsKeptAt result.now s (client_of instr.now) }
+{
+    match instr.client() {
+        Some(client) => &kept[client as usize],
+        None => nothing,
+    }
+}
+
+/// Performs the instruction as `Machine::perform` does, and renews what is kept of the client that it names. `applied` is what it applies by a delivery, as
+/// [`applies`](crate::applies) says of the machine before it.
+///
+/// What is kept of a client are the texts of the operations of 512 components and more for which it waits: less than twice their bytes, and some 40 for
+/// each block. It does not grow with the steps. After want of memory the instruction may be performed, and what is kept is not to be used.
+pub(crate) fn perform_keeping(
+    alloc: Global,
+    machine: &mut Machine,
+    instr: &Instr,
+    applied: Option<&TextOp<Tagged>>,
+    kept: &mut Vec<Kept>,
+) -> Result<Result<(), Refusal>, AllocError>
+    requires { AreKept kept.old.items machine.old.clients }
+    ensures done { IfOk result (λ answer. OnOk answer (LeadsTo instr.now machine.old machine.new)) }
+    ensures refused { IfOk result (λ answer. IfErr answer (λ r. IsRefusal (table.step machine.old instr.now) r)) }
+    ensures unchanged { IfOk result (λ answer. OnErr answer (machine.new ≡ machine.old)) }
+    ensures kept { IfOk result (λ answer. OnOk answer (AreKept kept.new.items machine.new.clients)) }
+{
+    let Some(client) = instr.client() else {
+        return Ok(perform_only(machine, instr));
+    };
+    let place = client as usize;
+    if place >= kept.len() {
+        return Ok(perform_only(machine, instr));
+    }
+    let before = std::mem::replace(&mut kept[place], Kept::nothing());
+    match perform_from(alloc, machine, instr, applied, client, before)? {
+        Ok(after) => {
+            kept[place] = after;
+            Ok(Ok(()))
+        }
+        Err(refusal) => Ok(Err(refusal)),
+    }
+}
