@@ -31,10 +31,10 @@ def long_documents(clients, actions, workers=1):
     return plan([row() for _ in range(clients)], "a" * START, workers)
 
 
-def long_messages(clients, actions):
-    """Clients that put 250 characters in at a time, until each has its 15,000."""
+def long_messages(clients, actions, letters=250):
+    """Clients that put 250 characters in at a time, until each has its 15,000, or other numbers of them."""
     draw = random.Random(clients)
-    return plan([[action(draw.randrange(START), "x" * 250) for _ in range(actions)] for _ in range(clients)], "a" * START)
+    return plan([[action(draw.randrange(START), "x" * letters) for _ in range(actions)] for _ in range(clients)], "a" * START)
 
 
 def audience(clients, actions):
@@ -56,6 +56,7 @@ SHAPES = {
     "thirty-two-long": lambda: long_documents(32, 80),
     "sixty-four-long": lambda: long_documents(64, 22),
     "long-messages": lambda: long_messages(32, 60),
+    "longer-messages": lambda: long_messages(64, 23, 500),
     "audience": lambda: audience(64, 1000),
     "late": lambda: late(64, 20),
 }

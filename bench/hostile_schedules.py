@@ -172,6 +172,31 @@ def split_at_many_places(clients=64, groups=7000, places=700):
     return lines
 
 
+def reads_between(waiting=32, groups=7000, entries=1490):
+    """32 clients whose deletions are split into 14,000 components, as in the crowd, to which 1,490 operations are delivered, with a read behind each delivery."""
+    length = 30000
+    lines = [f"clients {waiting + 2}", 'start "' + "a" * length + '"', *(f"edit {c} [-{length}]" for c in range(waiting))]
+    lines += [f"edit {waiting} {grid(1, 4, groups, length, False)}", f"take {waiting}", f"ack {waiting}", f"deliver {waiting + 1}"]
+    lines += typed(waiting + 1, entries - 1, length + groups)
+    return [*lines, *[f"{word} {c}" for _ in range(entries) for c in range(waiting) for word in ("deliver", "read")]]
+
+
+def blocks(ends, clients=64, letters=650, length=40000):
+    """64 clients that put 650 characters in at a time, at one place or half of them at each end, which all others take at once: each overfills its chunk."""
+    lines = opening(clients, length)
+    for k in range(15000 // letters * clients):
+        if ends:
+            parts = ['"' + "x" * (letters // 2) + '"', length, '"' + "y" * (letters - letters // 2) + '"']
+        else:
+            at = 7919 * k % length
+            parts = [at, '"' + "x" * letters + '"', length - at]
+        sender = k % clients
+        lines += [f"edit {sender} [" + ",".join(str(it) for it in parts if it) + "]", f"take {sender}"]
+        lines += [f"ack {c}" if c == sender else f"deliver {c}" for c in range(clients)]
+        length += letters
+    return lines
+
+
 def reads(count=90000, length=40000):
     """A text of 40,000, read 90,000 times: `run` and `steps` print 3.6 GB of it."""
     return [*opening(1, length), *["read 0"] * count]
@@ -210,6 +235,9 @@ SHAPES = {
     "fifteen-places": lambda: at_places(15),
     "split-deletion": split_deletion,
     "split-crowd": split_crowd,
+    "reads-between": reads_between,
+    "blocks": lambda: blocks(False),
+    "blocks-both-ends": lambda: blocks(True),
     "reads": reads,
     "many-places-edited": split_at_many_places,
     "pending-debugged": lambda: debugged(pending(), "run", "back 1"),

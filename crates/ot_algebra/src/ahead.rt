@@ -21,9 +21,11 @@ use ot_text::Component;
 /// From how many components on it pays to look which of them stay.
 pub(crate) const MANY: usize = 16;
 
-/// Of how many components the other operation may be for any to stay. Each of its places may move all components behind it once, when the change is put in
-/// place; a move of one costs about a twenty-fifth of writing it anew.
-pub(crate) const PLACES: usize = 32;
+// Of how many components the other operation may be for any to stay, however few there are.
+const PLACES: usize = 32;
+
+// How many there have to be for each component of another operation that has more: a part of its own costs about as much as to write so many anew.
+const EACH: usize = 8;
 
 // How many of them have to stay for the rest to be written as a part of its own.
 const ENOUGH: usize = 8;
@@ -51,10 +53,16 @@ pub(crate) struct Stay<'a, T> {
     pub(crate) behind: Cursor<'a, T>,
 }
 
-/// Fewer than how many components of the other operation, which has so many, are left when it is first looked which ones stay. Of an operation of many
-/// places none is left then: all is written anew.
-pub(crate) fn first_look(others: usize) -> usize {
-    if others > PLACES { 0 } else { others }
+/// May any of `count` components stay, where the other operation has `others`? Not where it has many, and there are few for each of them: then all is written
+/// anew.
+pub(crate) fn may_stay(count: usize, others: usize) -> bool {
+    others <= PLACES || others <= count / EACH
+}
+
+/// Fewer than how many components of the other operation, which has so many, are left when it is first looked which of `count` components stay. Where none may
+/// stay, none is left then.
+pub(crate) fn first_look(count: usize, others: usize) -> usize {
+    if may_stay(count, others) { others } else { 0 }
 }
 
 /// How many elements the components before the place take, or make.

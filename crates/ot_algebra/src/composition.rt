@@ -33,8 +33,8 @@ pub fn compose<T: Element>(
     changed(a.copy()?, change)
 }
 
-/// The composition, as a change of `a`. Where `b` has at most `PLACES` components, long runs of components whose elements it keeps stay where they lie: they
-/// cost a look each, or up to three. Where it has more, all is written anew: then it costs the components of both, and the text that is inserted.
+/// The composition, as a change of `a`. Where `b` has few components (`ahead::may_stay`), long runs of components whose elements it keeps stay where they lie:
+/// they cost a look each, or up to three. Where it has more, all is written anew: then it costs the components of both, and the text that is inserted.
 pub(crate) fn composed<T: Element>(
     alloc: Global,
     a: &TextOp<T>,
@@ -50,7 +50,7 @@ pub(crate) fn composed<T: Element>(
     let mut at_a = cursor::start(ours);
     let mut at_b = cursor::start(others);
     // A look is worth its cost where fewer components of `b` are left than at the last one.
-    let mut looked = ahead::first_look(others.len());
+    let mut looked = ahead::first_look(ours.len(), others.len());
     let mut built = Rewrite::new(alloc, a, room(ours.len(), others.len()))?;
     loop {
         if let Front::Delete(count) = at_a.head {

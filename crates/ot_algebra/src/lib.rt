@@ -26,8 +26,9 @@
 //!
 //! Where `b` keeps much of an `a` of many components, long runs of these stay where they lie (`ahead`), and only what `b` touches is written: the result
 //! is a change of `a`, made of `ot_text::Rewrite`. `transform` does not even look at the components behind the last place that `b` changes. A change is a list
-//! of parts, and to put it in place costs what is written and, for each part that changes the number of components, a move of all those behind it. So nothing
-//! stays where `b` has more than 32 components: then everything is written anew, and the cost is that of the components of both again.
+//! of parts, and to put it in place costs what is written and, where parts change the number of components, a move of all those behind them, once for each of a
+//! few parts, and once in all for many. A part costs about as much as to write eight components anew: so nothing stays where `b` has more than 32 components and
+//! `a` fewer than eight for each of them. Then everything is written anew, and the cost is that of the components of both again.
 //!
 //! Most operations of a session are short, and change one place that lies within what a retain of the other one keeps. Then what the first becomes is itself
 //! with another count in that retain, which is all that `transform_first` writes (`one_place`).

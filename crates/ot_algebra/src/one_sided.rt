@@ -5,7 +5,7 @@ ghost use Rattle.ot_text.specs.Operation.{news};
 ghost use Rattle.ot_algebra.specs.Merge.{first_after, second_after};
 ghost use Rattle.ot_text.specs.declared.TheConstants.{LIMIT};
 
-use crate::ahead::{MANY, PLACES};
+use crate::ahead::{MANY, may_stay};
 use crate::cursor::{self, Front};
 use crate::one_place::one_retain;
 use crate::transformation::{SPLIT, add_part, changed, rewritten};
@@ -15,9 +15,9 @@ use std::alloc::AllocError;
 /// What `a` becomes after `b`: the first result of `transform`, under its conditions, for an `a` that is no longer wanted, as a server needs it that
 /// carries an operation over its log. Where `a` has fewer than 16 components and `b` changes one place, within what one retain of `a` keeps, the count of this
 /// retain changes where it lies: no memory is taken, nothing moves, and it costs a look at the components up to that retain. Else, and where `b` has more than
-/// 32 components, the texts of `a` move, and it costs the components of both. Where `a` has 16 or more and `b` no more than 32, the components of `a` that `b`
-/// touches are made anew, and the others stay where they are: it costs a look, or two, at those before the last that `b` touches, and for each place at which
-/// their number changes a move of those behind.
+/// 32 components and `a` fewer than eight for each of them, the texts of `a` move, and it costs the components of both. Where `a` has 16 or more and `b` no more
+/// than these, the components of `a` that `b` touches are made anew, and the others stay as they are: it costs a look, or two, at those before the last that
+/// `b` touches, and for each of a few places at which their number changes a move of those behind, or for many such places one move of all.
 ///
 /// `Err` comes only where memory was refused, and `a` is gone then; `b` is only read.
 pub fn transform_first<T: Element>(a: TextOp<T>, b: &TextOp<T>) -> Result<TextOp<T>, AllocError>
@@ -28,7 +28,7 @@ pub fn transform_first<T: Element>(a: TextOp<T>, b: &TextOp<T>) -> Result<TextOp
     if a.components().len() < MANY {
         return carry_short(a, b);
     }
-    if b.components().len() > PLACES {
+    if !may_stay(a.components().len(), b.components().len()) {
         return carry(a, b);
     }
     let (change, _) = rewritten(a.allocator(), &a, b)?;
@@ -95,7 +95,7 @@ fn carry<T: Element>(a: TextOp<T>, b: &TextOp<T>) -> Result<TextOp<T>, AllocErro
 }
 
 /// What `b` becomes after `a`: the second result of `transform`, under its conditions. It costs `b`, the components of `a` that `b` touches, and a look, or
-/// two, at those between them; where `b` has more than 32 components it costs all components of `a`.
+/// two, at those between them; where `b` has more than 32 components, and `a` fewer than eight for each of them, it costs all components of `a`.
 ///
 /// `Err` comes only where memory was refused; `a` and `b` are only read.
 pub fn transform_second<T: Element>(a: &TextOp<T>, b: &TextOp<T>) -> Result<TextOp<T>, AllocError>

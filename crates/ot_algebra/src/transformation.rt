@@ -55,9 +55,9 @@ pub(crate) fn changed<T: Element>(op: TextOp<T>, change: Patch<T>) -> Result<Tex
     }
 }
 
-/// What `a` becomes after `b`, as a change of it, and what `b` becomes after `a`. Where `b` has at most `PLACES` components, long runs of components that it
-/// keeps stay where they lie: they cost a look each, or two, and those behind all that `b` changes cost nothing. Where it has more, all is written anew: then
-/// it costs the components of both, and the text that is inserted.
+/// What `a` becomes after `b`, as a change of it, and what `b` becomes after `a`. Where `b` has few components (`ahead::may_stay`), long runs of components that
+/// it keeps stay where they lie: they cost a look each, or two, and those behind all that `b` changes cost nothing. Where it has more, all is written anew:
+/// then it costs the components of both, and the text that is inserted.
 pub(crate) fn rewritten<T: Element>(
     alloc: Global,
     a: &TextOp<T>,
@@ -75,7 +75,7 @@ pub(crate) fn rewritten<T: Element>(
     let mut at_a = cursor::start(all);
     let mut at_b = cursor::start(others);
     // A look is worth its cost where fewer components of `b` are left than at the last one.
-    let mut looked = ahead::first_look(others.len());
+    let mut looked = ahead::first_look(all.len(), others.len());
     let mut first = Rewrite::new(alloc, a, room(all.len(), others.len()))?;
     let mut second = TextOp::with_capacity(alloc, others.len().saturating_add(SPLIT))?;
     loop {

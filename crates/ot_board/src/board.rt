@@ -268,6 +268,7 @@ impl Board {
     pub fn lend(&mut self, client: u16) -> Result<Lent, BoardRefusal>
         ensures ok { IfOk result (λ lent. IsBegun self.old.state client (session_of lent)) }
         ensures out { OnOk result (self.new ≡ with_out self.old client true) }
+        ensures was_in { OnOk result (slice_get self.old.out client ≡ Some false) }
         ensures refused { IfErr result (λ r. IsLendRefusal self.old client r) }
         ensures unchanged { OnErr result (self.new ≡ self.old) }
     {
@@ -308,32 +309,36 @@ impl Board {
     /// session's start does not begin it; the session then comes back. It takes no memory.
     pub fn park(&mut self, lent: Lent) -> Result<(), (SettleRefusal, Lent)>
         ensures ok { OnOk result (self.new ≡ with_parked self.old (session_of lent).start.number (Some (session_of lent))) }
+        ensures here { OnOk result (IsHere self.old (session_of lent)) }
         ensures refused { IfErr result (λ e. e.0 ≡ SettleRefusal.Stranger) }
         ensures stranger { IfErr result (λ e. IsSettleRefusal self.old (session_of lent) e.0) }
         ensures back { IfErr result (λ e. e.1 ≡ lent) }
         ensures unchanged { OnErr result (self.new ≡ self.old) }
     {
-        if !self.is_here(&lent) {
-            return Err((SettleRefusal::Stranger, lent));
+        if self.is_here(&lent) {
+            self.hold(lent)
+        } else {
+            Err((SettleRefusal::Stranger, lent))
         }
-        self.hold(lent)
     }
 
     /// Puts the session into its client's slot, as [`Board::park`] does, whether or not the session's start begins the board's client: nothing
     /// is compared. `Stranger` where the session's client is not out here, or is parked; the session then comes back. It takes no memory.
     pub fn hold(&mut self, lent: Lent) -> Result<(), (SettleRefusal, Lent)>
         ensures ok { OnOk result (self.new ≡ with_parked self.old (session_of lent).start.number (Some (session_of lent))) }
+        ensures awaited { OnOk result (IsAwaited self.old (session_of lent)) }
         ensures refused { IfErr result (λ e. e.0 ≡ SettleRefusal.Stranger) }
         ensures stranger { IfErr result (λ e. IsReplayRefusal self.old (session_of lent) e.0) }
         ensures back { IfErr result (λ e. e.1 ≡ lent) }
         ensures unchanged { OnErr result (self.new ≡ self.old) }
     {
-        if !self.is_awaited(&lent) {
-            return Err((SettleRefusal::Stranger, lent));
+        if self.is_awaited(&lent) {
+            let client = lent.client() as usize;
+            fill(&mut self.slots, client, lent);
+            Ok(())
+        } else {
+            Err((SettleRefusal::Stranger, lent))
         }
-        let client = lent.client() as usize;
-        fill(&mut self.slots, client, lent);
-        Ok(())
     }
 
     /// The session that waits in the client's slot. Refusals in order: `NoSuchClient`, `NotParked`. It takes no memory.
@@ -359,6 +364,7 @@ impl Board {
     /// this moment, and the receipt says where they stand. Refusals in order: `Stranger`, `Memory`; the session then comes back.
     pub fn settle(&mut self, lent: Lent) -> Result<Receipt, (SettleRefusal, Lent)>
         ensures ok { IfOk result (λ r. IsRecorded self.old (session_of lent).steps (set self.old.out (session_of lent).start.number false) self.new r) }
+        ensures here { OnOk result (IsHere self.old (session_of lent)) }
         ensures refused { IfErr result (λ e. IsSettleRefusal self.old (session_of lent) e.0) }
         ensures back { IfErr result (λ e. e.1 ≡ lent) }
         ensures unchanged { OnErr result (self.new ≡ self.old) }
@@ -389,6 +395,7 @@ impl Board {
     /// want of memory aside.
     pub fn replay(&mut self, lent: Lent) -> Result<Replayed, (SettleRefusal, Lent)>
         ensures ok { IfOk result (λ r. IsReplayed self.old (session_of lent) self.new r) }
+        ensures awaited { OnOk result (IsAwaited self.old (session_of lent)) }
         ensures here { IsHere self.old (session_of lent) → IfOk result (λ r. r.stopped ≢ Some SettleRefusal.Stranger) }
         ensures refused { IfErr result (λ e. IsReplayRefusal self.old (session_of lent) e.0) }
         ensures back { IfErr result (λ e. e.1 ≡ lent) }

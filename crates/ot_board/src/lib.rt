@@ -16,9 +16,9 @@
 //!   `settle` appends a session's steps as they are: by `ot_model::laws::session_block` and `session_waits` the table performs them one
 //!   after the other at that moment, whatever came since the client was lent.
 //! - `settle` and `park` look whether the session's start begins the client as it is here, which costs what the client's list is long. `replay`
-//!   and `hold` are for callers that bring back what this board lent them, and look at nothing but who is out: `replay` has the machine perform
-//!   the session's steps once more, and records those that it performs (`IsReplayed`). What the session made off the machine is dropped, so
-//!   nothing of it has to be believed; and of a session that `settle` would take, the table refuses no step.
+//!   and `hold` are for callers that bring back what this board lent them, and look at nothing but who is out, and not parked: `replay` has the
+//!   machine perform the session's steps once more, and records those that it performs (`IsReplayed`). What the session made off the machine is
+//!   dropped, so nothing of it has to be believed; and of a session that `settle` would take, the table refuses no step.
 //! - A [`Session`] has its client's state as a type, one of the three of `ot_client`; a call consumes it and gives the session in the next
 //!   state, or hands it back with the refusal. Its type keeps that it is allowed (`IsAllowed` of `ot_model`'s specs/Session.antt): a start that
 //!   is a client's part in a sound state, and rows that lead from it by the steps to the present. [`Lent`] is a session in whichever state.

@@ -1,5 +1,5 @@
 -- What is kept of clients over their steps.
-use Rattle.std.proofs.Common.{◌≡◌, ◌≢◌, ℕ, zero, suc, ◌<◌, ◌≤◌, List, length, set, get_or, refl, sym, ap, ◌∙◌, subst, arith, Option, Some, None, Bool, true, false}
+use Rattle.std.proofs.Common.{◌≡◌, ◌≢◌, ℕ, zero, suc, ◌<◌, ◌≤◌, List, [], ◌∷◌, length, set, get_or, refl, sym, ap, ◌∙◌, subst, arith, Option, Some, None, Bool, true, false}
 use Rattle.std.specs.Prelude.{Result, Ok, Err, OnOk, nat_eq, replicate, slice_get}
 use Rattle.std.specs.Option.{option_map}
 use Rattle.std.proofs.lemmas.Bool.{eqb-false, eqb-true}
@@ -81,6 +81,28 @@ leaves_all s (Acknowledge d) is = absurd cc
 leaves_all s (Join d) is = absurd cc
 leaves_all s (Read d) is = absurd cc
 leaves_all s ReadServer is = by_read_server (LeavesAll s) (λ r. tt) s (λ below. refl)
+
+-- ---- what a take and a read leave of each client's phase
+
+abbrev LeavesPhase : State → ℕ → Outcome → Type 0
+LeavesPhase s k (Performed t shown) = (client_in t k).phase ≡ (client_in s k).phase
+LeavesPhase s k (Refused r) = Unit {0}
+LeavesPhase s k NoRow = Unit {0}
+
+-- a client is written anew in the phase that it was in
+set_phase : (xs : List Client) (c : ℕ) (x y : Client) (k : ℕ) → slice_get xs c ≡ Some x → y.phase ≡ x.phase → (get_or (set xs c y) k absent).phase ≡ (get_or xs k absent).phase
+set_phase [] c x y k at same = absurd cc
+set_phase (z ∷ xs) zero x y zero at same = same ∙ ap (λ (w : Client). w.phase) (sym (same_Some z x at))
+set_phase (z ∷ xs) zero x y (suc k) at same = refl
+set_phase (z ∷ xs) (suc c) x y zero at same = refl
+set_phase (z ∷ xs) (suc c) x y (suc k) at same = set_phase xs c x y k at same
+
+pub take_leaves_phase : (d : ℕ) (s t : State) (k : ℕ) → LeadsTo (Take d) s t → (client_in t k).phase ≡ (client_in s k).phase
+take_leaves_phase d s t k leads =
+    subst (LeavesPhase s k) leads.1 (by_take (LeavesPhase s k) (λ r. tt) s d (λ x m at below on has. set_phase s.clients d x _ k at refl))
+
+pub read_leaves_phase : (d : ℕ) (s t : State) (k : ℕ) → LeadsTo (Read d) s t → (client_in t k).phase ≡ (client_in s k).phase
+read_leaves_phase d s t k leads = subst (LeavesPhase s k) leads.1 (by_read (LeavesPhase s k) (λ r. tt) s d (λ x at below on. refl))
 
 -- ---- what is kept of all clients
 

@@ -5,7 +5,7 @@
 //!                                          (what the client waited for)    (the blocks between what is shared at both ends)
 //! ```
 
-ghost use Rattle.std.specs.Prelude.{◌≡◌, ◌<◌, IfErr, IfOk, OnErr, OnOk, Some, length, replicate};
+ghost use Rattle.std.specs.Prelude.{◌≡◌, ◌<◌, ℕ, true, IfErr, IfOk, OnErr, OnOk, Some, length, replicate};
 ghost use Rattle.ot_text.specs.Patch.{patched, LeadsFrom};
 ghost use Rattle.ot_isa.specs.Program.{client_of, IsForClients};
 ghost use Rattle.ot_client.specs.Client.{state_of};
@@ -83,6 +83,13 @@ fn changes_little(instr: &Instr, applied: Option<&TextOp<Tagged>>) -> bool {
         Instr::Acknowledge(_) => true,
         _ => false,
     }
+}
+
+// Whether the instruction leaves what each client waits for as it is.
+fn leaves_phases(instr: &Instr) -> bool
+    ensures { result ≡ true → (s t : State) (c : ℕ) → LeadsTo instr.now s t → (client_in t c).phase ≡ (client_in s c).phase }
+{
+    matches!(instr, Instr::Take(_) | Instr::Read(_))
 }
 
 impl Kept {
@@ -205,6 +212,12 @@ fn perform_from(
     ensures unchanged { IfOk result (λ answer. OnErr answer (machine.new ≡ machine.old)) }
     ensures kept { IfOk result (λ answer. IfOk answer (λ after. IsKeptOf after (client_in machine.new client).phase)) }
 {
+    if leaves_phases(instr) {
+        return match perform_only(machine, instr) {
+            Ok(()) => Ok(Ok(before)),
+            Err(refusal) => Ok(Err(refusal)),
+        };
+    }
     if !changes_little(instr, applied)
         || !machine.joined(client)
         || !waits_for_much(machine.client(client))

@@ -2,7 +2,7 @@
 use Rattle.std.proofs.Common.{◌≡◌, ℕ, zero, suc, ◌+◌, ◌-◌, ◌*◌, ◌/◌, ◌<◌, ◌≤◌, List, [], ◌∷◌, ◌++◌, length, take, drop, get_or, refl, sym, ap, ◌∙◌, arith, append_assoc, length-append}
 use Rattle.std.specs.Prelude.{slice_get, ◌↔◌}
 use Rattle.ot_text.specs.declared.chunk.Chunk.{Chunk}
-use Rattle.std.proofs.lemmas.List.{length-map, drop-append-le, length-drop, drop-drop, take-take, length-take, append-nil, take-append-drop, nil_from_length}
+use Rattle.std.proofs.lemmas.List.{length-map, drop-append-le, length-drop, take_at, drop-drop, take-take, length-take, append-nil, take-append-drop, nil_from_length}
 use Rattle.std.proofs.Math.Seq.{drop-nil, take-add}
 use Rattle.ot_text.specs.Chunks.{items_in, lists, concatenated, MayPrecede, IsChunked, MayEnd, rest_at, left_at, IsInside}
 
@@ -39,6 +39,10 @@ pub left_split : {A : Type 0} (cs : List (List A)) (k o : ℕ) → k < length cs
 left_split [] k o h i = absurd (omega arith)
 left_split (c ∷ cs) zero o h i = drop-append-le o c (concatenated cs) i
 left_split (c ∷ cs) (suc k) o h i = left_split cs k o (omega arith) i
+
+pub take_chunk : {A : Type 0} (cs : List (List A)) (k o n : ℕ) → k < length cs → o ≡ 0 → n ≡ length (get_or cs k []) → take n (left_at cs k o) ≡ get_or cs k []
+take_chunk cs k o n there none is =
+    rw (none, left_split cs k 0 there (omega arith)) (take_at (get_or cs k []) (concatenated (drop (suc k) cs)) n (sym is))
 
 pub in_range : {A : Type 0} (cs : List (List A)) (k o : ℕ) → 0 < length (left_at cs k o) → k < length cs
 in_range {A} [] zero o h = let n = rw (drop-nil {A = A} o) at h in absurd (omega (arith, n))

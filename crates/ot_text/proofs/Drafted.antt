@@ -11,7 +11,7 @@ use Rattle.ot_text.specs.declared.draft.Draft.{Draft}
 use Rattle.ot_text.specs.declared.draft.Piece.{Piece}
 use Rattle.ot_text.specs.declared.draft.Piece.TheVariants.{Moved, Made}
 use Rattle.ot_text.specs.Chunks.{items_in, lists, concatenated, IsChunked, MayEnd, left_at, IsInside}
-use Rattle.ot_text.specs.Draft.{content, contents, IsInOrder, IsDraft, written, Continues}
+use Rattle.ot_text.specs.Draft.{content, contents, IsInOrder, first_length, IsDraft, written, Continues}
 use Rattle.ot_text.proofs.Chunked.{concatenated-append, chunked_push, chunked_longer, may_end_last, last_may_end, chunk_filled, chunk_small}
 
 pub in_order_wider : {T : Type 0} (from from' end end' : ℕ) (ps : List (Piece T)) → from' ≤ from → end ≤ end' → IsInOrder from end ps → IsInOrder from' end' ps
@@ -141,15 +141,25 @@ may_end_decides cs ps k p n h e =
 pub IsTrue-lt : (a b : ℕ) → IsTrue (nat_lt a b) → a < b
 IsTrue-lt a b t = ltb-true a b t
 
+-- one more chunk, or a longer last one
+pub first_push : {A : Type 0} (cs : List (List A)) (c : List A) → first_length cs ≤ first_length (cs ++ c ∷ [])
+first_push [] c = omega arith
+first_push (b ∷ cs) c = omega arith
+
+first_longer : {A : Type 0} (front : List (List A)) (c d : List A) → length c ≤ length d → first_length (front ++ c ∷ []) ≤ first_length (front ++ d ∷ [])
+first_longer [] c d l = l
+first_longer (b ∷ front) c d l = omega arith
+
 -- What a draft's calls do to it.
 pub continues_same : {T : Type 0} (cs : List (List T)) (d : Draft T) → IsDraft cs d → Continues cs d d []
-continues_same cs d h = record { draft = h; text_is = sym (append-nil (written cs d)); order = λ end o. o }
+continues_same cs d h = record { draft = h; text_is = sym (append-nil (written cs d)); order = λ end o. o; first = omega arith }
 
 pub continues_then : {T : Type 0} (cs : List (List T)) (a b d : Draft T) (s t : List T) → Continues cs a b s → Continues cs b d t → Continues cs a d (s ++ t)
 continues_then cs a b d s t p q = record {
   draft = q.draft;
   text_is = rw (q.text_is, p.text_is, append_assoc) refl;
   order = λ end o. q.order end (p.order end o);
+  first = omega (arith, p.first, q.first);
 }
 
 pub continues_pushed : {T : Type 0} (cs : List (List T)) (old new : Draft T) (made : Vec T Global) → IsDraft cs old → 0 < length old.pending.items → MayEnd (contents cs old.pieces.items) (length old.pending.items) → made.items ≡ old.pending.items → new.pieces.items ≡ old.pieces.items ++ Made made ∷ [] → new.pending.items ≡ [] → Continues cs old new []
@@ -162,6 +172,7 @@ continues_pushed {T} cs old new made h f m is pieces none =
       };
       text_is = rw (cs', none, concatenated-append, append-nil, append-nil, append-nil) refl;
       order = λ end o. rw pieces (in_order_made 0 end old.pieces.items made o);
+      first = rw cs' (first_push (contents cs old.pieces.items) old.pending.items);
     }
 
 pub continues_joined : {T : Type 0} (cs : List (List T)) (old new : Draft T) (made : Vec T Global) (k : ℕ) (p : Piece T) → IsDraft cs old → k + 1 ≡ length old.pieces.items → p ≡ get_or old.pieces.items k p → length (content cs p) + length old.pending.items ≤ 512 → made.items ≡ content cs p ++ old.pending.items → new.pieces.items ≡ set old.pieces.items k (Made made) → new.pending.items ≡ [] → Continues cs old new []
@@ -176,6 +187,7 @@ continues_joined {T} cs old new made k p h l e s is pieces none =
       };
       text_is = rw (cs', none, a.before, is, concatenated-append, concatenated-append, append-nil, append-nil, append-nil, append-nil, append_assoc) refl;
       order = λ end o. rw pieces (in_order_set 0 end old.pieces.items k made o);
+      first = rw (cs', a.before) (first_longer a.front (content cs p) made.items (omega arith));
     }
 
 pub continues_pending : {T : Type 0} (cs : List (List T)) (old new : Draft T) (text : List T) → IsDraft cs old → new.pieces.items ≡ old.pieces.items → new.pending.items ≡ old.pending.items ++ text → length old.pending.items + length text ≤ 512 → Continues cs old new text
@@ -186,6 +198,7 @@ continues_pending cs old new text h pieces pending s = record {
   };
   text_is = rw (pieces, pending, append_assoc) refl;
   order = λ end o. rw pieces o;
+  first = rw pieces (omega arith);
 }
 
 pub not_end : {T : Type 0} (cs : List (List T)) (ps : List (Piece T)) (n : ℕ) → (MayEnd (contents cs ps) n → ⊥) → 0 < length ps
@@ -234,24 +247,31 @@ moved_text {T} cs old mid new place q none pieces pending =
     let before : concatenated (contents cs mid.pieces.items) ≡ written cs old = sym (append-nil (concatenated (contents cs mid.pieces.items))) ∙ (rw none at q.text_is) ∙ append-nil (written cs old) in
     rw (cs', pending, none, concatenated-append, append-nil, append-nil, before) refl
 
+pub moved_first : {T : Type 0} (cs : List (List T)) (old mid new : Draft T) (place : ℕ) → Continues cs old mid [] → new.pieces.items ≡ mid.pieces.items ++ Moved place ∷ [] → first_length (contents cs old.pieces.items) ≤ first_length (contents cs new.pieces.items)
+moved_first {T} cs old mid new place q pieces =
+    let cs' : contents cs new.pieces.items ≡ contents cs mid.pieces.items ++ get_or cs place [] ∷ [] = rw (pieces, map-append) refl in
+    rw cs' (omega (arith, q.first, first_push (contents cs mid.pieces.items) (get_or cs place [])))
+
 pub later_order : {T : Type 0} (cs : List (List T)) (a b : Draft T) (text : List T) (place : ℕ) → IsInOrder 0 place a.pieces.items → Continues cs a b text → IsInOrder 0 (place + 1) b.pieces.items
 later_order cs a b text place o q = in_order_wider 0 0 place (place + 1) b.pieces.items (omega arith) (omega arith) (q.order place o)
 
 -- items of the old chunks have been written, and what is left begins with the others of `whole`
-pub record IsRetaining {T : Type 0} (cs : List (List T)) (chunk offset ahead : ℕ) (draft : Draft T) (whole rest : List T) : Type 0 where
+pub record IsRetaining {T : Type 0} (cs : List (List T)) (first chunk offset ahead : ℕ) (draft : Draft T) (whole rest : List T) : Type 0 where
   pub sound : IsDraft cs draft
   pub order : IsInOrder 0 chunk draft.pieces.items
   pub inside : IsInside cs chunk offset
   pub within : ahead ≤ length (left_at cs chunk offset)
   pub read : written cs draft ++ take ahead (left_at cs chunk offset) ≡ whole
   pub rest_is : drop ahead (left_at cs chunk offset) ≡ rest
+  pub first_is : first ≤ first_length (contents cs draft.pieces.items)
 
-pub retaining_none : {T : Type 0} (cs : List (List T)) (chunk offset ahead : ℕ) (draft : Draft T) → IsDraft cs draft → IsInOrder 0 chunk draft.pieces.items → IsInside cs chunk offset → ahead ≤ length (left_at cs chunk offset) → IsRetaining cs chunk offset ahead draft (written cs draft ++ take ahead (left_at cs chunk offset)) (drop ahead (left_at cs chunk offset))
-retaining_none cs chunk offset ahead draft s o i w = record { sound = s; order = o; inside = i; within = w; read = refl; rest_is = refl }
+pub retaining_none : {T : Type 0} (cs : List (List T)) (chunk offset ahead : ℕ) (draft : Draft T) → IsDraft cs draft → IsInOrder 0 chunk draft.pieces.items → IsInside cs chunk offset → ahead ≤ length (left_at cs chunk offset) → IsRetaining cs (first_length (contents cs draft.pieces.items)) chunk offset ahead draft (written cs draft ++ take ahead (left_at cs chunk offset)) (drop ahead (left_at cs chunk offset))
+retaining_none cs chunk offset ahead draft s o i w = record { sound = s; order = o; inside = i; within = w; read = refl; rest_is = refl; first_is = omega arith }
 
-pub retaining_more : {T : Type 0} (cs : List (List T)) (chunk offset chunk' offset' ahead step : ℕ) (draft draft' : Draft T) (whole rest : List T) → IsRetaining cs chunk offset ahead draft whole rest → step ≤ ahead → IsDraft cs draft' → IsInOrder 0 chunk' draft'.pieces.items → IsInside cs chunk' offset' → left_at cs chunk' offset' ≡ drop step (left_at cs chunk offset) → written cs draft' ≡ written cs draft ++ take step (left_at cs chunk offset) → IsRetaining cs chunk' offset' (ahead - step) draft' whole rest
-retaining_more {T} cs chunk offset chunk' offset' ahead step draft draft' whole rest w h s o i e m =
+pub retaining_more : {T : Type 0} (cs : List (List T)) (first chunk offset chunk' offset' ahead step : ℕ) (draft draft' : Draft T) (whole rest : List T) → IsRetaining cs first chunk offset ahead draft whole rest → step ≤ ahead → IsDraft cs draft' → IsInOrder 0 chunk' draft'.pieces.items → IsInside cs chunk' offset' → left_at cs chunk' offset' ≡ drop step (left_at cs chunk offset) → written cs draft' ≡ written cs draft ++ take step (left_at cs chunk offset) → first_length (contents cs draft.pieces.items) ≤ first_length (contents cs draft'.pieces.items) → IsRetaining cs first chunk' offset' (ahead - step) draft' whole rest
+retaining_more {T} cs first chunk offset chunk' offset' ahead step draft draft' whole rest w h s o i e m f =
     let n = w.within in
+    let f' = w.first_is in
     let left : List T = left_at cs chunk offset in
     let sum : step + (ahead - step) ≡ ahead = omega arith in
     let parts : take step left ++ take (ahead - step) (drop step left) ≡ take ahead left = sym (take-add step (ahead - step) left) ∙ rw sum refl in
@@ -262,14 +282,15 @@ retaining_more {T} cs chunk offset chunk' offset' ahead step draft draft' whole 
       within = rw e (omega (arith, length-drop step left));
       read = rw (e, m, append_assoc, parts) w.read;
       rest_is = rw (e, drop-drop (ahead - step) step left, sum) w.rest_is;
+      first_is = omega (arith, f, f');
     }
 
-pub retaining_text : {T : Type 0} (cs : List (List T)) (chunk offset ahead : ℕ) (draft : Draft T) (whole rest : List T) → IsRetaining cs chunk offset ahead draft whole rest → ahead ≤ 0 → written cs draft ≡ whole
-retaining_text cs chunk offset ahead draft whole rest w h =
+pub retaining_text : {T : Type 0} (cs : List (List T)) (first chunk offset ahead : ℕ) (draft : Draft T) (whole rest : List T) → IsRetaining cs first chunk offset ahead draft whole rest → ahead ≤ 0 → written cs draft ≡ whole
+retaining_text cs first chunk offset ahead draft whole rest w h =
     let none : ahead ≡ 0 = omega arith in
     sym (append-nil (written cs draft)) ∙ rw none at w.read
 
-pub retaining_rest : {T : Type 0} (cs : List (List T)) (chunk offset ahead : ℕ) (draft : Draft T) (whole rest : List T) → IsRetaining cs chunk offset ahead draft whole rest → ahead ≤ 0 → left_at cs chunk offset ≡ rest
-retaining_rest cs chunk offset ahead draft whole rest w h =
+pub retaining_rest : {T : Type 0} (cs : List (List T)) (first chunk offset ahead : ℕ) (draft : Draft T) (whole rest : List T) → IsRetaining cs first chunk offset ahead draft whole rest → ahead ≤ 0 → left_at cs chunk offset ≡ rest
+retaining_rest cs first chunk offset ahead draft whole rest w h =
     let none : ahead ≡ 0 = omega arith in
     rw none at w.rest_is

@@ -1,8 +1,8 @@
 -- The draft that components make of chunks.
-use Rattle.std.proofs.Common.{◌≡◌, ℕ, zero, suc, ◌+◌, ◌<◌, ◌≤◌, List, [], ◌∷◌, ◌++◌, length, take, drop, get_or, sym, ◌∙◌, arith}
+use Rattle.std.proofs.Common.{◌≡◌, ℕ, zero, suc, ◌+◌, ◌<◌, ◌≤◌, List, [], ◌∷◌, ◌++◌, length, take, drop, get_or, refl, sym, ap, ◌∙◌, arith, add-one, append_assoc}
 use Rattle.std.specs.Prelude.{Vec}
 use Rattle.std.specs.declared.alloc.Global.{Global}
-use Rattle.std.proofs.lemmas.List.{append-nil, nil_from_length}
+use Rattle.std.proofs.lemmas.List.{append-nil, nil_from_length, drop-drop}
 use Rattle.ot_text.specs.declared.Component.{Component}
 use Rattle.ot_text.specs.declared.Component.TheVariants.{Retain, Insert, Delete}
 use Rattle.ot_text.specs.declared.draft.Draft.{Draft}
@@ -10,57 +10,87 @@ use Rattle.ot_text.specs.declared.draft.Piece.{Piece}
 use Rattle.ot_text.specs.declared.draft.Piece.TheVariants.{Moved, Made}
 use Rattle.ot_text.specs.Operation.{Operation, apply}
 use Rattle.ot_text.specs.Run.{Run, base_of, operation_of}
-use Rattle.ot_text.specs.Components.{runs}
+use Rattle.ot_text.specs.Components.{run_of, runs}
 use Rattle.ot_text.specs.Chunks.{concatenated, IsChunked, left_at, IsInside, IsHeld}
-use Rattle.ot_text.specs.Draft.{contents, IsInOrder, IsDraft, written, Continues}
-use Rattle.ot_text.proofs.Applied.{IsApplied, applied_none, applied_retain, applied_insert, applied_delete, applied_all}
+use Rattle.ot_text.specs.Draft.{contents, IsInOrder, first_length, IsDraft, written, Continues}
+use Rattle.ot_text.proofs.Built.{past_end}
+use Rattle.ot_text.proofs.Applied.{runs_rest, IsApplied, applied_none, applied_retain, applied_insert, applied_delete, applied_all}
 use Rattle.ot_text.proofs.ApplyLaws.{length-apply}
 use Rattle.ot_text.proofs.OperationLaws.{is_operation}
-use Rattle.ot_text.proofs.Chunked.{chunk_filled}
 use Rattle.ot_text.proofs.Drafted.{in_order_wider}
 
--- the components up to place i are in the draft, and the cursor stands where they end
-pub record IsDrafting {T : Type 0} (components : List (Component T)) (cs : List (List T)) (i chunk offset : ℕ) (draft : Draft T) : Type 0 where
-  pub applied : IsApplied components (concatenated cs) i (left_at cs chunk offset) (written cs draft)
+pub empty_draft : {T : Type 0} (cs : List (List T)) (draft : Draft T) → draft.pieces.items ≡ [] → draft.pending.items ≡ [] → IsDraft cs draft
+empty_draft cs draft pieces pending = record { chunked = rw pieces tt; short = rw pending (omega arith) }
+
+-- the components up to place i are in the draft, behind `prior`, and the cursor stands where they end in `d`, which lay behind it first
+pub record IsDrafting {T : Type 0} (components : List (Component T)) (cs : List (List T)) (first : ℕ) (prior d : List T) (i chunk offset : ℕ) (draft : Draft T) : Type 0 where
+  pub items : List T
+  pub text_is : written cs draft ≡ prior ++ items
+  pub applied : IsApplied components d i (left_at cs chunk offset) items
+  pub rest_is : drop (base_of (runs (drop i components))) (left_at cs chunk offset) ≡ drop (base_of (runs components)) d
   pub sound : IsDraft cs draft
   pub order : IsInOrder 0 chunk draft.pieces.items
   pub inside : IsInside cs chunk offset
+  pub first_is : first ≤ first_length (contents cs draft.pieces.items)
 
-pub drafting_none : {T : Type 0} (components : List (Component T)) (cs : List (List T)) (draft : Draft T) → IsChunked cs → base_of (runs components) ≤ length (concatenated cs) → draft.pieces.items ≡ [] → draft.pending.items ≡ [] → IsDrafting components cs 0 0 0 draft
-drafting_none components cs draft chunked h pieces pending = record {
-  applied = rw (pieces, pending) (applied_none components (concatenated cs) h);
-  sound = record { chunked = rw pieces tt; short = rw pending (omega arith) };
-  order = rw pieces tt;
-  inside = λ f. chunk_filled cs 0 chunked f;
+pub drafting_none : {T : Type 0} (components : List (Component T)) (cs : List (List T)) (chunk offset : ℕ) (draft : Draft T) → IsDraft cs draft → IsInOrder 0 chunk draft.pieces.items → IsInside cs chunk offset → base_of (runs components) ≤ length (left_at cs chunk offset) → IsDrafting components cs (first_length (contents cs draft.pieces.items)) (written cs draft) (left_at cs chunk offset) 0 chunk offset draft
+drafting_none components cs chunk offset draft sound order inside h = record {
+  items = [];
+  text_is = sym (append-nil (written cs draft));
+  applied = applied_none components (left_at cs chunk offset) h;
+  rest_is = refl;
+  sound = sound;
+  order = order;
+  inside = inside;
+  first_is = omega arith;
 }
 
-module _ {T : Type 0} (components : List (Component T)) (cs : List (List T)) (i chunk offset : ℕ) (draft : Draft T) (c : Component T) (h : i < length components) (e : c ≡ get_or components i c) (before : IsDrafting components cs i chunk offset draft) where
-  pub drafting_retain : (n : ℕ) → c ≡ Retain n → (chunk' offset' : ℕ) (draft' : Draft T) → IsDraft cs draft' → written cs draft' ≡ written cs draft ++ take n (left_at cs chunk offset) → IsInOrder 0 chunk' draft'.pieces.items → IsInside cs chunk' offset' → left_at cs chunk' offset' ≡ drop n (left_at cs chunk offset) → IsDrafting components cs (i + 1) chunk' offset' draft'
-  drafting_retain n is chunk' offset' draft' s t o inside l = record {
-    applied = rw (t, l) (applied_retain components (concatenated cs) i (left_at cs chunk offset) (written cs draft) c h e before.applied n is);
+module _ {T : Type 0} (components : List (Component T)) (cs : List (List T)) (first : ℕ) (prior d : List T) (i chunk offset : ℕ) (draft : Draft T) (c : Component T) (h : i < length components) (e : c ≡ get_or components i c) (before : IsDrafting components cs first prior d i chunk offset draft) where
+  rest_of : (k : Component T) → c ≡ k → runs (drop i components) ≡ run_of k ∷ runs (drop (i + 1) components)
+  rest_of k is = rw (add-one, ← is) (runs_rest components i c h e)
+
+  pub drafting_retain : (n : ℕ) → c ≡ Retain n → (chunk' offset' : ℕ) (draft' : Draft T) → IsDraft cs draft' → written cs draft' ≡ written cs draft ++ take n (left_at cs chunk offset) → IsInOrder 0 chunk' draft'.pieces.items → IsInside cs chunk' offset' → left_at cs chunk' offset' ≡ drop n (left_at cs chunk offset) → first_length (contents cs draft.pieces.items) ≤ first_length (contents cs draft'.pieces.items) → IsDrafting components cs first prior d (i + 1) chunk' offset' draft'
+  drafting_retain n is chunk' offset' draft' s t o inside l f = record {
+    items = before.items ++ take n (left_at cs chunk offset);
+    text_is = rw (t, before.text_is, append_assoc) refl;
+    applied = rw l (applied_retain components d i (left_at cs chunk offset) before.items c h e before.applied n is);
+    rest_is = rw (l, drop-drop (base_of (runs (drop (i + 1) components))) n (left_at cs chunk offset)) (rw (rest_of (Retain n) is) at before.rest_is);
     sound = s;
     order = o;
     inside = inside;
+    first_is = omega (arith, before.first_is, f);
   }
 
-  pub drafting_insert : (v : Vec T Global) → c ≡ Insert v → (draft' : Draft T) → Continues cs draft draft' v.items → IsDrafting components cs (i + 1) chunk offset draft'
+  pub drafting_insert : (v : Vec T Global) → c ≡ Insert v → (draft' : Draft T) → Continues cs draft draft' v.items → IsDrafting components cs first prior d (i + 1) chunk offset draft'
   drafting_insert v is draft' q = record {
-    applied = rw q.text_is (applied_insert components (concatenated cs) i (left_at cs chunk offset) (written cs draft) c h e before.applied v is);
+    items = before.items ++ v.items;
+    text_is = rw (q.text_is, before.text_is, append_assoc) refl;
+    applied = applied_insert components d i (left_at cs chunk offset) before.items c h e before.applied v is;
+    rest_is = rw (rest_of (Insert v) is) at before.rest_is;
     sound = q.draft;
     order = q.order chunk before.order;
     inside = before.inside;
+    first_is = omega (arith, before.first_is, q.first);
   }
 
-  pub drafting_delete : (n : ℕ) → c ≡ Delete n → (chunk' offset' : ℕ) → chunk ≤ chunk' → IsInside cs chunk' offset' → left_at cs chunk' offset' ≡ drop n (left_at cs chunk offset) → IsDrafting components cs (i + 1) chunk' offset' draft
+  pub drafting_delete : (n : ℕ) → c ≡ Delete n → (chunk' offset' : ℕ) → chunk ≤ chunk' → IsInside cs chunk' offset' → left_at cs chunk' offset' ≡ drop n (left_at cs chunk offset) → IsDrafting components cs first prior d (i + 1) chunk' offset' draft
   drafting_delete n is chunk' offset' later inside l = record {
-    applied = rw l (applied_delete components (concatenated cs) i (left_at cs chunk offset) (written cs draft) c h e before.applied n is);
+    items = before.items;
+    text_is = before.text_is;
+    applied = rw l (applied_delete components d i (left_at cs chunk offset) before.items c h e before.applied n is);
+    rest_is = rw (l, drop-drop (base_of (runs (drop (i + 1) components))) n (left_at cs chunk offset)) (rw (rest_of (Delete n) is) at before.rest_is);
     sound = before.sound;
     order = in_order_wider 0 0 chunk chunk' draft.pieces.items (omega arith) later before.order;
     inside = inside;
+    first_is = before.first_is;
   }
 
-pub drafting_text : {T : Type 0} (components : List (Component T)) (cs : List (List T)) (i chunk offset : ℕ) (draft draft' : Draft T) → length components ≤ i → IsDrafting components cs i chunk offset draft → Continues cs draft draft' [] → written cs draft' ≡ apply (operation_of (runs components)) (concatenated cs)
-drafting_text components cs i chunk offset draft draft' h d q = q.text_is ∙ append-nil (written cs draft) ∙ applied_all components (concatenated cs) i (left_at cs chunk offset) (written cs draft) h d.applied
+module _ {T : Type 0} (components : List (Component T)) (cs : List (List T)) (first : ℕ) (prior d : List T) (i chunk offset : ℕ) (draft : Draft T) (h : length components ≤ i) (all : IsDrafting components cs first prior d i chunk offset draft) where
+  pub drafting_text : written cs draft ≡ prior ++ apply (operation_of (runs components)) d
+  drafting_text = all.text_is ∙ ap (λ text. prior ++ text) (applied_all components d i (left_at cs chunk offset) all.items h all.applied)
+
+  pub drafting_rest : left_at cs chunk offset ≡ drop (base_of (runs components)) d
+  drafting_rest = rw (past_end components i h) at all.rest_is
 
 filled_within : {A : Type 0} (cs : List (List A)) (k : ℕ) → 0 < length (get_or cs k []) → k < length cs
 filled_within [] zero h = absurd (omega arith)
@@ -83,6 +113,21 @@ changed_held {T} op rs old new draft count spells base sound none text is size s
       count_is = rw (size, same) (sym (length-apply op (concatenated old) (is_operation rs op spells) (omega (arith, base))));
       fits = small;
     }
+
+-- the chunks of a list that was written to an empty draft
+module _ {T : Type 0} (cs new : List (List T)) (none all done : Draft T) (items : List T) (pieces : none.pieces.items ≡ []) (pending : none.pending.items ≡ []) (written_all : Continues cs none all items) (flushed : Continues cs all done []) (empty : done.pending.items ≡ []) (is : new ≡ contents cs done.pieces.items) where
+  pub drafted_text : concatenated new ≡ items
+  drafted_text =
+      let nothing : written cs none ≡ [] = rw (pieces, pending) refl in
+      let text : written cs done ≡ items = flushed.text_is ∙ append-nil (written cs all) ∙ written_all.text_is ∙ rw nothing refl in
+      rw is (sym (append-nil (concatenated (contents cs done.pieces.items))) ∙ (rw empty at text))
+
+  pub drafted_held : length items ≤ 1000000 → IsHeld new (length items)
+  drafted_held small = record {
+    chunked = rw is flushed.draft.chunked;
+    count_is = ap length (sym drafted_text);
+    fits = small;
+  }
 
 -- items that are all that an operation makes are as many as its image has
 pub changed_length : {T : Type 0} (op : Operation T) (rs : List (Run T)) (old items : List T) → operation_of rs ≡ op → op.base ≡ length old → items ≡ apply (operation_of rs) old → length items ≡ length op.image

@@ -12,9 +12,11 @@ pub mod Applied
 pub mod Inverted
 pub mod Chunked
 pub mod Drafted
+pub mod Retained
 pub mod Drafting
 pub mod Inverting
 pub mod Spotted
+pub mod Windowed
 pub mod Placed
 pub mod Surveyed
 pub mod Surveying
@@ -22,6 +24,7 @@ pub mod Touched
 pub mod Patched
 pub mod Replaced
 pub mod Put
+pub mod Carried
 pub mod Ranges
 pub mod Differing
 pub mod Leading

@@ -1,4 +1,4 @@
--- A change made in chunks where they lie is the operation.
+-- What the touched components make of chunks is what the operation makes of the document.
 use Rattle.std.proofs.Common.{◌≡◌, ℕ, zero, suc, ◌+◌, ◌≤◌, List, [], ◌∷◌, ◌++◌, length, take, get_or, refl, sym, ap, ◌∙◌, arith}
 use Rattle.ot_text.specs.declared.Component.{Component}
 use Rattle.ot_text.specs.declared.Component.TheVariants.{Retain, Insert, Delete}
@@ -30,14 +30,14 @@ pub same_before_last : {T : Type 0} (cs : List (Component T)) (k n : ℕ) → k 
 same_before_last {T} cs k n h e s =
     sym (edited-last (runs (take k cs)) n s) ∙ ap (λ (rs : List (Run T)). chunks_of (edited rs s)) (sym (runs_last cs k n h e))
 
-pub in_place_text : {T : Type 0} (op : Operation T) (touched all : List (Run T)) (old new : List (List T)) → operation_of all ≡ op → op.base ≡ length (concatenated old) → ((s : Spot T) → chunks_of (edited touched s) ≡ chunks_of (edited all s)) → new ≡ chunks_of (edited touched (start old)) → concatenated new ≡ apply op (concatenated old)
-in_place_text {T} op touched all old new spells base same is =
+pub touched_text : {T : Type 0} (op : Operation T) (touched all : List (Run T)) (old new : List (List T)) → operation_of all ≡ op → op.base ≡ length (concatenated old) → ((s : Spot T) → chunks_of (edited touched s) ≡ chunks_of (edited all s)) → concatenated new ≡ concatenated (chunks_of (edited touched (start old))) → concatenated new ≡ apply op (concatenated old)
+touched_text {T} op touched all old new spells base same is =
     let takes : base_of all ≡ length (concatenated old) = ap (λ (o : Operation T). o.base) spells ∙ base in
-    ap concatenated (is ∙ same (start old)) ∙ edited-applies all old takes ∙ ap (λ (o : Operation T). apply o (concatenated old)) spells
+    is ∙ ap concatenated (same (start old)) ∙ edited-applies all old takes ∙ ap (λ (o : Operation T). apply o (concatenated old)) spells
 
-pub in_place_held : {T : Type 0} (op : Operation T) (touched all : List (Run T)) (old new : List (List T)) (count : ℕ) → operation_of all ≡ op → op.base ≡ length (concatenated old) → ((s : Spot T) → chunks_of (edited touched s) ≡ chunks_of (edited all s)) → new ≡ chunks_of (edited touched (start old)) → IsChunked new → count ≡ length op.image → count ≤ 1000000 → IsHeld new count
-in_place_held {T} op touched all old new count spells base same is chunked size small =
-    let text = in_place_text op touched all old new spells base same is in
+pub touched_held : {T : Type 0} (op : Operation T) (touched all : List (Run T)) (old new : List (List T)) (count : ℕ) → operation_of all ≡ op → op.base ≡ length (concatenated old) → ((s : Spot T) → chunks_of (edited touched s) ≡ chunks_of (edited all s)) → concatenated new ≡ concatenated (chunks_of (edited touched (start old))) → IsChunked new → count ≡ length op.image → count ≤ 1000000 → IsHeld new count
+touched_held {T} op touched all old new count spells base same is chunked size small =
+    let text = touched_text op touched all old new spells base same is in
     record {
       chunked = chunked;
       count_is = rw (size, text) (sym (length-apply op (concatenated old) (is_operation all op spells) (omega (arith, base))));

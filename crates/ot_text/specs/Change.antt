@@ -1,6 +1,8 @@
 -- An operation with parts that are to take the place of some of its components.
 use Rattle.std.specs.Prelude.{◌≡◌, ℕ, ◌+◌, ◌-◌, ◌≤◌, List, [], ◌∷◌, ◌++◌, length, Vec, vec_capacity}
 use Rattle.std.specs.List.{slice_range}
+use Rattle.std.specs.declared.option.Option.{Option}
+use Rattle.std.specs.declared.option.Option.TheVariants.{Some, None}
 use Rattle.std.specs.declared.alloc.Global.{Global}
 use Rattle.ot_text.specs.declared.Component.{Component}
 use Rattle.ot_text.specs.declared.lengths.Lengths.{Lengths}
@@ -35,10 +37,15 @@ pub record AreLengths {A : Type 0} (rs : List (Run A)) (lengths : Lengths) : Typ
   pub target_is : lengths.target ≡ length (image_from 0 rs)
   pub inserted_is : lengths.inserted ≡ length (news (image_from 0 rs))
 
+-- the components' list has room for all that comes; or there is another list, an empty one, with room for the components and all that comes
+abbrev pub HasRoom : {T : Type 0} → Vec (Component T) Global → Option (Vec (Component T) Global) → List (Piece T) → Type 0
+HasRoom components None splices = length components.items + growth splices ≤ vec_capacity components
+HasRoom components (Some list) splices = (list.items ≡ []) × (length components.items + growth splices ≤ vec_capacity list)
+
 -- an operation's components, the pieces that are to take their places, and the lengths before and after. There is room for all that comes
-pub record IsReady {T : Type 0} (components : Vec (Component T) Global) (splices : List (Piece T)) (before after : Lengths) : Type 0 where
+pub record IsReady {T : Type 0} (components : Vec (Component T) Global) (room : Option (Vec (Component T) Global)) (splices : List (Piece T)) (before after : Lengths) : Type 0 where
   pub in_order : AreInOrder 0 splices (length (runs components.items))
   pub apart : StandApart splices
   pub before_is : IsSound (runs components.items) before.base before.target before.inserted
   pub after_is : IsSound (spliced splices (runs components.items)) after.base after.target after.inserted
-  pub room : length components.items + growth splices ≤ vec_capacity components
+  pub room_is : HasRoom components room splices

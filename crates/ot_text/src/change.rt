@@ -30,7 +30,7 @@ pub fn without_last_retain<T>(components: &[Component<T>]) -> &[Component<T>]
 }
 
 // The count of a retain at the front, or 0, and the components behind it.
-fn split_front<T>(components: &[Component<T>]) -> (usize, &[Component<T>])
+pub fn split_front<T>(components: &[Component<T>]) -> (usize, &[Component<T>])
     ensures base { base_of (runs components.now) ≡ result.0 + base_of (runs result.1.now) }
     ensures same { (s : Spot T) → edited (runs components.now) s ≡ edited (runs result.1.now) (step (Keep result.0) s) }
 {
@@ -79,13 +79,7 @@ pub fn draft_components<T: Copy>(
     let room = chunks.len().saturating_add(components.len());
     let mut draft = Draft::new(alloc, room)?;
     let mut cursor = Cursor::start();
-    for component in components {
-        match component {
-            Component::Retain(count) => draft.retain(chunks, &mut cursor, *count)?,
-            Component::Insert(text) => draft.append(chunks, text.as_slice())?,
-            Component::Delete(count) => cursor.skip(chunks, *count),
-        }
-    }
+    draft.write(components, chunks, &mut cursor)?;
     draft.flush(chunks)?;
     Ok(draft)
 }

@@ -9,8 +9,9 @@ use crate::change::{apply_components, change_chunks, draft_components, without_l
 use crate::chunk::{CHUNK, Chunk};
 use crate::compare::same_items;
 use crate::cursor::Cursor;
-use crate::draft::{Draft, FILL, assemble, copy_pieces};
+use crate::draft::{Draft, FILL, copy_pieces};
 use crate::pieces::Pieces;
+use crate::window::redraft_chunks;
 use crate::{Element, TextOp};
 use std::alloc::{AllocError, Global};
 use std::marker::Model;
@@ -33,6 +34,15 @@ impl<T> Model for Doc<T> {
     ghost view = { λ d. concatenated (lists d.chunks.items) };
 
     ghost invariant = { λ d. IsHeld (lists d.chunks.items) d.count };
+}
+
+// How many components for each chunk are made in place. A place costs there what stands behind it in its chunk, and a draft copies a chunk once
+// for all its places: with more of them that is cheaper.
+const CROWD: usize = 8;
+
+// Are there too many components for so many chunks to be made in place?
+fn is_crowded(components: usize, chunks: usize) -> bool {
+    components / CROWD > chunks
 }
 
 fn copy_chunks<T: Copy>(alloc: Global, chunks: &[Chunk<T>]) -> Result<Vec<Chunk<T>>, AllocError>
@@ -66,9 +76,7 @@ impl<T: Element> Doc<T> {
         let mut draft = Draft::new(alloc, items.len() / FILL + 1)?;
         draft.append(none.as_slice(), items)?;
         draft.flush(none.as_slice())?;
-        let pieces = draft.pieces;
-        let room = Vec::with_capacity(alloc, pieces.len())?;
-        let chunks = assemble(alloc, none, pieces, room);
+        let chunks = copy_pieces(alloc, none.as_slice(), draft.pieces)?;
         let count = items.len();
         Ok(Doc { chunks, count })
     }
@@ -162,8 +170,9 @@ impl<T: Element> Doc<T> {
     ///
     /// Chunks are edited where they lie, where each still has 1 to 512 elements then, and more than 512 with its neighbour: what is
     /// copied is the text that comes and what stands behind it in its chunk, and chunks that are not touched are counted alone.
-    /// Else the touched chunks are copied, and a chunk beside them where it would be too short; the others move. A shared chunk that is
-    /// touched is copied first. `AllocError` where a growth was refused: every growth comes first, so the document is then as it was.
+    /// Else, and where there are more than eight components for each chunk, the touched chunks are copied, and a chunk beside them where one
+    /// would be too short; those between them move, and the list of those behind them moves where there are more or fewer chunks then. A shared
+    /// chunk that is touched is copied first. `AllocError` where a growth was refused: every growth comes first, so the document is then as it was.
     pub fn change(&mut self, op: &TextOp<T>) -> Result<(), AllocError>
         requires { op.now.base ≡ length self.old }
         ensures ok { OnOk result (self.new ≡ apply op.now self.old) }
@@ -175,14 +184,7 @@ impl<T: Element> Doc<T> {
         if op.target_len() <= CHUNK {
             return self.rebuild(op);
         }
-        let alloc = *self.chunks.allocator();
-        let draft = draft_components(alloc, op.components(), self.chunks.as_slice())?;
-        let pieces = draft.pieces;
-        let room = Vec::with_capacity(alloc, pieces.len())?;
-        let chunks = std::mem::replace(&mut self.chunks, Vec::new(alloc));
-        self.chunks = assemble(alloc, chunks, pieces, room);
-        self.count = op.target_len();
-        Ok(())
+        self.redraft(op)
     }
 
     // A change in the chunks where they lie, where they then are chunks as they have to be. Says whether it was made; else the
@@ -194,11 +196,29 @@ impl<T: Element> Doc<T> {
         ensures err { OnErr result (self.new ≡ self.old) }
     {
         let touched = without_last_retain(op.components());
-        if self.chunks.is_empty() || !change_chunks(touched, &mut self.chunks)? {
+        if self.chunks.is_empty() || is_crowded(touched.len(), self.chunks.len()) {
+            return Ok(false);
+        }
+        if !change_chunks(touched, &mut self.chunks)? {
             return Ok(false);
         }
         self.count = op.target_len();
         Ok(true)
+    }
+
+    // A change that drafts the chunks which it touches anew. (A document without a chunk has none that could stay.)
+    fn redraft(&mut self, op: &TextOp<T>) -> Result<(), AllocError>
+        requires { op.now.base ≡ length self.old }
+        ensures ok { OnOk result (self.new ≡ apply op.now self.old) }
+        ensures err { OnErr result (self.new ≡ self.old) }
+    {
+        if self.chunks.is_empty() {
+            *self = self.changed(op)?;
+            return Ok(());
+        }
+        redraft_chunks(without_last_retain(op.components()), &mut self.chunks)?;
+        self.count = op.target_len();
+        Ok(())
     }
 
     // A change to a document of one chunk or none, which is written anew.

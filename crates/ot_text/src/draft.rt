@@ -1,9 +1,13 @@
 //! The chunks of a changed document, before any old chunk moves.
 
 ghost use Rattle.std.specs.Prelude.{◌≡◌, ◌↔◌, ◌+◌, ◌<◌, ◌≤◌, ◌++◌, ℕ, [], length, get_or, take, drop, OnOk, IsTrue, IfOk, vec_len, vec_capacity};
+ghost use Rattle.ot_text.specs.Operation.{apply};
+ghost use Rattle.ot_text.specs.Run.{base_of, operation_of};
+ghost use Rattle.ot_text.specs.Components.{runs};
 ghost use Rattle.ot_text.specs.Chunks.{lists, concatenated, IsChunked, MayEnd, rest_at, left_at, IsInside};
-ghost use Rattle.ot_text.specs.Draft.{content, contents, IsInOrder, IsDraft, written, Continues};
+ghost use Rattle.ot_text.specs.Draft.{content, contents, IsInOrder, first_length, IsDraft, written, Continues, HasRetained, EndsBefore, StandFor};
 
+use crate::Component;
 use crate::chunk::{CHUNK, Chunk};
 use crate::cursor::Cursor;
 use std::alloc::{AllocError, Global};
@@ -118,8 +122,8 @@ impl<T: Copy> Draft<T> {
         Ok(())
     }
 
-    // Writes an old chunk: it moves, unless it has to be concatenated with what stands before it.
-    fn keep(&mut self, chunks: &[Chunk<T>], place: usize) -> Result<(), AllocError>
+    // Writes an old chunk: it moves, unless it has to be concatenated with what stands before it. Says whether it moved.
+    fn keep(&mut self, chunks: &[Chunk<T>], place: usize) -> Result<bool, AllocError>
         requires draft { IsDraft (lists chunks.now) self.old }
         requires order { IsInOrder 0 place self.old.pieces.items }
         requires chunked { IsChunked (lists chunks.now) }
@@ -127,43 +131,100 @@ impl<T: Copy> Draft<T> {
         ensures draft { OnOk result (IsDraft (lists chunks.now) self.new) }
         ensures text { OnOk result (written (lists chunks.now) self.new ≡ written (lists chunks.now) self.old ++ get_or (lists chunks.now) place []) }
         ensures order { OnOk result (IsInOrder 0 (place + 1) self.new.pieces.items) }
+        ensures moved { IfOk result (λ moved. IsTrue moved → EndsBefore (lists chunks.now) self.new (place + 1)) }
+        ensures first { OnOk result (first_length (contents (lists chunks.now) self.old.pieces.items) ≤ first_length (contents (lists chunks.now) self.new.pieces.items)) }
     {
         let chunk = chunks[place].items();
         self.make_room(chunks, chunk.len())?;
         if self.pending.is_empty() && self.may_end(chunks, chunk.len()) {
             self.pieces.push(Piece::Moved(place))?;
-            return Ok(());
+            return Ok(true);
         }
-        self.append(chunks, chunk)
+        self.append(chunks, chunk)?;
+        Ok(false)
     }
 
-    // Writes the next items of one old chunk.
+    // Writes the next old chunks, of at most `most` items, behind one that moved: they move too, as each stood behind the one before it.
+    // Says how many items they have.
+    fn move_next(
+        &mut self,
+        chunks: &[Chunk<T>],
+        cursor: &mut Cursor,
+        most: usize,
+    ) -> Result<usize, AllocError>
+        requires draft { IsDraft (lists chunks.now) self.old }
+        requires order { IsInOrder 0 cursor.old.chunk self.old.pieces.items }
+        requires chunked { IsChunked (lists chunks.now) }
+        requires front { cursor.old.offset ≡ 0 }
+        requires before { EndsBefore (lists chunks.now) self.old cursor.old.chunk }
+        ensures retained { IfOk result (λ count. HasRetained (lists chunks.now) self.old self.new cursor.old cursor.new count) }
+        ensures within { IfOk result (λ count. count ≤ most) }
+    {
+        let mut count = 0;
+        while cursor.chunk < chunks.len() {
+            let length = chunks[cursor.chunk].len();
+            if length > most - count {
+                return Ok(count);
+            }
+            self.pieces.push(Piece::Moved(cursor.chunk))?;
+            cursor.chunk += 1;
+            count += length;
+        }
+        Ok(count)
+    }
+
+    // Writes the old chunk in which the cursor stands, and where it moves the next ones too, of at most `most` items. Says how many they have.
+    fn retain_chunks(
+        &mut self,
+        chunks: &[Chunk<T>],
+        cursor: &mut Cursor,
+        most: usize,
+    ) -> Result<usize, AllocError>
+        requires draft { IsDraft (lists chunks.now) self.old }
+        requires order { IsInOrder 0 cursor.old.chunk self.old.pieces.items }
+        requires chunked { IsChunked (lists chunks.now) }
+        requires front { cursor.old.offset ≡ 0 }
+        requires there { cursor.old.chunk < length chunks.now }
+        requires enough { length (get_or (lists chunks.now) cursor.old.chunk []) ≤ most }
+        ensures retained { IfOk result (λ count. HasRetained (lists chunks.now) self.old self.new cursor.old cursor.new count) }
+        ensures some { IfOk result (λ count. 0 < count) }
+        ensures within { IfOk result (λ count. count ≤ most) }
+    {
+        let count = chunks[cursor.chunk].len();
+        let moved = self.keep(chunks, cursor.chunk)?;
+        cursor.chunk += 1;
+        if !moved {
+            return Ok(count);
+        }
+        let more = self.move_next(chunks, cursor, most - count)?;
+        Ok(count + more)
+    }
+
+    // Writes the next items of the old chunks, some and at most `most`: those of one chunk, or of several that move. Says how many.
     fn retain_some(
         &mut self,
         chunks: &[Chunk<T>],
         cursor: &mut Cursor,
-        count: usize,
-    ) -> Result<(), AllocError>
+        most: usize,
+    ) -> Result<usize, AllocError>
         requires draft { IsDraft (lists chunks.now) self.old }
         requires order { IsInOrder 0 cursor.old.chunk self.old.pieces.items }
         requires chunked { IsChunked (lists chunks.now) }
         requires inside { IsInside (lists chunks.now) cursor.old.chunk cursor.old.offset }
-        requires some { 0 < length (left_at (lists chunks.now) cursor.old.chunk cursor.old.offset) }
-        requires within { count ≤ length (rest_at (lists chunks.now) cursor.old.chunk cursor.old.offset) }
-        ensures draft { OnOk result (IsDraft (lists chunks.now) self.new) }
-        ensures text { OnOk result (written (lists chunks.now) self.new ≡ written (lists chunks.now) self.old ++ take count (left_at (lists chunks.now) cursor.old.chunk cursor.old.offset)) }
-        ensures order { OnOk result (IsInOrder 0 cursor.new.chunk self.new.pieces.items) }
-        ensures inside { OnOk result (IsInside (lists chunks.now) cursor.new.chunk cursor.new.offset) }
-        ensures left { OnOk result (left_at (lists chunks.now) cursor.new.chunk cursor.new.offset ≡ drop count (left_at (lists chunks.now) cursor.old.chunk cursor.old.offset)) }
+        requires within { most ≤ length (left_at (lists chunks.now) cursor.old.chunk cursor.old.offset) }
+        requires some { 0 < most }
+        ensures retained { IfOk result (λ count. HasRetained (lists chunks.now) self.old self.new cursor.old cursor.new count) }
+        ensures some { IfOk result (λ count. 0 < count) }
+        ensures within { IfOk result (λ count. count ≤ most) }
     {
-        if count == chunks[cursor.chunk].len() {
-            self.keep(chunks, cursor.chunk)?;
-            cursor.advance(chunks, count);
-            return Ok(());
+        let rest = cursor.rest(chunks);
+        if cursor.offset == 0 && rest.len() <= most {
+            return self.retain_chunks(chunks, cursor, most);
         }
-        self.append(chunks, &cursor.rest(chunks)[..count])?;
+        let count = rest.len().min(most);
+        self.append(chunks, &rest[..count])?;
         cursor.advance(chunks, count);
-        Ok(())
+        Ok(count)
     }
 
     // Writes the next items of the old chunks.
@@ -183,28 +244,95 @@ impl<T: Copy> Draft<T> {
         ensures order { OnOk result (IsInOrder 0 cursor.new.chunk self.new.pieces.items) }
         ensures inside { OnOk result (IsInside (lists chunks.now) cursor.new.chunk cursor.new.offset) }
         ensures left { OnOk result (left_at (lists chunks.now) cursor.new.chunk cursor.new.offset ≡ drop count (left_at (lists chunks.now) cursor.old.chunk cursor.old.offset)) }
+        ensures first { OnOk result (first_length (contents (lists chunks.now) self.old.pieces.items) ≤ first_length (contents (lists chunks.now) self.new.pieces.items)) }
     {
         let mut ahead = count;
         while ahead > 0 {
-            let step = cursor.rest(chunks).len().min(ahead);
-            self.retain_some(chunks, cursor, step)?;
-            ahead -= step;
+            ahead -= self.retain_some(chunks, cursor, ahead)?;
         }
         Ok(())
     }
+
+    // Writes what components make of the old chunks from the cursor on.
+    pub fn write(
+        &mut self,
+        components: &[Component<T>],
+        chunks: &[Chunk<T>],
+        cursor: &mut Cursor,
+    ) -> Result<(), AllocError>
+        requires draft { IsDraft (lists chunks.now) self.old }
+        requires order { IsInOrder 0 cursor.old.chunk self.old.pieces.items }
+        requires chunked { IsChunked (lists chunks.now) }
+        requires inside { IsInside (lists chunks.now) cursor.old.chunk cursor.old.offset }
+        requires base { base_of (runs components.now) ≤ length (left_at (lists chunks.now) cursor.old.chunk cursor.old.offset) }
+        ensures draft { OnOk result (IsDraft (lists chunks.now) self.new) }
+        ensures text { OnOk result (written (lists chunks.now) self.new ≡ written (lists chunks.now) self.old ++ apply (operation_of (runs components.now)) (left_at (lists chunks.now) cursor.old.chunk cursor.old.offset)) }
+        ensures order { OnOk result (IsInOrder 0 cursor.new.chunk self.new.pieces.items) }
+        ensures inside { OnOk result (IsInside (lists chunks.now) cursor.new.chunk cursor.new.offset) }
+        ensures left { OnOk result (left_at (lists chunks.now) cursor.new.chunk cursor.new.offset ≡ drop (base_of (runs components.now)) (left_at (lists chunks.now) cursor.old.chunk cursor.old.offset)) }
+        ensures first { OnOk result (first_length (contents (lists chunks.now) self.old.pieces.items) ≤ first_length (contents (lists chunks.now) self.new.pieces.items)) }
+    {
+        for component in components {
+            match component {
+                Component::Retain(count) => self.retain(chunks, cursor, *count)?,
+                Component::Insert(text) => self.append(chunks, text.as_slice())?,
+                Component::Delete(count) => cursor.skip(chunks, *count),
+            }
+        }
+        Ok(())
+    }
+
+    // May the chunk in which the cursor stands follow the pieces as it is? What is pending becomes a piece for that.
+    fn may_stop(&mut self, chunks: &[Chunk<T>], cursor: &Cursor) -> Result<bool, AllocError>
+        requires draft { IsDraft (lists chunks.now) self.old }
+        requires chunked { IsChunked (lists chunks.now) }
+        requires there { cursor.now.chunk < length chunks.now }
+        ensures ok { OnOk result (Continues (lists chunks.now) self.old self.new []) }
+        ensures front { IfOk result (λ stops. IsTrue stops → cursor.now.offset ≡ 0) }
+        ensures empty { IfOk result (λ stops. IsTrue stops → self.new.pending.items ≡ []) }
+        ensures end { IfOk result (λ stops. IsTrue stops → MayEnd (contents (lists chunks.now) self.new.pieces.items) (length (get_or (lists chunks.now) cursor.now.chunk []))) }
+    {
+        if cursor.offset > 0 {
+            return Ok(false);
+        }
+        self.flush(chunks)?;
+        Ok(self.may_end(chunks, chunks[cursor.chunk].len()))
+    }
+
+    // Writes what is left of the chunk in which the cursor stands, and the next ones up to one that may follow as it is. Says how many
+    // chunks lie before that one: the pieces stand for these.
+    pub fn close(&mut self, chunks: &[Chunk<T>], cursor: &mut Cursor) -> Result<usize, AllocError>
+        requires draft { IsDraft (lists chunks.now) self.old }
+        requires order { IsInOrder 0 cursor.old.chunk self.old.pieces.items }
+        requires chunked { IsChunked (lists chunks.now) }
+        requires inside { IsInside (lists chunks.now) cursor.old.chunk cursor.old.offset }
+        ensures stand { IfOk result (λ count. StandFor (lists chunks.now) count self.new.pieces.items) }
+        ensures text { IfOk result (λ count. concatenated (contents (lists chunks.now) self.new.pieces.items ++ drop count (lists chunks.now)) ≡ written (lists chunks.now) self.old ++ left_at (lists chunks.now) cursor.old.chunk cursor.old.offset) }
+        ensures first { OnOk result (first_length (contents (lists chunks.now) self.old.pieces.items) ≤ first_length (contents (lists chunks.now) self.new.pieces.items)) }
+    {
+        while cursor.chunk < chunks.len() {
+            if self.may_stop(chunks, cursor)? {
+                return Ok(cursor.chunk);
+            }
+            let rest = cursor.rest(chunks).len();
+            self.retain(chunks, cursor, rest)?;
+        }
+        self.flush(chunks)?;
+        Ok(chunks.len())
+    }
 }
 
-// The chunks that the pieces say: the old ones are moved, and nothing is allocated.
+// The chunks that the pieces say: the old ones are moved and leave empty ones, and nothing is allocated.
 pub fn assemble<T: Drop>(
     alloc: Global,
-    mut chunks: Vec<Chunk<T>>,
+    chunks: &mut [Chunk<T>],
     pieces: Vec<Piece<T>>,
     room: Vec<Chunk<T>>,
 ) -> Vec<Chunk<T>>
-    requires order { IsInOrder 0 (length chunks.items) pieces.items }
+    requires order { IsInOrder 0 (length chunks.old) pieces.items }
     requires empty { room.items ≡ [] }
     requires enough { length pieces.items ≤ vec_capacity room }
-    ensures { lists result.items ≡ contents (lists chunks.items) pieces.items }
+    ensures { lists result.items ≡ contents (lists chunks.old) pieces.items }
 {
     let mut made = room;
     for piece in pieces {

@@ -1,25 +1,36 @@
-//! A change of an operation's components where they lie.
+//! A change of an operation's components where they lie, or in another list.
+//!
+//! A part that has more or fewer components than go for it moves those behind it. A few such parts move them in the list, one after the other. Many
+//! would move those at its end again and again: then all components move once, into a list that was made beforehand, and the parts between them.
 
-ghost use Rattle.std.specs.Prelude.{◌≡◌, ◌+◌, ◌≤◌, length, IfOk, IfErr, vec_len, vec_capacity};
+ghost use Rattle.std.specs.Prelude.{◌≡◌, ◌+◌, ◌≤◌, ◌++◌, [], length, take, drop, IfOk, IfErr, vec_len, vec_capacity};
+ghost use Rattle.std.specs.Vec.Iter.{into_iter_items};
 ghost use Rattle.ot_text.specs.Operation.{IsTooLong};
 ghost use Rattle.ot_text.specs.Run.{operation_of, normal_runs};
 ghost use Rattle.ot_text.specs.Components.{runs};
 ghost use Rattle.ot_text.specs.Splices.{spliced, AreInOrder, FitIn};
-ghost use Rattle.ot_text.specs.Change.{growth};
+ghost use Rattle.ot_text.specs.Change.{growth, HasRoom};
 ghost use Rattle.ot_text.specs.Patch.{patched, LeadsFrom, IsLeast};
 
 use crate::difference::differences;
 use crate::lengths::{Lengths, lengths_with};
 use crate::replace::put;
-use crate::splices::{added_components, only_splice};
+use crate::splices::{added_components, moved_components, only_splice};
 use crate::{Component, Element, Patch, Splice, TextOp};
-use std::alloc::AllocError;
+use std::alloc::{AllocError, Global};
 use std::marker::Model;
+use std::vec::IntoIter;
 
-// An operation and parts that are to take the place of some of its components, with room for all of them.
+// Parts are moved in one after the other as long as they move, all together, no more than so many times as many components as there are; five that
+// are spread over the list move more. Beyond that it is cheaper, as measured over 300 to 14,000 components, to move all into another list, once.
+const TIMES: usize = 2;
+
+// An operation and parts that are to take the place of some of its components, with room for all of them: in the components' own list, or in
+// another one.
 #[derive(Drop)]
 pub struct InPlace<T> {
     components: Vec<Component<T>>,
+    room: Option<Vec<Component<T>>>,
     splices: Vec<Splice<T>>,
     before: Lengths,
     after: Lengths,
@@ -35,7 +46,7 @@ impl<T> Model for InPlace<T> {
 
     ghost view = { λ c. record { before = operation_of (runs c.components.items); after = operation_of (spliced c.splices.items (runs c.components.items)) } };
 
-    ghost invariant = { λ c. IsReady c.components c.splices.items c.before c.after };
+    ghost invariant = { λ c. IsReady c.components c.room c.splices.items c.before c.after };
 }
 
 // Moves the parts into their places, the last one first, so that the places of the others stay what they are.
@@ -49,8 +60,114 @@ fn put_all<T: Drop>(components: &mut Vec<Component<T>>, mut splices: Vec<Splice<
     }
 }
 
+// Moves so many components behind those that are written.
+fn move_over<T: Drop>(
+    written: &mut Vec<Component<T>>,
+    rest: &mut IntoIter<Component<T>, Global>,
+    count: usize,
+)
+    requires within { count ≤ length (into_iter_items rest.old) }
+    requires room { vec_len written.old + count ≤ vec_capacity written.old }
+    ensures items { written.new.items ≡ written.old.items ++ take count (into_iter_items rest.old) }
+    ensures many { vec_len written.new ≡ vec_len written.old + count }
+    ensures room { vec_capacity written.new ≡ vec_capacity written.old }
+    ensures rest { into_iter_items rest.new ≡ drop count (into_iter_items rest.old) }
+{
+    for _moved in 0..count {
+        let Some(component) = rest.next() else {
+            unreachable!()
+        };
+        written.push_reserved(component);
+    }
+}
+
+// Lets so many components go.
+fn leave_out<T: Drop>(rest: &mut IntoIter<Component<T>, Global>, count: usize)
+    ensures { into_iter_items rest.new ≡ drop count (into_iter_items rest.old) }
+{
+    for _gone in 0..count {
+        let _component = rest.next();
+    }
+}
+
+// Moves a part behind those that are written.
+fn move_part<T: Drop>(written: &mut Vec<Component<T>>, mut part: Vec<Component<T>>)
+    requires { vec_len written.old + vec_len part ≤ vec_capacity written.old }
+    ensures items { written.new.items ≡ written.old.items ++ part.items }
+    ensures many { vec_len written.new ≡ vec_len written.old + vec_len part }
+    ensures room { vec_capacity written.old ≤ vec_capacity written.new }
+{
+    if written.append(&mut part).is_err() {
+        unreachable!();
+    }
+}
+
+// Moves the components that stay, and the parts between them, into another list.
+fn write_all<T: Drop>(
+    components: Vec<Component<T>>,
+    splices: Vec<Splice<T>>,
+    room: Vec<Component<T>>,
+) -> Vec<Component<T>>
+    requires order { AreInOrder 0 splices.items (length (runs components.items)) }
+    requires empty { room.items ≡ [] }
+    requires enough { vec_len components + growth splices.items ≤ vec_capacity room }
+    ensures { runs result.items ≡ spliced splices.items (runs components.items) }
+{
+    let count = components.len();
+    let mut written = room;
+    let mut rest = components.into_iter();
+    let mut at = 0;
+    for splice in splices {
+        move_over(&mut written, &mut rest, splice.start - at);
+        leave_out(&mut rest, splice.end - splice.start);
+        move_part(&mut written, splice.part);
+        at = splice.end;
+    }
+    move_over(&mut written, &mut rest, count - at);
+    written
+}
+
+// The components with the parts in their places.
+fn with_parts<T: Drop>(
+    mut components: Vec<Component<T>>,
+    splices: Vec<Splice<T>>,
+    room: Option<Vec<Component<T>>>,
+) -> Vec<Component<T>>
+    requires order { AreInOrder 0 splices.items (length (runs components.items)) }
+    requires room { HasRoom components room splices.items }
+    ensures { runs result.items ≡ spliced splices.items (runs components.items) }
+{
+    match room {
+        Some(list) => write_all(components, splices, list),
+        None => {
+            put_all(&mut components, splices);
+            components
+        }
+    }
+}
+
+// Room for all that comes: another list where too much would move in this one.
+fn make_room<T: Drop>(
+    components: &mut Vec<Component<T>>,
+    splices: &[Splice<T>],
+) -> Result<Option<Vec<Component<T>>>, AllocError>
+    requires { vec_len components.old + growth splices.now ≤ 18446744073709551615 }
+    ensures items { components.new.items ≡ components.old.items }
+    ensures room { IfOk result (λ room. HasRoom components.new room splices.now) }
+{
+    let count = components.len();
+    let more = added_components(splices);
+    if moved_components(splices, count) > count.saturating_mul(TIMES) {
+        let list = Vec::with_capacity(*components.allocator(), count + more)?;
+        return Ok(Some(list));
+    }
+    components.reserve(more)?;
+    Ok(None)
+}
+
 impl<T: Element> InPlace<T> {
-    // The operation's list grows where it has no room, as a list does that is pushed to; where that was refused it comes back.
+    // Where the operation's list has no room it grows, as a list does that is pushed to, or another one is made; where that was refused the operation
+    // comes back.
     pub fn new(mut op: TextOp<T>, splices: Vec<Splice<T>>) -> Result<InPlace<T>, TextOp<T>>
         requires fits_in { FitIn splices.items (normal_runs op) }
         requires short { IsTooLong (operation_of (spliced splices.items (normal_runs op))) → ⊥ }
@@ -59,11 +176,12 @@ impl<T: Element> InPlace<T> {
         ensures back { IfErr result (λ same. same ≡ op) }
     {
         let after = lengths_with(&op, splices.as_slice());
-        let Ok(()) = op.components.reserve(added_components(splices.as_slice())) else {
+        let Ok(room) = make_room(&mut op.components, splices.as_slice()) else {
             return Err(op);
         };
         Ok(InPlace {
             components: op.components,
+            room,
             splices,
             before: Lengths {
                 base: op.base,
@@ -77,10 +195,8 @@ impl<T: Element> InPlace<T> {
     pub fn commit(self) -> TextOp<T>
         ensures { result ≡ self.after }
     {
-        let mut components = self.components;
-        put_all(&mut components, self.splices);
         TextOp {
-            components,
+            components: with_parts(self.components, self.splices, self.room),
             base: self.after.base,
             target: self.after.target,
             inserted: self.after.inserted,

@@ -27,7 +27,8 @@
 //!
 //! A change makes every growth first, so that one which finds no memory leaves the document as it was. Where the touched chunks can
 //! be edited as they lie, a survey counts what they will have and makes room in them, and the edit takes no memory. Else a draft is
-//! made over the old chunks as they are, and then the old chunks move into their new places, which takes no memory either.
+//! made over the old chunks as they are, from the one before the first touched one up to the first behind the last that may follow as it is.
+//! Then the drafted chunks are put in the place of these in the list, which takes no memory either.
 //!
 //! A change of an operation is prepared (`Prepared`), which makes its growths, and then made or taken back, neither of which takes memory. It is
 //! given as parts that take the place of some of its components (`Patch`), so that what lies between them costs nothing:
@@ -82,6 +83,7 @@ mod rewrite;
 mod shared;
 mod splices;
 mod survey;
+mod window;
 
 use build::{add_delete, add_insert, add_retain, add_text};
 use change::invert_components;

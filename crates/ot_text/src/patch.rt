@@ -78,7 +78,8 @@ impl<T: Element> Patch<T> {
     }
 
     /// Prepares the newer operation to become the older one. Costs what the patch keeps, which is copied: the list of the operation is not copied,
-    /// and grows only where it has no room. Where a growth was refused the operation comes back.
+    /// and grows only where it has no room, or is to move into another one, as `TextOp::prepare` says. Where a growth was refused the operation comes
+    /// back.
     pub fn prepare_back(&self, newer: TextOp<T>) -> Result<Prepared<T>, TextOp<T>>
         requires { LeadsFrom self.now newer }
         ensures before { IfOk result (λ change. change.before ≡ newer) }
@@ -104,7 +105,8 @@ impl<T: Element> Patch<T> {
 
 impl<T: Element> TextOp<T> {
     /// Prepares this operation to become what the patch makes of it. Costs what the parts cost: the list is not copied, and grows only where it has
-    /// no room. Where a growth was refused the operation comes back, and the patch is gone.
+    /// no room. Where many parts would move more than twice as many components as there are, memory for another list is taken, into which all
+    /// move when the change is made. Where a growth was refused the operation comes back, and the patch is gone.
     pub fn prepare(self, patch: Patch<T>) -> Result<Prepared<T>, TextOp<T>>
         requires fits_in { FitsOn patch self }
         requires short { IsTooLong (patched patch self) → ⊥ }

@@ -6,8 +6,9 @@
 //!   parts               [ retain 2 | insert "c" | retain 3 ]    [ retain 1 | insert "d" | retain 1 ]
 //! ```
 //!
-//! Nothing else of the list is copied: `commit` moves the parts in, from the last to the first, and components behind a part move on where there
-//! are more or fewer than before.
+//! No component is copied: `commit` moves the parts in, from the last to the first, and components behind a part move on where there are more or
+//! fewer than before. Where many parts would move the list several times over, memory for another list is taken instead of room in this one, and
+//! `commit` moves all components there once, with the parts between them.
 
 ghost use Rattle.std.specs.Prelude.{◌≡◌, IfOk};
 ghost use Rattle.ot_text.specs.Run.{normal_runs};
@@ -59,7 +60,7 @@ impl<T: Element> Prepared<T> {
     }
 
     /// Makes the change. It takes no memory: the components that come are moved in, and those behind them only where there are more or fewer than
-    /// before.
+    /// before. Where many parts would move more than twice as many components as there are, all move once, into the list that was made for them.
     pub fn commit(self) -> TextOp<T>
         ensures { result ≡ self.after }
     {

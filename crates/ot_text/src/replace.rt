@@ -1,4 +1,4 @@
-//! Other components in the place of some of an operation's own, where these lie.
+//! Other items in the place of some of a list's own, where these lie, and which components may stand beside which.
 
 ghost use Rattle.std.specs.Prelude.{◌≡◌, ◌+◌, ◌-◌, ◌≤◌, ◌↔◌, ◌++◌, take, drop, IsTrue, vec_len, vec_capacity};
 ghost use Rattle.std.specs.List.{splice};
@@ -34,108 +34,83 @@ pub(crate) fn joins<T>(front: &[Component<T>], back: &[Component<T>]) -> bool
     may_follow(&front[before - 1], &back[0])
 }
 
-// Moves components in, before those from `at` on.
-fn insert_components<T: Drop>(
-    components: &mut Vec<Component<T>>,
-    at: usize,
-    mut added: Vec<Component<T>>,
-)
-    requires inside { at ≤ vec_len components.old }
-    requires room { vec_len components.old + vec_len added ≤ vec_capacity components.old }
-    ensures items { components.new.items ≡ splice components.old.items at at added.items }
-    ensures room { vec_capacity components.old ≤ vec_capacity components.new }
+// Moves items in, before those from `at` on.
+fn insert_items<X: Drop>(list: &mut Vec<X>, at: usize, mut added: Vec<X>)
+    requires inside { at ≤ vec_len list.old }
+    requires room { vec_len list.old + vec_len added ≤ vec_capacity list.old }
+    ensures items { list.new.items ≡ splice list.old.items at at added.items }
+    ensures room { vec_capacity list.old ≤ vec_capacity list.new }
 {
     let count = added.len();
-    if components.append(&mut added).is_err() {
+    if list.append(&mut added).is_err() {
         unreachable!();
     }
-    components.slice_mut(at..).rotate_right(count);
+    list.slice_mut(at..).rotate_right(count);
 }
 
-// Takes components out.
-fn remove_components<T: Drop>(components: &mut Vec<Component<T>>, at: usize, count: usize)
-    requires { at + count ≤ vec_len components.old }
-    ensures items { components.new.items ≡ take at components.old.items ++ drop (at + count) components.old.items }
-    ensures room { vec_capacity components.new ≡ vec_capacity components.old }
+// Takes items out.
+fn remove_items<X: Drop>(list: &mut Vec<X>, at: usize, count: usize)
+    requires { at + count ≤ vec_len list.old }
+    ensures items { list.new.items ≡ take at list.old.items ++ drop (at + count) list.old.items }
+    ensures room { vec_capacity list.new ≡ vec_capacity list.old }
 {
-    let length = components.len();
-    components.slice_mut(at..).rotate_left(count);
-    components.truncate(length - count);
+    let length = list.len();
+    list.slice_mut(at..).rotate_left(count);
+    list.truncate(length - count);
 }
 
-// Swaps components from `start` on with as many others.
-fn swap_in<T: Drop>(
-    components: &mut Vec<Component<T>>,
-    start: usize,
-    others: &mut Vec<Component<T>>,
-    count: usize,
-)
-    requires within { start + count ≤ vec_len components.old }
+// Swaps items from `start` on with as many others.
+fn swap_in<X: Drop>(list: &mut Vec<X>, start: usize, others: &mut Vec<X>, count: usize)
+    requires within { start + count ≤ vec_len list.old }
     requires enough { count ≤ vec_len others.old }
-    ensures items { components.new.items ≡ splice components.old.items start (start + count) (take count others.old.items) }
-    ensures room { vec_capacity components.new ≡ vec_capacity components.old }
+    ensures items { list.new.items ≡ splice list.old.items start (start + count) (take count others.old.items) }
+    ensures room { vec_capacity list.new ≡ vec_capacity list.old }
     ensures rest { drop count others.new.items ≡ drop count others.old.items }
     ensures many { vec_len others.new ≡ vec_len others.old }
 {
-    components
-        .slice_mut(start..start + count)
+    list.slice_mut(start..start + count)
         .swap_with_slice(others.slice_mut(..count));
 }
 
-// Moves no more components in than the ones that go.
-fn put_fewer<T: Drop>(
-    components: &mut Vec<Component<T>>,
-    start: usize,
-    end: usize,
-    mut added: Vec<Component<T>>,
-)
+// Moves no more items in than the ones that go.
+fn put_fewer<X: Drop>(list: &mut Vec<X>, start: usize, end: usize, mut added: Vec<X>)
     requires fewer { start + vec_len added ≤ end }
-    requires within { end ≤ vec_len components.old }
-    ensures items { components.new.items ≡ splice components.old.items start end added.items }
-    ensures room { vec_capacity components.old ≤ vec_capacity components.new }
+    requires within { end ≤ vec_len list.old }
+    ensures items { list.new.items ≡ splice list.old.items start end added.items }
+    ensures room { vec_capacity list.old ≤ vec_capacity list.new }
 {
     let count = added.len();
-    swap_in(components, start, &mut added, count);
-    remove_components(components, start + count, end - (start + count));
+    swap_in(list, start, &mut added, count);
+    remove_items(list, start + count, end - (start + count));
 }
 
-// Moves no fewer components in than the ones that go.
-fn put_more<T: Drop>(
-    components: &mut Vec<Component<T>>,
-    start: usize,
-    end: usize,
-    mut added: Vec<Component<T>>,
-)
+// Moves no fewer items in than the ones that go.
+fn put_more<X: Drop>(list: &mut Vec<X>, start: usize, end: usize, mut added: Vec<X>)
     requires order { start ≤ end }
-    requires within { end ≤ vec_len components.old }
+    requires within { end ≤ vec_len list.old }
     requires more { end ≤ start + vec_len added }
-    requires room { vec_len components.old + vec_len added ≤ vec_capacity components.old + (end - start) }
-    ensures items { components.new.items ≡ splice components.old.items start end added.items }
-    ensures room { vec_capacity components.old ≤ vec_capacity components.new }
+    requires room { vec_len list.old + vec_len added ≤ vec_capacity list.old + (end - start) }
+    ensures items { list.new.items ≡ splice list.old.items start end added.items }
+    ensures room { vec_capacity list.old ≤ vec_capacity list.new }
 {
     let gone = end - start;
-    swap_in(components, start, &mut added, gone);
-    remove_components(&mut added, 0, gone);
-    insert_components(components, end, added);
+    swap_in(list, start, &mut added, gone);
+    remove_items(&mut added, 0, gone);
+    insert_items(list, end, added);
 }
 
-// Moves components into the place of those from `start` up to `end`, with the room that is there. As many as went move no other; else those
+// Moves items into the place of those from `start` up to `end`, with the room that is there. As many as went move no other; else those
 // behind them move once.
-pub fn put<T: Drop>(
-    components: &mut Vec<Component<T>>,
-    start: usize,
-    end: usize,
-    added: Vec<Component<T>>,
-)
+pub fn put<X: Drop>(list: &mut Vec<X>, start: usize, end: usize, added: Vec<X>)
     requires order { start ≤ end }
-    requires within { end ≤ vec_len components.old }
-    requires room { vec_len components.old + vec_len added ≤ vec_capacity components.old + (end - start) }
-    ensures items { components.new.items ≡ splice components.old.items start end added.items }
-    ensures room { vec_capacity components.old ≤ vec_capacity components.new }
+    requires within { end ≤ vec_len list.old }
+    requires room { vec_len list.old + vec_len added ≤ vec_capacity list.old + (end - start) }
+    ensures items { list.new.items ≡ splice list.old.items start end added.items }
+    ensures room { vec_capacity list.old ≤ vec_capacity list.new }
 {
     if added.len() <= end - start {
-        put_fewer(components, start, end, added);
+        put_fewer(list, start, end, added);
     } else {
-        put_more(components, start, end, added);
+        put_more(list, start, end, added);
     }
 }

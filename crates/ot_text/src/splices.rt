@@ -122,3 +122,15 @@ pub fn added_components<T>(splices: &[Splice<T>]) -> usize
     }
     more
 }
+
+// How many components move where these parts are put into a list of so many, one after the other: those behind each part that is longer or shorter
+// than what it stands for.
+pub fn moved_components<T>(splices: &[Splice<T>], count: usize) -> usize {
+    let mut moved: usize = 0;
+    for splice in splices {
+        if splice.part.len() != splice.end.saturating_sub(splice.start) {
+            moved = moved.saturating_add(count.saturating_sub(splice.end));
+        }
+    }
+    moved
+}

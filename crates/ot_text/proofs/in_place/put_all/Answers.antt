@@ -39,7 +39,7 @@ loop-splice-preserved g c =
     let is =
     ap runs c.put.ensures.items ∙ runs_splice c.loop-splice.components.items c.splice.inside.part.items c.splice.inside.start c.splice.inside.end
     ∙ ap (λ p. splice (runs c.loop-splice.components.items) p.start p.end p.part) c.splice.view_is in (
-      put_last_order c.pop.new.self.items c.in-Some.splice (runs c.loop-splice.components.items) (runs c.put.new.components.items) order is,
+      put_last_order c.pop.new.self.items c.in-Some.splice (runs c.loop-splice.components.items) (runs c.put.new.list.items) order is,
       omega (
         arith,
         c.loop-splice.invariant.1,
@@ -49,10 +49,10 @@ loop-splice-preserved g c =
         ap length is,
         length-splice (runs c.loop-splice.components.items) c.in-Some.splice.part c.in-Some.splice.start c.in-Some.splice.end parts.1 parts.2,
         length-map c.loop-splice.components.items run_of,
-        length-map c.put.new.components.items run_of,
+        length-map c.put.new.list.items run_of,
         c.loop-splice.components.ok.0,
-        c.put.new.components.ok.0,
+        c.put.new.list.ok.0,
       ),
-      put_last c.pop.new.self.items c.in-Some.splice (runs c.loop-splice.components.items) (runs c.put.new.components.items) order is
+      put_last c.pop.new.self.items c.in-Some.splice (runs c.loop-splice.components.items) (runs c.put.new.list.items) order is
           ∙ ap (λ ps. spliced ps (runs c.loop-splice.components.items)) (sym c.in-Some.ensures.items) ∙ c.loop-splice.invariant.2,
     )

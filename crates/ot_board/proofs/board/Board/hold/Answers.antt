@@ -11,15 +11,15 @@ use Rattle.ot_board.proofs.board.Board.hold.Goals as goal
 pub invariant_of-self : goal.invariant_of-self
 invariant_of-self c =
     let b = board_in c.self.inside.machine c.self.inside.recorded.program c.self.inside.out.items c.self.inside.slots.items in
-    let here : IsAwaited b (session_of c.args.lent) = subst (λ (v : BoardView). IsAwaited v (session_of c.args.lent)) (sym c.self.view_is) (c.if-not-is_awaited.ensures.0 (search rules)) in
+    let here : IsAwaited b (session_of c.args.lent) = subst (λ (v : BoardView). IsAwaited v (session_of c.args.lent)) (sym c.self.view_is) (c.if-is_awaited.ensures.0 (search rules)) in
     let n = c.client-client.result in
     let same : n ≡ (session_of c.args.lent).start.number = c.client-client.ensures in
     kept_parked b _ n (Some (session_of c.args.lent)) c.self.invariant (ap (map (option_map session_of)) c.fill.ensures ∙ slots_set c.self.inside.slots.items n (Some c.args.lent))
     (λ x is. let e = same_Some (session_of c.args.lent) x is in
     (ap (λ (k : ℕ). slice_get b.out k) same ∙ here.0, ap (λ (z : Session). z.start.number) (sym e) ∙ sym same))
 
-pub returns-clause-ok : goal.returns-clause-ok
-returns-clause-ok c =
+pub returns-then-is_awaited-clause-ok : goal.returns-then-is_awaited-clause-ok
+returns-then-is_awaited-clause-ok c =
     let b = board_in c.self.inside.machine c.self.inside.recorded.program c.self.inside.out.items c.self.inside.slots.items in
     let x = session_of c.args.lent in
     let n = c.client-client.result in
