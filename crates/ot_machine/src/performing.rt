@@ -1,9 +1,10 @@
 //! Instructions and runs of which no list is kept: it stands in the machine, and is looked at there.
 
-ghost use Rattle.std.specs.Prelude.{◌≡◌, IfErr, IfOk, IfSome, OnErr, OnOk, Some};
+ghost use Rattle.std.specs.Prelude.{◌≡◌, IfErr, IfOk, IfSome, None, OnErr, OnOk, Some};
 ghost use Rattle.std.specs.Option.{option_map};
 ghost use Rattle.ot_isa.specs.declared.instruction.Instr.TheVariants.{Read, ReadServer};
 ghost use Rattle.ot_model.specs.declared.shown.Reader.TheVariants.{Client, Server};
+ghost use Rattle.ot_model.specs.declared.shown.Refusal.TheVariants.{Memory};
 ghost use Rattle.ot_model.specs.Table.{step, Performed, Refused};
 ghost use Rattle.ot_machine.specs.Answers.{IsRefusal};
 ghost use Rattle.ot_machine.specs.Ended.{IsEnding};
@@ -23,6 +24,7 @@ impl Machine {
         ensures done { OnOk result (step self.old (Read client) ≡ Performed self.new (Some (shown_by self.new (Client client)))) }
         ensures there { OnOk result (IsThere self.new (Client client)) }
         ensures refused { IfErr result (λ r. step self.old (Read client) ≡ Refused r) }
+        ensures memory { IfErr result (λ r. r ≡ Memory → ⊥) }
         ensures unchanged { OnErr result (self.new ≡ self.old) }
         ensures kept { OnOk result (IsRecord self.old self.new Record.Read) }
     {
@@ -34,6 +36,7 @@ impl Machine {
     fn pass_read_server(&mut self) -> Result<(), Refusal>
         ensures done { OnOk result (step self.old ReadServer ≡ Performed self.new (Some (shown_by self.new Server))) }
         ensures refused { IfErr result (λ r. step self.old ReadServer ≡ Refused r) }
+        ensures memory { IfErr result (λ r. r ≡ Memory → ⊥) }
         ensures unchanged { OnErr result (self.new ≡ self.old) }
         ensures kept { OnOk result (IsRecord self.old self.new Record.Read) }
     {
@@ -51,6 +54,7 @@ impl Machine {
         ensures reader { IfOk result (λ who. who ≡ reader_of instr.now) }
         ensures there { IfOk result (λ who. IfSome who (IsThere self.new)) }
         ensures refused { IfErr result (λ r. IsRefusal (step self.old instr.now) r) }
+        ensures memory { IfErr result (λ r. r ≡ Memory → reader_of instr.now ≡ None) }
         ensures unchanged { OnErr result (self.new ≡ self.old) }
     {
         match instr {
@@ -92,6 +96,7 @@ impl Machine {
     pub fn perform_kept(&mut self, instr: &Instr) -> Result<Undo, Refusal>
         ensures done { OnOk result (Leads self.old instr.now self.new) }
         ensures refused { IfErr result (λ r. IsRefusal (step self.old instr.now) r) }
+        ensures memory { IfErr result (λ r. r ≡ Memory → reader_of instr.now ≡ None) }
         ensures unchanged { OnErr result (self.new ≡ self.old) }
         ensures undo { IfOk result (λ undo. Undoes self.old self.new undo) }
     {

@@ -3,6 +3,7 @@
 ghost use Rattle.std.specs.Prelude.{◌≡◌, ◌∷◌, ◌<◌, [], IfErr, IfOk, OnErr, OnOk, Some};
 ghost use Rattle.ot_isa.specs.declared.instruction.Instr.TheVariants.{Read, ReadServer};
 ghost use Rattle.ot_model.specs.declared.shown.Reader.TheVariants.{Client, Server};
+ghost use Rattle.ot_model.specs.declared.shown.Refusal.TheVariants.{Memory};
 ghost use Rattle.ot_model.specs.Table as table;
 ghost use Rattle.ot_model.specs.Table.{step, Refused};
 ghost use Rattle.ot_machine.specs.Answers.{IsRefusal};
@@ -24,6 +25,7 @@ impl Machine {
         ensures is { IfOk result (λ list. list.now ≡ list_of self.now (Client client)) }
         ensures shows { IfOk result (λ list. step self.now (Read client) ≡ table.shows self.now (Client client) list.now) }
         ensures refused { IfErr result (λ r. step self.now (Read client) ≡ Refused r) }
+        ensures memory { IfErr result (λ r. r ≡ Memory → ⊥) }
     {
         let place = client as usize;
         if place >= self.seats.len() {
@@ -45,6 +47,7 @@ impl Machine {
         ensures is { IfOk result (λ list. list.now ≡ self.now.server) }
         ensures shows { IfOk result (λ list. step self.now ReadServer ≡ table.shows self.now Server list.now) }
         ensures refused { IfErr result (λ r. step self.now ReadServer ≡ Refused r) }
+        ensures memory { IfErr result (λ r. r ≡ Memory → ⊥) }
     {
         if self.steps >= STEP_LIMIT {
             return Err(Refusal::StepsFull);

@@ -10,7 +10,7 @@ use Rattle.ot_text.specs.declared.patch.Patch.{Patch}
 use Rattle.ot_text.specs.declared.patch.Patch.TheVariants.{Part, Parts}
 use Rattle.ot_text.specs.declared.Component.{Component}
 use Rattle.ot_text.specs.Components.{run_of, runs}
-use Rattle.ot_text.specs.Shared.{ShareEnds}
+use Rattle.ot_text.specs.Shared.{ShareEnds, end_of, beside, left_by}
 use Rattle.ot_text.proofs.Normal.{normal_runs_back}
 
 -- runs with pieces in their places: what stands before the first, something, and what stands behind the last
@@ -87,6 +87,20 @@ no_pieces_share op fit =
 same_count : {A : Type 0} (cs : List (Component A)) (op : Operation A) → runs cs ≡ normal_runs op → length cs ≡ length (normal_runs op)
 same_count cs op form = sym (length-map cs run_of) ∙ ap length form
 
+last_end : {A : Type 0} (p : Piece A) (ps : List (Piece A)) (q : Piece A) → slice_get (p ∷ ps) (length ps) ≡ Some q → q.end ≡ end_of p ps
+last_end p [] q last =
+    let same : q ≡ p = cc in
+    ap (λ (r : Piece _). r.end) same
+last_end p (r ∷ ps) q last = last_end r ps q last
+
+-- what the first piece and the last one leave
+list_leaves : {A : Type 0} (ps : List (Piece A)) (p q : Piece A) (n : ℕ) → Some p ≡ slice_get ps 0 → Some q ≡ slice_get ps (length ps - 1) → (p.start, n - q.end) ≡ beside ps n
+list_leaves [] p q n first last = absurd cc
+list_leaves (r ∷ ps) p q n first last =
+    let less : suc (length ps) - 1 ≡ length ps = omega arith in
+    let same : p ≡ r = cc in
+    rw (same, last_end r ps q (ap (slice_get (r ∷ ps)) (sym less) ∙ sym last)) refl
+
 module _ {A : Type 0} (patch : Patch A) (op : Operation A) (cs : List (Component A)) (start end : ℕ) (form : runs cs ≡ normal_runs op) (leads : LeadsFrom patch op) where
   pub part_shares : (p : Piece A) → patch ≡ Part p → start ≡ p.start → end ≡ p.end → ShareEnds (normal_runs (patched patch op)) (normal_runs op) start (length cs - end)
   part_shares p is from to =
@@ -117,3 +131,7 @@ module _ {A : Type 0} (patch : Patch A) (op : Operation A) (cs : List (Component
   parts_share ps p q is first last from to =
       let fit = subst (λ (z : Patch A). LeadsFrom z op) is leads in
       rw (is, from, to, same_count cs op form) (list_shares ps.items p q first last fit.0)
+
+  pub parts_leave : (ps : Vec (Piece A) Global) (p q : Piece A) → patch ≡ Parts ps → Some p ≡ slice_get ps.items 0 → Some q ≡ slice_get ps.items (length ps.items - 1)
+      → start ≡ p.start → end ≡ q.end → (start, length cs - end) ≡ left_by patch (length (normal_runs op))
+  parts_leave ps p q is first last from to = rw (is, from, to, same_count cs op form) (list_leaves ps.items p q (length (normal_runs op)) first last)

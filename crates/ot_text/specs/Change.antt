@@ -38,9 +38,9 @@ pub record AreLengths {A : Type 0} (rs : List (Run A)) (lengths : Lengths) : Typ
   pub inserted_is : lengths.inserted ≡ length (news (image_from 0 rs))
 
 -- the components' list has room for all that comes; or there is another list, an empty one, with room for the components and all that comes
-abbrev pub HasRoom : {T : Type 0} → Vec (Component T) Global → Option (Vec (Component T) Global) → List (Piece T) → Type 0
-HasRoom components None splices = length components.items + growth splices ≤ vec_capacity components
-HasRoom components (Some list) splices = (list.items ≡ []) × (length components.items + growth splices ≤ vec_capacity list)
+abbrev pub HasRoomFor : {T : Type 0} → Vec (Component T) Global → Option (Vec (Component T) Global) → List (Piece T) → Type 0
+HasRoomFor components None splices = length components.items + growth splices ≤ vec_capacity components
+HasRoomFor components (Some list) splices = (list.items ≡ []) × (length components.items + growth splices ≤ vec_capacity list)
 
 -- an operation's components, the pieces that are to take their places, and the lengths before and after. There is room for all that comes
 pub record IsReady {T : Type 0} (components : Vec (Component T) Global) (room : Option (Vec (Component T) Global)) (splices : List (Piece T)) (before after : Lengths) : Type 0 where
@@ -48,4 +48,4 @@ pub record IsReady {T : Type 0} (components : Vec (Component T) Global) (room : 
   pub apart : StandApart splices
   pub before_is : IsSound (runs components.items) before.base before.target before.inserted
   pub after_is : IsSound (spliced splices (runs components.items)) after.base after.target after.inserted
-  pub room_is : HasRoom components room splices
+  pub room_is : HasRoomFor components room splices

@@ -9,7 +9,7 @@ ghost use Rattle.ot_text.specs.Operation.{IsTooLong};
 ghost use Rattle.ot_text.specs.Run.{operation_of, normal_runs};
 ghost use Rattle.ot_text.specs.Components.{runs};
 ghost use Rattle.ot_text.specs.Splices.{spliced, AreInOrder, FitIn};
-ghost use Rattle.ot_text.specs.Change.{growth, HasRoom};
+ghost use Rattle.ot_text.specs.Change.{growth, HasRoomFor};
 ghost use Rattle.ot_text.specs.Patch.{patched, LeadsFrom, IsLeast};
 
 use crate::difference::differences;
@@ -134,7 +134,7 @@ fn with_parts<T: Drop>(
     room: Option<Vec<Component<T>>>,
 ) -> Vec<Component<T>>
     requires order { AreInOrder 0 splices.items (length (runs components.items)) }
-    requires room { HasRoom components room splices.items }
+    requires room { HasRoomFor components room splices.items }
     ensures { runs result.items ≡ spliced splices.items (runs components.items) }
 {
     match room {
@@ -153,11 +153,12 @@ fn make_room<T: Drop>(
 ) -> Result<Option<Vec<Component<T>>>, AllocError>
     requires { vec_len components.old + growth splices.now ≤ 18446744073709551615 }
     ensures items { components.new.items ≡ components.old.items }
-    ensures room { IfOk result (λ room. HasRoom components.new room splices.now) }
+    ensures room { IfOk result (λ room. HasRoomFor components.new room splices.now) }
 {
     let count = components.len();
     let more = added_components(splices);
-    if moved_components(splices, count) > count.saturating_mul(TIMES) {
+    // (No more than so many parts move no more than that.)
+    if splices.len() > TIMES && moved_components(splices, count) > count.saturating_mul(TIMES) {
         let list = Vec::with_capacity(*components.allocator(), count + more)?;
         return Ok(Some(list));
     }

@@ -1,8 +1,9 @@
 //! What two operations share at their ends, one of which a patch makes of the other.
 
+ghost use Rattle.std.specs.Prelude.{◌≡◌, length};
 ghost use Rattle.ot_text.specs.Run.{normal_runs};
 ghost use Rattle.ot_text.specs.Patch.{patched, LeadsFrom};
-ghost use Rattle.ot_text.specs.Shared.{ShareEnds};
+ghost use Rattle.ot_text.specs.Shared.{ShareEnds, left_by};
 
 use crate::{Element, Patch, TextOp};
 
@@ -11,7 +12,8 @@ impl<T: Element> Patch<T> {
     /// first part and those behind the last one; all of them where there is no part, none where the patch is another operation altogether.
     pub fn shared(&self, newer: &TextOp<T>) -> (usize, usize)
         requires { LeadsFrom self.now newer.now }
-        ensures { ShareEnds (normal_runs (patched self.now newer.now)) (normal_runs newer.now) result.0 result.1 }
+        ensures same { ShareEnds (normal_runs (patched self.now newer.now)) (normal_runs newer.now) result.0 result.1 }
+        ensures all { result ≡ left_by self.now (length (normal_runs newer.now)) }
     {
         let count = newer.components().len();
         match self {
