@@ -44,7 +44,9 @@ class Runs(unittest.TestCase):
     def test_a_port_that_conforms(self):
         status, printed, _ = self.run_kit(["echo", "a line"])
         sessions = len(list((KIT / "sessions").glob("*.ots")))
-        said = f"corpus: {sessions} sessions conform\nat random: 5 sessions conform\ncompared do {2 * (sessions + 5)}\n"
+        said = (f"corpus: {sessions} sessions conform\nat random: 5 sessions conform\n"
+                f"compared clients 0 present 0 start 0 do {2 * (sessions + 5)} client 0 edit 0 revision 0 state 0 outstanding 0 buffer 0 sent 0 "
+                "applied 0 appended 0 document 0 end 0\n")
         self.assertEqual((status, printed), (0, said))
 
     def test_a_port_that_differs_is_reduced(self):
@@ -82,7 +84,11 @@ class Runs(unittest.TestCase):
     def test_a_port_that_dies_is_named(self):
         status, printed, _ = self.run_kit(["sh", "-c", "cat >/dev/null; echo gone >&2; exit 7"])
         self.assertEqual(status, 1)
-        self.assertTrue(printed.endswith("to 0 of 1\n\nclients 1\n\nthe driver ended with status 7: gone\nconforms\ncompared do 0\n"), printed)
+        self.assertTrue(printed.endswith("to 0 of 1\n\nclients 1\n\nthe driver ended with status 7: gone\n"), printed)
+
+    def test_a_port_that_dies_where_it_differs_is_named_with_the_difference(self):
+        _, printed, _ = self.run_kit(["sh", "-c", "cat >/dev/null; echo wrong 0; exit 7"])
+        self.assertTrue(printed.endswith("\n\nthe driver ended with status 7\ndiffers at 0: deliver 0: line\nfound \"wrong 0\"\n"), printed)
 
     def test_what_cannot_be_tried(self):
         rows = [
