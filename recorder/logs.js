@@ -1,5 +1,6 @@
 /* Reads the recorder's lines, and sorts them into the logs of the participants. */
 "use strict";
+const { isUtf8 } = require("node:buffer");
 
 /* An event as faults name it. */
 const nameOf = (event) => `${event.who}, event ${event.n}`;
@@ -21,12 +22,21 @@ function holds(event) {
   return after && Object.hasOwn(HOLDS, event.do) && HOLDS[event.do](event);
 }
 
+/* A file's text. No character of UTF-8 has an LF in it, so each line is looked at by itself for the fault. */
+function decode(bytes, file) {
+  if (isUtf8(bytes)) return bytes.toString("utf8");
+  const lines = bytes.toString("latin1").split("\n");
+  const at = lines.findIndex((line) => !isUtf8(Buffer.from(line, "latin1")));
+  throw new Error(`${file}, line ${at + 1} is no UTF-8`);
+}
+
 /* The events in a file's text. */
 function readEvents(text, file) {
   const events = [];
   text.split("\n").forEach((line, i) => {
-    if (line.trim() === "") return;
     const here = `${file}, line ${i + 1}`;
+    if (line.startsWith("\ufeff")) throw new Error(`${here} begins with a byte order mark: write the log without it`);
+    if (line.trim() === "") return;
     let event;
     try {
       event = JSON.parse(line);
@@ -79,4 +89,4 @@ function checkOpening(opening, server) {
   if (opening.outstanding) throw new Error(`${nameOf(opening)}: an operation is outstanding already`);
 }
 
-module.exports = { nameOf, readEvents, readLogs };
+module.exports = { decode, nameOf, readEvents, readLogs };

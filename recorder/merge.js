@@ -6,14 +6,19 @@
  *     node merge.js --schedule server.log ann.log ben.log | otbench run
  *
  * Each file holds lines of one participant or of several. Status 1 where a log cannot be used, or the schedule ends before
- * the logs do; standard error says at whose event.
+ * the logs do: standard error says at whose event; also where the output cannot be written. Status 2 for words that are not
+ * understood, and for help.
  */
 "use strict";
 const fs = require("node:fs");
 const { parseArgs } = require("node:util");
 const { Writer } = require("./lines.js");
-const { readEvents, readLogs } = require("./logs.js");
+const { decode, readEvents, readLogs } = require("./logs.js");
 const { oneOrder } = require("./order.js");
+
+const USAGE = `usage: node recorder/merge.js [--schedule] LOG ..
+Prints the session of the recorder's logs, of the server and of the clients: its schedule, and behind a line '%%' what the
+participants had; with --schedule the schedule alone.`;
 
 /* { schedule, lines, notes, fault } of the recorder's events. */
 function merge(events) {
@@ -30,21 +35,32 @@ function merge(events) {
 }
 
 function main() {
-  const { values, positionals } = parseArgs({ options: { schedule: { type: "boolean" } }, allowPositionals: true });
-  const events = positionals.flatMap((file) => readEvents(fs.readFileSync(file, "utf8"), file));
+  const options = { schedule: { type: "boolean" }, help: { type: "boolean", short: "h" } };
+  const { values, positionals } = parseArgs({ options, allowPositionals: true });
+  if (values.help || positionals.length === 0) {
+    console.error(USAGE);
+    process.exitCode = 2;
+    return;
+  }
+  const events = positionals.flatMap((file) => readEvents(decode(fs.readFileSync(file), file), file));
   const { schedule, lines, notes, fault } = merge(events);
   process.stdout.write((values.schedule ? schedule : [...schedule, "%%", ...lines]).join("\n") + "\n");
   for (const note of notes) console.error(`merge: ${note}`);
   if (fault) throw new Error(fault);
 }
 
+function fail(fault) {
+  console.error(`merge: ${fault.message}`);
+  process.exitCode = /^ERR_PARSE_ARGS/.test(fault.code) ? 2 : 1;
+}
+
 module.exports = { merge };
 
 if (require.main === module) {
+  process.stdout.on("error", fail);
   try {
     main();
   } catch (fault) {
-    console.error(`merge: ${fault.message}`);
-    process.exitCode = 1;
+    fail(fault);
   }
 }

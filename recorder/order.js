@@ -12,6 +12,9 @@ const receives = (event) => event.do === "deliver" || event.do === "ack";
 const same = (a, b) => JSON.stringify(a) === JSON.stringify(b);
 const text = (message) => `${JSON.stringify(message.operation)} at revision ${message.revision}`;
 
+/* What is said of an event that threw, behind what else is said of it. */
+const thrown = (event) => (event.stopped !== undefined ? `, and it stopped: ${event.stopped}` : "");
+
 /* A client while its log is laid into the order. */
 class Client {
   constructor(log, number, first) {
@@ -53,12 +56,18 @@ class Order {
     }
   }
 
+  /* Who acknowledges the operation that a take appends; one that threw has appended none. */
+  #acknowledger(take) {
+    return take.stopped === undefined ? this.makers[this.appended.length] : undefined;
+  }
+
   /* Whose message the server takes: who acknowledges it, else who has it under way. */
   #maker(take) {
     const entry = this.appended.length;
     const sender = (client) => client.up && same(client.up, { revision: take.given.revision, operation: take.given.operation });
-    if (this.makers[entry]) {
-      const { client, name } = this.makers[entry];
+    const acknowledger = this.#acknowledger(take);
+    if (acknowledger) {
+      const { client, name } = acknowledger;
       if (sender(client)) return client;
       if (client.up) this.fault = `${nameOf(take)}: take of ${text(take.given)}; ${name} acknowledges it, and had sent ${text(client.up)}`;
       return null;
@@ -84,7 +93,7 @@ class Order {
 
   /* Notes whose message was taken where the logs do not say it. */
   #noteGuess(take, maker) {
-    if (this.makers[this.appended.length]) return;
+    if (this.#acknowledger(take)) return;
     const other = this.clients.find((client) => client !== maker && client.known <= this.appended.length && same(client.up, maker.up));
     if (other) this.notes.push(`${nameOf(take)}: ${maker.who} and ${other.who} both sent ${text(take.given)}; taken as ${maker.who}'s`);
   }
@@ -92,7 +101,7 @@ class Order {
   #lay({ event, client }) {
     if (event.do === "deliver" && !same(event.operation, this.appended[client.entries])) {
       const [theirs, ours] = [event.operation, this.appended[client.entries]].map((operation) => JSON.stringify(operation));
-      this.fault = `${nameOf(event)}: deliver of ${theirs}, and the server's operation ${this.first + client.entries} is ${ours}`;
+      this.fault = `${nameOf(event)}: deliver of ${theirs}, and the server's operation ${this.first + client.entries} is ${ours}${thrown(event)}`;
       return;
     }
     if (event.do === "take") this.#noteGuess(event, client);
@@ -118,16 +127,23 @@ class Order {
     }
   }
 
+  /* Where nothing else can come: the first event that threw over an operation that the server did not take. It ends the schedule. */
+  #layThrow() {
+    const threw = ({ joined, log, next }) => joined && log[next] && log[next].stopped !== undefined;
+    const client = this.clients.find(threw);
+    if (client) this.events.push({ event: client.log[client.next], client: client.number });
+  }
+
   /* What waits for something that did not come. */
   #waiting() {
     const waits = [];
     for (const client of this.clients) {
       const event = client.log[client.joined ? client.next : 0];
       const what = client.joined ? `${event && event.do} of operation ${this.first + client.entries}` : `joins at revision ${event.revision}`;
-      if (event) waits.push(`${nameOf(event)}: ${what}, which the server did not ${client.joined ? "take" : "reach"}`);
+      if (event) waits.push(`${nameOf(event)}: ${what}, which the server did not ${client.joined ? "take" : "reach"}${thrown(event)}`);
     }
     const take = this.server[this.nextTake];
-    if (take) waits.push(`${nameOf(take)}: take of ${text(take.given)}, which no client sent`);
+    if (take) waits.push(`${nameOf(take)}: take of ${text(take.given)}, which no client sent${thrown(take)}`);
     return waits.length ? waits.join("; ") : null;
   }
 
@@ -138,6 +154,7 @@ class Order {
       if (this.fault !== null || ready.length === 0) break;
       this.#lay(ready.reduce((first, other) => (other.event.time < first.event.time ? other : first)));
     }
+    if (this.fault === null) this.#layThrow();
     this.fault = this.fault || this.#waiting();
   }
 }

@@ -8,7 +8,7 @@ const path = require("node:path");
 const { test } = require("node:test");
 const { bugs } = require("../../examples/port/bugs.js");
 const { drive, loadPort } = require("../../examples/port/driver.js");
-const { readEvents } = require("../logs.js");
+const { decode, readEvents } = require("../logs.js");
 const { merge } = require("../merge.js");
 const { isWellFormed, toScalars } = require("../scalars.js");
 const { LiveSession, chance, liveSession } = require("./live_session.js");
@@ -217,6 +217,37 @@ test("who throws at an acknowledgement did not make the operation", () => {
   assert.equal(fault, "ann, event 1: ack stopped: Error: There is no pending operation.");
 });
 
+/* ann makes the operation and has it acknowledged, so all is quiet. */
+const quiet = { revision: 1, state: "synchronized", outstanding: null, buffer: null, document: "a" };
+const acknowledged = [...openings, take, { who: "ann", ...edit }, { who: "ann", n: 2, time: 3, do: "ack", ...quiet }];
+
+test("what was thrown over an operation that the server did not take ends the schedule, and is named", () => {
+  const again = { who: "ann", n: 3, time: 4, do: "ack", stopped: "Error: There is no pending operation." };
+  const { schedule, lines, fault } = merge([...acknowledged, again, { who: "ann", n: 4, time: 5, do: "edit", edit: [1], ...quiet }]);
+  assert.deepEqual(schedule.slice(3), ['edit 0 ["a"]', "take 0", "ack 0", "ack 0"]);
+  assert.equal(lines.at(-1), '{"at":3,"do":"ack","client":0,"stopped":"Error: There is no pending operation."}');
+  assert.equal(fault, "ann, event 3: ack of operation 1, which the server did not take, and it stopped: Error: There is no pending operation.");
+});
+
+test("what was thrown is named beside what else is wrong with its event", () => {
+  const taken = { who: "server", n: 2, time: 4, do: "take", given: { revision: 0, operation: ["?"] }, stopped: "Error: no" };
+  const unsent = merge([...acknowledged, taken]).fault;
+  assert.equal(unsent, 'server, event 2: take of ["?"] at revision 0, which no client sent, and it stopped: Error: no');
+  const delivered = { who: "ben", n: 1, time: 3, do: "deliver", operation: ["b"], stopped: "Error: no" };
+  const changed = merge([...acknowledged, delivered]).fault;
+  assert.equal(changed, 'ben, event 1: deliver of ["b"], and the server\'s operation 0 is ["a"], and it stopped: Error: no');
+});
+
+test("a take that threw appended nothing: who acknowledges the next one did not make it", () => {
+  const other = { revision: 0, operation: ["b"] };
+  const thrown = { who: "server", n: 1, time: 2, do: "take", given: other, stopped: "Error: no" };
+  const ben = { who: "ben", ...edit, edit: ["b"], outstanding: ["b"], document: "b", sent: other };
+  const [server, ...clients] = acknowledged.filter((event) => event.who !== "ben" && event.do !== "take");
+  const { schedule, fault } = merge([server, ...clients, openings[2], ben, thrown, { ...take, n: 2 }]);
+  assert.deepEqual(schedule.slice(3), ['edit 0 ["a"]', 'edit 1 ["b"]', "take 1"]);
+  assert.equal(fault, "server, event 1: take stopped: Error: no");
+});
+
 test("what a method threw ends the schedule, and is named", () => {
   const { log } = liveSession({ seed: 1, plant: bugs["whole-log"] });
   const { fault, lines } = mergeText(log);
@@ -232,16 +263,33 @@ test("lines that are no events are named", () => {
     ['{"who":"ann","n":3,"do":"ack","revision":0}', 'ann, event 3 lacks what a "ack" should hold'],
     ['{"who":"s","n":3,"do":"take","revision":0,"document":"","given":{"revision":0,"operation":[1]}}', 's, event 3 lacks what a "take" should hold'],
     ['{"who":"ann","n":3,"do":"toString","revision":0,"document":""}', 'ann, event 3 lacks what a "toString" should hold'],
+    ["\ufeff{}", "log, line 1 begins with a byte order mark: write the log without it"],
+    ["\n\ufeff", "log, line 2 begins with a byte order mark: write the log without it"],
   ];
   for (const [text, message] of rows) assert.throws(() => readEvents(text, "log"), { message });
 });
+
+test("bytes that are no UTF-8 are named by their line", () => {
+  const bytes = (...parts) => Buffer.concat(parts.map((part) => Buffer.from(part)));
+  assert.equal(decode(bytes("é😀\n\ufeff\ufffd"), "log"), "é😀\n\ufeff\ufffd");
+  const rows = [
+    [bytes([0xff, 0xfe], "{\0"), 1],
+    [bytes("é\r\n\n{", [0xe9], "}\n", [0xff]), 3],
+    [bytes("a\n", [0xf0, 0x9f], "\n"), 2],
+    [bytes("a\n", [0xf0, 0x9f]), 2],
+    [bytes("a\nb\n", [0xed, 0xa0, 0xbd]), 3],
+  ];
+  for (const [text, line] of rows) assert.throws(() => decode(text, "log"), { message: `log, line ${line} is no UTF-8` });
+});
+
+const merger = path.join(__dirname, "../merge.js");
+const call = (...words) => spawnSync("node", [merger, ...words], { encoding: "utf8" });
 
 test("the command line", () => {
   const folder = fs.mkdtempSync(path.join(os.tmpdir(), "otbench-merge-"));
   const file = path.join(folder, "session.log");
   const { log } = liveSession({ seed: 1, cut: true });
   fs.writeFileSync(file, log);
-  const call = (...words) => spawnSync("node", [path.join(__dirname, "../merge.js"), ...words], { encoding: "utf8" });
   const { schedule, lines } = mergeText(log);
   assert.equal(call(file).stdout, [...schedule, "%%", ...lines].join("\n") + "\n");
   assert.equal(call("--schedule", file).stdout, schedule.join("\n") + "\n");
@@ -249,5 +297,31 @@ test("the command line", () => {
   fs.writeFileSync(file, log.split("\n").slice(1).join("\n"));
   assert.deepEqual([call(file).status, call(file).stdout], [1, ""]);
   assert.match(call(file).stderr, /^merge: the log of .* has no event 0\n$/);
+  fs.writeFileSync(file, Buffer.concat([Buffer.from(`${log}\n`), Buffer.from([0xe9])]));
+  assert.deepEqual([call(file).status, call(file).stdout], [1, ""]);
+  assert.match(call(file).stderr, /^merge: .*session\.log, line \d+ is no UTF-8\n$/);
+  fs.rmSync(folder, { recursive: true });
+});
+
+test("words that are not understood, and help, are answered by the usage", () => {
+  for (const words of [[], ["--help"], ["-h"], ["--schedule"]]) {
+    const { status, stdout, stderr } = call(...words);
+    assert.deepEqual([status, stdout], [2, ""], words.join(" "));
+    assert.match(stderr, /^usage: node recorder\/merge\.js \[--schedule\] LOG \.\.\n/);
+  }
+  const { status, stderr } = call("--shedule", "session.log");
+  assert.equal(status, 2);
+  assert.match(stderr, /^merge: Unknown option '--shedule'/);
+});
+
+test("an output that cannot be written is named in a line", { skip: !fs.existsSync("/dev/full") }, () => {
+  const folder = fs.mkdtempSync(path.join(os.tmpdir(), "otbench-merge-"));
+  const file = path.join(folder, "session.log");
+  fs.writeFileSync(file, liveSession({ seed: 1 }).log);
+  const full = fs.openSync("/dev/full", "w");
+  const { status, stderr } = spawnSync("node", [merger, file], { stdio: ["ignore", full, "pipe"], encoding: "utf8" });
+  assert.equal(status, 1);
+  assert.match(stderr, /^merge: ENOSPC.*\n$/);
+  fs.closeSync(full);
   fs.rmSync(folder, { recursive: true });
 });
