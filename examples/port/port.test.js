@@ -86,6 +86,11 @@ test("each fault shows at its place, and not before", () => {
   }
 });
 
+test("a byte order mark in front of a schedule is named", () => {
+  const message = "the schedule begins with a byte order mark: write it without";
+  assert.throws(() => drive(`\ufeff${example("weak-order")}`, loadPort()), { message });
+});
+
 test("the command line", () => {
   const options = { input: example("weak-order"), encoding: "utf8" };
   const call = (...words) => spawnSync("node", [path.join(__dirname, "driver.js"), ...words], options);

@@ -6,6 +6,7 @@
  * `inward` (units.js). Lines from "%%" on are not the schedule's.
  */
 function readSchedule(text, inward) {
+  if (text.startsWith("\ufeff")) throw new Error("the schedule begins with a byte order mark: write it without");
   const schedule = { clients: 0, present: null, start: "", instructions: [] };
   for (const raw of text.split("\n")) {
     const line = raw.replace(/\r$/, "").replace(/^[ \t]+|[ \t]+$/g, "");

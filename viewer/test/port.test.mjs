@@ -68,9 +68,17 @@ test("what conform answered decides", () => {
   assert.equal(beside(ofBug("tie"), ["conforms"]).first, null);
 });
 
+test("of a line no more is dropped than `conform` drops: one CR at its end, blanks, and no byte order mark", () => {
+  const first = '{"at":1,"document":"xz"}';
+  const { port } = splitInput(`a\n%%\n\ufeff${first}\n\u00a0%%\r\n\f\n \t ${first}\t \r\n \r\r\n`);
+  assert.deepEqual(port, [`\ufeff${first}`, "\u00a0%%", "\f", first, "\r"]);
+  assert.deepEqual(beside(port).differencesAt(1), [{ key: "line", found: JSON.stringify(port[0]), ours: "a line of JSON" }]);
+});
+
 test("the parts of an input", () => {
   assert.deepEqual(splitInput("a\r\n\n b \n"), { steps: ["a", "b"], port: null, answer: [] });
   assert.deepEqual(splitInput("a\n%%\nb\n"), { steps: ["a"], port: ["b"], answer: [] });
   assert.deepEqual(splitInput("a\n %%\t\nb\n%%\nc\nd"), { steps: ["a"], port: ["b"], answer: ["c", "d"] });
+  assert.deepEqual(splitInput("\ufeffa\n%%\nb\n"), { steps: ["a"], port: ["b"], answer: [] });
   assert.equal(unescapeLine(String.raw`found "\u003cb>\\u003c\n"`), String.raw`found "<b>\\u003c\n"`);
 });

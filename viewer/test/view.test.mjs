@@ -63,6 +63,15 @@ test("a page with a session in it", () => {
   assert.deepEqual(linesIn(stdout), { steps: linesOf(example("weak-order")), port: null, answer: [] });
 });
 
+test("words behind `view` are answered by what it reads", () => {
+  for (const words of [["view", "story.ots"], ["view", "--help"], ["help", "view"]]) {
+    const { stdout, stderr, status } = call(words, example("weak-order"));
+    assert.deepEqual([stdout, status], ["", 2], words.join(" "));
+    assert.match(stderr, /^usage: \.\/otbench view < SCHEDULE > PAGE\n/);
+  }
+  assert.equal(call(["run", "view"], "input").stdout, "run view\ninput");
+});
+
 test("no text breaks out of its place", () => {
   const { stdout } = call(["view"], 'clients 1\nstart "</script><!--<script>"\n');
   const { steps } = linesIn(stdout);
