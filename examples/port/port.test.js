@@ -91,6 +91,12 @@ test("a byte order mark in front of a schedule is named", () => {
   assert.throws(() => drive(`\ufeff${example("weak-order")}`, loadPort()), { message });
 });
 
+test("blanks about a line are dropped, those in a text are not, however many", () => {
+  const blanks = " ".repeat(39990);
+  const given = `clients 1\t\n  start "${blanks}" \t \nread 0${blanks}\n`;
+  assert.equal(JSON.parse(drive(given, loadPort())[0]).start, blanks);
+});
+
 test("the command line", () => {
   const options = { input: example("weak-order"), encoding: "utf8" };
   const call = (...words) => spawnSync("node", [path.join(__dirname, "driver.js"), ...words], options);

@@ -9,12 +9,20 @@ function readSchedule(text, inward) {
   if (text.startsWith("\ufeff")) throw new Error("the schedule begins with a byte order mark: write it without");
   const schedule = { clients: 0, present: null, start: "", instructions: [] };
   for (const raw of text.split("\n")) {
-    const line = raw.replace(/\r$/, "").replace(/^[ \t]+|[ \t]+$/g, "");
+    const line = withoutBlanks(raw.replace(/\r$/, ""));
     if (line === "%%") break;
     if (line !== "" && line[0] !== ";") readLine(schedule, line, inward);
   }
   if (schedule.present === null) schedule.present = schedule.clients;
   return schedule;
+}
+
+/* Without blanks at both ends. (The regular expression for those at the end takes the square of a run of blanks, as a long start text may have.) */
+function withoutBlanks(line) {
+  let [from, to] = [0, line.length];
+  while (from < to && " \t".includes(line[from])) from++;
+  while (to > from && " \t".includes(line[to - 1])) to--;
+  return line.slice(from, to);
 }
 
 function readLine(schedule, line, inward) {
