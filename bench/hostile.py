@@ -144,6 +144,52 @@ def long_cycle(edits=3970, width=990):
     return made.whole()
 
 
+def fallen_cycle(reads=1000, width=990):
+    """A cycle through a whole text, of which two elements stand in the other order than in the one that is tried first: none of 1,000 lists (there may be 3,980)
+    has that order, none is reversed, and each is compared with all."""
+    made = Trace(8, [])
+    text, last, x, y = [[0, i] for i in range(width)], [1, 0], [6, 0], [7, 0]
+    made.add(0, "edit", [0] * 8, text, insert=text)
+    made.add(1, "edit", [0] * 8, [last], insert=[last])
+    for r, kept in ((2, text[-1]), (3, text[0])):
+        made.add(r, "edit", [1] + [0] * 7, [kept], delete=[a for a in text if a != kept])
+    made.add(4, "read", [1, 1, 1, 0, 0, 0, 0, 0], [text[-1], last])
+    made.add(5, "read", [1, 1, 0, 1, 0, 0, 0, 0], [last, text[0]])
+    half = width // 2
+    for r, tag in ((6, x), (7, y)):
+        made.add(r, "edit", [1] + [0] * 7, [*text[:half], tag, *text[half:]], insert=[tag])
+    for _ in range(reads):
+        made.add(7, "read", [1, 0, 0, 0, 0, 0, 1, 1], [*text[:half], x, y, *text[half:]])
+    return made.whole()
+
+
+def folded(a, b):
+    product = a * b
+    return (product ^ product >> 64) & (1 << 64) - 1
+
+
+def one_bucket(length=8000, groups=1024):
+    """Reads of a text whose elements all begin at one place of a hash table of their number: the hash has no secret, so whoever writes a trace can choose its tags so."""
+    first = folded(0x243F6A8885A308D3, 0x9E3779B97F4A7C15 ^ 4)
+    tags, serial = [], 0
+    while len(tags) < length:
+        whole = folded(first ^ serial * 0x100000001, 0x9E3779B97F4A7C15 ^ 8)
+        if (whole ^ whole >> 32) % groups == 5:
+            tags.append([0, serial])
+        serial += 1
+    made = Trace(1, tags)
+    for _ in range(4_000_000 // length):
+        made.add(0, "read", [0], tags)
+    return made.whole()
+
+
+def objects(count=2_000_000):
+    """Two million objects of one key each, 14 MB of text, under a key that nobody asks for: each takes 890 bytes as it is read."""
+    made = Trace(1, [])
+    made.add(0, "read", [0], [])
+    return {**made.whole(), "others": [{"": 0}] * count}
+
+
 SHAPES = {
     "entries": entries,
     "replicas": replicas,
@@ -155,6 +201,9 @@ SHAPES = {
     "deleted-by-many": many_deleters,
     "cycles": cycles,
     "long-cycle": long_cycle,
+    "fallen-cycle": fallen_cycle,
+    "one-bucket": one_bucket,
+    "objects": objects,
 }
 
 

@@ -37,6 +37,11 @@ def long_messages(clients, actions, letters=250):
     return plan([[action(draw.randrange(START), "x" * letters) for _ in range(actions)] for _ in range(clients)], "a" * START)
 
 
+def long_messages_of_eight(clients=64, actions=23, letters=652):
+    """The same of 64 clients by eight workers, each of which has a copy of a client and of its messages."""
+    return json.dumps({**json.loads(long_messages(clients, actions, letters)), "workers": 8})
+
+
 def audience(clients, actions):
     """One client that types while 63 others take what it sends."""
     typed = [action(7 * k % START, "x", k % 2) for k in range(actions)]
@@ -56,6 +61,7 @@ SHAPES = {
     "thirty-two-long": lambda: long_documents(32, 80),
     "sixty-four-long": lambda: long_documents(64, 22),
     "long-messages": lambda: long_messages(32, 60),
+    "long-messages-of-eight": long_messages_of_eight,
     "longer-messages": lambda: long_messages(64, 23, 500),
     "audience": lambda: audience(64, 1000),
     "late": lambda: late(64, 20),

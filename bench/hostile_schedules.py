@@ -1,7 +1,8 @@
 """Writes schedules within the limits that are hard to run or to debug, and times the program on each.
 
 `python3 bench/hostile_schedules.py [--program PATH] [SHAPE..]` times all shapes or those that are named, and prints processor time and peak memory
-of `run`, `check`, `steps`, `explain`, and `conform` on the lines of a port that prints places alone; `--write FOLDER` writes them there. Those that are debugged carry a line `%%` and their commands.
+of `run`, `check`, `steps`, `explain`, and `conform` on the lines of a port that prints places alone; `--write FOLDER` writes them there. Those that are debugged carry a line `%%` and
+their commands, those that are compared alone a line `%%` and a port's lines.
 """
 import sys
 
@@ -197,6 +198,97 @@ def blocks(ends, clients=64, letters=650, length=40000):
     return lines
 
 
+def typed_by_many(clients, length):
+    """Clients from 2 on that join one after the other and each put 15,000 characters behind a text; then the first two join. The lines, and how long the text is then."""
+    lines = [f"clients {clients}", "present 0", 'start "' + "a" * length + '"']
+    for c in range(2, clients):
+        lines += [f"join {c}", f'edit {c} [{length},"{"b" * 15000}"]', f"take {c}"]
+        length += 15000
+    return [*lines, "join 0", "join 1"], length
+
+
+def every_second(client, length):
+    """An edit that deletes every second character: as many components as the text has characters, and none of them an insertion, of which a client may make 15,000."""
+    return f"edit {client} [" + ",".join(["1,-1"] * (length // 2) + ["1"] * (length % 2)) + "]"
+
+
+def ends_deleted(length):
+    return f"[-1,{length - 2},-1]"
+
+
+def alternate(delivered, clients=64, entries=2000):
+    """A client that deletes every second character of a text of 970,000, and 2,000 operations (there may be 24,000) that each delete its first and its last character:
+    they are delivered to it, or its message is taken over them."""
+    lines, length = typed_by_many(clients, 40000)
+    lines.append(every_second(0, length))
+    for k in range(entries):
+        lines += [f"edit 1 {ends_deleted(length - 2 * k)}", "take 1", "ack 1"]
+    return [*lines, *["deliver 0"] * entries] if delivered else [*lines, "take 0"]
+
+
+def alternate_edited(clients=64, edits=2000):
+    """A client whose buffer deletes every second character of a text of 970,000, and 2,000 edits (there may be 99,000) at both ends of what is left."""
+    lines, length = typed_by_many(clients, 40000)
+    lines += [f"edit 0 [{length}]", every_second(0, length)]
+    length -= length // 2
+    return [*lines, *[f"edit 0 {ends_deleted(length - 2 * k)}" for k in range(edits)]]
+
+
+def alternate_crowd(clients=32, length=40000, entries=2900):
+    """31 clients that delete every second character of a start text of 40,000, to which 2,900 operations are delivered by turns that each change both ends."""
+    lines = [*opening(clients, length), *[every_second(c, length) for c in range(1, clients)]]
+    for k in range(entries):
+        lines += [f"edit 0 {places(2, length, k % 2)}", "take 0", "ack 0"]
+    return [*lines, *[f"deliver {c}" for _ in range(entries) for c in range(1, clients)]]
+
+
+def every_place(at_once, clients=64, length=40000, count=15000):
+    """64 clients that each put 15,000 characters in at as many places, which all others take: one after the other, or all with their own under way."""
+    lines = opening(clients, length)
+    if at_once:
+        lines += [*[f"edit {c} {grid(2, 2, count, length, False)}" for c in range(clients)], *[f"take {c}" for c in range(clients)]]
+    for k in range(clients):
+        if not at_once:
+            lines += [f"edit {k} {grid(2, (length - 2) // count, count, length, False)}", f"take {k}"]
+            length += count
+        lines += [f"ack {c}" if c == k else f"deliver {c}" for c in range(clients)]
+    return lines
+
+
+def wide_deletions(clients=64, first=31, length=40000):
+    """31 clients type 505,000 characters and delete them; each of the others puts 15,000 characters in between those, and deletes all that it sees;
+    then each takes what all put in: 64 deletions of up to 930,000 components."""
+    lines = [f"clients {clients}", "present 0", 'start "' + "a" * length + '"']
+    for c in range(first):
+        lines += [f"join {c}", f'edit {c} [{length},"{"b" * 15000}"]', f"take {c}", f"ack {c}"]
+        length += 15000
+    others = range(first, clients)
+    count = min(15000, (length - 1) // len(others))
+    for c in range(first):
+        lines += [*["deliver %d" % c] * (first - 1 - c), f"edit {c} [-{length}]"]
+    lines += [*[f"join {c}" for c in others], *[f"edit {c} {grid(1 + k * count, 1, count, length, False)}" for k, c in enumerate(others)], *[f"take {c}" for c in others]]
+    for k, c in enumerate(others):
+        lines += [*[f"deliver {c}"] * k, f"ack {c}", f"edit {c} [-{length + count * (k + 1)}]", *[f"deliver {c}"] * (len(others) - 1 - k)]
+    return [*lines, *[f"deliver {c}" for c in range(first) for _ in others]]
+
+
+def deleted_by_all(clients=64, letters=15000, length=40000):
+    """64 clients that each type 15,000 characters at once and take what all others typed; then each deletes all: `check` has a million elements that each are deleted by all."""
+    lines = [*opening(clients, length), *[f'edit {c} ["{"b" * letters}",{length}]' for c in range(clients)]]
+    for k in range(clients):
+        lines += [f"take {k}", *[f"ack {c}" if c == k else f"deliver {c}" for c in range(clients)]]
+    return [*lines, *[f"edit {c} [-{length + clients * letters}]" for c in range(clients)]]
+
+
+def fallen_cycle(count=1000, length=990):
+    """Two clients type before and behind a text that a third one deletes, so that all of it is on a cycle; a fourth, at whose client two letters stand in the
+    other order than that in which they were typed, reads it 1,000 times (there may be 3,990): to `check`, no list has its elements in the order that is tried first, and none is reversed."""
+    half = length // 2
+    lines = [*opening(6, length), f'edit 0 [{half},"x",{length - half}]', f'edit 1 [{half},"y",{length - half}]', "take 1", "take 0"]
+    lines += ["deliver 3", "deliver 3", f"edit 3 [-{length + 2}]", "take 3", f'edit 4 ["a",{length}]', f'edit 5 [{length},"b"]', "take 4", "take 5"]
+    return [*lines, "read-server", "deliver 2", "deliver 2", *["read 2"] * count]
+
+
 def reads(count=90000, length=40000):
     """A text of 40,000, read 90,000 times: `run` and `steps` print 3.6 GB of it."""
     return [*opening(1, length), *["read 0"] * count]
@@ -204,6 +296,12 @@ def reads(count=90000, length=40000):
 
 def debugged(lines, *commands):
     return [*lines, "%%", *commands]
+
+
+def differs_last(lines, key):
+    """The lines of a port that prints where it is, and behind the last instruction a value that is not ot.js'."""
+    told = ported(lines)[:-1]
+    return [*told[:-1], told[-1].replace("}", f',"{key}":[1]}}')]
 
 
 def idle_watch(edits=20000, length=40000):
@@ -238,6 +336,15 @@ SHAPES = {
     "reads-between": reads_between,
     "blocks": lambda: blocks(False),
     "blocks-both-ends": lambda: blocks(True),
+    "alternate-pending": lambda: alternate(True),
+    "alternate-message": lambda: alternate(False),
+    "alternate-edited": alternate_edited,
+    "alternate-crowd": alternate_crowd,
+    "every-place": lambda: every_place(False),
+    "every-place-at-once": lambda: every_place(True),
+    "wide-deletions": wide_deletions,
+    "deleted-by-all": deleted_by_all,
+    "fallen-cycle": fallen_cycle,
     "reads": reads,
     "many-places-edited": split_at_many_places,
     "pending-debugged": lambda: debugged(pending(), "run", "back 1"),
@@ -246,6 +353,10 @@ SHAPES = {
     "idle-watch": idle_watch,
     "many-watches": many_watches,
     "unchanged-watched": unchanged_watched,
+    "blocks-debugged": lambda: debugged(blocks(True), "run", "back 1"),
+    "every-place-debugged": lambda: debugged(every_place(False), "run", "back 1"),
+    "back-and-forth": lambda: debugged(split_deletion(), *["run", "back 100000"] * 5),
+    "long-message-differs": lambda: differs_last(long_message(), "appended"),
     "reads-debugged": lambda: debugged(reads(), "run", "back 100000", "run"),
 }
 WORDS = ("run", "check", "steps", "explain", "conform")
@@ -262,12 +373,19 @@ def ported(lines):
     return [*lines, "%%", *(f'{{"at":{at}}}' for at in range(1, count + 1)), f'{{"at":{count}}}']
 
 
+def words_for(lines):
+    """The subcommands that read these lines: those with commands behind a line `%%` are debugged, those with a port's lines there compared."""
+    if "%%" not in lines:
+        return WORDS
+    return ("conform",) if lines[lines.index("%%") + 1].startswith("{") else ("debug",)
+
+
 def measure(program, lines, room):
     """Of each subcommand: processor time, peak memory, and the status."""
     path = f"{room}/schedule.ots"
     told = []
-    for word in ("debug",) if "%%" in lines else WORDS:
-        write(ported(lines) if word == "conform" else lines, path)
+    for word in words_for(lines):
+        write(ported(lines) if word == "conform" and "%%" not in lines else lines, path)
         seconds, memory, status, _ = run(program, word, path)
         told.append(f"{word} {seconds:.2f} s, {memory:.0f} MB, status {status}")
     return "; ".join(told)
