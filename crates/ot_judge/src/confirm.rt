@@ -17,6 +17,7 @@ ghost use Rattle.ot_judge.specs.Views.{views};
 use crate::contents::first_misplaced;
 use crate::elements::{Element, Elements, elements_of, first_of, is_gone};
 use crate::news::{edits_of, news_of};
+use crate::seed::Seed;
 use crate::trace::Event;
 use crate::visibility::sees_after;
 use ot_isa::Tag;
@@ -26,10 +27,10 @@ use std::collections::HashSet;
 
 // The tags of a list as a set, where none stands in it twice.
 #[tactic(auto, using(crate::proofs::TagLemmas::tag_steps))]
-fn set_of(alloc: Global, list: &[Tag]) -> Result<Option<HashSet<Tag>>, AllocError>
+fn set_of(alloc: Global, list: &[Tag]) -> Result<Option<HashSet<Tag, Seed>>, AllocError>
     ensures { IfOk result (λ r. IfSome r (λ s. (q : Tag) → StandsOnce list.now q (set_contains same_tag s q))) }
 {
-    let mut set = HashSet::with_capacity(alloc, list.len())?;
+    let mut set = HashSet::with_capacity_and_hasher(alloc, list.len(), Seed::of(list))?;
     for a in list {
         if !set.insert(*a)? {
             return Ok(None);
@@ -41,7 +42,7 @@ fn set_of(alloc: Global, list: &[Tag]) -> Result<Option<HashSet<Tag>>, AllocErro
 // Takes the element with this number and tag, unless it is gone, out of a set; false where there is no such element, or where it
 // is not in the set.
 fn take_one(
-    set: &mut HashSet<Tag>,
+    set: &mut HashSet<Tag, Seed>,
     all: &[Element],
     events: &[Event],
     numbers: &[usize],
@@ -69,7 +70,7 @@ fn take_one(
 
 // Takes the elements that the start holds and that are not gone out of a set; false where one is not in it.
 fn take_start(
-    set: &mut HashSet<Tag>,
+    set: &mut HashSet<Tag, Seed>,
     elements: &Elements,
     events: &[Event],
     numbers: &[usize],
@@ -93,7 +94,7 @@ fn take_start(
 
 // Takes the elements that a list holds and that are not gone out of a set; false where one is not in it.
 fn take_listed(
-    set: &mut HashSet<Tag>,
+    set: &mut HashSet<Tag, Seed>,
     elements: &Elements,
     events: &[Event],
     numbers: &[usize],
@@ -120,7 +121,7 @@ fn take_listed(
 
 // Takes inserted elements, numbered from `first` on, that are not gone out of a set; false where one is not in it.
 fn take_inserted(
-    set: &mut HashSet<Tag>,
+    set: &mut HashSet<Tag, Seed>,
     all: &[Element],
     events: &[Event],
     numbers: &[usize],
@@ -146,7 +147,7 @@ fn take_inserted(
 // Takes what newly known events insert and is not gone out of a set; false where one is not in it.
 #[tactic(auto, using(crate::proofs::Views::view_steps))]
 fn take_news(
-    set: &mut HashSet<Tag>,
+    set: &mut HashSet<Tag, Seed>,
     elements: &Elements,
     events: &[Event],
     numbers: &[usize],
@@ -175,7 +176,7 @@ fn take_news(
 // Takes what the replica's list held before the event and is not gone out of a set; false where one is not in it.
 #[tactic(auto, using(crate::proofs::Views::view_steps))]
 fn take_held(
-    set: &mut HashSet<Tag>,
+    set: &mut HashSet<Tag, Seed>,
     elements: &Elements,
     start: &[Tag],
     events: &[Event],

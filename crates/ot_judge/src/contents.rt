@@ -8,6 +8,7 @@ ghost use Rattle.ot_judge.specs.Numbers.{IsNumbered};
 ghost use Rattle.ot_judge.specs.Contents.{first_doubled, first_misplaced, first_outside, stands_at_place};
 ghost use Rattle.ot_model.specs.WeakList.{knows, known_deletions, required};
 
+use crate::seed::Seed;
 use crate::trace::Event;
 use crate::visibility::sees;
 use ot_isa::Tag;
@@ -27,7 +28,7 @@ pub fn knows(events: &[Event], numbers: &[usize], e: usize, d: usize) -> bool
 
 // Adds tags to a set.
 #[tactic(auto, using(crate::proofs::TagLemmas::tag_steps))]
-fn add_all(set: &mut HashSet<Tag>, tags: &[Tag]) -> Result<(), AllocError>
+fn add_all(set: &mut HashSet<Tag, Seed>, tags: &[Tag]) -> Result<(), AllocError>
     ensures { OnOk result ((q : Tag) → set_contains same_tag set.new q ≡ (set_contains same_tag set.old q || contains tags.now q)) }
 {
     for a in tags {
@@ -68,18 +69,27 @@ fn known_inserted<'a>(events: &'a [Event], numbers: &[usize], e: usize, d: usize
     }
 }
 
+// Begins with all that is deleted.
+fn seed_of_deletions(events: &[Event]) -> Seed {
+    let mut seed = Seed::new();
+    for x in events {
+        seed.add(x.deleted.as_slice());
+    }
+    seed
+}
+
 // What the event at `e` knows as deleted.
 fn deletions(
     alloc: Global,
     events: &[Event],
     numbers: &[usize],
     e: usize,
-) -> Result<HashSet<Tag>, AllocError>
+) -> Result<HashSet<Tag, Seed>, AllocError>
     requires numbered { IsNumbered (views events.now) numbers.now }
     requires within { e < length events.now }
     ensures { IfOk result (λ s. (q : Tag) → set_contains same_tag s q ≡ contains (known_deletions (views events.now) e) q) }
 {
-    let mut set = HashSet::new(alloc);
+    let mut set = HashSet::with_hasher(alloc, seed_of_deletions(events));
     for d in 0..events.len() {
         add_all(&mut set, known_deleted(events, numbers, e, d))?;
     }
@@ -88,7 +98,7 @@ fn deletions(
 
 // Appends the tags that are not in a set.
 #[tactic(auto, using(crate::proofs::TagLemmas::tag_steps))]
-fn push_kept(kept: &mut Vec<Tag>, gone: &HashSet<Tag>, tags: &[Tag]) -> Result<(), AllocError>
+fn push_kept(kept: &mut Vec<Tag>, gone: &HashSet<Tag, Seed>, tags: &[Tag]) -> Result<(), AllocError>
     ensures { OnOk result (kept.new.items ≡ kept.old.items ++ filter (λ a. not (set_contains same_tag gone.now a)) tags.now) }
 {
     for a in tags {
@@ -103,7 +113,7 @@ fn push_kept(kept: &mut Vec<Tag>, gone: &HashSet<Tag>, tags: &[Tag]) -> Result<(
 #[tactic(auto, using(crate::proofs::TagLemmas::tag_steps))]
 fn push_inserted(
     kept: &mut Vec<Tag>,
-    gone: &HashSet<Tag>,
+    gone: &HashSet<Tag, Seed>,
     inserted: &[Placed],
 ) -> Result<(), AllocError>
     ensures { OnOk result (kept.new.items ≡ kept.old.items ++ filter (λ a. not (set_contains same_tag gone.now a)) (map (λ (p : Placed). p.tag) inserted.now)) }
@@ -138,7 +148,7 @@ pub fn required(
 }
 
 // The first of these tags that is not in a set.
-fn first_not_in(set: &HashSet<Tag>, these: &[Tag]) -> Option<Tag>
+fn first_not_in(set: &HashSet<Tag, Seed>, these: &[Tag]) -> Option<Tag>
     ensures { result ≡ find (λ a. not (set_contains same_tag set.now a)) these.now }
 {
     these.iter().copied().find(|a| !set.contains(a))
@@ -148,13 +158,17 @@ fn first_not_in(set: &HashSet<Tag>, these: &[Tag]) -> Option<Tag>
 pub fn first_outside(alloc: Global, those: &[Tag], these: &[Tag]) -> Result<Option<Tag>, AllocError>
     ensures { IfOk result (λ r. r ≡ first_outside those.now these.now) }
 {
-    let mut set = HashSet::new(alloc);
+    let mut set = HashSet::with_hasher(alloc, Seed::of(those));
     add_all(&mut set, those)?;
     Ok(first_not_in(&set, these))
 }
 
 // Notes one more tag, among those that were noted before too where it is one.
-fn note(seen: &mut HashSet<Tag>, again: &mut HashSet<Tag>, a: Tag) -> Result<(), AllocError>
+fn note(
+    seen: &mut HashSet<Tag, Seed>,
+    again: &mut HashSet<Tag, Seed>,
+    a: Tag,
+) -> Result<(), AllocError>
     ensures seen { OnOk result ((q : Tag) → set_contains same_tag seen.new q ≡ (set_contains same_tag seen.old q || same_tag q a)) }
     ensures again { OnOk result ((q : Tag) → set_contains same_tag again.new q ≡ (set_contains same_tag again.old q || (same_tag q a && set_contains same_tag seen.old q))) }
 {
@@ -165,11 +179,12 @@ fn note(seen: &mut HashSet<Tag>, again: &mut HashSet<Tag>, a: Tag) -> Result<(),
 }
 
 // The tags that stand in a list twice.
-fn repeated(alloc: Global, list: &[Tag]) -> Result<HashSet<Tag>, AllocError>
+fn repeated(alloc: Global, list: &[Tag]) -> Result<HashSet<Tag, Seed>, AllocError>
     ensures { IfOk result (λ s. (q : Tag) → set_contains same_tag s q ≡ nat_lt 1 (occurrences q list.now)) }
 {
-    let mut seen = HashSet::new(alloc);
-    let mut again = HashSet::new(alloc);
+    let seed = Seed::of(list);
+    let mut seen = HashSet::with_hasher(alloc, seed);
+    let mut again = HashSet::with_hasher(alloc, seed);
     for a in list {
         note(&mut seen, &mut again, *a)?;
     }
@@ -177,7 +192,7 @@ fn repeated(alloc: Global, list: &[Tag]) -> Result<HashSet<Tag>, AllocError>
 }
 
 // The first of these tags that is in a set.
-fn first_in(set: &HashSet<Tag>, these: &[Tag]) -> Option<Tag>
+fn first_in(set: &HashSet<Tag, Seed>, these: &[Tag]) -> Option<Tag>
     ensures { result ≡ find (λ a. set_contains same_tag set.now a) these.now }
 {
     these.iter().copied().find(|a| set.contains(a))

@@ -16,6 +16,7 @@ ghost use Rattle.ot_judge.specs.Views.{views};
 
 use crate::contents::knows;
 use crate::order::places_of;
+use crate::seed::Seed;
 use crate::trace::{Event, named_tags};
 use ot_isa::Tag;
 use std::alloc::{AllocError, Global};
@@ -34,7 +35,7 @@ pub struct Element {
 #[derive(Drop)]
 pub struct Elements {
     pub all: Vec<Element>,
-    pub index: HashMap<Tag, usize>,
+    pub index: HashMap<Tag, usize, Seed>,
     pub firsts: Vec<usize>,
 }
 
@@ -89,7 +90,7 @@ fn note_deleter(x: &mut Element, events: &[Event], d: usize) -> Result<(), Alloc
 #[tactic(auto, using(crate::proofs::Views::view_steps))]
 fn note_deletions(
     all: &mut [Element],
-    index: &HashMap<Tag, usize>,
+    index: &HashMap<Tag, usize, Seed>,
     events: &[Event],
     d: usize,
 ) -> Result<(), AllocError>
@@ -129,7 +130,7 @@ fn fresh(alloc: Global, tags: &[Tag]) -> Result<Vec<Element>, AllocError>
 fn with_deleters(
     alloc: Global,
     tags: &[Tag],
-    index: &HashMap<Tag, usize>,
+    index: &HashMap<Tag, usize, Seed>,
     events: &[Event],
 ) -> Result<Vec<Element>, AllocError>
     requires { IsIndex index.now tags.now }

@@ -4,6 +4,7 @@
 //! list that has it first. Nothing is promised of either: the search checks them.
 
 use crate::news::entry;
+use crate::seed::Seed;
 use ot_isa::Tag;
 use std::alloc::{AllocError, Global};
 use std::collections::HashMap;
@@ -11,9 +12,9 @@ use std::collections::HashMap;
 /// By element its rank and its place, counted from 1, and by rank some element that has it.
 #[derive(Drop)]
 pub struct Order {
-    pub ranks: HashMap<Tag, usize>,
+    pub ranks: HashMap<Tag, usize, Seed>,
     pub owners: HashMap<usize, Tag>,
-    pub places: HashMap<Tag, usize>,
+    pub places: HashMap<Tag, usize, Seed>,
 }
 
 // The elements by number, which stand directly after and before which in some list, and the chain.
@@ -52,7 +53,7 @@ fn chain_in(graph: &mut Graph, n: usize, previous: Option<usize>) -> Result<(), 
 fn number_of(
     alloc: Global,
     graph: &mut Graph,
-    numbers: &mut HashMap<Tag, usize>,
+    numbers: &mut HashMap<Tag, usize, Seed>,
     a: Tag,
     previous: Option<usize>,
 ) -> Result<usize, AllocError> {
@@ -86,7 +87,7 @@ fn join(graph: &mut Graph, p: usize, n: usize) -> Result<(), AllocError> {
 fn add_list(
     alloc: Global,
     graph: &mut Graph,
-    numbers: &mut HashMap<Tag, usize>,
+    numbers: &mut HashMap<Tag, usize, Seed>,
     xs: &[Tag],
 ) -> Result<(), AllocError> {
     let mut previous = None;
@@ -100,6 +101,15 @@ fn add_list(
     Ok(())
 }
 
+// Begins with all that stands in the lists.
+fn seed_of_lists(lists: &[Vec<Tag>]) -> Seed {
+    let mut seed = Seed::new();
+    for v in lists {
+        seed.add(v.as_slice());
+    }
+    seed
+}
+
 // The graph of the lists.
 fn graph_of(alloc: Global, lists: &[Vec<Tag>]) -> Result<Graph, AllocError> {
     let mut graph = Graph {
@@ -109,7 +119,7 @@ fn graph_of(alloc: Global, lists: &[Vec<Tag>]) -> Result<Graph, AllocError> {
         next: Vec::new(alloc),
         first: None,
     };
-    let mut numbers = HashMap::new(alloc);
+    let mut numbers = HashMap::with_hasher(alloc, seed_of_lists(lists));
     for v in lists {
         add_list(alloc, &mut graph, &mut numbers, v.as_slice())?;
     }
@@ -300,10 +310,11 @@ pub fn make_order(alloc: Global, lists: &[Vec<Tag>]) -> Result<Order, AllocError
     let graph = graph_of(alloc, lists)?;
     let ranks = ranks_of(alloc, &graph)?;
     let rows = chain_by_rank(alloc, &graph, ranks.as_slice())?;
+    let seed = Seed::of(graph.tags.as_slice());
     let mut order = Order {
-        ranks: HashMap::new(alloc),
+        ranks: HashMap::with_hasher(alloc, seed),
         owners: HashMap::new(alloc),
-        places: HashMap::new(alloc),
+        places: HashMap::with_hasher(alloc, seed),
     };
     let mut place = 0;
     for rank in 0..rows.len() {

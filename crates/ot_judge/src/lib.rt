@@ -43,6 +43,7 @@ mod news;
 mod order;
 mod ranks;
 mod reading;
+mod seed;
 mod trace;
 mod value;
 mod verdict;

@@ -7,6 +7,7 @@ ghost use Rattle.ot_judge.specs.Places.{IsDistinct, IsIndex};
 ghost use Rattle.ot_judge.specs.Ranks.{Climbs, IsCleared, rank_of};
 ghost use Rattle.ot_isa.specs.declared.elements.Tag.{Tag};
 
+use crate::seed::Seed;
 use ot_isa::Tag;
 use std::alloc::{AllocError, Global};
 use std::collections::HashMap;
@@ -21,11 +22,11 @@ pub struct Reversal {
 }
 
 /// The place of each tag of a list.
-pub fn places_of(alloc: Global, xs: &[Tag]) -> Result<HashMap<Tag, usize>, AllocError>
+pub fn places_of(alloc: Global, xs: &[Tag]) -> Result<HashMap<Tag, usize, Seed>, AllocError>
     requires { IsDistinct xs.now }
     ensures { IfOk result (λ m. IsIndex m xs.now) }
 {
-    let mut places = HashMap::new(alloc);
+    let mut places = HashMap::with_hasher(alloc, Seed::of(xs));
     for i in 0..xs.len() {
         places.insert(xs[i], i)?;
     }
@@ -33,7 +34,7 @@ pub fn places_of(alloc: Global, xs: &[Tag]) -> Result<HashMap<Tag, usize>, Alloc
 }
 
 // Two elements of which the first stands before the second in `xs` and behind it in `ys`.
-fn first_fall(xs: &[Tag], places: &HashMap<Tag, usize>, ys: &[Tag]) -> Option<(Tag, Tag)>
+fn first_fall(xs: &[Tag], places: &HashMap<Tag, usize, Seed>, ys: &[Tag]) -> Option<(Tag, Tag)>
     requires { IsIndex places.now xs.now }
     ensures { MatchOption result (AgreeInOrder xs.now ys.now) (λ r. IsBefore xs.now r.0 r.1 × IsBefore ys.now r.1 r.0) }
 {
@@ -94,14 +95,14 @@ fn first_against(
 }
 
 /// The place of an element, or 0 where it has none.
-pub fn place_in(places: &HashMap<Tag, usize>, a: Tag) -> usize
+pub fn place_in(places: &HashMap<Tag, usize, Seed>, a: Tag) -> usize
     ensures { result ≡ rank_of places.now a }
 {
     places.get(&a).copied().unwrap_or(0)
 }
 
 // Whether the elements of a list have places that rise along it.
-fn climbs(places: &HashMap<Tag, usize>, xs: &[Tag]) -> bool
+fn climbs(places: &HashMap<Tag, usize, Seed>, xs: &[Tag]) -> bool
     ensures { IsTrue result → Climbs places.now xs.now }
 {
     let mut last = 0;
@@ -116,7 +117,7 @@ fn climbs(places: &HashMap<Tag, usize>, xs: &[Tag]) -> bool
 }
 
 // The same of each of the lists.
-pub fn all_climb(places: &HashMap<Tag, usize>, lists: &[Vec<Tag>]) -> bool
+pub fn all_climb(places: &HashMap<Tag, usize, Seed>, lists: &[Vec<Tag>]) -> bool
     ensures { IsTrue result → (d e : ℕ) (a b : Tag) → ¬ IsReversed (map (λ v. v.items) lists.now) d e a b }
 {
     for v in lists {
@@ -130,7 +131,7 @@ pub fn all_climb(places: &HashMap<Tag, usize>, lists: &[Vec<Tag>]) -> bool
 // Two elements that the list at `d` and another have in two orders, sought where the places do not rise along the first.
 fn against(
     alloc: Global,
-    places: &HashMap<Tag, usize>,
+    places: &HashMap<Tag, usize, Seed>,
     lists: &[Vec<Tag>],
     d: usize,
 ) -> Result<Option<Reversal>, AllocError>
@@ -148,7 +149,7 @@ fn against(
 /// A reversed pair of the lists, if there is one. Lists along which these places rise are not compared with one another.
 pub fn find_reversal(
     alloc: Global,
-    places: &HashMap<Tag, usize>,
+    places: &HashMap<Tag, usize, Seed>,
     lists: &[Vec<Tag>],
 ) -> Result<Option<Reversal>, AllocError>
     requires { All (λ v. IsDistinct v.items) lists.now }

@@ -10,12 +10,13 @@ ghost use Rattle.ot_isa.specs.declared.elements.Tag.{Tag};
 
 use crate::graph::Order;
 use crate::order::{Reversal, all_climb, find_reversal, place_in};
+use crate::seed::Seed;
 use ot_isa::Tag;
 use std::alloc::{AllocError, Global};
 use std::collections::{HashMap, HashSet};
 
 // Whether the ranks never fall along a list.
-fn never_falls(ranks: &HashMap<Tag, usize>, xs: &[Tag]) -> bool
+fn never_falls(ranks: &HashMap<Tag, usize, Seed>, xs: &[Tag]) -> bool
     ensures { IsTrue result → NeverFalls ranks.now xs.now }
 {
     let mut highest = 0;
@@ -30,7 +31,7 @@ fn never_falls(ranks: &HashMap<Tag, usize>, xs: &[Tag]) -> bool
 }
 
 // Whether the ranks never fall along any of the lists.
-fn never_fall(ranks: &HashMap<Tag, usize>, lists: &[Vec<Tag>]) -> bool
+fn never_fall(ranks: &HashMap<Tag, usize, Seed>, lists: &[Vec<Tag>]) -> bool
     ensures { IsTrue result → All (λ v. NeverFalls ranks.now v.items) lists.now }
 {
     for v in lists {
@@ -44,7 +45,7 @@ fn never_fall(ranks: &HashMap<Tag, usize>, lists: &[Vec<Tag>]) -> bool
 // The elements of a list whose rank is crowded.
 fn crowded_part(
     alloc: Global,
-    ranks: &HashMap<Tag, usize>,
+    ranks: &HashMap<Tag, usize, Seed>,
     crowded: &HashSet<usize>,
     xs: &[Tag],
 ) -> Result<Vec<Tag>, AllocError>
@@ -60,7 +61,7 @@ fn crowded_part(
 }
 
 // Whether an element is the one that its rank belongs to.
-fn is_owner(ranks: &HashMap<Tag, usize>, owners: &HashMap<usize, Tag>, a: Tag) -> bool
+fn is_owner(ranks: &HashMap<Tag, usize, Seed>, owners: &HashMap<usize, Tag>, a: Tag) -> bool
     ensures { IsTrue result → get nat_eq owners.now (rank_of ranks.now a) ≡ Some a }
 {
     match owners.get(&place_in(ranks, a)) {
@@ -72,7 +73,7 @@ fn is_owner(ranks: &HashMap<Tag, usize>, owners: &HashMap<usize, Tag>, a: Tag) -
 // Adds the ranks of a list's elements that do not own them.
 fn add_crowded(
     crowded: &mut HashSet<usize>,
-    ranks: &HashMap<Tag, usize>,
+    ranks: &HashMap<Tag, usize, Seed>,
     owners: &HashMap<usize, Tag>,
     xs: &[Tag],
 ) -> Result<(), AllocError>
@@ -90,7 +91,7 @@ fn add_crowded(
 // The ranks that two elements or more may have.
 fn crowded_ranks(
     alloc: Global,
-    ranks: &HashMap<Tag, usize>,
+    ranks: &HashMap<Tag, usize, Seed>,
     owners: &HashMap<usize, Tag>,
     lists: &[Vec<Tag>],
 ) -> Result<HashSet<usize>, AllocError>
@@ -106,7 +107,7 @@ fn crowded_ranks(
 // The crowded part of each list.
 fn crowded_parts(
     alloc: Global,
-    ranks: &HashMap<Tag, usize>,
+    ranks: &HashMap<Tag, usize, Seed>,
     crowded: &HashSet<usize>,
     lists: &[Vec<Tag>],
 ) -> Result<Vec<Vec<Tag>>, AllocError>
@@ -123,9 +124,9 @@ fn crowded_parts(
 // A reversed pair of the lists, if there is one, sought among elements of equal rank where the ranks never fall.
 fn find_reversal_by_rank(
     alloc: Global,
-    ranks: &HashMap<Tag, usize>,
+    ranks: &HashMap<Tag, usize, Seed>,
     owners: &HashMap<usize, Tag>,
-    places: &HashMap<Tag, usize>,
+    places: &HashMap<Tag, usize, Seed>,
     lists: &[Vec<Tag>],
 ) -> Result<Option<Reversal>, AllocError>
     requires { All (λ v. IsDistinct v.items) lists.now }

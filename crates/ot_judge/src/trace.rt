@@ -7,6 +7,7 @@ ghost use Rattle.ot_judge.specs.Views.{event_view, trace_view, views};
 ghost use Rattle.ot_model.specs.Trace.{inserted_tags, IsTrace};
 
 use crate::fault::TraceFault;
+use crate::seed::Seed;
 use ot_isa::Tag;
 use ot_model::Placed;
 use std::alloc::{AllocError, Global};
@@ -118,7 +119,7 @@ pub(crate) fn named_tags(
 fn first_again(alloc: Global, tags: &[Tag]) -> Result<Option<Tag>, AllocError>
     ensures { IfOk result (λ r. r ≡ first_again [] tags.now) }
 {
-    let mut set = HashSet::new(alloc);
+    let mut set = HashSet::with_hasher(alloc, Seed::of(tags));
     for a in tags {
         if !set.insert(*a)? {
             return Ok(Some(*a));

@@ -1,4 +1,4 @@
-use Rattle.std.proofs.Common.{◌∙◌, ap, sym, List, Vec, Global}
+use Rattle.std.proofs.Common.{◌∙◌, Vec, Global}
 use Rattle.ot_isa.specs.declared.elements.Tag.{Tag}
 use Rattle.ot_model.specs.Trace.{EventView}
 use Rattle.ot_judge.specs.Views.{event_view}

@@ -1,6 +1,6 @@
 use Rattle.std.proofs.Common.{◌∙◌, ap, sym, arith}
-use Rattle.ot_model.specs.Visibility.{edits_before, is_edit_of}
-use Rattle.ot_judge.specs.Views.{event_view, views}
+use Rattle.ot_model.specs.Visibility.{is_edit_of}
+use Rattle.ot_judge.specs.Views.{views}
 use Rattle.ot_judge.proofs.Counts.{numbered-edit}
 use Rattle.ot_judge.proofs.Views.{event_at-views, length-views}
 use Rattle.ot_judge.proofs.news.find_edit.Goals as goal

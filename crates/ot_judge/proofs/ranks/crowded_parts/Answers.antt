@@ -1,4 +1,4 @@
-use Rattle.std.proofs.Common.{◌∙◌, ap, sym, List, Vec, Global}
+use Rattle.std.proofs.Common.{◌∙◌, ap, Vec, Global}
 use Rattle.std.specs.Prelude.{filter}
 use Rattle.ot_isa.specs.declared.elements.Tag.{Tag}
 use Rattle.ot_judge.specs.Ranks.{is_crowded}

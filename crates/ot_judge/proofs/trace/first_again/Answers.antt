@@ -1,5 +1,4 @@
-use Rattle.std.proofs.Common.{◌∙◌, ap, sym, arith}
-use Rattle.std.specs.HashSet.{contains as set_contains}
+use Rattle.std.proofs.Common.{◌∙◌, sym, arith}
 use Rattle.std.proofs.lemmas.Bool.{not-false, not-true}
 use Rattle.ot_judge.proofs.Repeated.{again-end, again-here, again-on}
 use Rattle.ot_judge.proofs.TagLemmas.{no_tag, set-more}
