@@ -50,7 +50,7 @@ climb-before places xs a b climbs h =
 agree-climbing : {S : Type 0} (places : HashMap Tag ℕ S) (xs ys : List Tag) → Climbs places xs → Climbs places ys → AgreeInOrder xs ys
 agree-climbing places xs ys cx cy = λ a b forth back. absurd (omega (arith, climb-before places xs a b cx forth, climb-before places ys b a cy back))
 
-agree-back : (xs ys : List Tag) → AgreeInOrder xs ys → AgreeInOrder ys xs
+pub agree-back : (xs ys : List Tag) → AgreeInOrder xs ys → AgreeInOrder ys xs
 agree-back xs ys h = λ a b forth back. h b a back forth
 
 agree-cleared : {S : Type 0} (places : HashMap Tag ℕ S) (lists : List (List Tag)) (d e : ℕ) → d < e → e < length lists → IsCleared places lists d → IsCleared places lists e → AgreeInOrder (nth lists d) (nth lists e)

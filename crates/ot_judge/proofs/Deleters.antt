@@ -1,11 +1,12 @@
 -- Elements and the events that delete them.
 use Rattle.std.proofs.Common.{◌≡◌, ℕ, ◌+◌, ◌<◌, ◌≤◌, List, [], ◌∷◌, length, get_or, set, take, map, ap, sym, ◌∙◌, arith, Bool, true, false, inl, inr, ◌⊎◌, subst, refl, eq-eqb, suc, zero}
 use Rattle.std.specs.Prelude.{Option, Some, None, All}
-use Rattle.std.specs.List.{Contains}
+use Rattle.std.specs.List.{Contains, insert}
 use Rattle.std.specs.HashMap.{HashMap, get}
 use Rattle.std.proofs.lemmas.Bool.{and_from, and_parts, both_ways, cases_Bool, cases_eq, eqb-true, ltb-true, or_cases, or_left, or_right}
 use Rattle.std.proofs.lemmas.List.{get_or_default, get_or-map, length-map, get_or-set_same, get_or-set_other, length-set, map-set, set-get_or, take_all}
-use Rattle.std.proofs.lemmas.List.Elements.{All-weaker, Contains-get_or}
+use Rattle.std.proofs.lemmas.List.Elements.{All-weaker, Contains-append_right, Contains-get_or}
+use Rattle.std.proofs.lemmas.List.Sorted.{Contains-permutation, IsPermutation-insert}
 use Rattle.ot_isa.specs.declared.elements.Tag.{Tag}
 use Rattle.ot_model.specs.Trace.{contains, event_at, EventView, same_tag}
 use Rattle.ot_model.specs.Visibility.{edits_before, is_edit_of, seen_of, sees, SeesRightly}
@@ -71,6 +72,13 @@ gone-nowhere events e x within reads is none visible = elim (cases_Bool (contain
 pub at-contains : (xs ys : List ℕ) (i : ℕ) → ys ≡ xs → i < length ys → Contains xs (get_or ys i 0)
 at-contains xs ys i same lt = subst (λ (zs : List ℕ). Contains zs (get_or ys i 0)) same (Contains-get_or ys i 0 lt)
 
+pub others-within : (x : Element) (ks : List ℕ) (n : ℕ) → ks ≡ x.others.items → ((k : ℕ) → IsDeletedBy x k → k < n) → All (λ (k : ℕ). k < n) ks
+others-within x ks n same known i d lt = known (get_or ks i d) (inr (subst (λ (zs : List ℕ). Contains zs (get_or ks i d)) same (Contains-get_or ks i d lt)))
+
+-- a deleter put among the others
+pub insert-keeps : (xs ys : List ℕ) (i y k : ℕ) → ys ≡ insert xs i y → Contains xs k → Contains ys k
+insert-keeps xs ys i y k is at = subst (λ (zs : List ℕ). Contains zs k) (sym is) (Contains-permutation (y ∷ xs) (insert xs i y) k (IsPermutation-insert xs i y) (Contains-append_right (y ∷ []) xs k at))
+
 -- an element while what the event at d deletes is noted, up to this front of it
 pub record IsPartly (events : List EventView) (d : ℕ) (front : List Tag) (x : Element) : Type 0 where
   pub within : (k : ℕ) → IsDeletedBy x k → k < d + 1
@@ -132,13 +140,13 @@ pub is-element : (events : List Event) (x : Element) → IsElement (views events
 is-element events x is = subst (λ (n : ℕ). IsElement (views events) n x) (sym (length-views events)) is
 
 -- neither the first deleter nor one of the others passes a test
-pub all-unknown : (test : ℕ → Bool) (x : Element) (n : ℕ) → length x.others.items ≤ n → ((k : ℕ) → x.first ≡ Some k → test k ≡ false) → ((i : ℕ) → i < n → test (get_or x.others.items i 0) ≡ false) → (k : ℕ) → IsDeletedBy x k → test k ≡ false
+pub all-unknown : (test : ℕ → Bool) (x : Element) (n : ℕ) → length x.others.items ≤ n → ((k : ℕ) → x.last ≡ Some k → test k ≡ false) → ((i : ℕ) → i < n → test (get_or x.others.items i 0) ≡ false) → (k : ℕ) → IsDeletedBy x k → test k ≡ false
 all-unknown test x n long first others k (inl is) = first k is
 all-unknown test x n long first others k (inr at) =
     ap test (sym at.2 ∙ get_or_default x.others.items at.0 k 0 at.1) ∙ others at.0 (omega (arith, at.1, long))
 
 -- an element for which nothing is noted
-pub fresh-none : (x : Element) → x.first ≡ None → x.others.items ≡ [] → (k : ℕ) → IsDeletedBy x k → ⊥
+pub fresh-none : (x : Element) → x.last ≡ None → x.others.items ≡ [] → (k : ℕ) → IsDeletedBy x k → ⊥
 fresh-none x first others k (inl is) = absurd (let clash = sym first ∙ is in cc)
 fresh-none x first others k (inr at) = absurd (omega (arith, at.1, ap (λ (ks : List ℕ). length ks) others))
 
@@ -158,7 +166,7 @@ contains-place (t ∷ tags) (suc i) d lt = or_right (same_tag (get_or tags i d) 
 pub number-within : {S : Type 0} (index : HashMap Tag ℕ S) (tags : List Tag) (xs : List Element) (a : Tag) (n : ℕ) → IsIndex index tags → map (λ (x : Element). x.tag) xs ≡ tags → get same_tag index a ≡ Some n → n < length xs
 number-within index tags xs a n is same at = omega (arith, (is.only a n at).0, ap (λ (ts : List Tag). length ts) same, length-map xs tag_of)
 
-is-numbered : {S : Type 0} (index : HashMap Tag ℕ S) (tags : List Tag) (xs : List Element) (k : ℕ) (z : Element) (a : Tag) → IsIndex index tags → map (λ (x : Element). x.tag) xs ≡ tags → k < length xs → (get_or xs k z).tag ≡ a → get same_tag index a ≡ Some k
+pub is-numbered : {S : Type 0} (index : HashMap Tag ℕ S) (tags : List Tag) (xs : List Element) (k : ℕ) (z : Element) (a : Tag) → IsIndex index tags → map (λ (x : Element). x.tag) xs ≡ tags → k < length xs → (get_or xs k z).tag ≡ a → get same_tag index a ≡ Some k
 is-numbered index tags xs k z a is same long e =
     sym (ap (get same_tag index) (ap (λ (ts : List Tag). get_or ts k a) (sym same) ∙ get_or-map tag_of xs k z a long ∙ e)) ∙ is.each k a (omega (arith, long, ap (λ (ts : List Tag). length ts) same, length-map xs tag_of))
 

@@ -11,6 +11,7 @@ pub mod Whole
 pub mod Filtered
 pub mod Grown
 pub mod Climbing
+pub mod Copied
 pub mod Repeated
 pub mod Making
 pub mod Spelled

@@ -6,7 +6,7 @@ use Rattle.ot_model.specs.Trace.{EventView, contains, event_at}
 
 -- the event at d is noted as one that deletes the element
 abbrev pub IsDeletedBy : Element → ℕ → Type 0
-IsDeletedBy x d = (x.first ≡ Some d) ⊎ Contains x.others.items d
+IsDeletedBy x d = (x.last ≡ Some d) ⊎ Contains x.others.items d
 
 -- an event of the replica is noted
 pub record OfReplica (events : List EventView) (x : Element) (replica : ℕ) : Type 0 where

@@ -5,6 +5,7 @@ pub mod Contents
 pub mod Elements
 pub mod Places
 pub mod Ranks
+pub mod Copies
 pub mod Making
 pub mod Reading
 pub mod Layout

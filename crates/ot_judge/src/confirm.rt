@@ -309,8 +309,9 @@ fn no_marks(alloc: Global, count: usize) -> Result<Vec<bool>, AllocError>
 }
 
 /// By event, whether it is seen to hold where all before it do. Each entry of a list takes three looks into a hash table, each
-/// element of the start, insertion and deletion one; each element of the start and insertion takes a step for each replica, and
-/// each event one for each two replicas. An element is looked at once for each of its deleters, at most one of a replica.
+/// element of the start and insertion one, and each deletion at most one; each element of the start and insertion takes a step
+/// for each replica, and each event one for each two replicas. An element that the event's own replica has not deleted is looked
+/// at once for each of its deleters, at most one of a replica.
 pub fn confirmed(
     alloc: Global,
     replicas: usize,

@@ -89,10 +89,11 @@ fn lists_of(alloc: Global, events: &[Event]) -> Result<Vec<Vec<Tag>>, AllocError
 ///
 /// Its time grows with the entries of all lists, the elements of the start, the insertions and the deletions, each of which takes
 /// a few looks into a hash table; with the elements of the start and the insertions, times the replicas, in steps along tables;
-/// with the entries and these steps, times the replicas that delete one element; and with the events, times the square of the
-/// replicas. An event that does not hold costs once more what it knows, and the events times the replicas. Where elements lie on
-/// cycles of the order there is more, for each list along which the places that were tried for them do not rise: the entries of
-/// all lists that lie on cycles. Memory grows with the entries, the start, the insertions and the deletions.
+/// with the entries and these steps of what the event's own replica has not deleted, times the replicas that delete one element;
+/// and with the events, times the square of the replicas. An event that does not hold costs once more what it knows, and the
+/// events times the replicas. Where elements lie on cycles of the order there is more, for each list along which the places that
+/// were tried for them do not rise: the entries of all lists that lie on cycles, where of lists that are equal in these entries
+/// one counts for all. Memory grows with the entries, the start, the insertions and the deletions.
 pub fn judge(alloc: Global, trace: &Trace) -> Result<Verdict, AllocError>
     ensures verdict { IfOk result (λ v. IsVerdict trace.now v) }
     ensures property { IfOk result (λ v. (v ≡ Verdict.Holds) ↔ WeakListProperty trace.now) }

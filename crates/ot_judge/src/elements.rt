@@ -2,10 +2,11 @@
 //! knows an element as deleted where it knows one of the element's deleters. Of each replica only the first one is kept: what
 //! knows a later edit of a replica knows the earlier ones.
 
-ghost use Rattle.std.specs.Prelude.{◌≡◌, ◌<◌, ◌⊎◌, ◌+◌, ◌++◌, ℕ, IfOk, OnOk, IsTrue, List, length, map, All};
-ghost use Rattle.std.specs.List.{flat_map};
+ghost use Rattle.std.specs.Prelude.{◌≡◌, ◌<◌, ◌≤◌, ◌⊎◌, ◌+◌, ◌++◌, ℕ, IfOk, IfErr, OnOk, IsTrue, List, length, map, All};
+ghost use Rattle.std.specs.List.{Contains, flat_map};
 ghost use Rattle.ot_isa.specs.declared.elements.Tag.{Tag};
-ghost use Rattle.ot_model.specs.Trace.{contains, event_at, inserted_tags};
+ghost use Rattle.std.specs.HashMap.{get};
+ghost use Rattle.ot_model.specs.Trace.{contains, event_at, inserted_tags, same_tag};
 ghost use Rattle.ot_model.specs.Visibility.{SeesRightly};
 ghost use Rattle.ot_model.specs.WeakList.{known_deletions};
 ghost use Rattle.ot_judge.specs.Elements.{IsDeletedBy, IsElement, OfReplica};
@@ -22,11 +23,12 @@ use ot_isa::Tag;
 use std::alloc::{AllocError, Global};
 use std::collections::HashMap;
 
-/// An element and its deleters, of which nearly all have one or none.
+/// An element and its deleters, of which nearly all have one or none: the one of the greatest replica, and the others sorted by
+/// their replicas. Nothing is promised of that order, which makes them quick to find.
 #[derive(Drop)]
 pub struct Element {
     pub tag: Tag,
-    pub first: Option<usize>,
+    pub last: Option<usize>,
     pub others: Vec<usize>,
 }
 
@@ -48,22 +50,31 @@ fn is_of(events: &[Event], d: usize, replica: usize) -> bool
     events[d].replica == replica
 }
 
-// Whether one of an element's deleters is of this replica.
-fn is_deleted_at(x: &Element, events: &[Event], replica: usize) -> bool
-    requires { (k : ℕ) → IsDeletedBy x.now k → k < length events.now }
-    ensures { IsTrue result → OfReplica (views events.now) x.now replica }
+// The deleter of this replica among some that are sorted by their replicas, or where it would go. No more stand before it than
+// there are replicas below, and mostly it is the last of these. Where they are not sorted, what is found is one of them all the
+// same.
+#[tactic(auto, using(crate::proofs::Views::view_steps))]
+fn find_deleter(others: &[usize], events: &[Event], replica: usize) -> Result<usize, usize>
+    requires { All (λ d. d < length events.now) others.now }
+    ensures found { IfOk result (λ d. Contains others.now d × ((event_at (views events.now) d).replica ≡ replica)) }
+    ensures place { IfErr result (λ at. at ≤ length others.now) }
 {
-    if let Some(d) = x.first {
+    let mut low = 0;
+    let mut high = others.len().min(replica.saturating_add(1));
+    let mut middle = high.saturating_sub(1);
+    while low < high {
+        let d = others[middle];
         if is_of(events, d, replica) {
-            return true;
+            return Ok(d);
         }
-    }
-    for d in &x.others {
-        if is_of(events, *d, replica) {
-            return true;
+        if events[d].replica < replica {
+            low = middle + 1;
+        } else {
+            high = middle;
         }
+        middle = low + (high - low) / 2;
     }
-    false
+    Err(low)
 }
 
 // Notes that an event deletes an element, unless an earlier one of its replica does.
@@ -76,14 +87,37 @@ fn note_deleter(x: &mut Element, events: &[Event], d: usize) -> Result<(), Alloc
     ensures only { OnOk result ((k : ℕ) → IsDeletedBy x.new k → IsDeletedBy x.old k ⊎ (k ≡ d)) }
     ensures here { OnOk result (OfReplica (views events.now) x.new (event_at (views events.now) d).replica) }
 {
-    if is_deleted_at(x, events, events[d].replica) {
+    let replica = events[d].replica;
+    let Some(last) = x.last else {
+        x.last = Some(d);
+        return Ok(());
+    };
+    if is_of(events, last, replica) {
         return Ok(());
     }
-    match x.first {
-        None => x.first = Some(d),
-        Some(_) => x.others.push(d)?,
+    if events[last].replica < replica {
+        x.others.push(last)?;
+        x.last = Some(d);
+    } else if let Err(at) = find_deleter(x.others.as_slice(), events, replica) {
+        x.others.insert(at, d)?;
     }
     Ok(())
+}
+
+// The number of an element, which is looked for first where it is guessed to be.
+fn element_number(
+    all: &[Element],
+    index: &HashMap<Tag, usize, Seed>,
+    guess: usize,
+    a: Tag,
+) -> Option<usize>
+    requires { IsIndex index.now (map (λ x. x.tag) all.now) }
+    ensures { result ≡ get same_tag index.now a }
+{
+    if guess < all.len() && all[guess].tag == a {
+        return Some(guess);
+    }
+    index.get(&a).copied()
 }
 
 // Notes what the event at `d` deletes.
@@ -101,9 +135,11 @@ fn note_deletions(
     ensures after { OnOk result (All (IsElement (views events.now) (d + 1)) all.new) }
 {
     let y = &events[d];
+    let mut guess = 0;
     for a in &y.deleted {
-        if let Some(n) = index.get(a) {
-            note_deleter(&mut all[*n], events, d)?;
+        if let Some(n) = element_number(all, index, guess, *a) {
+            note_deleter(&mut all[n], events, d)?;
+            guess = n.saturating_add(1);
         }
     }
     Ok(())
@@ -118,7 +154,7 @@ fn fresh(alloc: Global, tags: &[Tag]) -> Result<Vec<Element>, AllocError>
     for a in tags {
         all.push(Element {
             tag: *a,
-            first: None,
+            last: None,
             others: Vec::new(alloc),
         })?;
     }
@@ -179,7 +215,12 @@ pub fn is_gone(x: &Element, events: &[Event], numbers: &[usize], e: usize) -> bo
     requires deleters { IsElement (views events.now) (length events.now) x.now }
     ensures { SeesRightly (views events.now) e → result ≡ contains (known_deletions (views events.now) e) x.now.tag }
 {
-    if let Some(d) = x.first {
+    if let Some(d) = x.last {
+        if knows(events, numbers, e, d) {
+            return true;
+        }
+    }
+    if let Ok(d) = find_deleter(x.others.as_slice(), events, events[e].replica) {
         if knows(events, numbers, e, d) {
             return true;
         }

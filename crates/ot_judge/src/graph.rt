@@ -101,15 +101,6 @@ fn add_list(
     Ok(())
 }
 
-// Begins with all that stands in the lists.
-fn seed_of_lists(lists: &[Vec<Tag>]) -> Seed {
-    let mut seed = Seed::new();
-    for v in lists {
-        seed.add(v.as_slice());
-    }
-    seed
-}
-
 // The graph of the lists.
 fn graph_of(alloc: Global, lists: &[Vec<Tag>]) -> Result<Graph, AllocError> {
     let mut graph = Graph {
@@ -119,7 +110,7 @@ fn graph_of(alloc: Global, lists: &[Vec<Tag>]) -> Result<Graph, AllocError> {
         next: Vec::new(alloc),
         first: None,
     };
-    let mut numbers = HashMap::with_hasher(alloc, seed_of_lists(lists));
+    let mut numbers = HashMap::with_hasher(alloc, Seed::of_lists(lists));
     for v in lists {
         add_list(alloc, &mut graph, &mut numbers, v.as_slice())?;
     }

@@ -23,7 +23,7 @@
 //! to be one), and `judge` decides the property or names the first fault. Its answer is exact. It is fast because it
 //! confirms each event from the last one of its replica and from what it newly knows (`confirm.rt`), because it notes once who
 //! deletes each element (`elements.rt`), and because it gives elements places that rise along the lists (`graph.rt`), checks them,
-//! and compares lists only where they do not.
+//! and compares lists only where they do not, equal ones once (`copies.rt`).
 //!
 //! Traces as lists and their weak list property are defined in `ot_model`, in its `specs/Trace.antt`,
 //! `specs/Visibility.antt` and `specs/WeakList.antt`: the judge decides the same property that `ot_model::laws::weak_list`
@@ -34,6 +34,7 @@
 
 mod confirm;
 mod contents;
+mod copies;
 mod decide;
 mod elements;
 mod fault;

@@ -4,9 +4,11 @@ ghost use Rattle.std.specs.Prelude.{◌≡◌, ◌≢◌, ◌<◌, ◌≤◌, �
 ghost use Rattle.ot_model.specs.WeakList.{IsBefore, IsReversed, nth};
 ghost use Rattle.ot_model.specs.TraceLaws.{AgreeInOrder};
 ghost use Rattle.ot_judge.specs.Places.{IsDistinct, IsIndex};
-ghost use Rattle.ot_judge.specs.Ranks.{Climbs, IsCleared, rank_of};
+ghost use Rattle.ot_judge.specs.Copies.{AreDone, IsSettled};
+ghost use Rattle.ot_judge.specs.Ranks.{Climbs, IsCompared, rank_of};
 ghost use Rattle.ot_isa.specs.declared.elements.Tag.{Tag};
 
+use crate::copies::copies_of;
 use crate::seed::Seed;
 use ot_isa::Tag;
 use std::alloc::{AllocError, Global};
@@ -72,20 +74,23 @@ fn ordered(d: usize, e: usize, a: Tag, b: Tag) -> Reversal
     }
 }
 
-// The first other list in which two elements stand in another order than in the one at `d`.
+// The first other list in which two elements stand in another order than in the one at `d`. Lists that are done are left out.
 fn first_against(
     alloc: Global,
     lists: &[Vec<Tag>],
+    done: &[bool],
     d: usize,
 ) -> Result<Option<Reversal>, AllocError>
     requires within { d < length lists.now }
+    requires long { length done.now ≡ length lists.now }
     requires distinct { All (λ v. IsDistinct v.items) lists.now }
-    ensures { IfOk result (λ r. MatchOption r ((e : ℕ) → e < length lists.now → e ≢ d → AgreeInOrder (nth (map (λ v. v.items) lists.now) d) (nth (map (λ v. v.items) lists.now) e)) (λ r. IsReversed (map (λ v. v.items) lists.now) r.earlier r.later r.a r.b)) }
+    requires done { AreDone done.now (map (λ v. v.items) lists.now) }
+    ensures { IfOk result (λ r. MatchOption r (IsCompared (map (λ v. v.items) lists.now) d) (λ r. IsReversed (map (λ v. v.items) lists.now) r.earlier r.later r.a r.b)) }
 {
     let xs = lists[d].as_slice();
     let places = places_of(alloc, xs)?;
     for e in 0..lists.len() {
-        if e != d {
+        if e != d && !done[e] {
             if let Some(pair) = first_fall(xs, &places, lists[e].as_slice()) {
                 return Ok(Some(ordered(d, e, pair.0, pair.1)));
             }
@@ -128,25 +133,33 @@ pub fn all_climb(places: &HashMap<Tag, usize, Seed>, lists: &[Vec<Tag>]) -> bool
     true
 }
 
-// Two elements that the list at `d` and another have in two orders, sought where the places do not rise along the first.
+// Two elements that the list at `d` and another have in two orders, sought where it is not done and the places do not rise along
+// it. Where there are none, it is done.
 fn against(
     alloc: Global,
     places: &HashMap<Tag, usize, Seed>,
     lists: &[Vec<Tag>],
+    done: &mut [bool],
     d: usize,
 ) -> Result<Option<Reversal>, AllocError>
     requires within { d < length lists.now }
+    requires long { length done.old ≡ length lists.now }
     requires distinct { All (λ v. IsDistinct v.items) lists.now }
-    ensures { IfOk result (λ r. MatchOption r (IsCleared places.now (map (λ v. v.items) lists.now) d) (λ r. IsReversed (map (λ v. v.items) lists.now) r.earlier r.later r.a r.b)) }
+    requires done { AreDone done.old (map (λ v. v.items) lists.now) }
+    ensures { IfOk result (λ r. MatchOption r (IsSettled places.now (map (λ v. v.items) lists.now) d × AreDone done.new (map (λ v. v.items) lists.now)) (λ r. IsReversed (map (λ v. v.items) lists.now) r.earlier r.later r.a r.b)) }
 {
-    if climbs(places, lists[d].as_slice()) {
+    if done[d] || climbs(places, lists[d].as_slice()) {
         return Ok(None);
     }
-    let found = first_against(alloc, lists, d)?;
-    Ok(found)
+    if let Some(found) = first_against(alloc, lists, done, d)? {
+        return Ok(Some(found));
+    }
+    done[d] = true;
+    Ok(None)
 }
 
-/// A reversed pair of the lists, if there is one. Lists along which these places rise are not compared with one another.
+/// A reversed pair of the lists, if there is one. Only lists along which these places do not rise are compared, each with all others, but equal
+/// ones once, and no two of them twice.
 pub fn find_reversal(
     alloc: Global,
     places: &HashMap<Tag, usize, Seed>,
@@ -155,8 +168,9 @@ pub fn find_reversal(
     requires { All (λ v. IsDistinct v.items) lists.now }
     ensures { IfOk result (λ r. MatchOption r ((d e : ℕ) (a b : Tag) → ¬ IsReversed (map (λ v. v.items) lists.now) d e a b) (λ r. IsReversed (map (λ v. v.items) lists.now) r.earlier r.later r.a r.b)) }
 {
+    let mut done = copies_of(alloc, lists)?;
     for d in 0..lists.len() {
-        if let Some(found) = against(alloc, places, lists, d)? {
+        if let Some(found) = against(alloc, places, lists, done.as_mut_slice(), d)? {
             return Ok(Some(found));
         }
     }

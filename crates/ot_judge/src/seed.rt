@@ -42,4 +42,19 @@ impl Seed {
         seed.add(tags);
         seed
     }
+
+    /// Has taken the tags of these lists.
+    pub fn of_lists(lists: &[Vec<Tag>]) -> Seed {
+        let mut seed = Seed::new();
+        for v in lists {
+            seed.add(v.as_slice());
+        }
+        seed
+    }
+
+    /// The hash of these tags.
+    pub fn hash(mut self, tags: &[Tag]) -> u64 {
+        self.add(tags);
+        self.state.finish()
+    }
 }

@@ -12,7 +12,7 @@ use Rattle.ot_judge.proofs.elements.fresh.Goals as goal
 pub loop-a-preserved : goal.loop-a-preserved
 loop-a-preserved c =
     let Nothing : Element → Type 0 = λ x. (k : ℕ) → IsDeletedBy x k → ⊥ in
-    let x : Element = record { tag = get_or c.args.tags.now c.loop-a.a-index no_tag; first = None; others = c.new.result } in
+    let x : Element = record { tag = get_or c.args.tags.now c.loop-a.a-index no_tag; last = None; others = c.new.result } in
     record {
       tags = ap (map (λ (x : Element). x.tag)) c.in_ok-push.ensures.items ∙ map_push (λ (x : Element). x.tag) c.loop-a.all.items x ∙ ap (λ (ts : List Tag). ts ++ x.tag ∷ []) c.loop-a.invariant.tags ∙ sym (take_more c.args.tags.now c.loop-a.a-index no_tag c.loop-a-test.true);
       none = subst (λ (xs : List Element). All Nothing xs) (sym c.in_ok-push.ensures.items) (All-push Nothing c.loop-a.all.items x c.loop-a.invariant.none (fresh-none x refl c.new.ensures.items));

@@ -6,6 +6,6 @@ use Rattle.ot_judge.proofs.elements.is_gone.Given as goal
 
 abbrev pub invariant-loop-d : goal.invariant-loop-d
 invariant-loop-d l = record {
-  first : (k : ℕ) → l.x.first ≡ Some k → knows (views l.events) l.e k ≡ false;
+  first : (k : ℕ) → l.x.last ≡ Some k → knows (views l.events) l.e k ≡ false;
   others : (i : ℕ) → i < l.d-index → knows (views l.events) l.e (get_or l.x.others.items i 0) ≡ false;
 }
