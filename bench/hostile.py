@@ -144,9 +144,9 @@ def long_cycle(edits=3970, width=990):
     return made.whole()
 
 
-def fallen_cycle(reads=1000, width=990):
-    """A cycle through a whole text, of which two elements stand in the other order than in the one that is tried first: none of 1,000 lists (there may be 3,980)
-    has that order, none is reversed, and each is compared with all."""
+def fallen_cycle(reads=3980, width=990, shrinking=False):
+    """A cycle through a whole text, of which two elements stand in the other order than in the one that is tried first: none of 3,980 lists has that order, and
+    none is reversed. Or one in which each list has an element less than the one before it, so that no two are equal, and each is compared with all."""
     made = Trace(8, [])
     text, last, x, y = [[0, i] for i in range(width)], [1, 0], [6, 0], [7, 0]
     made.add(0, "edit", [0] * 8, text, insert=text)
@@ -158,8 +158,10 @@ def fallen_cycle(reads=1000, width=990):
     half = width // 2
     for r, tag in ((6, x), (7, y)):
         made.add(r, "edit", [1] + [0] * 7, [*text[:half], tag, *text[half:]], insert=[tag])
-    for _ in range(reads):
-        made.add(7, "read", [1, 0, 0, 0, 0, 0, 1, 1], [*text[:half], x, y, *text[half:]])
+    seen = [*text[:half], x, y, *text[half:]]
+    for k in range(reads):
+        gone = [seen.pop(1)] if shrinking else []
+        made.add(7, "edit" if gone else "read", [1, 0, 0, 0, 0, 0, 1, 1 + k if shrinking else 1], seen[:], **({"delete": gone} if gone else {}))
     return made.whole()
 
 
@@ -202,6 +204,7 @@ SHAPES = {
     "cycles": cycles,
     "long-cycle": long_cycle,
     "fallen-cycle": fallen_cycle,
+    "shrinking-cycle": lambda: fallen_cycle(1200, 2500, True),
     "one-bucket": one_bucket,
     "objects": objects,
 }

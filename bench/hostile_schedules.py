@@ -280,9 +280,9 @@ def deleted_by_all(clients=64, letters=15000, length=40000):
     return [*lines, *[f"edit {c} [-{length + clients * letters}]" for c in range(clients)]]
 
 
-def fallen_cycle(count=1000, length=990):
+def fallen_cycle(count=3990, length=990):
     """Two clients type before and behind a text that a third one deletes, so that all of it is on a cycle; a fourth, at whose client two letters stand in the
-    other order than that in which they were typed, reads it 1,000 times (there may be 3,990): to `check`, no list has its elements in the order that is tried first, and none is reversed."""
+    other order than that in which they were typed, reads it 3,990 times: to `check`, no list has its elements in the order that is tried first, and none is reversed."""
     half = length // 2
     lines = [*opening(6, length), f'edit 0 [{half},"x",{length - half}]', f'edit 1 [{half},"y",{length - half}]', "take 1", "take 0"]
     lines += ["deliver 3", "deliver 3", f"edit 3 [-{length + 2}]", "take 3", f'edit 4 ["a",{length}]', f'edit 5 [{length},"b"]', "take 4", "take 5"]
