@@ -5,8 +5,8 @@
 
 A wrong body is an edit of a crate's source: a mistake that someone could make, which the prover has to refuse. Each is a check of its crate, so `./test` tries those of
 `crates/*/must-fail` alone, and this script the others, `wrong-bodies/CRATE/*.edit`: of all crates, or of those that are named. Run it for a crate whose code, contracts or
-definitions have changed: in a copy of the repository each edit is put beside those of the gate, and `rt must-fail` proves the crates below and tries all edits of the named ones.
-What is printed, and the status, are those of `rt must-fail`.
+definitions have changed: in a copy of the repository each edit is put beside those of the gate, and `rt ci` tries all edits of the named crates, which it proves with those below, or takes
+from what this machine keeps of earlier runs. What is printed, and the status, are those of `rt ci`.
 """
 import pathlib
 import shutil
@@ -47,7 +47,7 @@ def main():
     with tempfile.TemporaryDirectory(prefix="wrong-bodies-") as place:
         room = pathlib.Path(place)
         lay_out(room, names)
-        return subprocess.run(["rt", "must-fail", *names], cwd=room).returncode
+        return subprocess.run(["rt", "ci", *names], cwd=room).returncode
 
 
 if __name__ == "__main__":
