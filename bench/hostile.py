@@ -165,6 +165,31 @@ def fallen_cycle(reads=3980, width=990, shrinking=False):
     return made.whole()
 
 
+def never_together(turns=21, others=64):
+    """For each of 64 replicas and each turn two elements of an author that this replica has never together: it sees the second one, puts a letter of its own behind it, deletes the
+    second one and sees the first one, which it puts behind the letter. All others have the two side by side. So the order of one replica falls along each list of another one, once
+    for each turn, and no pair is reversed."""
+    made = Trace(others + 1, [])
+    text, shown = [], [[] for _ in range(others)]
+    sees = lambda r: [made.counts[k] if k in (r, others) else 0 for k in range(others + 1)]
+    for k in range(turns):
+        first, second = ([[others, 2 * (others * k + r) + i] for r in range(others)] for i in (0, 1))
+        text = [*text, *second]
+        made.add(others, "edit", sees(others), text, insert=second)
+        for r in range(others):
+            gone = [[r, k - 1]] if k else []
+            shown[r] = [a for a in shown[r] if a not in gone] + [*second[: r + 1], [r, k], *second[r + 1 :]]
+            made.add(r, "edit", sees(r), shown[r], insert=[[r, k]], delete=gone)
+        pairs = list(zip(first, second))
+        text = [*text[:-others], *[a for pair in pairs for a in pair]]
+        made.add(others, "edit", sees(others), text, insert=first)
+        for r in range(others):
+            ends = [*pairs[:r], ([r, k], first[r]), *pairs[r + 1 :]]
+            shown[r] = [*shown[r][: -others - 1], *[a for pair in ends for a in pair]]
+            made.add(r, "edit", sees(r), shown[r], delete=[second[r]])
+    return made.whole()
+
+
 def folded(a, b):
     product = a * b
     return (product ^ product >> 64) & (1 << 64) - 1
@@ -205,6 +230,7 @@ SHAPES = {
     "long-cycle": long_cycle,
     "fallen-cycle": fallen_cycle,
     "shrinking-cycle": lambda: fallen_cycle(1200, 2500, True),
+    "never-together": never_together,
     "one-bucket": one_bucket,
     "objects": objects,
 }

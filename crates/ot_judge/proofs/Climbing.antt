@@ -1,5 +1,5 @@
 -- Places that rise along lists.
-use Rattle.std.proofs.Common.{◌≡◌, ◌≢◌, ℕ, ◌+◌, ◌<◌, ◌≤◌, List, [], length, get_or, ap, sym, ◌∙◌, arith, inl, inr, subst, Vec, Global}
+use Rattle.std.proofs.Common.{◌≡◌, ℕ, ◌+◌, ◌<◌, ◌≤◌, List, [], length, get_or, ap, ◌∙◌, arith, inl, inr, Vec, Global}
 use Rattle.std.specs.Prelude.{All}
 use Rattle.std.specs.HashMap.{HashMap}
 use Rattle.std.proofs.lemmas.Bool.{cases_lt}
@@ -7,7 +7,7 @@ use Rattle.std.proofs.lemmas.List.{get_or_default}
 use Rattle.ot_isa.specs.declared.elements.Tag.{Tag}
 use Rattle.ot_model.specs.TraceLaws.{AgreeInOrder}
 use Rattle.ot_model.specs.WeakList.{IsBefore, IsReversed, nth}
-use Rattle.ot_judge.specs.Ranks.{Climbs, IsCleared, rank_of}
+use Rattle.ot_judge.specs.Ranks.{Climbs, rank_of}
 use Rattle.ot_judge.proofs.Filtered.{all-items, items_of}
 use Rattle.ot_judge.proofs.Rising.{agree-none}
 
@@ -50,28 +50,7 @@ climb-before places xs a b climbs h =
 agree-climbing : {S : Type 0} (places : HashMap Tag ℕ S) (xs ys : List Tag) → Climbs places xs → Climbs places ys → AgreeInOrder xs ys
 agree-climbing places xs ys cx cy = λ a b forth back. absurd (omega (arith, climb-before places xs a b cx forth, climb-before places ys b a cy back))
 
-pub agree-back : (xs ys : List Tag) → AgreeInOrder xs ys → AgreeInOrder ys xs
-agree-back xs ys h = λ a b forth back. h b a back forth
-
-agree-cleared : {S : Type 0} (places : HashMap Tag ℕ S) (lists : List (List Tag)) (d e : ℕ) → d < e → e < length lists → IsCleared places lists d → IsCleared places lists e → AgreeInOrder (nth lists d) (nth lists e)
-agree-cleared places lists d e lt within (inr hd) he = hd e within (λ same. omega (arith, lt, same))
-agree-cleared places lists d e lt within (inl cd) (inl ce) = agree-climbing places (nth lists d) (nth lists e) cd ce
-agree-cleared places lists d e lt within (inl cd) (inr he) = agree-back (nth lists e) (nth lists d) (he d (omega (arith, lt, within)) (λ same. omega (arith, lt, same)))
-
--- where each list is cleared, no pair is reversed
-pub cleared-none : {S : Type 0} (places : HashMap Tag ℕ S) (lists : List (List Tag)) → ((d : ℕ) → d < length lists → IsCleared places lists d) → (d e : ℕ) (a b : Tag) → ¬ IsReversed lists d e a b
-cleared-none places lists cleared = agree-none lists (λ d lt e later within. agree-cleared places lists d e later within (cleared d lt) (cleared e within))
-
 pub climbing-none : {S : Type 0} (places : HashMap Tag ℕ S) (vs : List (Vec Tag Global)) → All (λ (v : Vec Tag Global). Climbs places v.items) vs → (d e : ℕ) (a b : Tag) → ¬ IsReversed (items_of vs) d e a b
-climbing-none places vs h = cleared-none places (items_of vs) (λ d lt. inl (all-items (λ (xs : List Tag). Climbs places xs) vs h d [] lt))
-
--- one more list compared with the one at d
-pub others-more : (d n : ℕ) (P : ℕ → Type 0) → ((e : ℕ) → e < n → e ≢ d → P e) → (n ≢ d → P n) → (e : ℕ) → e < n + 1 → e ≢ d → P e
-others-more d n P before here e lt apart = elim (cases_lt e n) [
-  | inl less ↦ before e less apart
-  | inr more ↦ let same : n ≡ e = omega (arith, lt, more) in subst P same (here (λ is. apart (sym same ∙ is)))
-]
-
--- the pair that two lists have in two orders, with the earlier list first
-pub reversed-either : (lists : List (List Tag)) (d e : ℕ) (xs ys : List Tag) (a b : Tag) → d < e → nth lists d ≡ xs → nth lists e ≡ ys → IsBefore xs a b → IsBefore ys b a → IsReversed lists d e a b
-reversed-either lists d e xs ys a b lt u v forth back = record { later = lt; forth = rw u forth; back = rw v back }
+climbing-none places vs h =
+    let all = all-items (λ (xs : List Tag). Climbs places xs) vs h in
+    agree-none (items_of vs) (λ d lt e later within. agree-climbing places (nth (items_of vs) d) (nth (items_of vs) e) (all d [] lt) (all e [] within))

@@ -11,7 +11,8 @@ pub mod Whole
 pub mod Filtered
 pub mod Grown
 pub mod Climbing
-pub mod Copied
+pub mod Seated
+pub mod Settled
 pub mod Repeated
 pub mod Making
 pub mod Spelled

@@ -127,8 +127,8 @@ rises-all xs ys last r = λ a b forth back.
     let up = r.rising back.first back.second forth.second forth.first back.order back.within forth.within first_in (b_in_xs ∙ sym b_in_ys) (a_in_xs ∙ sym a_in_ys) in
     omega (arith, up, forth.order)
 
-pub nth-items : (lists : List (Vec Tag Global)) (e : ℕ) (v : Vec Tag Global) → e < length lists → v ≡ get_or lists e v → nth (map (λ (w : Vec Tag Global). w.items) lists) e ≡ v.items
-nth-items lists e v lt is = get_or-map (λ (w : Vec Tag Global). w.items) lists e v [] lt ∙ ap (λ (w : Vec Tag Global). w.items) (sym is)
+pub nth-items : {X : Type 0} (lists : List (Vec X Global)) (e : ℕ) (v : Vec X Global) → e < length lists → v ≡ get_or lists e v → nth (map (λ (w : Vec X Global). w.items) lists) e ≡ v.items
+nth-items {X} lists e v lt is = get_or-map (λ (w : Vec X Global). w.items) lists e v [] lt ∙ ap (λ (w : Vec X Global). w.items) (sym is)
 
 pub agree-along : (xs ys us vs : List Tag) → us ≡ xs → vs ≡ ys → AgreeInOrder xs ys → AgreeInOrder us vs
 agree-along xs ys us vs u v h = rw (u, v) h

@@ -5,7 +5,8 @@ pub mod Contents
 pub mod Elements
 pub mod Places
 pub mod Ranks
-pub mod Copies
+pub mod Seats
+pub mod Replicas
 pub mod Making
 pub mod Reading
 pub mod Layout

@@ -1,5 +1,5 @@
 -- Ranks of elements that never fall along a list.
-use Rattle.std.specs.Prelude.{ℕ, List, Some, Bool, IsTrue, ◌≡◌, ◌≢◌, ◌<◌, ◌≤◌, ◌⊎◌, AllPairs, All, length, unwrap_or}
+use Rattle.std.specs.Prelude.{ℕ, List, Some, Bool, IsTrue, ◌≡◌, ◌<◌, ◌≤◌, ◌⊎◌, AllPairs, All, length, unwrap_or}
 use Rattle.std.specs.HashMap.{HashMap, get}
 use Rattle.std.specs.HashSet.{HashSet, contains as set_contains}
 use Rattle.std.specs.Prelude.{nat_eq}
@@ -18,13 +18,9 @@ NeverFalls ranks xs = AllPairs (λ a b. rank_of ranks a ≤ rank_of ranks b) xs
 abbrev pub Climbs : {S : Type 0} → HashMap Tag ℕ S → List Tag → Type 0
 Climbs places xs = AllPairs (λ a b. rank_of places a < rank_of places b) xs
 
--- no other list has two elements in another order than the one at d
+-- no later list has two elements in another order than the one at d
 abbrev pub IsCompared : List (List Tag) → ℕ → Type 0
-IsCompared lists d = (e : ℕ) → e < length lists → e ≢ d → AgreeInOrder (nth lists d) (nth lists e)
-
--- the places rise along the list at d, or no other has two elements in another order
-abbrev pub IsCleared : {S : Type 0} → HashMap Tag ℕ S → List (List Tag) → ℕ → Type 0
-IsCleared places lists d = Climbs places (nth lists d) ⊎ IsCompared lists d
+IsCompared lists d = (e : ℕ) → d < e → e < length lists → AgreeInOrder (nth lists d) (nth lists e)
 
 -- whether two elements or more may have this element's rank
 abbrev pub is_crowded : {S R : Type 0} → HashMap Tag ℕ S → HashSet ℕ R → Tag → Bool

@@ -84,6 +84,15 @@ fn lists_of(alloc: Global, events: &[Event]) -> Result<Vec<Vec<Tag>>, AllocError
     Ok(all)
 }
 
+// The replica of each event.
+fn actors_of(alloc: Global, events: &[Event]) -> Result<Vec<usize>, AllocError> {
+    let mut actors = Vec::new(alloc);
+    for x in events {
+        actors.push(x.replica)?;
+    }
+    Ok(actors)
+}
+
 /// The verdict of a trace: `Holds` exactly where it has the weak list property, else the first fault of the least event
 /// that has one, else two elements in both orders. Answers an error only for want of memory.
 ///
@@ -91,9 +100,10 @@ fn lists_of(alloc: Global, events: &[Event]) -> Result<Vec<Vec<Tag>>, AllocError
 /// a few looks into a hash table; with the elements of the start and the insertions, times the replicas, in steps along tables;
 /// with the entries and these steps of what the event's own replica has not deleted, times the replicas that delete one element;
 /// and with the events, times the square of the replicas. An event that does not hold costs once more what it knows, and the
-/// events times the replicas. Where elements lie on cycles of the order there is more, for each list along which the places that
-/// were tried for them do not rise: the entries of all lists that lie on cycles, where of lists that are equal in these entries
-/// one counts for all. Memory grows with the entries, the start, the insertions and the deletions.
+/// events times the replicas. Where elements lie on cycles of the order there is more, but never all pairs of lists: of each two
+/// replicas, the entries on cycles of the one that has fewer, which is at most these entries times half the replicas. An entry whose
+/// element falls in the other replica's order is looked at again, where no pair is reversed at most four times for each halving of
+/// that replica's events. Memory grows with the entries, the start, the insertions and the deletions.
 pub fn judge(alloc: Global, trace: &Trace) -> Result<Verdict, AllocError>
     ensures verdict { IfOk result (λ v. IsVerdict trace.now v) }
     ensures property { IfOk result (λ v. (v ≡ Verdict.Holds) ↔ WeakListProperty trace.now) }
@@ -117,7 +127,8 @@ pub fn judge(alloc: Global, trace: &Trace) -> Result<Verdict, AllocError>
     let all = lists_of(alloc, events)?;
     let lists = all.as_slice();
     let order = make_order(alloc, lists)?;
-    match find_in_order(alloc, &order, lists)? {
+    let actors = actors_of(alloc, events)?;
+    match find_in_order(alloc, trace.replicas, actors.as_slice(), &order, lists)? {
         Some(r) => Ok(Verdict::Reversed(r.earlier, r.later, r.a, r.b)),
         None => Ok(Verdict::Holds),
     }

@@ -22,21 +22,21 @@
 //! `read_trace` reads a trace from JSON, `Trace::new` makes one from its parts (`Trace::from_parts` where they are known
 //! to be one), and `judge` decides the property or names the first fault. Its answer is exact. It is fast because it
 //! confirms each event from the last one of its replica and from what it newly knows (`confirm.rt`), because it notes once who
-//! deletes each element (`elements.rt`), and because it gives elements places that rise along the lists (`graph.rt`), checks them,
-//! and compares lists only where they do not, equal ones once (`copies.rt`).
+//! deletes each element (`elements.rt`), and because it gives elements places that rise along the lists (`graph.rt`) and checks them.
+//! Where they do not rise, it holds lists beside the order of another replica's elements (`seats.rt`, `falls.rt`, `search.rt`), and never list beside list.
 //!
 //! Traces as lists and their weak list property are defined in `ot_model`, in its `specs/Trace.antt`,
 //! `specs/Visibility.antt` and `specs/WeakList.antt`: the judge decides the same property that `ot_model::laws::weak_list`
 //! proves of every run. Here, `specs/` has `Views` (the code's traces as lists), `Verdict` and `Contents` (verdicts and
-//! first faults), `Turns` (an event after the last one of its replica), `Elements` (who deletes an element), `Making` (what parts are a trace)
-//! and `Reading` (what trace a JSON value is). Begin with `WeakListProperty` in `ot_model`, then with `specs/Verdict.antt` and `judge` in `decide.rt`.
+//! first faults), `Turns` (an event after the last one of its replica), `Elements` (who deletes an element), `Seats` and `Replicas` (the order of one
+//! replica's elements, and lists beside it), `Making` (what parts are a trace) and `Reading` (what trace a JSON value is). Begin with `WeakListProperty` in `ot_model`, then with `specs/Verdict.antt` and `judge` in `decide.rt`.
 #![tactic(auto)]
 
 mod confirm;
 mod contents;
-mod copies;
 mod decide;
 mod elements;
+mod falls;
 mod fault;
 mod graph;
 mod layout;
@@ -44,6 +44,8 @@ mod news;
 mod order;
 mod ranks;
 mod reading;
+mod search;
+mod seats;
 mod seed;
 mod trace;
 mod value;

@@ -9,7 +9,8 @@ ghost use Rattle.ot_judge.specs.Ranks.{IsAccounted, NeverFalls, is_crowded, rank
 ghost use Rattle.ot_isa.specs.declared.elements.Tag.{Tag};
 
 use crate::graph::Order;
-use crate::order::{Reversal, all_climb, find_reversal, place_in};
+use crate::order::{Reversal, all_climb, place_in};
+use crate::search::find_reversal;
 use crate::seed::Seed;
 use ot_isa::Tag;
 use std::alloc::{AllocError, Global};
@@ -124,6 +125,8 @@ fn crowded_parts(
 // A reversed pair of the lists, if there is one, sought among elements of equal rank where the ranks never fall.
 fn find_reversal_by_rank(
     alloc: Global,
+    replicas: usize,
+    actors: &[usize],
     ranks: &HashMap<Tag, usize, Seed>,
     owners: &HashMap<usize, Tag>,
     places: &HashMap<Tag, usize, Seed>,
@@ -133,17 +136,19 @@ fn find_reversal_by_rank(
     ensures { IfOk result (λ r. MatchOption r ((d e : ℕ) (a b : Tag) → ¬ IsReversed (map (λ v. v.items) lists.now) d e a b) (λ r. IsReversed (map (λ v. v.items) lists.now) r.earlier r.later r.a r.b)) }
 {
     if !never_fall(ranks, lists) {
-        return find_reversal(alloc, places, lists);
+        return find_reversal(alloc, replicas, actors, places, lists);
     }
     let crowded = crowded_ranks(alloc, ranks, owners, lists)?;
     let parts = crowded_parts(alloc, ranks, &crowded, lists)?;
-    let found = find_reversal(alloc, places, parts.as_slice())?;
+    let found = find_reversal(alloc, replicas, actors, places, parts.as_slice())?;
     Ok(found)
 }
 
 /// A reversed pair of the lists, if there is one; there is none where the order's places rise along each list.
 pub fn find_in_order(
     alloc: Global,
+    replicas: usize,
+    actors: &[usize],
     order: &Order,
     lists: &[Vec<Tag>],
 ) -> Result<Option<Reversal>, AllocError>
@@ -154,6 +159,14 @@ pub fn find_in_order(
     if all_climb(places, lists) {
         return Ok(None);
     }
-    let found = find_reversal_by_rank(alloc, &order.ranks, &order.owners, places, lists)?;
+    let found = find_reversal_by_rank(
+        alloc,
+        replicas,
+        actors,
+        &order.ranks,
+        &order.owners,
+        places,
+        lists,
+    )?;
     Ok(found)
 }
