@@ -1,2 +1,4 @@
 mod Over
 mod Reached
+mod Behind
+mod Meeting

@@ -7,7 +7,7 @@ use Rattle.ot_text.specs.Run.{Run, Keep, Add, Skip}
 use Rattle.ot_text.specs.Components.{run_of, runs}
 use Rattle.ot_rules.specs.Text.{concurrent_lines, given_operation}
 use Rattle.ot_rules.specs.Units.{IsAdded, behind, unit_run, units_from, with_one_more}
-use Rattle.ot_rules.specs.Wrong.{Pair, turned, turned_over}
+use Rattle.ot_rules.specs.Wrong.{Pair, first_of, turned, turned_over}
 
 pub drop_here : {A : Type 0} (xs : List A) (i : ℕ) (x : A) → i < length xs → x ≡ get_or xs i x → drop i xs ≡ x ∷ drop (i + 1) xs
 drop_here xs i x here is =
@@ -16,20 +16,24 @@ drop_here xs i x here is =
 
 -- ---- a message over the log
 
-over_step : (carried other : Operation ℕ) (rest : List (Operation ℕ)) (p : Option Pair) → turned carried other ≡ p
-    → turned_over carried (other ∷ rest) ≡ (elim p as (λ _. Option (Operation ℕ)) [ None ↦ None | Some pair ↦ turned_over pair.0 rest ])
-over_step carried other rest p e = ap (λ (q : Option Pair). elim q as (λ _. Option (Operation ℕ)) [ None ↦ None | Some pair ↦ turned_over pair.0 rest ]) e
+abbrev over_rest : Option (Operation ℕ) → List (Operation ℕ) → Option (Operation ℕ)
+over_rest None rest = None
+over_rest (Some next) rest = turned_over next rest
+
+over_pair : (p : Option Pair) (rest : List (Operation ℕ)) → (elim p as (λ _. Option (Operation ℕ)) [ None ↦ None | Some pair ↦ turned_over pair.0 rest ]) ≡ over_rest (first_of p) rest
+over_pair None rest = refl
+over_pair (Some pair) rest = refl
 
 module _ (op carried other : Operation ℕ) (xs : List (Operation ℕ)) (i : ℕ) (here : i < length xs) (is : other ≡ get_or xs i other)
     (so_far : turned_over carried (drop i xs) ≡ turned_over op xs) where
-  left : turned_over carried (other ∷ drop (i + 1) xs) ≡ turned_over op xs
-  left = ap (turned_over carried) (sym (drop_here xs i other here is)) ∙ so_far
+  left : over_rest (first_of (turned carried other)) (drop (i + 1) xs) ≡ turned_over op xs
+  left = sym (over_pair (turned carried other) (drop (i + 1) xs)) ∙ ap (turned_over carried) (sym (drop_here xs i other here is)) ∙ so_far
 
-  pub over_none : turned carried other ≡ None → None ≡ turned_over op xs
-  over_none e = sym (over_step carried other (drop (i + 1) xs) None e) ∙ left
+  pub over_none : first_of (turned carried other) ≡ None → None ≡ turned_over op xs
+  over_none e = ap (λ o. over_rest o (drop (i + 1) xs)) (sym e) ∙ left
 
-  pub over_more : (next : Pair) → turned carried other ≡ Some next → turned_over next.0 (drop (i + 1) xs) ≡ turned_over op xs
-  over_more next e = sym (over_step carried other (drop (i + 1) xs) (Some next) e) ∙ left
+  pub over_more : (next : Operation ℕ) → first_of (turned carried other) ≡ Some next → turned_over next (drop (i + 1) xs) ≡ turned_over op xs
+  over_more next e = ap (λ o. over_rest o (drop (i + 1) xs)) (sym e) ∙ left
 
 -- ---- components over a text
 

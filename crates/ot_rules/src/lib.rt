@@ -24,6 +24,7 @@
 
 mod call;
 mod calling;
+mod carried;
 mod explaining;
 mod field;
 mod note;

@@ -1,10 +1,12 @@
 //! Sentences that are true of what a port printed.
 
-ghost use Rattle.std.specs.Prelude.{◌≡◌, ◌↔◌, ◌≤◌, length, IfOk, IsTrue};
+ghost use Rattle.std.specs.Prelude.{◌≡◌, ◌↔◌, ◌≤◌, length, IfOk, IsTrue, None, false};
 ghost use Rattle.std.specs.Option.{option_copied};
 ghost use Rattle.ot_json.specs.Reading.{operation_of_text};
 ghost use Rattle.ot_rules.specs.Call.{call_value};
 ghost use Rattle.ot_rules.specs.Notes as notes;
+ghost use Rattle.ot_rules.specs.Wrong.{in_field};
+ghost use Rattle.ot_rules.specs.declared.wrong.Made.{Made};
 
 use crate::call::Call;
 use crate::field::Field;
@@ -113,12 +115,27 @@ fn wanted_in_units(
     }
 }
 
+// A wrong rule makes an operation for this field.
+fn is_made(field: Field) -> bool
+    ensures { result ≡ false → (made : Made) → in_field made field ≡ None }
+{
+    matches!(
+        field,
+        Field::Outstanding | Field::Buffer | Field::Applied | Field::Appended
+    )
+}
+
 // The operation that a note says was found, if it says one.
 fn said(alloc: Global, note: Note, asked: &Asked<'_>) -> Result<Option<TextOp<char>>, AllocError>
     ensures { IfOk result (λ op. op ≡ notes.said note (notes.asked_value asked.now)) }
 {
+    if note == Note::InUnits {
+        return wanted_in_units(alloc, asked.wanted, asked.text);
+    }
+    if !is_made(asked.field) {
+        return Ok(None);
+    }
     let mut made = match note {
-        Note::InUnits => return wanted_in_units(alloc, asked.wanted, asked.text),
         Note::Turned => made_turned(alloc, asked.call)?,
         Note::Untransformed => made_untransformed(asked.call)?,
         Note::HalfTransformed => made_by_half(alloc, asked.call)?,

@@ -5,6 +5,7 @@ ghost use Rattle.ot_rules.specs.Call.{call_value};
 ghost use Rattle.ot_rules.specs.Wrong as wrong;
 
 use crate::call::{Call, Waiting};
+use crate::carried::carried_behind;
 use crate::field::Field;
 use ot_algebra::transform;
 use ot_text::{LIMIT, TextOp};
@@ -67,6 +68,13 @@ pub fn in_field(made: &mut Made, field: Field) -> Option<TextOp<char>>
     }
 }
 
+// Transform takes the two: they have one base, and the base and what both insert are at most 1,000,000 together.
+fn may_transform(a: &TextOp<char>, b: &TextOp<char>) -> bool
+    ensures { result ≡ wrong.may_transform a.now b.now }
+{
+    a.base_len() == b.base_len() && a.base_len() + (a.inserted() + b.inserted()) <= LIMIT
+}
+
 /// Both results of transform, where it takes the two: they have one base, and the base and what both insert are at most 1,000,000 together.
 pub fn transformed(
     alloc: Global,
@@ -75,10 +83,7 @@ pub fn transformed(
 ) -> Result<Option<(TextOp<char>, TextOp<char>)>, AllocError>
     ensures { IfOk result (λ pair. pair ≡ wrong.transformed a.now b.now) }
 {
-    if a.base_len() != b.base_len() {
-        return Ok(None);
-    }
-    if a.base_len() + (a.inserted() + b.inserted()) > LIMIT {
+    if !may_transform(a, b) {
         return Ok(None);
     }
     Ok(Some(transform(alloc, a, b)?))
@@ -169,8 +174,18 @@ fn turned_delivery(alloc: Global, waiting: &Waiting, op: &TextOp<char>) -> Resul
     }
 }
 
+// The first of both, for an operation that is no longer wanted.
+fn turned_first(op: TextOp<char>, other: &TextOp<char>) -> Result<Option<TextOp<char>>, AllocError>
+    ensures { IfOk result (λ next. next ≡ wrong.first_of (wrong.turned op other.now)) }
+{
+    if !may_transform(other, &op) {
+        return Ok(None);
+    }
+    Ok(Some(carried_behind(op, other)?))
+}
+
+// A message over the log. It is copied once; each entry changes the copy.
 fn turned_over(
-    alloc: Global,
     op: &TextOp<char>,
     concurrent: &[TextOp<char>],
 ) -> Result<Option<TextOp<char>>, AllocError>
@@ -178,7 +193,7 @@ fn turned_over(
 {
     let mut carried = op.copy()?;
     for other in concurrent {
-        let Some((next, _other)) = turned(alloc, &carried, other)? else {
+        let Some(next) = turned_first(carried, other)? else {
             return Ok(None);
         };
         carried = next;
@@ -186,14 +201,14 @@ fn turned_over(
     Ok(Some(carried))
 }
 
-/// The rule with a transform in which the text of the second argument goes first.
+/// The rule with a transform in which the text of the second argument goes first. A message over the log costs for each entry what `carried_behind` does.
 pub fn made_turned(alloc: Global, call: &Call) -> Result<Made, AllocError>
     ensures { IfOk result (λ made. made ≡ wrong.made_turned (call_value call.now)) }
 {
     match call {
         Call::ApplyServer(waiting, op) => turned_delivery(alloc, waiting, op),
         Call::ReceiveOperation(_, op, concurrent) => {
-            Ok(in_log(turned_over(alloc, op, concurrent.as_slice())?))
+            Ok(in_log(turned_over(op, concurrent.as_slice())?))
         }
         Call::ApplyClient(..) | Call::ServerAck(..) => Ok(nothing()),
     }
