@@ -2,7 +2,7 @@
 use Rattle.std.proofs.Common.{◌≡◌, ℕ, zero, suc, ◌+◌, ◌-◌, ◌<◌, ◌≤◌, ◌≢◌, List, [], ◌∷◌, ◌++◌, length, take, refl, ap, sym, ◌∙◌, subst, arith, Option, Some, None, Bool, true, false, length-append, inl, inr}
 use Rattle.std.proofs.lemmas.Option.{same_Some, slice_get_within}
 use Rattle.std.proofs.lemmas.Bool.{cases_eq}
-use Rattle.std.specs.Prelude.{is_some, slice_get, unwrap_or, IsSome, MatchBool}
+use Rattle.std.specs.Prelude.{◌↔◌, is_some, slice_get, unwrap_or, IsSome, IsTrue, MatchBool}
 use Rattle.std.specs.Option.{option_map}
 use Rattle.ot_isa.specs.Program.{Program}
 use Rattle.ot_isa.specs.declared.instruction.Instr.{Instr}
@@ -18,8 +18,9 @@ use Rattle.ot_model.specs.declared.shown.Refusal.TheVariants.{NoSuchClient, Step
 use Rattle.ot_machine.specs.Answers.{IsRefusal}
 use Rattle.ot_debug.specs.Stops.{IsRefusedAt}
 use Rattle.ot_debug.specs.declared.command.Watched.{Watched}
+use Rattle.ot_debug.specs.declared.recent.Recent.{Recent}
 use Rattle.ot_debug.specs.Session.{IsSession}
-use Rattle.ot_debug.specs.Stepping.{session_of, is_read, Advances, AreRecords, AreShownBefore, AreUndos, EachOrNone, GoOn, IsKept, OneMore, shown_at, AreLists}
+use Rattle.ot_debug.specs.Stepping.{session_of, is_read, undos_in, Advances, AreLast, AreRecords, AreShownBefore, AreUndos, GoOn, IsKept, IsPushed, OneMore, shown_at, AreLists}
 use Rattle.ot_debug.proofs.Rows.{row_leaves}
 
 -- the place is there as far as the run goes
@@ -89,44 +90,74 @@ slice_get-push_same [] x = refl
 slice_get-push_same (y ∷ xs) x = slice_get-push_same xs x
 
 undos_push :
-    (s : Program) (undos : List Undo) (undo : Undo) (q r : Place) → AreUndos s undos → place_at s (length undos) ≡ Some q → place_at s (suc (length undos)) ≡ Some r → Undoes q.state r.state undo
-    → AreUndos s (undos ++ undo ∷ [])
-undos_push s undos undo q r are at next is k other before after here from to =
+    (s : Program) (first p : ℕ) (undos : List Undo) (undo : Undo) (q r : Place) → AreUndos s first undos → first + length undos ≡ p → place_at s p ≡ Some q → place_at s (suc p) ≡ Some r → Undoes q.state r.state undo
+    → AreUndos s first (undos ++ undo ∷ [])
+undos_push s first p undos undo q r are many at next is k other before after here from to =
     elim (cases_eq k (length undos)) [
       | inl same ↦
           let mine : undo ≡ other = same_Some undo other (sym (slice_get-push_same undos undo) ∙ subst (λ (n : ℕ). slice_get (undos ++ undo ∷ []) n ≡ Some other) same here) in
-          let first : q ≡ before = same_Some q before (sym at ∙ subst (λ (n : ℕ). place_at s n ≡ Some before) same from) in
-          let last : r ≡ after = same_Some r after (sym next ∙ subst (λ (n : ℕ). place_at s (suc n) ≡ Some after) same to) in
+          let place : first + k ≡ p = omega (arith, same, many) in
+          let was : q ≡ before = same_Some q before (sym at ∙ subst (λ (n : ℕ). place_at s n ≡ Some before) place from) in
+          let last : r ≡ after = same_Some r after (sym next ∙ subst (λ (n : ℕ). place_at s (suc n) ≡ Some after) place to) in
           subst (λ (u : Undo). Undoes before.state after.state u) mine
-          (subst (λ (p : Place). Undoes p.state after.state undo) first
+          (subst (λ (p : Place). Undoes p.state after.state undo) was
           (subst (λ (p : Place). Undoes q.state p.state undo) last is))
       | inr differs ↦
           let within : k < length (undos ++ undo ∷ []) = slice_get_within (undos ++ undo ∷ []) k other here in
-          let many : length (undos ++ undo ∷ []) ≡ length undos + 1 = length-append undos (undo ∷ []) in
-          let less : k < length undos = omega (arith, within, many, differs) in
+          let more : length (undos ++ undo ∷ []) ≡ length undos + 1 = length-append undos (undo ∷ []) in
+          let less : k < length undos = omega (arith, within, more, differs) in
           are k other before after (sym (slice_get-push_less undos undo k less) ∙ here) from to
     ]
 
--- none are the records of nothing
-no_undos : (s : Program) → AreUndos s []
-no_undos s k other before after here from to = let e : k < 0 = slice_get_within [] k other here in absurd (omega (arith, e))
+-- records of the last instructions without the oldest
+slice_get-behind : {X : Type 0} (gone rest : List X) (k : ℕ) → slice_get (gone ++ rest) (length gone + k) ≡ slice_get rest k
+slice_get-behind {X} [] rest k = let none : length {A = X} [] + k ≡ k = omega arith in ap (λ n. slice_get rest n) none
+slice_get-behind (x ∷ gone) rest k = let less : length (x ∷ gone) + k ≡ suc (length gone + k) = omega arith in ap (λ n. slice_get (x ∷ gone ++ rest) n) less ∙ slice_get-behind gone rest k
 
--- the records one instruction on
-records_more :
-    (s : Program) (p : ℕ) (q r : Place) (undos records : List Undo)
-    → AreRecords s p undos → place_at s p ≡ Some q → place_at s (suc p) ≡ Some r → OneMore q.state r.state undos records → AreRecords s (suc p) records
-records_more s p q r undos records are at next one =
+undos_behind : (s : Program) (first : ℕ) (gone rest : List Undo) → AreUndos s first (gone ++ rest) → AreUndos s (first + length gone) rest
+undos_behind s first gone rest are k undo before after here from to =
+    let place : first + length gone + k ≡ first + (length gone + k) = omega arith in
+    are (length gone + k) undo before after (slice_get-behind gone rest k ∙ here)
+    (subst (λ (n : ℕ). place_at s n ≡ Some before) place from) (subst (λ (n : ℕ). place_at s (suc n) ≡ Some after) place to)
+
+last_behind : (s : Program) (p : ℕ) (gone rest : List Undo) → AreLast s p (gone ++ rest) → AreLast s p rest
+last_behind s p gone rest last =
     record {
-      back = subst (AreUndos s) (sym one.more) (undos_push s undos one.undo q r are.back (ap (place_at s) are.many ∙ at) (ap (λ n. place_at s (suc n)) are.many ∙ next) one.undoes);
-      many = let e : length (undos ++ one.undo ∷ []) ≡ length undos + 1 = length-append undos (one.undo ∷ []) in let f = ap length one.more in let g = are.many in omega (arith, e, f, g);
+      first = last.first + length gone;
+      many = let e : length (gone ++ rest) ≡ length gone + length rest = length-append gone rest in let f = last.many in omega (arith, e, f);
+      back = undos_behind s last.first gone rest last.back;
     }
 
-go_on :
-    (s : Program) (p : ℕ) (q r : Place) (undos records : List Undo) → AreUndos s undos → EachOrNone p undos → place_at s p ≡ Some q → place_at s (suc p) ≡ Some r → GoOn q.state r.state undos records
-    → AreUndos s records × EachOrNone (suc p) records
-go_on s p q r [] records are count at next none = (subst (AreUndos s) (sym none) (no_undos s), inr none)
-go_on s p q r (undo ∷ undos) records are (inl many) at next one = let m = records_more s p q r (undo ∷ undos) records (record { back = are; many = many }) at next one in (m.back, inl m.many)
-go_on s p q r (undo ∷ undos) records are (inr none) at next one = absurd (cc)
+-- none are the records of the last ones, of none
+pub last_none : (s : Program) (p : ℕ) (undos : List Undo) → undos ≡ [] → AreLast s p undos
+last_none s p undos none =
+    subst (AreLast s p) (sym none)
+    (record {
+      first = p;
+      many = omega arith;
+      back = λ k other before after here from to. let e : k < 0 = slice_get_within [] k other here in absurd (omega (arith, e));
+    })
+
+-- the records one instruction on
+last_more :
+    (s : Program) (p : ℕ) (q r : Place) (undos records : List Undo)
+    → AreLast s p undos → place_at s p ≡ Some q → place_at s (suc p) ≡ Some r → OneMore q.state r.state undos records → AreLast s (suc p) records
+last_more s p q r undos records last at next one =
+    subst (AreLast s (suc p)) (sym one.more.are)
+    (record {
+      first = rest.first;
+      many = let e : length (one.more.rest ++ one.undo ∷ []) ≡ length one.more.rest + 1 = length-append one.more.rest (one.undo ∷ []) in let f = rest.many in omega (arith, e, f);
+      back = undos_push s rest.first p one.more.rest one.undo q r rest.back rest.many at next one.undoes;
+    })
+  where
+    rest : AreLast s p one.more.rest
+    rest = last_behind s p one.more.gone one.more.rest (subst (AreLast s p) one.more.were last)
+
+pushed_some : (undo : Undo) (undos records : List Undo) → IsPushed undo undos records → records ≢ []
+pushed_some undo undos records pushed none =
+    let e : length (pushed.rest ++ undo ∷ []) ≡ length pushed.rest + 1 = length-append pushed.rest (undo ∷ []) in
+    let f : length (pushed.rest ++ undo ∷ []) ≡ 0 = ap length (sym pushed.are ∙ none) in
+    absurd (omega (arith, e, f))
 
 -- the state is the run's after so many instructions, whatever lists they showed
 pub record IsStateAt (s : Program) (p : ℕ) (state : State) : Type 0 where
@@ -135,19 +166,46 @@ pub record IsStateAt (s : Program) (p : ℕ) (state : State) : Type 0 where
 
 -- one more instruction performed again, with a record
 pub recorded_next :
-    (s : Program) (p q : ℕ) (state t : State) (undos records : List Undo) (i : Instr) (list : Option Shown)
-    → IsStateAt s p state → AreRecords s p undos → slice_get s.instrs p ≡ Some i → step state i ≡ Performed t list → OneMore state t undos records → q ≡ suc p
+    (s : Program) (p q : ℕ) (state t : State) (undos records : Recent) (i : Instr) (list : Option Shown)
+    → IsStateAt s p state → AreRecords s p undos → slice_get s.instrs p ≡ Some i → step state i ≡ Performed t list → OneMore state t (undos_in undos) (undos_in records)
+    → records.kept ≡ undos.kept → q ≡ suc p
     → IsStateAt s q t × AreRecords s q records
-recorded_next s p q state t undos records i list was are here performed one on =
-    subst (λ n. IsStateAt s n t × AreRecords s n records) (sym on)
-    (record { shown = with_shown was.shown list; at = next }, records_more s p (record { state = state; shown = was.shown }) (record { state = t; shown = with_shown was.shown list }) undos records are was.at next one)
+recorded_next s p q state t undos records i list was are here performed one kept on =
+    subst (λ n. IsStateAt s n t × AreRecords s n records) (sym on) (
+      record { shown = with_shown was.shown list; at = next },
+      record {
+        last = last_more s p (record { state = state; shown = was.shown }) (record { state = t; shown = with_shown was.shown list }) (undos_in undos) (undos_in records) are.last was.at next one;
+        some = λ less. pushed_some one.undo (undos_in undos) (undos_in records) one.more;
+        kept = kept ∙ are.kept;
+      },
+    )
   where
     next : place_at s (suc p) ≡ Some (record { state = t; shown = with_shown was.shown list })
     next = place_at-next s p (record { state = state; shown = was.shown }) i t list was.at here performed
 
+-- the records as an instruction that is performed leaves them
+record AreLeft (s : Program) (p : ℕ) (undos : Recent) : Type 0 where
+  last : AreLast s p (undos_in undos)
+  idle : undos.kept ≡ false → undos_in undos ≡ []
+
+go_on :
+    (s : Program) (p : ℕ) (q r : Place) (undos records : Recent) (kept : Bool) → undos.kept ≡ kept → AreLast s p (undos_in undos) → (undos.kept ≡ false → undos_in undos ≡ [])
+    → place_at s p ≡ Some q → place_at s (suc p) ≡ Some r → GoOn q.state r.state undos records
+    → AreLeft s (suc p) records
+go_on s p q r undos records true is last idle at next on =
+    let one = subst (λ b. MatchBool b (OneMore q.state r.state (undos_in undos) (undos_in records) × (records.kept ≡ true)) (records ≡ undos)) is on in
+    record {
+      last = last_more s p q r (undos_in undos) (undos_in records) last at next one.0;
+      idle = λ not. absurd (let e = sym one.1 ∙ not in cc);
+    }
+go_on s p q r undos records false is last idle at next on =
+    let same = subst (λ b. MatchBool b (OneMore q.state r.state (undos_in undos) (undos_in records) × (records.kept ≡ true)) (records ≡ undos)) is on in
+    let none : undos_in records ≡ [] = ap undos_in same ∙ idle is in
+    record { last = last_none s (suc p) (undos_in records) none; idle = λ not. none }
+
 -- the debugger one instruction on
 kept_next :
-    (s : Program) (p : ℕ) (state t : State) (shown : List Shown) (undos records : List Undo) (breaks : List Bool) (watches : List Watched) (i : Instr) (list : Option Shown)
+    (s : Program) (p : ℕ) (state t : State) (shown : List Shown) (undos records : Recent) (breaks : List Bool) (watches : List Watched) (i : Instr) (list : Option Shown)
     → IsKept s p state shown undos breaks watches → slice_get s.instrs p ≡ Some i → step state i ≡ Performed t list → GoOn state t undos records
     → IsKept s (suc p) t (with_shown shown list) records breaks watches
 kept_next s p state t shown undos records breaks watches i list kept here performed on =
@@ -160,8 +218,8 @@ kept_next s p state t shown undos records breaks watches i list kept here perfor
         breaks = kept.session.breaks;
         watches = kept.session.watches;
       };
-      back = more.0;
-      count = more.1;
+      last = left.last;
+      idle = left.idle;
     }
   where
     next : place_at s (suc p) ≡ Some (record { state = t; shown = with_shown shown list })
@@ -170,11 +228,11 @@ kept_next s p state t shown undos records breaks watches i list kept here perfor
     inside : suc p ≤ length s.instrs
     inside = let e = slice_get_within s.instrs p i here in omega (arith, e)
 
-    more : AreUndos s records × EachOrNone (suc p) records
-    more = go_on s p _ _ undos records kept.back kept.count kept.session.at next on
+    left : AreLeft s (suc p) records
+    left = go_on s p _ _ undos records undos.kept refl kept.last kept.idle kept.session.at next on
 
 pub kept_forth :
-    (s : Program) (p q : ℕ) (state t : State) (shown lists : List Shown) (undos records : List Undo) (breaks : List Bool) (watches : List Watched) (i : Instr) (list : Option Shown)
+    (s : Program) (p q : ℕ) (state t : State) (shown lists : List Shown) (undos records : Recent) (breaks : List Bool) (watches : List Watched) (i : Instr) (list : Option Shown)
     → IsKept s p state shown undos breaks watches → slice_get s.instrs p ≡ Some i → step state i ≡ Performed t list → GoOn state t undos records
     → q ≡ suc p → lists ≡ with_shown shown list → IsKept s q t lists records breaks watches
 kept_forth s p q state t shown lists undos records breaks watches i list kept here performed on next lists_are =
@@ -182,7 +240,7 @@ kept_forth s p q state t shown lists undos records breaks watches i list kept he
     (subst (λ xs. IsKept s (suc p) t xs records breaks watches) (sym lists_are) (kept_next s p state t shown undos records breaks watches i list kept here performed on))
 
 pub advances :
-    (s : Program) (p q : ℕ) (state t : State) (shown lists : List Shown) (records : List Undo) (breaks : List Bool) (watches : List Watched)
+    (s : Program) (p q : ℕ) (state t : State) (shown lists : List Shown) (records : Recent) (breaks : List Bool) (watches : List Watched)
     → IsKept s q t lists records breaks watches → q ≡ suc p → Advances (session_of s p state shown breaks watches) (session_of s q t lists breaks watches)
 advances s p q state t shown lists records breaks watches kept next =
     record { keeps = record { schedule = refl; breaks = refl; watches = refl }; next = next; reached = kept.session.reached }
@@ -193,41 +251,47 @@ pub record IsBefore (s : Program) (state : State) (p : ℕ) (undo : Undo) : Type
   pub at : place_at s p ≡ Some earlier
   pub undoes : Undoes earlier.state state undo
 
-undos_front : (s : Program) (undos : List Undo) (undo : Undo) → AreUndos s (undos ++ undo ∷ []) → AreUndos s undos
-undos_front s undos undo are k other before after here from to =
+undos_front : (s : Program) (first : ℕ) (undos : List Undo) (undo : Undo) → AreUndos s first (undos ++ undo ∷ []) → AreUndos s first undos
+undos_front s first undos undo are k other before after here from to =
     let less : k < length undos = slice_get_within undos k other here in
     are k other before after (slice_get-push_less undos undo k less ∙ here) from to
 
-counted : (p : ℕ) (undos front : List Undo) (undo : Undo) → length undos ≡ p → undos ≡ front ++ undo ∷ [] → p ≡ suc (length front)
-counted p undos front undo many is = let e : length (front ++ undo ∷ []) ≡ length front + 1 = length-append front (undo ∷ []) in let f = ap length is in omega (arith, e, f, many)
+-- the last record, of those that are left when it is taken off
+counted : (p first : ℕ) (undos front : List Undo) (undo : Undo) → first + length undos ≡ p → undos ≡ front ++ undo ∷ [] → p ≡ suc (first + length front)
+counted p first undos front undo many is = let e : length (front ++ undo ∷ []) ≡ length front + 1 = length-append front (undo ∷ []) in let f = ap length is in omega (arith, e, f, many)
 
 before_last :
-    (s : Program) (p : ℕ) (state : State) (shown : List Shown) (undos front : List Undo) (breaks : List Bool) (watches : List Watched) (undo : Undo)
-    → IsSession (session_of s p state shown breaks watches) → AreRecords s p undos → undos ≡ front ++ undo ∷ [] → IsBefore s state (length front) undo
-before_last s p state shown undos front breaks watches undo session are is =
-    record { earlier = first.0; at = first.1; undoes = are.back (length front) undo first.0 (record { state = state; shown = shown }) last first.1 (ap (place_at s) (sym many) ∙ session.at) }
+    (s : Program) (p r : ℕ) (state : State) (shown : List Shown) (undos front : List Undo) (breaks : List Bool) (watches : List Watched) (undo : Undo)
+    → IsSession (session_of s p state shown breaks watches) → AreLast s p undos → undos ≡ front ++ undo ∷ [] → p ≡ suc r → IsBefore s state r undo
+before_last s p r state shown undos front breaks watches undo session last is next =
+    record { earlier = first.0; at = first.1; undoes = last.back (length front) undo first.0 (record { state = state; shown = shown }) here (ap (place_at s) at ∙ first.1) (ap (λ n. place_at s (suc n)) at ∙ ap (place_at s) (sym next) ∙ session.at) }
   where
-    many : p ≡ suc (length front)
-    many = counted p undos front undo are.many is
+    at : last.first + length front ≡ r
+    at = let e = counted p last.first undos front undo last.many is in omega (arith, e, next)
 
-    first : (q : Place) × (place_at s (length front) ≡ Some q)
-    first = let le : p ≤ done s = session.reached in there s (length front) (omega (arith, many, le))
+    first : (q : Place) × (place_at s r ≡ Some q)
+    first = let le : p ≤ done s = session.reached in there s r (omega (arith, next, le))
 
-    last : slice_get undos (length front) ≡ Some undo
-    last = ap (λ us. slice_get us (length front)) is ∙ slice_get-push_same front undo
+    here : slice_get undos (length front) ≡ Some undo
+    here = ap (λ us. slice_get us (length front)) is ∙ slice_get-push_same front undo
 
 pub undoable :
     (s : Program) (p : ℕ) (state : State) (shown : List Shown) (undos front : List Undo) (breaks : List Bool) (watches : List Watched) (undo : Undo)
-    → IsSession (session_of s p state shown breaks watches) → AreRecords s p undos → undos ≡ front ++ undo ∷ [] → IsUndoable state undo
-undoable s p state shown undos front breaks watches undo session are is =
-    let b = before_last s p state shown undos front breaks watches undo session are is in (b.earlier.state, b.undoes)
+    → IsSession (session_of s p state shown breaks watches) → AreLast s p undos → undos ≡ front ++ undo ∷ [] → IsUndoable state undo
+undoable s p state shown undos front breaks watches undo session last is =
+    let b = before_last s p (last.first + length front) state shown undos front breaks watches undo session last is (counted p last.first undos front undo last.many is) in (b.earlier.state, b.undoes)
+
+-- where an instruction is to be taken back there is a record
+pub last_some : (s : Program) (p : ℕ) (undos : Recent) → 0 < p → AreRecords s p undos → undos_in undos ≡ [] → ⊥
+last_some s p undos less are none = are.some less none
 
 -- the debugger where the last instruction is not taken back: its record is there still
 pub kept_still :
-    (s : Program) (p : ℕ) (state t : State) (shown : List Shown) (undos records : List Undo) (breaks : List Bool) (watches : List Watched)
-    → IsSession (session_of s p state shown breaks watches) → AreRecords s p undos → t ≡ state → records ≡ undos → IsKept s p t shown records breaks watches
-kept_still s p state t shown undos records breaks watches session are same stay =
-    subst (λ u. IsKept s p u shown records breaks watches) (sym same) (record { session = session; back = subst (AreUndos s) (sym stay) are.back; count = inl (ap length stay ∙ are.many) })
+    (s : Program) (p : ℕ) (state t : State) (shown : List Shown) (undos records : Recent) (breaks : List Bool) (watches : List Watched)
+    → IsSession (session_of s p state shown breaks watches) → AreRecords s p undos → t ≡ state → undos_in records ≡ undos_in undos → records.kept ≡ undos.kept → IsKept s p t shown records breaks watches
+kept_still s p state t shown undos records breaks watches session are same stay kept =
+    subst (λ u. IsKept s p u shown records breaks watches) (sym same)
+    (record { session = session; last = subst (AreLast s p) (sym stay) are.last; idle = λ not. absurd (let e = sym (kept ∙ are.kept) ∙ not in cc) })
 
 -- the lists shown before the last instruction
 take_all : {X : Type 0} (xs : List X) (y : X) → take (length xs) (xs ++ y ∷ []) ≡ xs
@@ -281,11 +345,11 @@ lists_back true s p r state lists front breaks watches i session next here are w
 
 -- the debugger one instruction back
 pub kept_back :
-    (s : Program) (p r : ℕ) (state t : State) (undos rest : List Undo) (breaks : List Bool) (watches : List Watched) (i : Instr) (undo : Undo)
-    → IsSession (session_of s p state (shown_at s p) breaks watches) → AreRecords s p undos → undos ≡ rest ++ undo ∷ [] → p ≡ suc r → slice_get s.instrs r ≡ Some i
-    → ((earlier : State) → Undoes earlier state undo → t ≡ earlier)
+    (s : Program) (p r : ℕ) (state t : State) (undos : List Undo) (rest : Recent) (breaks : List Bool) (watches : List Watched) (i : Instr) (undo : Undo)
+    → IsSession (session_of s p state (shown_at s p) breaks watches) → AreLast s p undos → undos ≡ undos_in rest ++ undo ∷ [] → p ≡ suc r → slice_get s.instrs r ≡ Some i
+    → ((earlier : State) → Undoes earlier state undo → t ≡ earlier) → (IsTrue rest.kept ↔ (0 < r))
     → IsKept s r t (shown_at s r) rest breaks watches
-kept_back s p r state t undos rest breaks watches i undo session are is next here back =
+kept_back s p r state t undos rest breaks watches i undo session last is next here back kept =
     record {
       session = record {
         limits = session.limits;
@@ -295,15 +359,22 @@ kept_back s p r state t undos rest breaks watches i undo session are is next her
         breaks = session.breaks;
         watches = session.watches;
       };
-      back = undos_front s rest undo (subst (AreUndos s) is are.back);
-      count = inl many;
+      last = record { first = last.first; many = many; back = undos_front s last.first (undos_in rest) undo (subst (AreUndos s last.first) is last.back) };
+      idle = λ not. none (undos_in rest) (let e = opening not in omega (arith, e, many));
     }
   where
-    many : length rest ≡ r
-    many = let e = counted p undos rest undo are.many is in omega (arith, e, next)
+    many : last.first + length (undos_in rest) ≡ r
+    many = let e = counted p last.first undos (undos_in rest) undo last.many is in omega (arith, e, next)
+
+    opening : rest.kept ≡ false → r ≡ 0
+    opening not = elim (cases_eq r 0) [ inl e ↦ e | inr differs ↦ let e = kept.1 (omega (arith, differs)) in absurd (cc) ]
+
+    none : (us : List Undo) → length us ≡ 0 → us ≡ []
+    none [] e = refl
+    none (u ∷ us) e = absurd (omega (arith, e))
 
     b : IsBefore s state r undo
-    b = subst (λ n. IsBefore s state n undo) many (before_last s p state (shown_at s p) undos rest breaks watches undo session are is)
+    b = before_last s p r state (shown_at s p) undos (undos_in rest) breaks watches undo session last is next
 
     now : place_at s r ≡ Some (record { state = t; shown = shown_at s r })
     now = b.at ∙ ap (λ (q : Place). Some q) (same_place b.earlier t (shown_at s r) (sym (back b.earlier.state b.undoes)) (sym (shown_is s r b.earlier b.at)))

@@ -1,5 +1,5 @@
 -- What a debugger keeps to step back, and what one step does.
-use Rattle.std.specs.Prelude.{◌≡◌, ◌⊎◌, ◌≤◌, ℕ, suc, ◌-◌, List, [], ◌∷◌, ◌++◌, Bool, true, false, length, slice_get, take, unwrap_or, Option, Some, None, MatchBool}
+use Rattle.std.specs.Prelude.{◌≡◌, ◌≢◌, ◌<◌, ◌≤◌, ℕ, suc, ◌+◌, ◌-◌, List, [], ◌∷◌, ◌++◌, Bool, true, false, length, slice_get, take, unwrap_or, Option, Some, None, MatchBool}
 use Rattle.std.specs.Option.{option_map}
 use Rattle.ot_isa.specs.Program.{Program}
 use Rattle.ot_isa.specs.declared.instruction.Instr.{Instr}
@@ -10,6 +10,7 @@ use Rattle.ot_model.specs.Runs.{done, place_at}
 use Rattle.ot_machine.specs.declared.undo.Undo.{Undo}
 use Rattle.ot_machine.specs.Undoing.{Undoes}
 use Rattle.ot_debug.specs.declared.command.Watched.{Watched}
+use Rattle.ot_debug.specs.declared.recent.Recent.{Recent}
 use Rattle.ot_debug.specs.Session.{Session, IsSession}
 use Rattle.ot_debug.specs.Answers.{Keeps}
 
@@ -30,37 +31,54 @@ AreLists kept shown lists = MatchBool kept (lists ≡ shown) (lists ≡ [])
 abbrev pub Gives : Bool → State → Instr → State → Option Shown → Type 0
 Gives kept s i t given = (shown : Option Shown) × (step s i ≡ Performed t shown) × MatchBool kept (given ≡ shown) (given ≡ None)
 
--- each of the records leads from the place after its instruction back to the place before it
-abbrev pub AreUndos : Program → List Undo → Type 0
-AreUndos s undos =
-    (p : ℕ) (undo : Undo) (before after : Place)
-    → slice_get undos p ≡ Some undo → place_at s p ≡ Some before → place_at s (suc p) ≡ Some after → Undoes before.state after.state undo
+-- the records that are kept, in the order of their instructions
+abbrev pub undos_in : Recent → List Undo
+undos_in recent = recent.older.undos.items ++ recent.newer.undos.items
 
--- there is a record of each performed instruction, or none at all
-abbrev pub EachOrNone : ℕ → List Undo → Type 0
-EachOrNone position undos = (length undos ≡ position) ⊎ (undos ≡ [])
+-- the k-th of the records leads from the place after the instruction `first + k` back to the place before it
+abbrev pub AreUndos : Program → ℕ → List Undo → Type 0
+AreUndos s first undos =
+    (k : ℕ) (undo : Undo) (before after : Place)
+    → slice_get undos k ≡ Some undo → place_at s (first + k) ≡ Some before → place_at s (suc (first + k)) ≡ Some after → Undoes before.state after.state undo
 
--- what the debugger keeps
-pub record IsKept (schedule : Program) (position : ℕ) (state : State) (shown : List Shown) (undos : List Undo) (breaks : List Bool) (watches : List Watched) : Type 0 where
+-- these are the records of the last instructions before a position: of each from a first one on
+pub record AreLast (s : Program) (position : ℕ) (undos : List Undo) : Type 0 where
+  pub first : ℕ
+  pub many : first + length undos ≡ position
+  pub back : AreUndos s first undos
+
+-- what the debugger keeps; where nothing leaves records there are none
+pub record IsKept (schedule : Program) (position : ℕ) (state : State) (shown : List Shown) (undos : Recent) (breaks : List Bool) (watches : List Watched) : Type 0 where
   pub session : IsSession (session_of schedule position state shown breaks watches)
-  pub back : AreUndos schedule undos
-  pub count : EachOrNone position undos
+  pub last : AreLast schedule position (undos_in undos)
+  pub idle : undos.kept ≡ false → undos_in undos ≡ []
 
--- these are the records of the first instructions, one of each
-pub record AreRecords (schedule : Program) (count : ℕ) (undos : List Undo) : Type 0 where
-  pub back : AreUndos schedule undos
-  pub many : length undos ≡ count
+-- the same records are kept, and what is performed leaves some as before
+abbrev pub IsAsBefore : Recent → Recent → Type 0
+IsAsBefore undos records = (undos_in records ≡ undos_in undos) × (records.kept ≡ undos.kept)
 
--- one record more, which takes a step back that led from the earlier state to this one
+-- one record more, behind the others, of which the oldest may have gone
+pub record IsPushed (undo : Undo) (undos records : List Undo) : Type 0 where
+  pub gone : List Undo
+  pub rest : List Undo
+  pub were : undos ≡ gone ++ rest
+  pub are : records ≡ rest ++ undo ∷ []
+
+-- such a record, which takes a step back that led from the earlier state to this one
 pub record OneMore (earlier s : State) (undos records : List Undo) : Type 0 where
   pub undo : Undo
-  pub more : records ≡ undos ++ undo ∷ []
+  pub more : IsPushed undo undos records
   pub undoes : Undoes earlier s undo
 
--- the records after such a step: where there are some it has one too, where there are none it has none
-abbrev pub GoOn : State → State → List Undo → List Undo → Type 0
-GoOn earlier s [] records = records ≡ []
-GoOn earlier s (undo ∷ undos) records = OneMore earlier s (undo ∷ undos) records
+-- the records after such a step: one more where it leaves one, and else those that there were
+abbrev pub GoOn : State → State → Recent → Recent → Type 0
+GoOn earlier s undos records = MatchBool undos.kept (OneMore earlier s (undos_in undos) (undos_in records) × (records.kept ≡ true)) (records ≡ undos)
+
+-- the records of the last instructions before a position, of one instruction at least, if there is one; what is performed leaves more
+pub record AreRecords (s : Program) (position : ℕ) (undos : Recent) : Type 0 where
+  pub last : AreLast s position (undos_in undos)
+  pub some : 0 < position → undos_in undos ≢ []
+  pub kept : undos.kept ≡ true
 
 -- one more instruction is performed
 pub record Advances (x y : Session) : Type 0 where

@@ -22,7 +22,9 @@ pub enum Command {
     /// Performs this many instructions, or those before the first refused one, or all that are left; breaks and watches do not count.
     Step(u32),
     /// Takes this many instructions back, or all. The first time since the opening it performs once more what is performed, for the
-    /// records that take it back; these are kept, so from then on a `Back` costs what it takes back.
+    /// records that take it back; these are kept, so from then on a `Back` costs what it takes back. Where the records of all that is performed would
+    /// be too large, those of the last instructions alone are kept, and a `Back` beyond them performs once more what is performed, once for each
+    /// budget's worth of records.
     Back(u32),
     /// Sets a break at a place, 0 to the schedule's length.
     Break(u32),

@@ -6,8 +6,9 @@ ghost use Rattle.ot_debug.specs.Answers.{Answers};
 ghost use Rattle.ot_model.specs.Runs.{opening_of};
 
 use crate::command::{Command, Reply, Watched};
+use crate::recent::{BUDGET, Recent};
 use ot_isa::Schedule;
-use ot_machine::{Machine, Shown, Undo};
+use ot_machine::{Machine, Shown};
 use std::alloc::{AllocError, Global};
 use std::marker::Model;
 
@@ -21,7 +22,8 @@ pub struct Debugging<const LISTS: u8> {
     pub(crate) machine: Machine,
     // the lists that the performed reads showed, or none
     pub(crate) shown: Vec<Shown>,
-    pub(crate) undos: Vec<Undo>,
+    // the records of the last performed instructions
+    pub(crate) undos: Recent,
     pub(crate) breaks: Vec<bool>,
     pub(crate) watches: Vec<Watched>,
     // the numbers of the watches that no equal one stands before, in order
@@ -39,14 +41,14 @@ impl<const LISTS: u8> Model for Debugging<LISTS> {
 
     ghost view = { λ d. session_of d.schedule d.position d.machine (shown_at d.schedule d.position) d.breaks.items d.watches.items };
 
-    ghost invariant = { λ d. IsKept d.schedule d.position d.machine (shown_at d.schedule d.position) d.undos.items d.breaks.items d.watches.items × AreFirsts d.watches.items d.firsts.items × AreLists (LISTS == 1) (shown_at d.schedule d.position) d.shown.items };
+    ghost invariant = { λ d. IsKept d.schedule d.position d.machine (shown_at d.schedule d.position) d.undos d.breaks.items d.watches.items × AreFirsts d.watches.items d.firsts.items × AreLists (LISTS == 1) (shown_at d.schedule d.position) d.shown.items };
 }
 
 /// A debugger that keeps the lists which the performed reads showed.
 pub type Debugger = Debugging<1>;
 
-/// A debugger that keeps none of these lists: it takes the memory of the machine, and, where somebody goes back, of what takes the performed
-/// instructions back.
+/// A debugger that keeps none of these lists: it takes the memory of the machine, and, where somebody goes back, of another machine meanwhile and of
+/// what takes the last performed instructions back, which is bounded.
 pub type Stepper = Debugging<0>;
 
 /// The machine at the schedule's opening.
@@ -63,6 +65,14 @@ impl<const LISTS: u8> Debugging<LISTS> {
         ensures ok { IfOk result (λ debugger. debugger ≡ started schedule) }
         ensures err { IfErr result (λ back. back ≡ schedule) }
     {
+        Self::within(alloc, schedule, BUDGET)
+    }
+
+    // So too, where records may be that large in all.
+    pub(crate) fn within(alloc: Global, schedule: Schedule, budget: usize) -> Result<Self, Schedule>
+        ensures ok { IfOk result (λ debugger. debugger ≡ started schedule) }
+        ensures err { IfErr result (λ back. back ≡ schedule) }
+    {
         let Ok(machine) = opening(alloc, &schedule) else {
             return Err(schedule);
         };
@@ -74,7 +84,7 @@ impl<const LISTS: u8> Debugging<LISTS> {
             position: 0,
             machine,
             shown: Vec::new(alloc),
-            undos: Vec::new(alloc),
+            undos: Recent::new(alloc, budget / 2),
             breaks,
             watches: Vec::new(alloc),
             firsts: Vec::new(alloc),

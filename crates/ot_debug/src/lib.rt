@@ -3,7 +3,7 @@
 //! ```text
 //!   place        0        1        2        3        4   ..   length
 //!   state    opening -i0-> s1 -i1-> s2 -i2-> s3 -i3-> s4
-//!   undos            u0       u1       u2        ^                (or none at all)
+//!   undos                     u1       u2        ^                (those of the last ones, or none at all)
 //!                                            position 3: the machine is in s3, shown are the reads of i0, i1, i2
 //!   breaks   -        -        -        -        *                (one mark a place)
 //!   watches  0: Doc(0)  1: ServerRevision  ..                    (numbered in the order of setting)
@@ -21,12 +21,14 @@
 //! - [`laws`] says that stops are exact: a run has one stop at most, for one reason.
 //! - Going forth leaves no records, and costs what a run costs. Where an instruction is to be taken back and there are no records,
 //!   another machine performs all that is performed once more from the opening, and leaves a record of each (`Machine::perform_kept`).
-//!   The records are a stack: `Back` takes them off one by one, and what is performed while there are some adds its own. So there is
-//!   a record of each performed instruction, or none, and between two visits of the opening the way is gone once more at most.
+//!   The records are a stack: `Back` takes them off one by one, and what is performed until the opening is reached adds its own.
+//! - The records together have a budget. Beyond it the oldest go, so they are those of the last performed instructions, of half a budget's worth at least.
+//!   So the memory that they take is bounded, and between two visits of the opening the way is gone once more for each budget's worth of instructions
+//!   taken back: in most sessions once at most.
 //! - What grows does so before anything is changed. After `Memory` the debugger stands after a whole number of instructions,
 //!   between its old place and the one to which the command would have gone.
 //!
-//! Begin reading at `Debugging` in debugger.rt, then stepping.rt (one instruction back and forth), records.rt (what takes one back),
+//! Begin reading at `Debugging` in debugger.rt, then stepping.rt (one instruction back and forth), records.rt (what takes one back), recent.rt (their stack),
 //! watching.rt (what watches see), changing.rt (whether an operation changes a list) and moving.rt (the commands that move); settings.rt has the others.
 #![tactic(auto)]
 
@@ -35,6 +37,7 @@ mod command;
 mod debugger;
 pub mod laws;
 mod moving;
+mod recent;
 mod records;
 mod settings;
 mod stepping;

@@ -1,13 +1,14 @@
-//! The records that take instructions back: made where somebody goes back, and kept as long as there are some.
+//! Instructions performed with and without records, and the records made where somebody goes back.
 
-ghost use Rattle.std.specs.Prelude.{◌≡◌, ◌≢◌, ◌≤◌, ◌==◌, IfErr, IfOk, OnErr, OnOk};
+ghost use Rattle.std.specs.Prelude.{◌≡◌, ◌≢◌, ◌≤◌, ◌==◌, [], false, IfErr, IfOk, OnErr, OnOk};
 ghost use Rattle.ot_model.specs.declared.shown.Refusal.TheVariants.{Memory};
 ghost use Rattle.ot_model.specs.Runs.{done};
 ghost use Rattle.ot_model.specs.Table.{step, Refused};
 ghost use Rattle.ot_machine.specs.Undoing.{Undoes};
-ghost use Rattle.ot_debug.specs.Stepping.{AreRecords, AreUndos, EachOrNone, Gives, GoOn, OneMore};
+ghost use Rattle.ot_debug.specs.Stepping.{undos_in, AreLast, AreRecords, Gives, GoOn, IsAsBefore, OneMore};
 
 use crate::debugger::opening;
+use crate::recent::Recent;
 use ot_isa::{Instr, Schedule};
 use ot_machine::{Machine, Refusal, Shown, Undo};
 use std::alloc::{AllocError, Global};
@@ -45,51 +46,57 @@ fn perform_kept<const LISTS: u8>(
     Ok((None, undo))
 }
 
-// Performs the instruction, and adds its record.
+// Performs the instruction, and adds its record; the oldest may go.
 fn perform_recorded<const LISTS: u8>(
     machine: &mut Machine,
-    undos: &mut Vec<Undo>,
+    undos: &mut Recent,
     instr: &Instr,
 ) -> Result<Option<Shown>, Refusal>
     ensures done { IfOk result (λ list. Gives (LISTS == 1) machine.old instr.now machine.new list) }
-    ensures record { OnOk result (OneMore machine.old machine.new undos.old.items undos.new.items) }
+    ensures record { OnOk result (OneMore machine.old machine.new (undos_in undos.old) (undos_in undos.new)) }
+    ensures kept { undos.new.kept ≡ undos.old.kept }
     ensures refused { IfErr result (λ r. r ≢ Memory → step machine.old instr.now ≡ Refused r) }
     ensures unchanged { OnErr result (machine.new ≡ machine.old) }
-    ensures records_stay { OnErr result (undos.new.items ≡ undos.old.items) }
+    ensures records_stay { OnErr result (undos_in undos.new ≡ undos_in undos.old) }
 {
-    undos.reserve(1)?;
+    undos.reserve_one()?;
     let (list, undo) = perform_kept::<LISTS>(machine, instr)?;
-    undos.push_reserved(undo);
+    undos.push(undo);
     Ok(list)
 }
 
-/// Performs the instruction, and gives the list that it shows where `LISTS` is 1. Where there are records of the instructions
-/// before it, it adds one too. Every refusal leaves all as it was.
+/// Performs the instruction, and gives the list that it shows where `LISTS` is 1. Where instructions leave records, it adds one too.
+/// Every refusal leaves all as it was.
 pub(crate) fn perform<const LISTS: u8>(
     machine: &mut Machine,
-    undos: &mut Vec<Undo>,
+    undos: &mut Recent,
     instr: &Instr,
 ) -> Result<Option<Shown>, Refusal>
     ensures done { IfOk result (λ list. Gives (LISTS == 1) machine.old instr.now machine.new list) }
-    ensures records { OnOk result (GoOn machine.old machine.new undos.old.items undos.new.items) }
+    ensures records { OnOk result (GoOn machine.old machine.new undos.old undos.new) }
     ensures refused { IfErr result (λ r. r ≢ Memory → step machine.old instr.now ≡ Refused r) }
     ensures unchanged { OnErr result (machine.new ≡ machine.old) }
-    ensures records_stay { OnErr result (undos.new.items ≡ undos.old.items) }
+    ensures records_stay { OnErr result (IsAsBefore undos.old undos.new) }
 {
-    if undos.is_empty() {
-        perform_plain::<LISTS>(machine, instr)
-    } else {
+    if undos.kept {
         perform_recorded::<LISTS>(machine, undos, instr)
+    } else {
+        perform_plain::<LISTS>(machine, instr)
     }
 }
 
-// The records of so many of the schedule's instructions, which another machine performs from the opening on.
-fn records_of(alloc: Global, schedule: &Schedule, count: usize) -> Result<Vec<Undo>, AllocError>
+// The records of the last of so many of the schedule's instructions, which another machine performs from the opening on.
+fn records_of(
+    alloc: Global,
+    schedule: &Schedule,
+    count: usize,
+    limit: usize,
+) -> Result<Recent, AllocError>
     requires { count ≤ done schedule.now }
-    ensures { IfOk result (λ undos. AreRecords schedule.now count undos.items) }
+    ensures { IfOk result (λ undos. AreRecords schedule.now count undos) }
 {
     let mut machine = opening(alloc, schedule)?;
-    let mut undos = Vec::with_capacity(alloc, count)?;
+    let mut undos = Recent::with_capacity(alloc, limit, count)?;
     for place in 0..count {
         let Some(instr) = schedule.get(place) else {
             unreachable!()
@@ -104,20 +111,21 @@ fn records_of(alloc: Global, schedule: &Schedule, count: usize) -> Result<Vec<Un
     Ok(undos)
 }
 
-/// Where the performed instructions have left no records, they are performed again for these. For want of memory all is as it was.
+/// Where there is no record of the last performed instruction, all that are performed are performed again for those of the last ones. For want of
+/// memory all is as it was.
 pub(crate) fn recall(
     schedule: &Schedule,
     position: usize,
-    undos: &mut Vec<Undo>,
+    undos: &mut Recent,
 ) -> Result<(), AllocError>
     requires reached { position ≤ done schedule.now }
-    requires back { AreUndos schedule.now undos.old.items }
-    requires count { EachOrNone position undos.old.items }
-    ensures done { OnOk result (AreRecords schedule.now position undos.new.items) }
-    ensures unchanged { OnErr result (undos.new.items ≡ undos.old.items) }
+    requires last { AreLast schedule.now position (undos_in undos.old) }
+    requires idle { undos.old.kept ≡ false → undos_in undos.old ≡ [] }
+    ensures done { OnOk result (AreRecords schedule.now position undos.new) }
+    ensures unchanged { OnErr result (undos.new ≡ undos.old) }
 {
     if undos.is_empty() {
-        *undos = records_of(*undos.allocator(), schedule, position)?;
+        *undos = records_of(undos.allocator(), schedule, position, undos.limit())?;
     }
     Ok(())
 }

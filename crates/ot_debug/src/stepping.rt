@@ -60,10 +60,11 @@ impl<const LISTS: u8> Debugging<LISTS> {
             unreachable!()
         };
         if let Err((e, undo)) = self.machine.undo(undo) {
-            self.undos.push_reserved(undo);
+            self.undos.put_back(undo);
             return Err(e);
         }
         self.position -= 1;
+        self.undos.went_back_to(self.position);
         let Some(instr) = self.schedule.get(self.position) else {
             unreachable!()
         };

@@ -81,6 +81,16 @@ impl<T: Element> Inverse<T> {
         })
     }
 
+    /// About how much it keeps, counted in components and elements, 1 at least: 1 and the elements that come back where it changes one place, else 1
+    /// and the components of the operation and the elements that it inserts. A look-up.
+    pub fn size(&self) -> usize {
+        let kept = match &self.form {
+            Form::Whole(op) => op.components().len().saturating_add(op.inserted()),
+            Form::OnePlace { text, .. } => text.len(),
+        };
+        kept.saturating_add(1)
+    }
+
     /// Makes the document what the inverse makes of it, which has to fit: costs what `Doc::change` does, and the elements that come back.
     /// `AllocError` where a growth was refused; then the document is as it was.
     pub fn change(&self, document: &mut Doc<T>) -> Result<(), AllocError>

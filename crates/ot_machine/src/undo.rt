@@ -87,6 +87,22 @@ impl Undo {
             _ => None,
         }
     }
+
+    /// About how much it keeps, counted in components and elements, 1 at least: those of the inverse, and the components of the message that a Take took.
+    /// What the client waited for before the step is not counted: it is as large as the inverse, about, or as a message. A look-up.
+    pub fn size(&self) -> usize {
+        match &self.step {
+            Record::ClientStep(_, before) => match &before.inverse {
+                Some(inverse) => inverse.size(),
+                None => 1,
+            },
+            Record::Taken(_, message, inverse) => {
+                let components = message.op.components().len();
+                components.saturating_add(inverse.size())
+            }
+            Record::Joined(_) | Record::Read => 1,
+        }
+    }
 }
 
 impl Machine {

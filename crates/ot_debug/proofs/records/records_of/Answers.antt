@@ -20,5 +20,5 @@ unreachable-requires-in_default-refusal c =
 pub loop-place-preserved : goal.loop-place-preserved
 loop-place-preserved c =
     let performed = c.in_default-perform_recorded in
-    recorded_next c.args.schedule.now c.loop-place.place (c.loop-place.place + 1) c.loop-place.machine c.perform_recorded.new.machine c.loop-place.undos.items c.perform_recorded.new.undos.items
-    c.in-Some.instr.now performed.ensures.done.0 c.loop-place.invariant.0 c.loop-place.invariant.1 c.in-Some.ensures.some performed.ensures.done.1 performed.ensures.record (omega arith)
+    recorded_next c.args.schedule.now c.loop-place.place (c.loop-place.place + 1) c.loop-place.machine c.perform_recorded.new.machine c.loop-place.undos c.perform_recorded.new.undos
+    c.in-Some.instr.now performed.ensures.done.0 c.loop-place.invariant.0 c.loop-place.invariant.1 c.in-Some.ensures.some performed.ensures.done.1 performed.ensures.record performed.ensures.kept (omega arith)
