@@ -9,7 +9,7 @@ ghost use Rattle.ot_client.specs.declared.TheConstants.{REVISION_LIMIT};
 use crate::prepared::PreparedStep;
 use crate::waiting::Waiting;
 use crate::{AwaitingWithBuffer, Synchronized};
-use ot_algebra::{prepare_transform, transform, transform_second};
+use ot_sections::Held;
 use ot_text::{Element, TextOp};
 use std::alloc::AllocError;
 use std::marker::Model;
@@ -18,7 +18,7 @@ use std::marker::Model;
 #[derive(Drop)]
 pub struct AwaitingConfirm<T> {
     revision: u32,
-    outstanding: TextOp<T>,
+    outstanding: Held<T>,
 }
 
 impl<T> Model for AwaitingConfirm<T> {
@@ -31,7 +31,7 @@ impl<T> Model for AwaitingConfirm<T> {
 
 impl<T: Element> AwaitingConfirm<T> {
     // The client that has sent this operation.
-    pub(crate) fn new(revision: u32, outstanding: TextOp<T>) -> AwaitingConfirm<T>
+    pub(crate) fn new(revision: u32, outstanding: Held<T>) -> AwaitingConfirm<T>
         ensures { result ≡ record { revision = revision; outstanding = outstanding } }
     {
         AwaitingConfirm {
@@ -48,7 +48,7 @@ impl<T: Element> AwaitingConfirm<T> {
     }
 
     /// The operation that was sent, over the server's document at the client's revision.
-    pub fn outstanding(&self) -> &TextOp<T>
+    pub fn outstanding(&self) -> &Held<T>
         ensures { result.now ≡ self.now.outstanding }
     {
         &self.outstanding
@@ -69,7 +69,7 @@ impl<T: Element> AwaitingConfirm<T> {
         requires { op.base ≡ length self.outstanding.image }
         ensures { buffering result ≡ edited (confirming self) op }
     {
-        AwaitingWithBuffer::new(self.revision, self.outstanding, op)
+        AwaitingWithBuffer::new(self.revision, self.outstanding, Held::new(op))
     }
 
     /// The client after the next entry of the server's log, an operation of another client over the base of the outstanding one, which goes
@@ -82,8 +82,7 @@ impl<T: Element> AwaitingConfirm<T> {
         ensures state { IfOk result (λ given. confirming given.0 ≡ delivered (confirming self.now) op.now) }
         ensures applied { IfOk result (λ given. given.1 ≡ carried (confirming self.now).phase op.now) }
     {
-        let alloc = self.outstanding.allocator();
-        let (outstanding, applied) = transform(alloc, &self.outstanding, op)?;
+        let (outstanding, applied) = self.outstanding.transform(op)?;
         let next = AwaitingConfirm {
             revision: self.revision + 1,
             outstanding,
@@ -98,7 +97,7 @@ impl<T: Element> AwaitingConfirm<T> {
         requires fits { op.now.base + length (news self.now.outstanding.image) + length (news op.now.image) ≤ LIMIT }
         ensures { IfOk result (λ applied. applied ≡ carried (confirming self.now).phase op.now) }
     {
-        transform_second(&self.outstanding, op)
+        self.outstanding.carry(op)
     }
 
     /// Takes the confirmation of the operation that was sent: nothing is under way. The revision, below 1,000,000, rises by 1. It takes no memory.
@@ -110,7 +109,7 @@ impl<T: Element> AwaitingConfirm<T> {
     }
 
     // The operation that was sent.
-    pub(crate) fn into_outstanding(self) -> TextOp<T>
+    pub(crate) fn into_outstanding(self) -> Held<T>
         ensures { result ≡ self.outstanding }
     {
         self.outstanding
@@ -128,15 +127,17 @@ impl<T: Element> AwaitingConfirm<T> {
         Ok(PreparedStep {
             from: self.revision,
             to: self.revision,
-            waiting: Waiting::Second(self.outstanding, copy),
+            waiting: Waiting::Second(self.outstanding, Held::new(copy)),
             sent: None,
         })
     }
 
-    // The step of `deliver`, with what the document is to be changed by. For want of memory the client comes back.
+    // The step of `deliver`, with what the document is to be changed by, where `kept` says whether its past will be asked for. For want of memory the
+    // client comes back.
     pub(crate) fn prepare_deliver(
         self,
         op: &TextOp<T>,
+        kept: bool,
     ) -> Result<(PreparedStep<T>, TextOp<T>), AwaitingConfirm<T>>
         requires revision { self.revision < REVISION_LIMIT }
         requires base { op.now.base ≡ self.outstanding.base }
@@ -146,7 +147,7 @@ impl<T: Element> AwaitingConfirm<T> {
         ensures back { IfErr result (λ client. client ≡ self) }
     {
         let revision = self.revision;
-        match prepare_transform(self.outstanding, op) {
+        match self.outstanding.prepare_transform(op, kept) {
             Ok((outstanding, applied)) => {
                 let step = PreparedStep {
                     from: revision,

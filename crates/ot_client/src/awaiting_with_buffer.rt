@@ -10,7 +10,7 @@ ghost use Rattle.ot_client.specs.declared.TheConstants.{REVISION_LIMIT};
 use crate::prepared::PreparedStep;
 use crate::waiting::Waiting;
 use crate::{AwaitingConfirm, Sent};
-use ot_algebra::{prepare_compose, prepare_transform, transform, transform_second};
+use ot_sections::Held;
 use ot_text::{Element, TextOp};
 use std::alloc::AllocError;
 use std::marker::Model;
@@ -19,8 +19,8 @@ use std::marker::Model;
 #[derive(Drop)]
 pub struct AwaitingWithBuffer<T> {
     revision: u32,
-    outstanding: TextOp<T>,
-    buffer: TextOp<T>,
+    outstanding: Held<T>,
+    buffer: Held<T>,
 }
 
 impl<T> Model for AwaitingWithBuffer<T> {
@@ -37,11 +37,7 @@ impl<T> Model for AwaitingWithBuffer<T> {
 
 impl<T: Element> AwaitingWithBuffer<T> {
     // The client that has sent this operation and keeps these edits.
-    pub(crate) fn new(
-        revision: u32,
-        outstanding: TextOp<T>,
-        buffer: TextOp<T>,
-    ) -> AwaitingWithBuffer<T>
+    pub(crate) fn new(revision: u32, outstanding: Held<T>, buffer: Held<T>) -> AwaitingWithBuffer<T>
         requires { buffer.base ≡ length outstanding.image }
         ensures { result ≡ record { revision = revision; outstanding = outstanding; buffer = buffer } }
     {
@@ -60,14 +56,14 @@ impl<T: Element> AwaitingWithBuffer<T> {
     }
 
     /// The operation that was sent, over the server's document at the client's revision.
-    pub fn outstanding(&self) -> &TextOp<T>
+    pub fn outstanding(&self) -> &Held<T>
         ensures { result.now ≡ self.now.outstanding }
     {
         &self.outstanding
     }
 
     /// The edits since, as one operation over what the outstanding operation makes.
-    pub fn buffer(&self) -> &TextOp<T>
+    pub fn buffer(&self) -> &Held<T>
         ensures value { result.now ≡ self.now.buffer }
         ensures joined { IsJoined self.now }
     {
@@ -97,7 +93,7 @@ impl<T: Element> AwaitingWithBuffer<T> {
     {
         let revision = self.revision;
         let outstanding = self.outstanding;
-        match prepare_compose(self.buffer, &op) {
+        match self.buffer.prepare_compose(&op, false) {
             Ok(buffer) => Ok(AwaitingWithBuffer::new(revision, outstanding, buffer.commit())),
             Err(buffer) => Err((AwaitingWithBuffer::new(revision, outstanding, buffer), op)),
         }
@@ -114,12 +110,11 @@ impl<T: Element> AwaitingWithBuffer<T> {
         ensures state { IfOk result (λ given. buffering given.0 ≡ delivered (buffering self.now) op.now) }
         ensures applied { IfOk result (λ given. given.1 ≡ carried (buffering self.now).phase op.now) }
     {
-        let alloc = self.buffer.allocator();
         // For the proof: what every operation keeps.
         let _operation = self.outstanding.base_len();
         let _operation = op.base_len();
-        let (outstanding, passed) = transform(alloc, &self.outstanding, op)?;
-        let (buffer, applied) = transform(alloc, &self.buffer, &passed)?;
+        let (outstanding, passed) = self.outstanding.transform(op)?;
+        let (buffer, applied) = self.buffer.transform(&passed)?;
         let next = AwaitingWithBuffer {
             revision: self.revision + 1,
             outstanding,
@@ -138,8 +133,8 @@ impl<T: Element> AwaitingWithBuffer<T> {
         // For the proof: what every operation keeps.
         let _operation = self.outstanding.base_len();
         let _operation = op.base_len();
-        let passed = transform_second(&self.outstanding, op)?;
-        transform_second(&self.buffer, &passed)
+        let passed = self.outstanding.carry(op)?;
+        self.buffer.carry(&passed)
     }
 
     /// Takes the confirmation of the operation that was sent: the revision, below 1,000,000, rises by 1, and the buffer is sent with the risen
@@ -157,7 +152,7 @@ impl<T: Element> AwaitingWithBuffer<T> {
     // So, with the operation that was confirmed.
     pub(crate) fn confirm(
         self,
-    ) -> Result<(AwaitingConfirm<T>, Sent<T>, TextOp<T>), AwaitingWithBuffer<T>>
+    ) -> Result<(AwaitingConfirm<T>, Sent<T>, Held<T>), AwaitingWithBuffer<T>>
         requires { self.revision < REVISION_LIMIT }
         ensures state { IfOk result (λ given. given.0 ≡ record { revision = self.revision + 1; outstanding = self.buffer }) }
         ensures sent { IfOk result (λ given. message_of given.1 ≡ record { revision = self.revision + 1; op = self.buffer }) }
@@ -165,7 +160,7 @@ impl<T: Element> AwaitingWithBuffer<T> {
         ensures joined { IsJoined self }
         ensures back { IfErr result (λ back. back ≡ self) }
     {
-        let Ok(copy) = self.buffer.copy() else {
+        let Ok(copy) = self.buffer.to_op() else {
             return Err(self);
         };
         let revision = self.revision + 1;
@@ -175,17 +170,18 @@ impl<T: Element> AwaitingWithBuffer<T> {
     }
 
     // The operation that was sent, and the buffer.
-    pub(crate) fn into_operations(self) -> (TextOp<T>, TextOp<T>)
+    pub(crate) fn into_operations(self) -> (Held<T>, Held<T>)
         ensures operations { result ≡ (self.outstanding, self.buffer) }
         ensures joined { IsJoined self }
     {
         (self.outstanding, self.buffer)
     }
 
-    // The step of `edit`, over an edit that is only read. For want of memory the client comes back.
+    // The step of `edit`, over an edit that is only read, where `kept` says whether its past will be asked for. For want of memory the client comes back.
     pub(crate) fn prepare_edit(
         self,
         op: &TextOp<T>,
+        kept: bool,
     ) -> Result<PreparedStep<T>, AwaitingWithBuffer<T>>
         requires { op.now.base ≡ length self.buffer.image }
         ensures step { IfOk result (λ step. step ≡ record { before = buffering self; after = edited (buffering self) op.now; sent = None }) }
@@ -193,7 +189,7 @@ impl<T: Element> AwaitingWithBuffer<T> {
     {
         let revision = self.revision;
         let outstanding = self.outstanding;
-        match prepare_compose(self.buffer, op) {
+        match self.buffer.prepare_compose(op, kept) {
             Ok(buffer) => Ok(PreparedStep {
                 from: revision,
                 to: revision,
@@ -204,10 +200,12 @@ impl<T: Element> AwaitingWithBuffer<T> {
         }
     }
 
-    // The step of `deliver`, with what the document is to be changed by. For want of memory the client comes back.
+    // The step of `deliver`, with what the document is to be changed by, where `kept` says whether its past will be asked for. For want of memory the
+    // client comes back.
     pub(crate) fn prepare_deliver(
         self,
         op: &TextOp<T>,
+        kept: bool,
     ) -> Result<(PreparedStep<T>, TextOp<T>), AwaitingWithBuffer<T>>
         requires revision { self.revision < REVISION_LIMIT }
         requires base { op.now.base ≡ self.outstanding.base }
@@ -221,13 +219,13 @@ impl<T: Element> AwaitingWithBuffer<T> {
         let _operation = op.base_len();
         let revision = self.revision;
         let buffer = self.buffer;
-        let (outstanding, passed) = match prepare_transform(self.outstanding, op) {
+        let (outstanding, passed) = match self.outstanding.prepare_transform(op, kept) {
             Ok(given) => given,
             Err(outstanding) => {
                 return Err(AwaitingWithBuffer::new(revision, outstanding, buffer));
             }
         };
-        match prepare_transform(buffer, &passed) {
+        match buffer.prepare_transform(&passed, kept) {
             Ok((buffer, applied)) => {
                 let step = PreparedStep {
                     from: revision,

@@ -58,8 +58,9 @@ impl<T: Element> Client<T> {
 
     /// Prepares the client to take the user's edit, which is in the user's document already; the edit is only read. Of what waits only the buffer
     /// changes, at the components that the edit touches; beyond that it costs a copy of the edit where that waits from now on, and a second one
-    /// where it is sent. For want of memory the client comes back.
-    pub fn prepare_edit(self, op: &TextOp<T>) -> Result<PreparedStep<T>, Client<T>>
+    /// where it is sent. Where what leads back will be asked for (`kept`), the buffer is one list of components from now on. For want of memory the client
+    /// comes back.
+    pub fn prepare_edit(self, op: &TextOp<T>, kept: bool) -> Result<PreparedStep<T>, Client<T>>
         requires { MayEdit (state_of self).phase op.now }
         ensures step { IfOk result (λ step. step ≡ record { before = state_of self; after = edited (state_of self) op.now; sent = message_edited (state_of self).revision (state_of self).phase op.now }) }
         ensures back { IfErr result (λ client. client ≡ self) }
@@ -73,7 +74,7 @@ impl<T: Element> Client<T> {
                 Ok(step) => Ok(step),
                 Err(client) => Err(Client::AwaitingConfirm(client)),
             },
-            Client::AwaitingWithBuffer(client) => match client.prepare_edit(op) {
+            Client::AwaitingWithBuffer(client) => match client.prepare_edit(op, kept) {
                 Ok(step) => Ok(step),
                 Err(client) => Err(Client::AwaitingWithBuffer(client)),
             },
@@ -82,10 +83,12 @@ impl<T: Element> Client<T> {
 
     /// Prepares the client to take the next entry of the server's log, an operation of another client, under the conditions of `deliver`, with what
     /// the document is to be changed by; `None` there where that is the operation as it came, as for a synchronized client. The operation is only
-    /// read, and what waits changes at the components that it touches. For want of memory the client comes back.
+    /// read, and what waits changes at the components that it touches. Where what leads back will be asked for (`kept`), each operation that waits is one
+    /// list of components from now on. For want of memory the client comes back.
     pub fn prepare_deliver(
         self,
         op: &TextOp<T>,
+        kept: bool,
     ) -> Result<(PreparedStep<T>, Option<TextOp<T>>), Client<T>>
         requires revision { (state_of self).revision < REVISION_LIMIT }
         requires operations { MayDeliver (state_of self).phase op.now }
@@ -95,11 +98,11 @@ impl<T: Element> Client<T> {
     {
         match self {
             Client::Synchronized(client) => Ok((client.prepare_deliver(op), None)),
-            Client::AwaitingConfirm(client) => match client.prepare_deliver(op) {
+            Client::AwaitingConfirm(client) => match client.prepare_deliver(op, kept) {
                 Ok((step, applied)) => Ok((step, Some(applied))),
                 Err(client) => Err(Client::AwaitingConfirm(client)),
             },
-            Client::AwaitingWithBuffer(client) => match client.prepare_deliver(op) {
+            Client::AwaitingWithBuffer(client) => match client.prepare_deliver(op, kept) {
                 Ok((step, applied)) => Ok((step, Some(applied))),
                 Err(client) => Err(Client::AwaitingWithBuffer(client)),
             },

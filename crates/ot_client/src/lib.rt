@@ -18,6 +18,8 @@
 //! takes is there in a [`PreparedStep`], which then gives the client after it (`commit`) or the one before it (`roll_back`) and cannot fail. So a
 //! caller can change more than the client, or nothing. What leads back from the client after a step is a [`Past`], and [`Past::prepare_back`] goes
 //! back so, at the cost of what is kept.
+//! What waits is held by `ot_sections` (`Held`), as one list of components or, where it has many, in sections: a small step then costs what it touches and
+//! a look at each section. A step whose past will be asked for holds one list, which a [`Past`] is over.
 //! These are the functions `applyClient`, `applyServer` and `serverAck` of the three states in ot.js' `Client`.
 //!
 //! Contracts see a state as `State` of `specs/State.antt`: a revision and a `Phase`. `edited` and `delivered` are two of the rules, `carried` what a

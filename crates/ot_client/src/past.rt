@@ -1,6 +1,7 @@
 //! What a client waited for before a step, kept over what it waits for after it.
 
 ghost use Rattle.std.specs.Prelude.{◌≡◌, length, IfErr, IfOk};
+ghost use Rattle.ot_text.specs.Patch.{patched, LeadsFrom};
 ghost use Rattle.ot_client.specs.Client.{state_of};
 ghost use Rattle.ot_client.specs.Past.{phase_before, FitsPhase, LeadsBack};
 ghost use Rattle.ot_client.specs.State as state;
@@ -8,7 +9,8 @@ ghost use Rattle.ot_client.specs.State as state;
 use crate::prepared::PreparedBack;
 use crate::waiting::Waiting;
 use crate::{AwaitingConfirm, AwaitingWithBuffer, Client};
-use ot_text::{Element, Patch, TextOp};
+use ot_sections::{Held, PreparedHeld};
+use ot_text::{Element, Patch};
 use std::alloc::AllocError;
 
 /// What a client waited for before a step, by the kind of the step. What the step leaves as it was is not kept.
@@ -25,12 +27,25 @@ pub enum Past<T> {
     /// The outstanding operation, which still is, and the buffer, into which an edit was composed.
     Buffer(Patch<T>),
     /// This operation, which was confirmed, and then what is outstanding now, if anything is.
-    Confirmed(TextOp<T>),
+    Confirmed(Held<T>),
+}
+
+// Prepares an operation that waits to become the one from which the patch leads, both as one list of components. For want of memory it comes back.
+fn prepare_back<T: Element>(patch: &Patch<T>, op: Held<T>) -> Result<PreparedHeld<T>, Held<T>>
+    requires { LeadsFrom patch.now op }
+    ensures before { IfOk result (λ change. change.before ≡ op) }
+    ensures after { IfOk result (λ change. change.after ≡ patched patch.now op) }
+    ensures back { IfErr result (λ same. same ≡ op) }
+{
+    match patch.prepare_back(op.into_op()?) {
+        Ok(change) => Ok(PreparedHeld::whole(change)),
+        Err(op) => Err(Held::new(op)),
+    }
 }
 
 impl<T: Element> Past<T> {
-    /// Prepares the client after the step to become the one before it, at that one's revision. Costs what is kept, which is copied. For want of
-    /// memory the client comes back.
+    /// Prepares the client after the step to become the one before it, at that one's revision. Costs what is kept, which is copied, and where an operation
+    /// that changes is held in sections, to make one list of it. For want of memory the client comes back.
     pub fn prepare_back(
         &self,
         client: Client<T>,
@@ -86,14 +101,14 @@ impl<T: Element> Past<T> {
     }
 
     // The step back where this operation is outstanding now.
-    fn over_outstanding(&self, op: TextOp<T>) -> Result<Waiting<T>, TextOp<T>>
+    fn over_outstanding(&self, op: Held<T>) -> Result<Waiting<T>, Held<T>>
         requires { FitsPhase self.now (state.AwaitingConfirm op) }
         ensures ok { IfOk result (λ waiting. LeadsBack self.now (state.AwaitingConfirm op) waiting) }
         ensures err { IfErr result (λ same. same ≡ op) }
     {
         match self {
             Past::Nothing => Ok(Waiting::Unsent(op)),
-            Past::Outstanding(patch) => Ok(Waiting::Outstanding(patch.prepare_back(op)?)),
+            Past::Outstanding(patch) => Ok(Waiting::Outstanding(prepare_back(patch, op)?)),
             Past::Confirmed(first) => match first.copy() {
                 Ok(first) => Ok(Waiting::Unconfirmed(first, op)),
                 Err(_) => Err(op),
@@ -105,9 +120,9 @@ impl<T: Element> Past<T> {
     // The step back where there is a buffer now.
     fn over_both(
         &self,
-        outstanding: TextOp<T>,
-        buffer: TextOp<T>,
-    ) -> Result<Waiting<T>, (TextOp<T>, TextOp<T>)>
+        outstanding: Held<T>,
+        buffer: Held<T>,
+    ) -> Result<Waiting<T>, (Held<T>, Held<T>)>
         requires fits { FitsPhase self.now (state.AwaitingWithBuffer outstanding buffer) }
         requires joined { buffer.base ≡ length outstanding.image }
         ensures ok { IfOk result (λ waiting. LeadsBack self.now (state.AwaitingWithBuffer outstanding buffer) waiting) }
@@ -115,17 +130,17 @@ impl<T: Element> Past<T> {
     {
         match self {
             Past::Unbuffered => Ok(Waiting::Unbuffered(outstanding, buffer)),
-            Past::Buffer(patch) => match patch.prepare_back(buffer) {
+            Past::Buffer(patch) => match prepare_back(patch, buffer) {
                 Ok(buffer) => Ok(Waiting::Buffer(outstanding, buffer)),
                 Err(buffer) => Err((outstanding, buffer)),
             },
             Past::Both(both) => {
                 let (first, second) = &**both;
-                let outstanding = match first.prepare_back(outstanding) {
+                let outstanding = match prepare_back(first, outstanding) {
                     Ok(outstanding) => outstanding,
                     Err(outstanding) => return Err((outstanding, buffer)),
                 };
-                match second.prepare_back(buffer) {
+                match prepare_back(second, buffer) {
                     Ok(buffer) => Ok(Waiting::Both(outstanding, buffer)),
                     Err(buffer) => Err((outstanding.roll_back(), buffer)),
                 }

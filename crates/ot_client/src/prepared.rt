@@ -55,8 +55,8 @@ impl<T: Element> PreparedStep<T> {
         self.waiting.roll_back(self.from)
     }
 
-    /// What leads from what the client will wait for back to what it waits for, in memory of `alloc`. Costs the components that change.
-    /// `AllocError` where a growth was refused.
+    /// What leads from what the client will wait for back to what it waits for, in memory of `alloc`. Costs the components that change where the step
+    /// was prepared to be `kept`, else all that waits. `AllocError` where a growth was refused.
     pub fn past(&self, alloc: Global) -> Result<Past<T>, AllocError>
         ensures phase { IfOk result (λ past. phase_before past self.now.after.phase ≡ self.now.before.phase) }
         ensures fits { IfOk result (λ past. FitsPhase past self.now.after.phase) }

@@ -8,6 +8,7 @@ ghost use Rattle.ot_client.specs.declared.TheConstants.{REVISION_LIMIT};
 use crate::prepared::PreparedStep;
 use crate::waiting::Waiting;
 use crate::{AwaitingConfirm, Sent};
+use ot_sections::Held;
 use ot_text::{Element, TextOp};
 use std::marker::Model;
 
@@ -64,7 +65,7 @@ impl Synchronized {
             revision: self.revision,
             op: copy,
         };
-        Ok((AwaitingConfirm::new(self.revision, op), sent))
+        Ok((AwaitingConfirm::new(self.revision, Held::new(op)), sent))
     }
 
     /// The client after the next entry of the server's log, an operation of another client, and what the document is to be changed by: the operation
@@ -101,7 +102,7 @@ impl Synchronized {
         Ok(PreparedStep {
             from: self.revision,
             to: self.revision,
-            waiting: Waiting::First(outstanding),
+            waiting: Waiting::First(Held::new(outstanding)),
             sent: Some(sent),
         })
     }

@@ -5,7 +5,8 @@ ghost use Rattle.ot_client.specs.Client.{state_of};
 ghost use Rattle.ot_client.specs.Step.{phase_from, phase_to, IsStepJoined};
 
 use crate::{AwaitingConfirm, AwaitingWithBuffer, Client, Synchronized};
-use ot_text::{Element, Prepared, TextOp};
+use ot_sections::{Held, PreparedHeld};
+use ot_text::Element;
 
 // What waits before a step and after it, each operation once.
 #[derive(Drop)]
@@ -13,21 +14,21 @@ pub(crate) enum Waiting<T> {
     // Nothing, before and after.
     Nothing,
     // Nothing, and then the edit that is sent.
-    First(TextOp<T>),
+    First(Held<T>),
     // The outstanding operation, which goes after another's.
-    Outstanding(Prepared<T>),
+    Outstanding(PreparedHeld<T>),
     // The outstanding operation, and then the edit that begins the buffer too.
-    Second(TextOp<T>, TextOp<T>),
+    Second(Held<T>, Held<T>),
     // The outstanding operation and the buffer, which go after another's.
-    Both(Prepared<T>, Prepared<T>),
+    Both(PreparedHeld<T>, PreparedHeld<T>),
     // The outstanding operation, and the buffer with an edit composed into it.
-    Buffer(TextOp<T>, Prepared<T>),
+    Buffer(Held<T>, PreparedHeld<T>),
     // An edit that was sent, and then nothing: the edit is taken back.
-    Unsent(TextOp<T>),
+    Unsent(Held<T>),
     // The outstanding operation and the edit that began the buffer, which is taken back.
-    Unbuffered(TextOp<T>, TextOp<T>),
+    Unbuffered(Held<T>, Held<T>),
     // Of these two the second, and then both: the confirmation of the first is taken back.
-    Unconfirmed(TextOp<T>, TextOp<T>),
+    Unconfirmed(Held<T>, Held<T>),
 }
 
 impl<T: Element> Waiting<T> {

@@ -20,7 +20,8 @@ use ot_client::{Client, Sent};
 use ot_isa::{Instr, Schedule, Tagged};
 use ot_json::write_op;
 use ot_machine::{Machine, Refusal};
-use ot_steps::{print_end, print_opening, print_step, print_stop, word};
+use ot_sections::Held;
+use ot_steps::{plain_held, print_end, print_opening, print_step, print_stop, word};
 use ot_text::{Doc, TextOp};
 use ot_values::phase_name;
 use std::alloc::{AllocError, Global};
@@ -158,8 +159,21 @@ fn option_text(alloc: Global, op: Option<&TextOp<Tagged>>) -> Result<Option<Stri
     }
 }
 
+// So of an operation that waits.
+fn held_text(alloc: Global, op: Option<&Held<Tagged>>) -> Result<Option<String>, AllocError>
+    ensures { IfOk result (λ o. option_map string_bytes o ≡ option_map text_of_operation (option_map plain_operation (option_copied op.entry))) }
+{
+    match op {
+        Some(op) => {
+            let plain = plain_held(alloc, op)?;
+            Ok(Some(write_op(alloc, &plain)?))
+        }
+        None => Ok(None),
+    }
+}
+
 // What the client waits for.
-fn outstanding(machine: &Machine, client: u16) -> Option<&TextOp<Tagged>>
+fn outstanding(machine: &Machine, client: u16) -> Option<&Held<Tagged>>
     requires { client < length machine.now.clients }
     ensures { option_map plain_operation (option_copied result) ≡ outstanding_of (client_in machine.now client).phase }
 {
@@ -174,7 +188,7 @@ fn outstanding(machine: &Machine, client: u16) -> Option<&TextOp<Tagged>>
 }
 
 // What it has done since.
-fn buffer(machine: &Machine, client: u16) -> Option<&TextOp<Tagged>>
+fn buffer(machine: &Machine, client: u16) -> Option<&Held<Tagged>>
     requires { client < length machine.now.clients }
     ensures { option_map plain_operation (option_copied result) ≡ buffer_of (client_in machine.now client).phase }
 {
@@ -188,9 +202,9 @@ fn buffer(machine: &Machine, client: u16) -> Option<&TextOp<Tagged>>
     }
 }
 
-fn component_count(op: Option<&TextOp<Tagged>>) -> usize {
+fn component_count(op: Option<&Held<Tagged>>) -> usize {
     match op {
-        Some(op) => op.components().len(),
+        Some(op) => op.components(),
         None => 0,
     }
 }
@@ -204,7 +218,7 @@ fn outstanding_text(
     ensures { IfOk result (λ o. option_map string_bytes o ≡ option_map text_of_operation (outstanding_at machine.now client)) }
 {
     match client {
-        Some(client) => option_text(alloc, outstanding(machine, client)),
+        Some(client) => held_text(alloc, outstanding(machine, client)),
         None => Ok(None),
     }
 }
@@ -218,7 +232,7 @@ fn buffer_text(
     ensures { IfOk result (λ o. option_map string_bytes o ≡ option_map text_of_operation (buffer_at machine.now client)) }
 {
     match client {
-        Some(client) => option_text(alloc, buffer(machine, client)),
+        Some(client) => held_text(alloc, buffer(machine, client)),
         None => Ok(None),
     }
 }

@@ -1,7 +1,7 @@
 //! A client's place in the machine, and the rows there. A row gives what takes it back where it is `KEPT` (kept.rt). Each has one caller, and is
 //! put in its place there, so that a plain row pays nothing for a record that it does not give.
 
-ghost use Rattle.std.specs.Prelude.{◌≡◌, ◌+◌, ◌≤◌, ◌<◌, ◌↔◌, ◌++◌, drop, length, map, replicate, slice_get, OnOk, OnErr, IfOk, IsSomeAnd, IsTrue, None, Some};
+ghost use Rattle.std.specs.Prelude.{◌≡◌, ◌+◌, ◌≤◌, ◌<◌, ◌↔◌, ◌++◌, drop, length, map, replicate, slice_get, true, OnOk, OnErr, IfOk, IsSomeAnd, IsTrue, None, Some};
 ghost use Rattle.std.specs.Option.{option_copied, option_map};
 ghost use Rattle.ot_text.specs.Operation.{apply, news};
 ghost use Rattle.ot_client.specs.State as state;
@@ -13,10 +13,11 @@ ghost use Rattle.ot_machine.specs.Undoing.{message_at, IsBefore, Restores};
 ghost use Rattle.ot_isa.specs.declared.tagging.TheConstants.{INSERTED_LIMIT};
 
 use crate::kept::{self, Before};
-use ot_client::{Client, PreparedStep, Sent, Synchronized};
+use ot_client::{Client, Past, PreparedStep, Sent, Synchronized};
 use ot_inverse::Inverse;
 use ot_isa::Tagged;
 use ot_links::{Downlink, Uplink};
+use ot_sections::Held;
 use ot_server::{Entry, Server, ServerFault};
 use ot_text::{Doc, TextOp};
 use std::alloc::{AllocError, Global};
@@ -132,7 +133,7 @@ pub(crate) fn edit<const KEPT: bool>(
     let Some(client) = seat.client.take() else {
         unreachable!()
     };
-    let step = match client.prepare_edit(op) {
+    let step = match client.prepare_edit(op, KEPT) {
         Ok(step) => step,
         Err(client) => {
             seat.client = Some(client);
@@ -242,7 +243,7 @@ pub(crate) fn deliver<const KEPT: bool>(
     let Some(client) = seat.client.take() else {
         unreachable!()
     };
-    let (step, carried) = match client.prepare_deliver(op) {
+    let (step, carried) = match client.prepare_deliver(op, KEPT) {
         Ok(prepared) => prepared,
         Err(client) => {
             seat.client = Some(client);
@@ -262,6 +263,24 @@ pub(crate) fn deliver<const KEPT: bool>(
             Err(e)
         }
     }
+}
+
+// What takes an acknowledgement back, where it is `KEPT`.
+#[inline(always)]
+fn confirmed<const KEPT: bool>(past: Past<Tagged>, revision: u32, count: u32) -> Option<Before>
+    ensures { IsTrue KEPT → result ≡ Some (record { past = past; inverse = None; revision = revision; count = count; unsent = true; received = true }) }
+{
+    if !KEPT {
+        return None;
+    }
+    Some(Before {
+        past,
+        inverse: None,
+        revision,
+        count,
+        unsent: true,
+        received: true,
+    })
 }
 
 // Takes the first message, the acknowledgement of the client's own operation.
@@ -287,17 +306,7 @@ pub(crate) fn acknowledge<const KEPT: bool>(seat: &mut Seat) -> Result<Option<Be
     seat.client = Some(client);
     put_up(&mut seat.up, sent);
     let _ = seat.down.pop();
-    if !KEPT {
-        return Ok(None);
-    }
-    Ok(Some(Before {
-        past,
-        inverse: None,
-        revision,
-        count: seat.count,
-        unsent: true,
-        received: true,
-    }))
+    Ok(confirmed::<KEPT>(past, revision, seat.count))
 }
 
 // Gives the client, which has not joined, the server's document and revision.
@@ -348,6 +357,24 @@ fn receive<const KEPT: bool>(
     }
 }
 
+// The server receives an operation that waits, which it does not refuse: one that is held as one list of components as it is, another one as a copy.
+fn receive_held<const KEPT: bool>(
+    server: &mut Server<Tagged>,
+    client: u16,
+    revision: u32,
+    op: &Held<Tagged>,
+) -> Result<Option<Inverse<Tagged>>, AllocError>
+    requires { fault_of server.old revision op.now ≡ None }
+    ensures ok { OnOk result (server.new ≡ received server.old client revision op.now) }
+    ensures err { OnErr result (server.new ≡ server.old) }
+    ensures undo { IsTrue KEPT → IfOk result (λ kept. IsSomeAnd kept (λ undo. IsUndo server.old server.new undo)) }
+{
+    match op.whole() {
+        Some(op) => receive::<KEPT>(server, client, revision, op),
+        None => receive::<KEPT>(server, client, revision, &op.to_op()?),
+    }
+}
+
 // The server receives what is under way from the client. The outstanding operation is the message carried over what the client has
 // seen of the log, so only the entries that it has not seen are left to carry it over.
 fn receive_outstanding<const KEPT: bool>(
@@ -362,10 +389,10 @@ fn receive_outstanding<const KEPT: bool>(
 {
     match &seat.client {
         Some(Client::AwaitingConfirm(sender)) => {
-            receive::<KEPT>(server, client, sender.revision(), sender.outstanding())
+            receive_held::<KEPT>(server, client, sender.revision(), sender.outstanding())
         }
         Some(Client::AwaitingWithBuffer(sender)) => {
-            receive::<KEPT>(server, client, sender.revision(), sender.outstanding())
+            receive_held::<KEPT>(server, client, sender.revision(), sender.outstanding())
         }
         _ => unreachable!(),
     }

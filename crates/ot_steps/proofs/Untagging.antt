@@ -140,13 +140,18 @@ normal_still : {A : Type 0} (code : A → ℕ) (rs : List (Run A)) → IsNormal 
 normal_still code [] normal = tt
 normal_still code (r ∷ rs) normal = (filled_still code r normal.0, lead_still code r rs normal.1, normal_still code rs normal.2)
 
--- the text of tagged components is that of the operation without tags
+-- the text of tagged runs is that of the operation without tags
+pub run_text : (rs : List (Run Tagged)) (op : Operation Tagged) → IsNormal rs → operation_of rs ≡ op
+    → compact_text (array_of (map (lettered (λ (x : Tagged). x.ch)) rs)) ≡ text_of_operation (plain_operation op)
+run_text rs op normal spells =
+    let plain = map (lettered (λ (x : Tagged). x.ch)) rs in
+    ap (λ (ss : List (Run ℕ)). compact_text (array_of ss))
+    (runs_are plain (plain_operation op) (normal_still (λ (x : Tagged). x.ch) rs normal) (plain_runs rs ∙ ap plain_operation spells))
+
+-- so is that of tagged components
 pub tagged_text : (cs : List (Component Tagged)) (op : Operation Tagged) → IsNormal (runs cs) → operation_of (runs cs) ≡ op
     → compact_text (array_of (map (lettered (λ (x : Tagged). x.ch)) (runs cs))) ≡ text_of_operation (plain_operation op)
-tagged_text cs op normal spells =
-    let rs = map (lettered (λ (x : Tagged). x.ch)) (runs cs) in
-    ap (λ (ss : List (Run ℕ)). compact_text (array_of ss))
-    (runs_are rs (plain_operation op) (normal_still (λ (x : Tagged). x.ch) (runs cs) normal) (plain_runs (runs cs) ∙ ap plain_operation spells))
+tagged_text cs op normal spells = run_text (runs cs) op normal spells
 
 pub letters_same : (text : List ℕ) → map (λ (c : ℕ). c) text ≡ text
 letters_same [] = refl

@@ -21,6 +21,7 @@ use crate::items::Items;
 use ot_client::{Client, Past};
 use ot_isa::{Instr, Tagged};
 use ot_machine::{Machine, Refusal};
+use ot_sections::Held;
 use ot_text::{Patch, TextOp};
 use std::alloc::{AllocError, Global};
 
@@ -38,16 +39,19 @@ pub(crate) struct Kept {
 }
 
 // The text of `op`, from that of the operation that the patch makes of it, where that was kept. None where more than half of the components have changed,
-// or where these are few.
+// or where these are few, or in sections.
 fn renewed(
     alloc: Global,
     kept: Option<Items>,
     patch: &Patch<Tagged>,
-    op: &TextOp<Tagged>,
+    op: &Held<Tagged>,
 ) -> Result<Option<Items>, AllocError>
     requires { LeadsFrom patch.now op.now }
     ensures { HoldsOf kept (Some (patched patch.now op.now)) → IfOk result (λ items. HoldsOf items (Some op.now)) }
 {
+    let Some(op) = op.whole() else {
+        return Ok(None);
+    };
     let components = op.components();
     let (front, back) = patch.shared(op);
     if components.len() < LONG || front + back < components.len() / 2 {
@@ -64,10 +68,9 @@ fn renewed(
 fn waits_for_much(client: &Client<Tagged>) -> bool {
     match client {
         Client::Synchronized(_) => false,
-        Client::AwaitingConfirm(client) => client.outstanding().components().len() >= LONG,
+        Client::AwaitingConfirm(client) => client.outstanding().components() >= LONG,
         Client::AwaitingWithBuffer(client) => {
-            client.outstanding().components().len() >= LONG
-                || client.buffer().components().len() >= LONG
+            client.outstanding().components() >= LONG || client.buffer().components() >= LONG
         }
     }
 }
@@ -107,7 +110,7 @@ impl Kept {
         self,
         alloc: Global,
         past: &Past<Tagged>,
-        op: &TextOp<Tagged>,
+        op: &Held<Tagged>,
     ) -> Result<Kept, AllocError>
         requires { FitsPhase past.now (state.AwaitingConfirm op.now) }
         ensures { IsKeptOf self (phase_in (phase_before past.now (state.AwaitingConfirm op.now))) → IfOk result (λ kept. IsKeptOf kept (table.AwaitingConfirm op.now)) }
@@ -133,8 +136,8 @@ impl Kept {
         self,
         alloc: Global,
         past: &Past<Tagged>,
-        op: &TextOp<Tagged>,
-        buffer: &TextOp<Tagged>,
+        op: &Held<Tagged>,
+        buffer: &Held<Tagged>,
     ) -> Result<Kept, AllocError>
         requires { FitsPhase past.now (state.AwaitingWithBuffer op.now buffer.now) }
         ensures { IsKeptOf self (phase_in (phase_before past.now (state.AwaitingWithBuffer op.now buffer.now))) → IfOk result (λ kept. IsKeptOf kept (table.AwaitingWithBuffer op.now buffer.now)) }

@@ -1,0 +1,15 @@
+use Rattle.std.proofs.Common.{◌≡◌, ◌∙◌, refl}
+use Rattle.ot_text.specs.Operation.{IsOperation}
+use Rattle.ot_algebra.specs.Merge.{first_after}
+use Rattle.ot_server.proofs.Carried.{carried_next}
+use Rattle.ot_server.proofs.later.held_after.Goals as goal
+
+pub loop-entry-preserved : goal.loop-entry-preserved
+loop-entry-preserved g c =
+    let next_is : c.in_ok-carried.carried ≡ first_after c.loop-entry.carried c.entry-item.result.op =
+    c.in_ok-carried.ensures ∙ rw c.operation-in-loop-entry.ensures refl in
+    let entry_rises : IsOperation c.entry-item.result.op =
+    rw c.operation.ensures at c.base_len-operation-in-loop-entry.ensures.operation in
+    carried_next c.args.op.now c.args.entries.now c.args.end c.loop-entry.entry-index c.loop-entry.carried c.entry-item.result
+    c.loop-entry-test.true c.entry-item.is c.loop-entry.invariant c.in_ok-carried.carried
+    next_is c.base_len-operation.ensures.operation entry_rises
