@@ -216,9 +216,9 @@ def ends_deleted(length):
     return f"[-1,{length - 2},-1]"
 
 
-def alternate(delivered, clients=64, entries=2000):
-    """A client that deletes every second character of a text of 970,000, and 2,000 operations (there may be 24,000) that each delete its first and its last character:
-    they are delivered to it, or its message is taken over them."""
+def alternate(delivered, clients=64, entries=24000):
+    """A client that deletes every second character of a text of 970,000, and 24,000 operations that each delete its first and its last character: they are
+    delivered to it, or its message is taken over them."""
     lines, length = typed_by_many(clients, 40000)
     lines.append(every_second(0, length))
     for k in range(entries):
@@ -226,8 +226,20 @@ def alternate(delivered, clients=64, entries=2000):
     return [*lines, *["deliver 0"] * entries] if delivered else [*lines, "take 0"]
 
 
-def alternate_edited(clients=64, edits=2000):
-    """A client whose buffer deletes every second character of a text of 970,000, and 2,000 edits (there may be 99,000) at both ends of what is left."""
+def alternate_places(clients=64, entries=24000, count=20):
+    """The same, delivered to it, with operations that each delete a character at 20 places all over the text."""
+    lines, length = typed_by_many(clients, 40000)
+    lines.append(every_second(0, length))
+    for k in range(entries):
+        here = length - count * k
+        step = here // count
+        parts = [f"{step - 1},-1"] * count + [str(here - step * count)] * (here > step * count)
+        lines += [f"edit 1 [{','.join(parts)}]", "take 1", "ack 1"]
+    return [*lines, *["deliver 0"] * entries]
+
+
+def alternate_edited(clients=64, edits=99000):
+    """A client whose buffer deletes every second character of a text of 970,000, and 99,000 edits at both ends of what is left."""
     lines, length = typed_by_many(clients, 40000)
     lines += [f"edit 0 [{length}]", every_second(0, length)]
     length -= length // 2
@@ -338,6 +350,7 @@ SHAPES = {
     "blocks-both-ends": lambda: blocks(True),
     "alternate-pending": lambda: alternate(True),
     "alternate-message": lambda: alternate(False),
+    "alternate-places": alternate_places,
     "alternate-edited": alternate_edited,
     "alternate-crowd": alternate_crowd,
     "every-place": lambda: every_place(False),
