@@ -113,9 +113,8 @@ impl<T: Copy> Draft<T> {
             self.make_room(chunks, 1)?;
             let ahead = text.len() - at;
             let step = ahead.min(FILL - self.pending.len());
-            // (a chunk in the midst of a long text gets no room for more)
-            let room = if ahead < FILL { CHUNK } else { FILL };
-            self.pending.reserve(room - self.pending.len())?;
+            // (room for more than that comes where the chunk is edited where it lies: many never are)
+            self.pending.reserve(FILL - self.pending.len())?;
             self.pending.extend_from_slice(&text[at..at + step])?;
             at += step;
         }
