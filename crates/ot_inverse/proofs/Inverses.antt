@@ -6,10 +6,10 @@ use Rattle.std.specs.declared.alloc.Global.{Global}
 use Rattle.ot_text.specs.declared.Component.{Component}
 use Rattle.ot_text.specs.declared.Component.TheVariants.{Retain, Insert, Delete}
 use Rattle.ot_text.specs.Components.{runs}
-use Rattle.ot_text.specs.Operation.{New, olds, Operation, empty, invert, with_retain, with_insert, with_delete, IsTooLong}
+use Rattle.ot_text.specs.Operation.{New, olds, news, Operation, empty, invert, with_retain, with_insert, with_delete, IsTooLong}
 use Rattle.ot_text.specs.Run.{Run, base_of, image_from, operation_of}
 use Rattle.ot_text.proofs.Inverted.{inverted_none, inverted_all, inverted_retain, inverted_insert, inverted_delete}
-use Rattle.ot_text.proofs.RunLemmas.{same_operation, length-olds, longest_retain, longest_insert}
+use Rattle.ot_text.proofs.RunLemmas.{same_operation, length-olds, length-news-append, length-news-olds, length-news-news, longest_retain, longest_insert}
 use Rattle.ot_inverse.specs.declared.place.Change.{Change}
 use Rattle.ot_inverse.specs.Inverses.{SpellSame, BeginsWithText, ChangesPlace, change_at, operation_at, text_of}
 
@@ -103,3 +103,15 @@ room_to_retain op n base target sizes b t long = let l = rw (longest_retain op n
 
 pub room_to_insert : {A : Type 0} (op : Operation A) (text : List A) (base target : ℕ) → Sizes op base target → base ≤ 1000000 → target + length text ≤ 1000000 → IsTooLong (with_insert op text) → ⊥
 room_to_insert op text base target sizes b t long = let l = rw (longest_insert op text) at long in omega (arith, l, sizes.0, sizes.1, b, t)
+
+-- what comes back is its text
+pub comes_back : {A : Type 0} (before gone : ℕ) (text : List A) (behind : ℕ) → length (news (operation_at before gone text behind).image) ≡ length text
+comes_back {A} before gone text behind =
+    omega (
+      arith,
+      length-news-append (olds 0 before ++ map New text) (olds (0 + before + gone) behind),
+      length-news-append (olds 0 before) (map New text),
+      length-news-olds A 0 before,
+      length-news-olds A (0 + before + gone) behind,
+      length-news-news text,
+    )

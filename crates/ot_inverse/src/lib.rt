@@ -17,8 +17,9 @@
 //! Begin reading at [`Inverse::of`], then at `one_place` of `place.rt`.
 #![tactic(auto)]
 
-ghost use Rattle.std.specs.Prelude.{◌≡◌, length, IfOk, OnErr, OnOk};
-ghost use Rattle.ot_text.specs.Operation.{apply, invert};
+ghost use Rattle.std.specs.Prelude.{◌≡◌, ◌+◌, ◌<◌, ◌≤◌, length, IfOk, OnErr, OnOk};
+ghost use Rattle.ot_text.specs.Operation.{apply, invert, news};
+ghost use Rattle.ot_text.specs.Run.{normal_runs};
 
 mod place;
 
@@ -83,7 +84,10 @@ impl<T: Element> Inverse<T> {
 
     /// About how much it keeps, counted in components and elements, 1 at least: 1 and the elements that come back where it changes one place, else 1
     /// and the components of the operation and the elements that it inserts. A look-up.
-    pub fn size(&self) -> usize {
+    pub fn size(&self) -> usize
+        ensures more { length (news self.now.image) < result }
+        ensures most { result ≤ 1 + length (normal_runs self.now) + length (news self.now.image) }
+    {
         let kept = match &self.form {
             Form::Whole(op) => op.components().len().saturating_add(op.inserted()),
             Form::OnePlace { text, .. } => text.len(),

@@ -1,15 +1,18 @@
 -- Which part of an operation keeps the last element.
-use Rattle.std.proofs.Common.{◌≡◌, ℕ, zero, suc, ◌+◌, ◌<◌, ◌⊎◌, inl, inr, List, [], ◌∷◌, ◌++◌, length, map, get_or, refl, sym, ap, subst, ◌∙◌, arith, append_assoc}
+use Rattle.std.proofs.Common.{◌≡◌, ℕ, zero, suc, ◌+◌, ◌-◌, ◌<◌, ◌⊎◌, inl, inr, List, [], ◌∷◌, ◌++◌, length, map, take, get_or, refl, sym, ap, subst, ◌∙◌, arith, append_assoc}
 use Rattle.std.proofs.lemmas.List.{append-nil, map-append}
 use Rattle.std.proofs.lemmas.List.Elements.{All-push}
 use Rattle.std.specs.List.{All}
 use Rattle.ot_text.specs.declared.Component.{Component}
+use Rattle.ot_text.specs.declared.Component.TheVariants.{Retain, Insert, Delete}
 use Rattle.ot_text.specs.Components.{run_of, runs}
 use Rattle.ot_text.specs.Operation.{Item, Old, New, Operation, RisesFrom, IsOperation}
 use Rattle.ot_text.specs.Run.{Run, Keep, Add, Skip, operation_of, IsFilled, IsNormal}
+use Rattle.ot_text.proofs.Compared.{runs_more, runs_all}
 use Rattle.ot_text.proofs.Lists.{Each}
+use Rattle.ot_text.proofs.OperationLaws.{operation_of-IsOperation}
 use Rattle.ot_sections.specs.Joined.{shifted, joined, joined_all, KeepsLast}
-use Rattle.ot_sections.proofs.JoinedLaws.{empty-joined, front-IsOperation, length-joined}
+use Rattle.ot_sections.proofs.JoinedLaws.{empty-joined, front-IsOperation, length-joined, operation_of-append}
 use Rattle.ot_sections.proofs.Keeping.{KeepsLast-all}
 use Rattle.ot_sections.proofs.Splitting.{all_from_each}
 
@@ -93,6 +96,33 @@ pub begun_next :
 begun_next sections section next cs i c within is normal next_is =
     let some = filled (run_of c) (filled_at cs i c within is normal) in
     inr (subst (λ op. 0 < op.base + length op.image) (sym next_is) (omega (arith, some, length-joined section (operation_of (run_of c ∷ [])))))
+
+-- an operation that ends with a text, or with elements that go, does not keep its last element
+
+last_run :
+    {T : Type 0} (cs : List (Component T)) (c : Component T) → 0 < length cs → c ≡ get_or cs (length cs - 1) c → IsNormal (runs cs) → KeepsLast (operation_of (runs cs))
+    → KeepsLast (operation_of (run_of c ∷ []))
+last_run {T} cs c some at normal keeps =
+    let front = take (length cs - 1) (runs cs) in
+    let last : suc (length cs - 1) ≡ length cs = omega (arith, some) in
+    let whole : runs cs ≡ front ++ run_of c ∷ [] =
+    sym (ap (λ k. take k (runs cs)) last ∙ runs_all cs (length cs) (omega arith))
+    ∙ runs_more cs (length cs - 1) c (omega (arith, some)) at
+    in
+    KeepsLast-back (operation_of front) (operation_of (run_of c ∷ [])) (operation_of-IsOperation front)
+    (filled (run_of c) (filled_at cs (length cs - 1) c (omega (arith, some)) at normal))
+    (subst KeepsLast (ap operation_of whole ∙ operation_of-append front (run_of c ∷ [])) keeps)
+
+ends_kept : {T : Type 0} (c : Component T) → KeepsLast (operation_of (run_of c ∷ [])) → (n : ℕ) × (c ≡ Retain n)
+ends_kept (Retain n) keeps = (n, refl)
+ends_kept (Insert s) (front, i, image_is, base_is) = absurd (omega (arith, base_is))
+ends_kept (Delete n) ([], i, image_is, base_is) = absurd (cc image_is)
+ends_kept (Delete n) (x ∷ front, i, image_is, base_is) = absurd (cc image_is)
+
+pub keeps_last_only :
+    {T : Type 0} (op : Operation T) (cs : List (Component T)) (c : Component T) → 0 < length cs → c ≡ get_or cs (length cs - 1) c → IsNormal (runs cs) → operation_of (runs cs) ≡ op
+    → KeepsLast op → (n : ℕ) × (c ≡ Retain n)
+keeps_last_only op cs c some at normal op_is keeps = ends_kept c (last_run cs c some at normal (subst KeepsLast (sym op_is) keeps))
 
 -- where the whole keeps its last element, so does each section
 pub cut_last :

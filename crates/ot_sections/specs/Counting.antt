@@ -2,7 +2,7 @@
 use Rattle.std.specs.Prelude.{ℕ, suc, ◌+◌, ◌-◌, List, [], ◌∷◌, length}
 use Rattle.ot_text.specs.Run.{Run, Keep, Add, Skip}
 
--- so many runs, the last of which is of places that stay, and these behind them: where these begin with places that stay, the two runs are one
+-- so many runs, none or the last of which is of places that stay, and these behind them: where these begin with places that stay, the two runs are one
 abbrev pub counted_behind : {A : Type 0} → ℕ → List (Run A) → ℕ
 counted_behind count [] = count
 counted_behind count (Keep _ ∷ runs) = count - 1 + suc (length runs)

@@ -42,7 +42,7 @@ image_left s = image_from s.place (left s)
 abbrev pub base_at : {A : Type 0} → Side A → ℕ
 base_at s = s.place + base_of (left s)
 
--- something comes next, or nothing is left
+-- something comes next, or nothing is left; no run at hand is empty, and the base length is within the limits
 pub record IsReady {A : Type 0} (s : Side A) : Type 0 where
   pub filled : AreFilled (next_runs s.head)
   pub rest_filled : AreFilled (runs s.components.now)

@@ -1,6 +1,6 @@
 //! Reading an operation part by part.
 
-ghost use Rattle.std.specs.Prelude.{◌≡◌, ◌+◌, ◌<◌, ◌≤◌, [], ◌∷◌, length, IfOk, OnOk, IsTrue};
+ghost use Rattle.std.specs.Prelude.{◌≡◌, ◌+◌, ◌<◌, ◌≤◌, [], ◌∷◌, false, length, IfOk, OnOk, IsTrue};
 ghost use Rattle.ot_text.specs.Operation.{IsTooLong, empty, identity};
 ghost use Rattle.ot_text.specs.Run.{operation_of};
 ghost use Rattle.ot_text.specs.Components.{run_of, runs};
@@ -140,7 +140,8 @@ pub(crate) fn read_rest<'a, T: Element>(
 
 /// Whether the operation ends with elements that stay.
 pub(crate) fn keeps_last<T: Element>(op: &TextOp<T>) -> bool
-    ensures { IsTrue result → KeepsLast op.now }
+    ensures yes { IsTrue result → KeepsLast op.now }
+    ensures no { result ≡ false → ¬ KeepsLast op.now }
 {
     let components = op.components();
     let count = components.len();

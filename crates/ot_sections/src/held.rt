@@ -21,7 +21,9 @@ use std::marker::Model;
 const LONG: usize = 32_768;
 
 /// Whether the operation has 32,768 components or more: it is held in sections when it changes. A look-up.
-pub fn is_long<T: Element>(op: &TextOp<T>) -> bool {
+pub fn is_long<T: Element>(op: &TextOp<T>) -> bool
+    ensures { IsTrue result ↔ (32768 ≤ length (normal_runs op.now)) }
+{
     op.components().len() >= LONG
 }
 

@@ -40,7 +40,7 @@ pub returns-then-keeps_last : goal.returns-then-keeps_last
 returns-then-keeps_last g c =
     group_ends c.args.ops.now c.args.by (left_of c.args.left) (left_of c.in_ok-left.left)
     (record { count = c.loop-op.count + 1; part = c.add_section.new.part; front = c.read.new.front })
-    (rw c.loop-op.invariant.1 (next g (goal.at.returns-then-keeps_last g c).In_ok-left)) (omega arith) c.if-count-ops.true (c.keeps_last.ensures c.if-keeps_last.true)
+    (rw c.loop-op.invariant.1 (next g (goal.at.returns-then-keeps_last g c).In_ok-left)) (omega arith) c.if-count-ops.true (c.keeps_last.ensures.yes c.if-keeps_last.true)
     (operation_of-IsOperation (runs_behind c.args.left.passed (runs c.args.left.components.now)))
 
 pub loop-op-preserved : goal.loop-op-preserved
