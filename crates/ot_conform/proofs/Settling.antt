@@ -127,10 +127,6 @@ stop_verdict s c mid line i r v here refused same given lines = go (table_or_mem
 
 -- ---- the line of an instruction that is performed
 
-pub performed_is : {A : Type 0} (s t : State) (i : Instr) (shown : A → Option Shown) (r : Result A Refusal) → ((x : Refusal) → r ≡ Err x → ⊥) → IfOk r (λ a. step s i ≡ Performed t (shown a)) → (list : Option Shown) × (step s i ≡ Performed t list)
-performed_is s t i shown (Ok a) some done = (shown a, done)
-performed_is s t i shown (Err x) some done = absurd (some x refl)
-
 pub step_decides : (s : Program) (c : Comparison) (line : PortLine) (i : Instr) (t : State) (shown : Option Shown) (due : DueLine) (judged : Result Counts Difference) (result : Option Verdict)
     → slice_get s.instrs c.place ≡ Some i → step c.machine i ≡ Performed t shown → due ≡ step_due (suc c.place) i (sends i c.machine) (applies i c.machine) t → IsJudged c.counts due line judged
     → IfSome result (λ v. (d : Difference) × (judged ≡ Err d) × (v ≡ Differs d))

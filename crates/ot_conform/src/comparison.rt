@@ -19,7 +19,7 @@ use crate::meeting::meet;
 use crate::same_bytes::printed_form;
 use ot_isa::{Instr, Schedule, Tagged};
 use ot_machine::{Machine, Refusal};
-use ot_steps::{applies, sends};
+use ot_steps::{perform, sends};
 use ot_text::TextOp;
 use std::alloc::{AllocError, Global};
 
@@ -265,13 +265,13 @@ impl Comparison {
         // For the proof: what every schedule keeps.
         let _clients = schedule.clients();
         let sent = sends(&self.machine, instr);
-        let delivered = applies(&self.machine, instr)?;
-        if let Err(refusal) = self.machine.perform(instr) {
-            return self.take_stop(alloc, instr, refusal, line);
-        }
+        let applied = match perform(&mut self.machine, instr) {
+            Ok(applied) => applied,
+            Err(refusal) => return self.take_stop(alloc, instr, refusal, line),
+        };
         self.stage = Stage::Running;
         self.place += 1;
-        let delivered = delivered.as_ref();
+        let delivered = applied.operation(&self.machine);
         let judged = compare_step(
             alloc,
             self.counts,

@@ -5,7 +5,7 @@
 //!                          │ no
 //!                          └── read_line ──▶ PortLine ─┐
 //!                                                      ├── meet ──▶ it agrees, or the Field where it differs ──▶ Difference
-//!    Machine::step ────────────────────────▶ Due ──────┘
+//!    ot_steps::perform ────────────────────▶ Due ──────┘
 //! ```
 //!
 //! - *The port's lines* (`specs/Ports.antt`): an object with a place, a text of another form, bytes that are no text, or none. What is not

@@ -7,10 +7,10 @@ use Rattle.std.proofs.lemmas.Option.{get_or_from_slice_get}
 use Rattle.ot_isa.specs.declared.elements.Tagged.{Tagged}
 use Rattle.ot_model.specs.Table.{Client, State, absent}
 use Rattle.ot_machine.specs.Readers.{ClientHas}
-use Rattle.ot_steps.specs.Steps.{client_in, delivers}
+use Rattle.ot_steps.specs.Steps.{client_in}
 use Rattle.ot_steps.proofs.Delivering.{client_of as one_that_has}
-use Rattle.ot_explain.specs.Words.{entry_text, list_text, made_text, of_client}
-use Rattle.ot_explain.specs.Told.{acknowledge_text, acknowledge_words, against_waiting, client_text, client_words, confirmed, deliver_text, deliver_words, waiting}
+use Rattle.ot_explain.specs.Words.{entry_text, list_text, of_client}
+use Rattle.ot_explain.specs.Told.{acknowledge_text, acknowledge_words, against_waiting, client_text, client_words, confirmed, deliver_start, start_text, waiting}
 
 -- of one of its values
 pub said : {A : Type 0} (s : State) (c : ℕ) (field : Client → A) (value : A) (words : A → List ℕ) (bytes : List ℕ)
@@ -44,11 +44,10 @@ pub told_of : (s : State) (c : ℕ) (words : Client → List ℕ) (old new : Lis
 told_of s c words old new inside made = made ∙ ap (λ (t : List ℕ). old ++ t) (sym (of_one s.clients c words inside))
 
 pub delivery_told : (s : State) (c revision : ℕ) (old new : List ℕ) → c < length s.clients → ClientHas s c (λ x. x.revision) revision
-    → new ≡ old ++ deliver_text c (entry_text (slice_get s.log revision)) (against_waiting (client_in s c).phase) (made_text (delivers s c))
-    → new ≡ old ++ of_client s c (deliver_words s c)
+    → new ≡ old ++ start_text c (entry_text (slice_get s.log revision)) (against_waiting (client_in s c).phase) → new ≡ old ++ of_client s c (deliver_start s c)
 delivery_told s c revision old new inside has made =
-    told_of s c (deliver_words s c) old new inside
-    (follows s c (λ x. x.revision) revision (λ (r : ℕ). deliver_text c (entry_text (slice_get s.log r)) (against_waiting (client_in s c).phase) (made_text (delivers s c))) old new has made)
+    told_of s c (deliver_start s c) old new inside
+    (follows s c (λ x. x.revision) revision (λ (r : ℕ). start_text c (entry_text (slice_get s.log r)) (against_waiting (client_in s c).phase)) old new has made)
 
 pub acknowledgement_told : (s : State) (c : ℕ) (old new : List ℕ) → c < length s.clients → new ≡ old ++ acknowledge_text c (confirmed (client_in s c).phase)
     → new ≡ old ++ of_client s c (acknowledge_words c)

@@ -1,5 +1,6 @@
 mod Clients
 mod Counting
+mod Delivered
 mod LineByLine
 mod Progress
 mod Sizes

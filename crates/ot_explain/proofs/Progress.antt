@@ -1,7 +1,6 @@
 -- The paragraphs that are written while a run goes.
 use Rattle.std.proofs.Common.{◌≡◌, ℕ, suc, ◌+◌, ◌≤◌, List, [], ◌∷◌, ◌++◌, length, take, refl, sym, ap, ◌∙◌, subst, arith, inl, inr, Option, Some, None, Bool, add-one}
-use Rattle.std.specs.Prelude.{slice_get, is_some, Result, Ok, Err, IfOk}
-use Rattle.std.specs.Option.{option_map}
+use Rattle.std.specs.Prelude.{slice_get, is_some}
 use Rattle.std.specs.Io.KnownBytes.{Appends}
 use Rattle.std.proofs.KnownBytes.{Appends-nil, Appends-trans}
 use Rattle.std.proofs.lemmas.List.{append_assoc, append-nil, length-take-le}
@@ -11,14 +10,12 @@ use Rattle.streams.proofs.Parts.{part_after}
 use Rattle.ot_isa.specs.Program.{Program}
 use Rattle.ot_isa.specs.declared.instruction.Instr.{Instr}
 use Rattle.ot_model.specs.declared.shown.Refusal.{Refusal}
-use Rattle.ot_model.specs.declared.shown.Reader.{Reader}
 use Rattle.ot_model.specs.declared.shown.Shown.{Shown}
 use Rattle.ot_model.specs.Table.{State, Place, Outcome, Performed, Refused, NoRow, begin, run, step, with_shown}
 use Rattle.ot_model.specs.Runs.{done, opening_of, place_at}
 use Rattle.ot_model.proofs.Runs.{place_at-next, reaches}
 use Rattle.ot_model.proofs.States.{take_entry}
 use Rattle.ot_machine.specs.Answers.{IsRefusal}
-use Rattle.ot_machine.specs.Reads.{shown_by}
 use Rattle.ot_machine.specs.Ended.{reached, IsStop}
 use Rattle.ot_machine.proofs.Stopping.{stopped_at, whole}
 use Rattle.ot_steps.proofs.Running.{reached_within}
@@ -71,12 +68,6 @@ pub paragraph_made : (line place number : ℕ) (i : Instr) (s t : State) (start 
 paragraph_made line place number i s t start mid text is_line is_start is_mid is_text =
     is_text ∙ ap (λ (m : List ℕ). m ++ after i t) is_mid ∙ append_assoc start (before i s) (after i t)
     ∙ ap (λ (h : List ℕ). h ++ (before i s ++ after i t)) (is_start ∙ ap (λ (l : ℕ). heading l number i) is_line)
-
--- an instruction that is not refused is performed
-pub is_move : (line number : ℕ) (i : Instr) (s t : State) (text : List ℕ) (r : Result (Option Reader) Refusal) → ((x : Refusal) → r ≡ Err x → ⊥) → IfOk r (λ who. step s i ≡ Performed t (option_map (shown_by t) who))
-    → text ≡ paragraph line number i s t → IsMove line number i s t text
-is_move line number i s t text (Ok who) some done is = record { shown = option_map (shown_by t) who; performed = done; is = is }
-is_move line number i s t text (Err x) some done is = absurd (some x refl)
 
 -- ---- a run under way
 

@@ -90,7 +90,7 @@ abbrev pub reason : Refusal → Instr → State → List ℕ
 reason NoSuchClient i s = codes "the client is not there"
 reason StepsFull i s = codes "a machine performs at most 1000000 instructions"
 reason NotJoined i s = codes "the client has not joined: join comes first"
-reason AlreadyJoined i s = codes "the client has joined before"
+reason AlreadyJoined i s = codes "the client is there already: it joined before, or was there at the opening, as all clients are without a line `present P`"
 reason BadBase i s = of_edit i s base_words
 reason ClientFull i s = of_edit i s full_words
 reason LinkEmpty i s = empty_words i s

@@ -145,3 +145,31 @@ paragraph line number i s t = heading line number i ++ (before i s ++ after i t)
 abbrev pub opening_words : Program → List ℕ
 opening_words s =
     codes "the opening: " ++ (decimal s.present ++ (codes " of " ++ (decimal s.clients ++ (codes " clients joined, every document is " ++ (document_text s.start ++ codes "\n")))))
+
+-- ---- for private clauses
+
+-- what the state before a delivery tells, up to what is applied
+abbrev pub start_text : ℕ → List ℕ → List ℕ → List ℕ
+start_text c entry against = codes "  client " ++ (decimal c ++ (codes " takes " ++ (entry ++ (against ++ codes " and applies "))))
+
+abbrev pub deliver_start : State → ℕ → Client → List ℕ
+deliver_start s c x = start_text c (entry_text (slice_get s.log x.revision)) (against_waiting x.phase)
+
+-- so of each instruction, and then what a delivery applies
+abbrev pub begun : Instr → State → List ℕ
+begun (Edit c op) s = before (Edit c op) s
+begun (Take c) s = before (Take c) s
+begun (Deliver c) s = of_client s c (deliver_start s c)
+begun (Acknowledge c) s = before (Acknowledge c) s
+begun (Join c) s = before (Join c) s
+begun (Read c) s = before (Read c) s
+begun ReadServer s = before ReadServer s
+
+abbrev pub applied_words : Instr → Option (Operation ℕ) → List ℕ
+applied_words (Edit c op) applied = []
+applied_words (Take c) applied = []
+applied_words (Deliver c) applied = made_text applied ++ codes "\n"
+applied_words (Acknowledge c) applied = []
+applied_words (Join c) applied = []
+applied_words (Read c) applied = []
+applied_words ReadServer applied = []

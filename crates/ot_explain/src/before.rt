@@ -5,16 +5,17 @@ ghost use Rattle.std.specs.Option.{option_copied, option_map};
 ghost use Rattle.ot_client.specs.Client.{message_of, state_of};
 ghost use Rattle.ot_machine.specs.Readers.{ClientHas};
 ghost use Rattle.ot_model.specs.Table.{phase_in};
-ghost use Rattle.ot_steps.specs.Steps.{client_in, delivers};
+ghost use Rattle.ot_steps.specs.Lines.{plain_operation};
+ghost use Rattle.ot_steps.specs.Steps.{client_in};
 ghost use Rattle.ot_explain.specs.Told as told;
-ghost use Rattle.ot_explain.specs.Words.{made_text, of_client};
-ghost use Rattle.ot_explain.specs.Told.{acknowledge_words, against_log, against_waiting, confirmed, deliver_words, edit_goes, edit_text, edit_words, join_words, message_words, take_words};
+ghost use Rattle.ot_explain.specs.Words.{of_client};
+ghost use Rattle.ot_explain.specs.Told.{acknowledge_words, against_log, against_waiting, confirmed, deliver_start, edit_goes, edit_text, edit_words, join_words, message_words, take_words};
 
 use crate::values::{operation_text, push_edit, push_entry, push_held, push_made};
 use ot_client::{Client, Sent};
 use ot_isa::{Instr, Tagged};
 use ot_machine::{Machine, Phase};
-use ot_steps::{applies, push_decimal};
+use ot_steps::push_decimal;
 use ot_text::TextOp;
 use std::alloc::{AllocError, Global};
 
@@ -151,19 +152,7 @@ fn push_against(
     push_against_state(alloc, text, machine.client(client))
 }
 
-// What a delivery to the client would apply.
-fn push_applied(
-    alloc: Global,
-    text: &mut String,
-    machine: &Machine,
-    client: u16,
-) -> Result<(), AllocError>
-    ensures { OnOk result (string_bytes text.new ≡ string_bytes text.old ++ made_text (delivers machine.now client)) }
-{
-    let applied = applies(machine, &Instr::Deliver(client))?;
-    push_made(alloc, text, applied.as_ref())
-}
-
+// A delivery, up to what is applied.
 fn push_delivery(
     alloc: Global,
     text: &mut String,
@@ -171,7 +160,7 @@ fn push_delivery(
     client: u16,
 ) -> Result<(), AllocError>
     requires { client < length machine.now.clients }
-    ensures { OnOk result (string_bytes text.new ≡ string_bytes text.old ++ of_client machine.now client (deliver_words machine.now client)) }
+    ensures { OnOk result (string_bytes text.new ≡ string_bytes text.old ++ of_client machine.now client (deliver_start machine.now client)) }
 {
     let entry = machine.entry(machine.revision(client) as usize);
     text.push_str("  client ")?;
@@ -179,9 +168,7 @@ fn push_delivery(
     text.push_str(" takes ")?;
     push_entry(alloc, text, entry)?;
     push_against(alloc, text, machine, client)?;
-    text.push_str(" and applies ")?;
-    push_applied(alloc, text, machine, client)?;
-    text.push_str("\n")
+    text.push_str(" and applies ")
 }
 
 // What of a client that has joined is confirmed.
@@ -247,14 +234,15 @@ fn push_join(text: &mut String, client: u16) -> Result<(), AllocError>
     Ok(())
 }
 
-/// Adds what the state before the instruction tells of it. For want of memory the text holds a part of it.
+/// Adds what the state before the instruction tells of it, but for what a delivery applies: the step itself gives that. For want of memory the text holds a
+/// part of it.
 pub(crate) fn push_before(
     alloc: Global,
     text: &mut String,
     machine: &Machine,
     instr: &Instr,
 ) -> Result<(), AllocError>
-    ensures { OnOk result (string_bytes text.new ≡ string_bytes text.old ++ told.before instr.now machine.now) }
+    ensures { OnOk result (string_bytes text.new ≡ string_bytes text.old ++ told.begun instr.now machine.now) }
 {
     match instr {
         Instr::Edit(client, op) if *client < machine.clients() => {
@@ -274,4 +262,20 @@ pub(crate) fn push_before(
         Instr::Join(client) => push_join(text, *client),
         _ => Ok(()),
     }
+}
+
+/// Adds what the instruction applied by a delivery, behind what [`push_before`] adds. For want of memory the text holds a part of it.
+pub(crate) fn push_applied(
+    alloc: Global,
+    text: &mut String,
+    instr: &Instr,
+    applied: Option<&TextOp<Tagged>>,
+) -> Result<(), AllocError>
+    ensures { OnOk result (string_bytes text.new ≡ string_bytes text.old ++ told.applied_words instr.now (option_map plain_operation (option_copied applied.entry))) }
+{
+    let Instr::Deliver(_) = instr else {
+        return Ok(());
+    };
+    push_made(alloc, text, applied)?;
+    text.push_str("\n")
 }

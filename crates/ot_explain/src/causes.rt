@@ -338,6 +338,10 @@ fn cause(line: &[u8], kind: Kind) -> (usize, &'static str) {
             "a start text is a JSON string in double quotes, alone to the end of the line",
         ),
         Kind::NoClients => (start_of(line, 0), first_cause(line)),
+        Kind::UnknownWord if trimmed(line) == b"%%".as_slice() => (
+            start_of(line, 0),
+            "`%%` and what stands behind it are read by debug, conform and view alone",
+        ),
         Kind::UnknownWord => (start_of(line, 0), word_cause(word)),
         Kind::BadNumber => number_cause(line),
         Kind::BadClient => (start_of(line, 1), client_cause(word)),
@@ -352,10 +356,21 @@ fn cause(line: &[u8], kind: Kind) -> (usize, &'static str) {
     }
 }
 
+// Whether bytes begin as an image does, and so as no line of a text that is a schedule.
+fn is_image(text: &[u8]) -> bool {
+    text.starts_with(b"OTS1".as_slice()) || text.starts_with(b"OTS2".as_slice())
+}
+
 /// The words for the cause of a text's fault, with its column: a line, or nothing where the text itself is not at fault.
 pub fn fault_words(alloc: Global, text: &[u8], fault: AsmFault) -> Result<String, AllocError> {
     if fault.kind == Kind::Memory || fault.kind == Kind::ReadFault {
         return Ok(String::new(alloc));
+    }
+    if is_image(text) {
+        return String::from_str(
+            alloc,
+            "  column 1: this is an image, which `run --image` and `dis` read\n",
+        );
     }
     let Some(line) = line_of(text, fault.line) else {
         return String::from_str(alloc, "  no line says `clients N`\n");

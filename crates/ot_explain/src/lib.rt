@@ -3,7 +3,7 @@
 //! ```text
 //!    heading     line 7, instruction 3: take 1                                       its line of the text, its number
 //!    before ───▶   the server takes client 1's message of revision 0, ["c",1], ..    told by the state before it
-//!    Machine::perform
+//!    perform ──▶   (of a delivery what it applies)                                   told by the step
 //!    after ────▶   .. and appends [1,"c"] as revision 2                              told by the state after it
 //! ```
 //!

@@ -10,7 +10,7 @@ ghost use Rattle.ot_explain.specs.Reasons.{refused_paragraph, tried};
 ghost use Rattle.ot_explain.specs.Explained.{IsMove, end_words, last_text, line_at, stop_text};
 
 use crate::after::push_after;
-use crate::before::{edit_text, push_before};
+use crate::before::{edit_text, push_applied, push_before};
 use crate::reasons::reason;
 use crate::values::letters_text;
 use ot_isa::{Instr, Schedule};
@@ -58,9 +58,11 @@ pub(crate) fn perform(
     text.clear();
     text.push_str(heading.as_str())?;
     push_before(alloc, text, machine, instr)?;
-    if let Err(refusal) = machine.perform(instr) {
-        return Ok(Err(refusal));
-    }
+    let applied = match ot_steps::perform(machine, instr) {
+        Ok(applied) => applied,
+        Err(refusal) => return Ok(Err(refusal)),
+    };
+    push_applied(alloc, text, instr, applied.operation(machine))?;
     push_after(alloc, text, machine, instr)?;
     Ok(Ok(()))
 }

@@ -209,7 +209,10 @@ pub(crate) fn reason(
         Refusal::NotJoined => {
             String::from_str(alloc, "the client has not joined: join comes first")
         }
-        Refusal::AlreadyJoined => String::from_str(alloc, "the client has joined before"),
+        Refusal::AlreadyJoined => String::from_str(
+            alloc,
+            "the client is there already: it joined before, or was there at the opening, as all clients are without a line `present P`",
+        ),
         Refusal::BadBase => base_reason(alloc, machine, instr),
         Refusal::ClientFull => full_reason(alloc, machine, instr),
         Refusal::LinkEmpty => empty_words(alloc, machine, instr),

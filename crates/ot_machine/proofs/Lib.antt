@@ -5,6 +5,7 @@ pub mod Taking
 pub mod Accepting
 pub mod Delivering
 pub mod Receiving
+pub mod Applying
 pub mod Acknowledging
 pub mod Joining
 pub mod Opening

@@ -28,7 +28,7 @@ may_in state.Synchronized op may = tt
 may_in (state.AwaitingConfirm o) op may = may
 may_in (state.AwaitingWithBuffer o b) op may = may
 
-carried_in : (phase : state.Phase Tagged) (op : Operation Tagged) → carried (phase_in phase) op ≡ state.carried phase op
+pub carried_in : (phase : state.Phase Tagged) (op : Operation Tagged) → carried (phase_in phase) op ≡ state.carried phase op
 carried_in state.Synchronized op = refl
 carried_in (state.AwaitingConfirm o) op = refl
 carried_in (state.AwaitingWithBuffer o b) op = refl

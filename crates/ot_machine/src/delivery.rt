@@ -1,8 +1,10 @@
-//! What a delivery would apply.
+//! What a delivery would apply, and what one applied.
 
-ghost use Rattle.std.specs.Prelude.{◌≡◌, ◌<◌, length, IfOk, IfSome};
-ghost use Rattle.std.specs.Option.{option_map};
-ghost use Rattle.ot_machine.specs.Delivery.{delivery_of};
+ghost use Rattle.std.specs.Prelude.{◌≡◌, ◌<◌, length, unwrap_or, IfOk, IfSome};
+ghost use Rattle.std.specs.Option.{option_copied, option_map};
+ghost use Rattle.ot_isa.specs.declared.elements.Tagged.{Tagged as Letter};
+ghost use Rattle.ot_model.specs.Operation.{Operation};
+ghost use Rattle.ot_machine.specs.Delivery.{applied_in, delivery_of, IsMadeOf};
 ghost use Rattle.ot_machine.specs.Readers.{ClientHas};
 
 use crate::machine::Machine;
@@ -10,6 +12,45 @@ use crate::seat;
 use ot_isa::Tagged;
 use ot_text::TextOp;
 use std::alloc::AllocError;
+
+/// What an instruction applied to its client's list by a delivery. `Machine::perform_applied` gives it.
+#[derive(Drop)]
+pub enum Applied {
+    /// The instruction was no delivery.
+    Nothing,
+    /// The operation of the log's entry with this number, counted from 0, as it stands there: the client waited for nothing.
+    Entry(usize),
+    /// The entry's operation, carried over what the client waited for.
+    Carried(TextOp<Tagged>),
+}
+
+impl Applied {
+    // What was carried, or else the operation of the entry with this number.
+    #[inline(always)]
+    pub(crate) fn of(number: usize, carried: Option<TextOp<Tagged>>) -> Applied
+        ensures { (op made : Operation Letter) → unwrap_or carried op ≡ made → IsMadeOf number op made result }
+    {
+        match carried {
+            Some(op) => Applied::Carried(op),
+            None => Applied::Entry(number),
+        }
+    }
+
+    /// The operation that was applied. An entry's is lent from the log of this machine, which is the one that performed the delivery; it stands there as
+    /// long as the delivery is not taken back. A look-up.
+    pub fn operation<'a>(&'a self, machine: &'a Machine) -> Option<&'a TextOp<Tagged>>
+        ensures { option_copied result ≡ applied_in machine.now self.now }
+    {
+        match self {
+            Applied::Nothing => None,
+            Applied::Entry(number) => match machine.entry(*number) {
+                Some(entry) => Some(entry.operation()),
+                None => None,
+            },
+            Applied::Carried(op) => Some(op),
+        }
+    }
+}
 
 impl Machine {
     /// What a delivery to the client would apply to its list: the operation at the head of its downlink, carried over what the client

@@ -22,7 +22,8 @@
 //!   (its maker's) or another's operation. A client that has not joined has no client state at all.
 //! - [`Machine::clients`] and the calls beside it read the fields of the state
 //!   (specs/Readers.antt); [`Machine::state`] copies what a user looks at.
-//! - [`Machine::delivery`] is what a delivery would apply (specs/Delivery.antt), and changes nothing.
+//! - [`Machine::delivery`] is what a delivery would apply (specs/Delivery.antt), and changes nothing. [`Machine::perform_applied`]
+//!   performs an instruction and gives what a delivery applied ([`Applied`]): nobody who performs one need carry its operation twice.
 //! - [`Machine::perform`] performs an instruction too and says who is read by it; [`Machine::document_of`] shows that
 //!   list, where `step` copies it, and [`end_of_run`] runs a schedule so (specs/Reads.antt).
 //! - [`Machine::part`] copies a joined client with its downlink, and no element of its list after [`Machine::share`]; [`Machine::begins`] says whether such a
@@ -55,6 +56,7 @@ mod seat;
 mod state;
 mod undo;
 
+pub use delivery::Applied;
 pub use machine::{INSERTED_LIMIT, Machine, STEP_LIMIT};
 pub use ot_model::{Reader, Refusal, Shown};
 pub use outcome::{Ending, Replay};

@@ -5,9 +5,11 @@ ghost use Rattle.ot_isa.specs.declared.instruction.Instr.TheVariants.{Acknowledg
 ghost use Rattle.ot_isa.specs.Program.{AreClients};
 ghost use Rattle.ot_model.specs.Table.{opening, step, Performed, Refused};
 ghost use Rattle.ot_machine.specs.Answers.{IsRefusal};
+ghost use Rattle.ot_machine.specs.Delivery.{applied_by, applied_in};
 ghost use Rattle.ot_machine.specs.Undoing.{IsRecord};
 ghost use Rattle.ot_isa.specs.declared.builder.TheConstants.{START_LIMIT};
 
+use crate::delivery::Applied;
 use crate::seat::{self, Seat};
 use crate::undo::Record;
 pub use ot_isa::INSERTED_LIMIT;
@@ -133,15 +135,16 @@ impl Machine {
         Ok(Record::of_take(client, message, inverse))
     }
 
-    // The client takes another's operation from the front of its downlink.
+    // The client takes another's operation from the front of its downlink. Gives what it applied to its list, too.
     pub(crate) fn deliver<const KEPT: bool>(
         &mut self,
         client: u16,
-    ) -> Result<Option<Record>, Refusal>
+    ) -> Result<(Option<Record>, Applied), Refusal>
         ensures done { OnOk result (step self.old (Deliver client) ≡ Performed self.new None) }
         ensures refused { IfErr result (λ r. IsRefusal (step self.old (Deliver client)) r) }
         ensures unchanged { OnErr result (self.new ≡ self.old) }
-        ensures kept { IsTrue KEPT → IfOk result (λ kept. IsSomeAnd kept (IsRecord self.old self.new)) }
+        ensures kept { IsTrue KEPT → IfOk result (λ given. IsSomeAnd given.0 (IsRecord self.old self.new)) }
+        ensures applied { IfOk result (λ given. applied_in self.new given.1 ≡ applied_by self.old (Deliver client)) }
     {
         let place = client as usize;
         if place >= self.seats.len() {
@@ -160,9 +163,9 @@ impl Machine {
         if entry.maker() == client {
             return Err(Refusal::WrongHead);
         }
-        let before = seat::deliver::<KEPT>(seat, entry.operation())?;
+        let (before, applied) = seat::deliver::<KEPT>(seat, entry.operation())?;
         self.steps += 1;
-        Ok(Record::of_client(client, before))
+        Ok((Record::of_client(client, before), applied))
     }
 
     // The client takes the confirmation of its own operation from the front of its downlink.

@@ -7,10 +7,12 @@ ghost use Rattle.ot_model.specs.declared.shown.Reader.TheVariants.{Client, Serve
 ghost use Rattle.ot_model.specs.declared.shown.Refusal.TheVariants.{Memory};
 ghost use Rattle.ot_model.specs.Table.{step, Performed, Refused};
 ghost use Rattle.ot_machine.specs.Answers.{IsRefusal};
+ghost use Rattle.ot_machine.specs.Delivery.{applied_by, applied_in};
 ghost use Rattle.ot_machine.specs.Ended.{IsEnding};
 ghost use Rattle.ot_machine.specs.Reads.{reader_of, shown_by, IsThere, Leads};
 ghost use Rattle.ot_machine.specs.Undoing.{IsRecord, Undoes};
 
+use crate::delivery::Applied;
 use crate::machine::Machine;
 use crate::outcome::Ending;
 use crate::undo::{Record, Undo};
@@ -89,6 +91,30 @@ impl Machine {
         }
     }
 
+    /// Performs the instruction as [`Machine::perform`] does, and gives what a delivery applied to its client's list, which is made once:
+    /// [`Machine::delivery`] of the machine before it, and nothing where the instruction is no delivery. It costs no more than `perform`.
+    ///
+    /// The refusals are those of `step`; `Memory` is none of a read's. After an error nothing has changed.
+    pub fn perform_applied(&mut self, instr: &Instr) -> Result<Applied, Refusal>
+        ensures done { OnOk result (step self.old instr.now ≡ Performed self.new (option_map (shown_by self.new) (reader_of instr.now))) }
+        ensures there { OnOk result (IfSome (reader_of instr.now) (IsThere self.new)) }
+        ensures refused { IfErr result (λ r. IsRefusal (step self.old instr.now) r) }
+        ensures memory { IfErr result (λ r. r ≡ Memory → reader_of instr.now ≡ None) }
+        ensures unchanged { OnErr result (self.new ≡ self.old) }
+        ensures applied { IfOk result (λ applied. applied_in self.new applied ≡ applied_by self.old instr.now) }
+    {
+        match instr {
+            Instr::Deliver(client) => {
+                let (_none, applied) = self.deliver::<false>(*client)?;
+                Ok(applied)
+            }
+            _ => {
+                self.perform(instr)?;
+                Ok(Applied::Nothing)
+            }
+        }
+    }
+
     /// Performs the instruction as [`Machine::perform`] does, and gives what takes it back, as [`Machine::step_kept`] does: for `undo`, on
     /// the machine as it is then. A read copies no list.
     ///
@@ -112,6 +138,30 @@ impl Machine {
             _ => {
                 let (_none, undo) = self.step_kept(instr)?;
                 Ok(undo)
+            }
+        }
+    }
+
+    /// Performs the instruction as [`Machine::perform_kept`] does, and gives what a delivery applied to its client's list too, as
+    /// [`Machine::perform_applied`] does.
+    ///
+    /// The refusals are those of `step`; `Memory` is none of a read's. After an error nothing has changed.
+    pub fn perform_kept_applied(&mut self, instr: &Instr) -> Result<(Undo, Applied), Refusal>
+        ensures done { OnOk result (Leads self.old instr.now self.new) }
+        ensures refused { IfErr result (λ r. IsRefusal (step self.old instr.now) r) }
+        ensures memory { IfErr result (λ r. r ≡ Memory → reader_of instr.now ≡ None) }
+        ensures unchanged { OnErr result (self.new ≡ self.old) }
+        ensures undo { IfOk result (λ given. Undoes self.old self.new given.0) }
+        ensures applied { IfOk result (λ given. applied_in self.new given.1 ≡ applied_by self.old instr.now) }
+    {
+        match instr {
+            Instr::Deliver(client) => {
+                let (made, applied) = self.deliver::<true>(*client)?;
+                Ok((Undo::kept(made), applied))
+            }
+            _ => {
+                let undo = self.perform_kept(instr)?;
+                Ok((undo, Applied::Nothing))
             }
         }
     }

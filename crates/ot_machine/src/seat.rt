@@ -7,11 +7,13 @@ ghost use Rattle.ot_text.specs.Operation.{apply, news};
 ghost use Rattle.ot_client.specs.State as state;
 ghost use Rattle.ot_client.specs.Client.{message_of, state_of};
 ghost use Rattle.ot_server.specs.History.{fault_of, received, IsUndo};
-ghost use Rattle.ot_model.specs.Table.{absent, acknowledged, delivered, edited, phase_in, present_with};
+ghost use Rattle.ot_model.specs.Table.{absent, acknowledged, carried, delivered, edited, phase_in, present_with};
+ghost use Rattle.ot_machine.specs.Delivery.{IsMadeOf};
 ghost use Rattle.ot_machine.specs.Seats.{client_in, client_of, phase_of, revision_of, view_of, AreSettled, idle, queued, joined_at, under_way, Follows, MayPush, MaySend, HasRoom, HaveRoomFrom, MayDeliverState, MaySeatAcknowledge, MaySeatDeliver, IsMemory, IsReceivable, IsSettled, IsWaiting, emptied, outstanding_at, outstanding_of, received_from};
 ghost use Rattle.ot_machine.specs.Undoing.{message_at, IsBefore, Restores};
 ghost use Rattle.ot_isa.specs.declared.tagging.TheConstants.{INSERTED_LIMIT};
 
+use crate::delivery::Applied;
 use crate::kept::{self, Before};
 use ot_client::{Client, Past, PreparedStep, Sent, Synchronized};
 use ot_inverse::Inverse;
@@ -228,21 +230,23 @@ pub(crate) fn are_settled(seats: &[Seat]) -> bool
     true
 }
 
-// Takes the first message, another's operation, to the client.
+// Takes the first message, another's operation, to the client. Gives what it applied, too.
 #[inline(always)]
 pub(crate) fn deliver<const KEPT: bool>(
     seat: &mut Seat,
     op: &TextOp<Tagged>,
-) -> Result<Option<Before>, AllocError>
+) -> Result<(Option<Before>, Applied), AllocError>
     requires may { MaySeatDeliver seat.old op.now }
     ensures ok { OnOk result (client_of seat.new ≡ delivered (client_of seat.old) op.now) }
     ensures down { OnOk result (seat.new.down.items ≡ drop 1 seat.old.down.items) }
     ensures err { OnErr result (seat.new ≡ seat.old) }
-    ensures kept { IsTrue KEPT → IfOk result (λ kept. IsSomeAnd kept (λ before. Restores before (client_of seat.old) (client_of seat.new))) }
+    ensures kept { IsTrue KEPT → IfOk result (λ given. IsSomeAnd given.0 (λ before. Restores before (client_of seat.old) (client_of seat.new))) }
+    ensures applied { IfOk result (λ given. IsMadeOf (revision_of seat.old.client) op.now (carried (phase_of seat.old.client) op.now) given.1) }
 {
     let Some(client) = seat.client.take() else {
         unreachable!()
     };
+    let number = client.revision() as usize;
     let (step, carried) = match client.prepare_deliver(op, KEPT) {
         Ok(prepared) => prepared,
         Err(client) => {
@@ -256,7 +260,7 @@ pub(crate) fn deliver<const KEPT: bool>(
             let (client, _sent) = step.commit();
             seat.client = Some(client);
             let _ = seat.down.pop();
-            Ok(before)
+            Ok((before, Applied::of(number, carried)))
         }
         Err(e) => {
             seat.client = Some(step.roll_back());

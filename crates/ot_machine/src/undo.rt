@@ -62,7 +62,7 @@ impl Record {
 
 impl Undo {
     // Of a step of which a record was kept.
-    fn kept(made: Option<Record>) -> Undo
+    pub(crate) fn kept(made: Option<Record>) -> Undo
         requires { made ≡ None → ⊥ }
         ensures { made ≡ Some result.step }
     {
@@ -117,7 +117,10 @@ impl Machine {
         match instr {
             Instr::Edit(client, op) => Ok((None, Undo::kept(self.edit::<true>(*client, op)?))),
             Instr::Take(client) => Ok((None, Undo::kept(self.take::<true>(*client)?))),
-            Instr::Deliver(client) => Ok((None, Undo::kept(self.deliver::<true>(*client)?))),
+            Instr::Deliver(client) => {
+                let (made, _applied) = self.deliver::<true>(*client)?;
+                Ok((None, Undo::kept(made)))
+            }
             Instr::Acknowledge(client) => {
                 Ok((None, Undo::kept(self.acknowledge::<true>(*client)?)))
             }

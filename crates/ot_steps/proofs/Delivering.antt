@@ -1,23 +1,17 @@
--- What a delivery asks, and what it applies.
-use Rattle.std.proofs.Common.{◌≡◌, ◌≢◌, ℕ, ◌+◌, ◌<◌, refl, sym, ap, ◌∙◌, subst, arith, Option, Some, None, Bool, true, false}
+-- What a delivery applies.
+use Rattle.std.proofs.Common.{◌≡◌, ℕ, zero, suc, List, [], ◌∷◌, drop, map, refl, sym, ap, ◌∙◌, Option, Some, None, Bool, true, false}
 use Rattle.std.specs.Prelude.{slice_get, ◌==◌, if◌then◌else◌}
 use Rattle.std.specs.Option.{option_map}
-use Rattle.std.proofs.lemmas.Bool.{eqb-false}
 use Rattle.std.proofs.lemmas.Option.{get_or_from_slice_get, same_Some}
 use Rattle.ot_isa.specs.declared.elements.Tagged.{Tagged}
-use Rattle.ot_client.specs.State as state
+use Rattle.ot_isa.specs.declared.instruction.Instr.{Instr}
+use Rattle.ot_isa.specs.declared.instruction.Instr.TheVariants.{Edit, Take, Deliver, Acknowledge, Join, Read, ReadServer}
 use Rattle.ot_model.specs.Operation.{Operation}
-use Rattle.ot_model.specs.Laws.{IsDeliverable}
-use Rattle.ot_model.specs.Laws as laws
-use Rattle.ot_model.specs.Sound.{IsSound}
-use Rattle.ot_model.specs.Table.{Phase, Client, State, Entry, absent, phase_in, carried, downlink, is_joined}
-use Rattle.ot_model.specs.Table as table
-use Rattle.ot_model.proofs.Fitting.{deliverable}
-use Rattle.ot_machine.specs.Readers.{ClientHas, head_at, head_of, meant}
-use Rattle.ot_machine.specs.Seats.{MayDeliverState}
-use Rattle.ot_machine.specs.declared.state.Head.TheVariants.{Ack, Op}
+use Rattle.ot_model.specs.Table.{Phase, Client, State, Entry, Ack, Op, absent, carried, downlink, head_for, is_joined}
+use Rattle.ot_machine.specs.Delivery as machine
+use Rattle.ot_machine.specs.Readers.{ClientHas}
 use Rattle.ot_steps.specs.Lines.{plain_operation}
-use Rattle.ot_steps.specs.Steps.{carried_head, client_in, delivers}
+use Rattle.ot_steps.specs.Steps.{applies, carried_head, client_in, delivers}
 
 -- the client that has these values
 pub client_of : {A : Type 0} (s : State) (c : ℕ) (field : Client → A) (value : A) → ClientHas s c field value → (x : Client) × (slice_get s.clients c ≡ Some x) × (field x ≡ value)
@@ -30,70 +24,42 @@ client_of s c field value has = go (slice_get s.clients c) refl has
 pub has_value : {A : Type 0} (s : State) (c : ℕ) (x : Client) (field : Client → A) (value : A) → slice_get s.clients c ≡ Some x → ClientHas s c field value → field x ≡ value
 has_value s c x field value at has = same_Some (field x) value (ap (option_map field) (sym at) ∙ has)
 
--- another's operation is at the head
-pub record IsAhead (s : State) (c number : ℕ) (x : Client) : Type 0 where
-  pub joined : is_joined x.phase ≡ true
-  pub place : number ≡ x.revision
-  pub other : (h : Entry) → slice_get s.log number ≡ Some h → h.maker ≢ c
+-- the head of the downlink is the entry of the log at the client's revision
+head_is : (log : List Entry) (c r : ℕ) → slice_get (map (head_for c) (drop r log)) 0 ≡ option_map (head_for c) (slice_get log r)
+head_is [] c zero = refl
+head_is [] c (suc r) = refl
+head_is (h ∷ log) c zero = refl
+head_is (h ∷ log) c (suc r) = head_is log c r
 
-ahead : (s : State) (c number : ℕ) (x : Client) → head_at s c 0 x ≡ Some (Op number) → IsAhead s c number x
-ahead s c number x is = by_joined (is_joined x.phase) refl is
+carried_is : (phase : Phase) (c : ℕ) (o : Option Entry) → option_map plain_operation (machine.carried_head c phase o) ≡ carried_head phase (option_map (head_for c) o)
+carried_is phase c None = refl
+carried_is phase c (Some h) = by_maker (h.maker == c)
   where
-    n : ℕ
-    n = x.revision + 0
+    by_maker : (own : Bool) → option_map plain_operation (if own then None else Some (carried phase h.op)) ≡ carried_head phase (Some (if own then Ack else Op h.op))
+    by_maker true = refl
+    by_maker false = refl
 
-    by_maker : (h : Entry) (own : Bool) → (h.maker == c) ≡ own → (if own then Ack else Op n) ≡ Op number → (number ≡ x.revision) × (h.maker ≢ c)
-    by_maker h true own is = absurd (cc)
-    by_maker h false own is = let same : n ≡ number = cc in (omega arith, eqb-false h.maker c own)
+-- what a line says of a delivery is what the machine says of it
+delivery_is : (s : State) (c : ℕ) (x : Client) → option_map plain_operation (machine.delivery_of s c x) ≡ carried_head x.phase (slice_get (downlink s c x) 0)
+delivery_is s c x = by_joined (is_joined x.phase)
+  where
+    by_joined : (on : Bool)
+        → option_map plain_operation (if on then machine.carried_head c x.phase (slice_get s.log x.revision) else None)
+        ≡ carried_head x.phase (slice_get (if on then map (head_for c) (drop x.revision s.log) else []) 0)
+    by_joined true = carried_is x.phase c (slice_get s.log x.revision) ∙ ap (carried_head x.phase) (sym (head_is s.log c x.revision))
+    by_joined false = refl
 
-    by_entry : (o : Option Entry) → slice_get s.log n ≡ o → option_map (head_of c n) o ≡ Some (Op number) → (h : Entry) × (slice_get s.log n ≡ Some h) × (number ≡ x.revision) × (h.maker ≢ c)
-    by_entry None at is = absurd (cc)
-    by_entry (Some h) at is = let found = by_maker h (h.maker == c) refl (same_Some _ (Op number) is) in (h, at, found.0, found.1)
+pub delivers_is : (s : State) (c : ℕ) (applied : Option (Operation Tagged)) → ClientHas s c (machine.delivery_of s c) applied → option_map plain_operation applied ≡ delivers s c
+delivers_is s c applied has =
+    let found = client_of s c (machine.delivery_of s c) applied has in
+    ap (option_map plain_operation) (sym found.2) ∙ delivery_is s c found.0
+    ∙ ap (λ (x : Client). carried_head x.phase (slice_get (downlink s c x) 0)) (sym (get_or_from_slice_get s.clients c found.0 absent found.1))
 
-    by_joined : (on : Bool) → is_joined x.phase ≡ on → (if on then option_map (head_of c n) (slice_get s.log n) else None) ≡ Some (Op number) → IsAhead s c number x
-    by_joined false off is = absurd (cc)
-    by_joined true on is =
-        let found = by_entry (slice_get s.log n) refl is in
-        let same : number ≡ n = omega (arith, found.2) in
-        record {
-          joined = on;
-          place = found.2;
-          other = λ h at. subst (λ (k : Entry). k.maker ≢ c) (same_Some found.0 h (sym found.1 ∙ ap (slice_get s.log) (sym same) ∙ at)) found.3;
-        }
-
--- the table's condition is the program's
-may_phase : (phase : state.Phase Tagged) (op : Operation Tagged) → laws.MayDeliver (phase_in phase) op → state.MayDeliver phase op
-may_phase state.Synchronized op may = tt
-may_phase (state.AwaitingConfirm o) op may = may
-may_phase (state.AwaitingWithBuffer o b) op may = may
-
-pub may_deliver : (s : State) (c number : ℕ) (h : Entry) (client : state.State Tagged) → IsSound s → ClientHas s c (head_at s c 0) (Some (Op number)) → slice_get s.log number ≡ Some h
-    → ClientHas s c (λ x. x.revision) client.revision → ClientHas s c (λ x. x.phase) (phase_in client.phase) → MayDeliverState client h.op
-may_deliver s c number h client sound head entry revision phase =
-    let found = client_of s c (head_at s c 0) (Some (Op number)) head in
-    let x = found.0 in
-    let is = ahead s c number x found.2 in
-    let r : x.revision ≡ client.revision = has_value s c x (λ y. y.revision) client.revision found.1 revision in
-    let p : x.phase ≡ phase_in client.phase = has_value s c x (λ y. y.phase) (phase_in client.phase) found.1 phase in
-    let fits : IsDeliverable x h.op = deliverable s c x h sound found.1 is.joined (ap (slice_get s.log) (sym is.place) ∙ entry) (is.other h entry) in
-    (subst (λ n. n < 1000000) r fits.revision, may_phase client.phase h.op (subst (λ (q : Phase). laws.MayDeliver q h.op) p fits.operations))
-
-carried_same : (phase : state.Phase Tagged) (op : Operation Tagged) → carried (phase_in phase) op ≡ state.carried phase op
-carried_same state.Synchronized op = refl
-carried_same (state.AwaitingConfirm o) op = refl
-carried_same (state.AwaitingWithBuffer o b) op = refl
-
--- what is applied
-pub delivers_is : (s : State) (c number : ℕ) (h : Entry) (client : state.State Tagged) (applied : Operation Tagged)
-    → ClientHas s c (λ x. slice_get (downlink s c x) 0) (meant s (Some (Op number))) → slice_get s.log number ≡ Some h → ClientHas s c (λ x. x.phase) (phase_in client.phase)
-    → applied ≡ state.carried client.phase h.op → Some (plain_operation applied) ≡ delivers s c
-delivers_is s c number h client applied message entry phase is =
-    let found = client_of s c (λ x. slice_get (downlink s c x) 0) (meant s (Some (Op number))) message in
-    let x = found.0 in
-    let here : client_in s c ≡ x = get_or_from_slice_get s.clients c x absent found.1 in
-    let p : x.phase ≡ phase_in client.phase = has_value s c x (λ y. y.phase) (phase_in client.phase) found.1 phase in
-    let head : slice_get (downlink s c x) 0 ≡ Some (table.Op h.op) = found.2 ∙ ap (option_map (λ (e : Entry). table.Op e.op)) entry in
-    sym (ap (λ (y : Client). carried_head y.phase (slice_get (downlink s c y) 0)) here
-    ∙ ap (carried_head x.phase) head
-    ∙ ap (λ (q : Phase). Some (plain_operation (carried q h.op))) p
-    ∙ ap (λ (o : Operation Tagged). Some (plain_operation o)) (carried_same client.phase h.op ∙ sym is))
+pub applies_is : (s : State) (i : Instr) → option_map plain_operation (machine.applied_by s i) ≡ applies i s
+applies_is s (Edit c op) = refl
+applies_is s (Take c) = refl
+applies_is s (Deliver c) = delivery_is s c (client_in s c)
+applies_is s (Acknowledge c) = refl
+applies_is s (Join c) = refl
+applies_is s (Read c) = refl
+applies_is s ReadServer = refl

@@ -1,12 +1,11 @@
 -- What is kept of clients over their steps.
 use Rattle.std.proofs.Common.{◌≡◌, ◌≢◌, ℕ, zero, suc, ◌<◌, ◌≤◌, List, [], ◌∷◌, length, set, get_or, refl, sym, ap, ◌∙◌, subst, arith, Option, Some, None, Bool, true, false}
-use Rattle.std.specs.Prelude.{Result, Ok, Err, OnOk, nat_eq, replicate, slice_get}
+use Rattle.std.specs.Prelude.{nat_eq, replicate, slice_get}
 use Rattle.std.specs.Option.{option_map}
 use Rattle.std.proofs.lemmas.Bool.{eqb-false, eqb-true}
 use Rattle.std.proofs.lemmas.List.{length-set, length-replicate}
 use Rattle.std.proofs.lemmas.Option.{get_or_from_slice_get, same_Some, slice_get-get_or, slice_get_within}
 use Rattle.ot_isa.specs.Program.{client_of, IsForClients}
-use Rattle.ot_steps.proofs.Progress.{performed_within}
 use Rattle.ot_isa.specs.declared.elements.Tagged.{Tagged}
 use Rattle.ot_isa.specs.declared.instruction.Instr.{Instr}
 use Rattle.ot_isa.specs.declared.instruction.Instr.TheVariants.{Edit, Take, Deliver, Acknowledge, Join, Read, ReadServer}
@@ -161,16 +160,6 @@ client_below n (Acknowledge d) c is there = subst (λ k. k < n) (same_Some d c i
 client_below n (Join d) c is there = subst (λ k. k < n) (same_Some d c is) there
 client_below n (Read d) c is there = subst (λ k. k < n) (same_Some d c is) there
 client_below n ReadServer c is there = absurd cc
-
--- ---- a performed instruction
-
--- what holds of each answer but a refusal
-pub unrefused : {T : Type 0} {E : Type 0} {P : Type 0} (r : Result T E) → ((e : E) → r ≡ Err e → ⊥) → OnOk r P → P
-unrefused (Ok x) some holds = holds
-unrefused (Err e) some holds = absurd (some e refl)
-
-pub leads_within : (s t : State) (i : Instr) → LeadsTo i s t → IsForClients (length t.clients) i
-leads_within s t i leads = performed_within s t i (λ (u : Unit {0}). leads.0) (Ok tt) (λ x is. cc) leads.1
 
 -- ---- a client after a step of its own
 

@@ -21,6 +21,7 @@ use Rattle.ot_model.proofs.States.{take_entry}
 use Rattle.ot_machine.specs.Answers.{IsRefusal}
 use Rattle.ot_machine.specs.Ended.{reached, IsStop}
 use Rattle.ot_machine.proofs.Stopping.{stopped_at, whole}
+use Rattle.ot_steps.specs.Kept.{LeadsTo}
 use Rattle.ot_steps.specs.Lines.{Line}
 use Rattle.ot_steps.specs.Steps.{end_line, first_lines, is_quiet, last_lines, lines_from, opening_line, run_lines, step_line, stop_at, stop_line}
 use Rattle.ot_steps.specs.Text.{line_text, lines_text}
@@ -57,9 +58,8 @@ within s (Join c) = by_join (IsWithin (Join c)) (λ r. tt) s c (λ x at below of
 within s (Read c) = by_read (IsWithin (Read c)) (λ r. tt) s c (λ x at below on. slice_get_within s.clients c x at)
 within s ReadServer = by_read_server (IsWithin ReadServer) (λ r. tt) s (λ below. tt)
 
-pub performed_within : {A : Type 0} (s t : State) (i : Instr) (shown : A → Option Shown) (r : Result A Refusal) → ((x : Refusal) → r ≡ Err x → ⊥) → IfOk r (λ a. step s i ≡ Performed t (shown a)) → IsForClients (length t.clients) i
-performed_within s t i shown (Ok a) some done = subst (IsWithin i) done (within s i)
-performed_within s t i shown (Err x) some done = absurd (some x refl)
+pub leads_within : (s t : State) (i : Instr) → LeadsTo i s t → IsForClients (length t.clients) i
+leads_within s t i leads = subst (IsWithin i) leads.1 (within s i)
 
 -- ---- lines as text
 

@@ -1,11 +1,12 @@
 //! The texts of what clients wait for, kept from one line to the next.
 //!
 //! ```text
-//!    instruction ── Machine::step_kept ──▶ Undo::past ── Patch::shared ──▶ Items::renew
-//!                                          (what the client waited for)    (the blocks between what is shared at both ends)
+//!    instruction ── Machine::perform_kept_applied ──▶ Undo::past ── Patch::shared ──▶ Items::renew
+//!                                                     (what the client waited for)    (the blocks between what is shared at both ends)
 //! ```
 
 ghost use Rattle.std.specs.Prelude.{◌≡◌, ◌<◌, ℕ, true, IfErr, IfOk, OnErr, OnOk, Some, length, replicate};
+ghost use Rattle.std.specs.Option.{option_map};
 ghost use Rattle.ot_text.specs.Patch.{patched, LeadsFrom};
 ghost use Rattle.ot_isa.specs.Program.{client_of, IsForClients};
 ghost use Rattle.ot_client.specs.Client.{state_of};
@@ -14,21 +15,24 @@ ghost use Rattle.ot_client.specs.State as state;
 ghost use Rattle.ot_model.specs.Table as table;
 ghost use Rattle.ot_model.specs.Table.{phase_in, State};
 ghost use Rattle.ot_machine.specs.Answers.{IsRefusal};
+ghost use Rattle.ot_machine.specs.Delivery.{applied_in};
 ghost use Rattle.ot_steps.specs.Kept.{AreKept, HoldsOf, IsKeptAt, IsKeptOf, LeadsTo, nothing};
-ghost use Rattle.ot_steps.specs.Steps.{client_in};
+ghost use Rattle.ot_steps.specs.Lines.{plain_operation};
+ghost use Rattle.ot_steps.specs.Steps.{applies, client_in};
 
 use crate::items::Items;
+use crate::moving::{perform, perform_kept};
 use ot_client::{Client, Past};
 use ot_isa::{Instr, Tagged};
-use ot_machine::{Machine, Refusal};
+use ot_machine::{Applied, Machine, Refusal};
 use ot_sections::Held;
-use ot_text::{Patch, TextOp};
+use ot_text::Patch;
 use std::alloc::{AllocError, Global};
 
 /// The text of an operation of fewer components is not kept.
 const LONG: usize = 512;
 
-/// Of a step that applies an operation of more components nothing is kept.
+/// Of a step by an operation of more components nothing is kept.
 const FEW: usize = 16;
 
 /// Of what a client waits for the texts that are kept.
@@ -75,14 +79,23 @@ fn waits_for_much(client: &Client<Tagged>) -> bool {
     }
 }
 
-// Whether the instruction, by which a client may apply this operation, is a step of a client that changes few places.
-fn changes_little(instr: &Instr, applied: Option<&TextOp<Tagged>>) -> bool {
+// Whether the operation that comes next to the client, who is there, changes few places. What the client makes of it is not known yet.
+fn next_is_short(machine: &Machine, client: u16) -> bool
+    requires { client < length machine.now.clients }
+{
+    match machine.entry(machine.revision(client) as usize) {
+        Some(entry) => entry.operation().components().len() <= FEW,
+        None => false,
+    }
+}
+
+// Whether the instruction is a step of its client, who is there, that changes few places.
+fn changes_little(machine: &Machine, instr: &Instr, client: u16) -> bool
+    requires { client < length machine.now.clients }
+{
     match instr {
         Instr::Edit(_, op) => op.components().len() <= FEW,
-        Instr::Deliver(_) => match applied {
-            Some(op) => op.components().len() <= FEW,
-            None => false,
-        },
+        Instr::Deliver(_) => next_is_short(machine, client),
         Instr::Acknowledge(_) => true,
         _ => false,
     }
@@ -189,56 +202,46 @@ impl Kept {
     }
 }
 
-// Performs the instruction, and shows no list.
-fn perform_only(machine: &mut Machine, instr: &Instr) -> Result<(), Refusal>
-    ensures done { OnOk result (LeadsTo instr.now machine.old machine.new) }
-    ensures refused { IfErr result (λ r. IsRefusal (table.step machine.old instr.now) r) }
-    ensures unchanged { OnErr result (machine.new ≡ machine.old) }
-{
-    machine.perform(instr)?;
-    Ok(())
-}
-
-// Performs the instruction. Gives what is kept of the client after it, from what was kept before it.
+// Performs the instruction. Gives what is kept of the client after it, from what was kept before it, and what it applied by a delivery.
 fn perform_from(
     alloc: Global,
     machine: &mut Machine,
     instr: &Instr,
-    applied: Option<&TextOp<Tagged>>,
     client: u16,
     before: Kept,
-) -> Result<Result<Kept, Refusal>, AllocError>
+) -> Result<Result<(Kept, Applied), Refusal>, AllocError>
     requires there { client < length machine.old.clients }
     requires kept { IsKeptOf before (client_in machine.old client).phase }
     ensures done { IfOk result (λ answer. OnOk answer (LeadsTo instr.now machine.old machine.new)) }
     ensures refused { IfOk result (λ answer. IfErr answer (λ r. IsRefusal (table.step machine.old instr.now) r)) }
     ensures unchanged { IfOk result (λ answer. OnErr answer (machine.new ≡ machine.old)) }
-    ensures kept { IfOk result (λ answer. IfOk answer (λ after. IsKeptOf after (client_in machine.new client).phase)) }
+    ensures kept { IfOk result (λ answer. IfOk answer (λ given. IsKeptOf given.0 (client_in machine.new client).phase)) }
+    ensures applied { IfOk result (λ answer. IfOk answer (λ given. option_map plain_operation (applied_in machine.new given.1) ≡ applies instr.now machine.old)) }
 {
     if leaves_phases(instr) {
-        return match perform_only(machine, instr) {
-            Ok(()) => Ok(Ok(before)),
+        return match perform(machine, instr) {
+            Ok(applied) => Ok(Ok((before, applied))),
             Err(refusal) => Ok(Err(refusal)),
         };
     }
-    if !changes_little(instr, applied)
+    if !changes_little(machine, instr, client)
         || !machine.joined(client)
         || !waits_for_much(machine.client(client))
     {
-        return match perform_only(machine, instr) {
-            Ok(()) => Ok(Ok(Kept::nothing())),
+        return match perform(machine, instr) {
+            Ok(applied) => Ok(Ok((Kept::nothing(), applied))),
             Err(refusal) => Ok(Err(refusal)),
         };
     }
-    let (_, undo) = match machine.step_kept(instr) {
+    let (undo, applied) = match perform_kept(machine, instr) {
         Ok(given) => given,
         Err(refusal) => return Ok(Err(refusal)),
     };
     let Some(past) = undo.past(client) else {
-        return Ok(Ok(Kept::nothing()));
+        return Ok(Ok((Kept::nothing(), applied)));
     };
     let after = before.follow(alloc, past, machine.client(client))?;
-    Ok(Ok(after))
+    Ok(Ok((after, applied)))
 }
 
 /// Nothing is kept of so many clients.
@@ -263,8 +266,7 @@ pub(crate) fn kept_of<'a>(kept: &'a [Kept], nothing: &'a Kept, instr: &Instr) ->
     }
 }
 
-/// Performs the instruction as `Machine::perform` does, and renews what is kept of the client that it names. `applied` is what it applies by a delivery, as
-/// [`applies`](crate::applies) says of the machine before it.
+/// Performs the instruction as [`perform`] does, gives what it applied by a delivery, and renews what is kept of the client that it names.
 ///
 /// What is kept of a client are the texts of the operations of 512 components and more for which it waits: less than twice their bytes, and some 40 for
 /// each block. It does not grow with the steps. After want of memory the instruction may be performed, and what is kept is not to be used.
@@ -272,27 +274,27 @@ pub(crate) fn perform_keeping(
     alloc: Global,
     machine: &mut Machine,
     instr: &Instr,
-    applied: Option<&TextOp<Tagged>>,
     kept: &mut Vec<Kept>,
-) -> Result<Result<(), Refusal>, AllocError>
+) -> Result<Result<Applied, Refusal>, AllocError>
     requires { AreKept kept.old.items machine.old.clients }
     ensures done { IfOk result (λ answer. OnOk answer (LeadsTo instr.now machine.old machine.new)) }
     ensures refused { IfOk result (λ answer. IfErr answer (λ r. IsRefusal (table.step machine.old instr.now) r)) }
     ensures unchanged { IfOk result (λ answer. OnErr answer (machine.new ≡ machine.old)) }
     ensures kept { IfOk result (λ answer. OnOk answer (AreKept kept.new.items machine.new.clients)) }
+    ensures applied { IfOk result (λ answer. IfOk answer (λ given. option_map plain_operation (applied_in machine.new given) ≡ applies instr.now machine.old)) }
 {
     let Some(client) = instr.client() else {
-        return Ok(perform_only(machine, instr));
+        return Ok(perform(machine, instr));
     };
     let place = client as usize;
     if place >= kept.len() {
-        return Ok(perform_only(machine, instr));
+        return Ok(perform(machine, instr));
     }
     let before = std::mem::replace(&mut kept[place], Kept::nothing());
-    match perform_from(alloc, machine, instr, applied, client, before)? {
-        Ok(after) => {
+    match perform_from(alloc, machine, instr, client, before)? {
+        Ok((after, applied)) => {
             kept[place] = after;
-            Ok(Ok(()))
+            Ok(Ok(applied))
         }
         Err(refusal) => Ok(Err(refusal)),
     }

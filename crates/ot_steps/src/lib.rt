@@ -1,8 +1,8 @@
 //! A schedule's run as lines of JSON: the opening, a line for each performed instruction with what it changed, a stop, and the end.
 //!
 //! ```text
-//!    instruction ── sends, applies ──▶ Machine::perform ── print_step ──▶ {"at":7,"do":"deliver","client":0,"revision":1, ..}
-//!                  (of the state before)                   (of the state after)
+//!    instruction ── sends ──▶ perform ── print_step ──▶ {"at":7,"do":"deliver","client":0,"revision":1, ..}
+//!       (of the state before)  (what a delivery applied)  (of the state after)
 //! ```
 //!
 //! - *The lines as values* (`specs/Lines.antt`, `specs/Steps.antt`): a [`print_step`] is the text of `step_line`, a function of the written
@@ -16,8 +16,8 @@
 //! - *Keeping* (`specs/Kept.antt`): of operations of some hundred components and more that a client waits for, the text is kept from one line to the
 //!   next, and what a step changes of it is written anew (items.rt, kept.rt).
 //!
-//! What a delivery applies is not kept by a machine: a copy of the client takes the operation first ([`applies`]), so a delivery is
-//! transformed twice. Begin reading at `step_line` in specs/Steps.antt, then at [`print_steps`].
+//! What a delivery applies is made once: the machine that performs it gives it ([`perform`]); [`applies`] tells it without performing anything. Begin reading
+//! at `step_line` in specs/Steps.antt, then at [`print_steps`].
 #![tactic(auto)]
 
 mod fields;
@@ -33,7 +33,7 @@ mod writing;
 pub use fields::{operation_text, push_array, push_plain_array};
 pub use laws::{downlinks_follow, fold_is_run, lines_fold};
 pub use lines::{print_end, print_opening, print_step, print_stop, word};
-pub use moving::{applies, sends};
+pub use moving::{applies, perform, sends};
 pub use operations::push_decimal;
 pub use plain::{plain_held, plain_operation};
 pub use writing::{StepsFault, print_steps};

@@ -1,16 +1,17 @@
-//! What of the state before an instruction its line tells.
+//! What of the state before an instruction its line tells, and what of the instruction itself.
 
-ghost use Rattle.std.specs.Prelude.{◌≡◌, ◌<◌, length, IfOk, Some, true};
+ghost use Rattle.std.specs.Prelude.{◌≡◌, IfErr, IfOk, OnErr, OnOk};
 ghost use Rattle.std.specs.Option.{option_map};
-ghost use Rattle.ot_client.specs.Client.{state_of};
-ghost use Rattle.ot_client.specs.State as state;
-ghost use Rattle.ot_machine.specs.Seats.{MayDeliverState};
+ghost use Rattle.ot_model.specs.Table as table;
+ghost use Rattle.ot_machine.specs.Answers.{IsRefusal};
+ghost use Rattle.ot_machine.specs.Delivery.{applied_in};
+ghost use Rattle.ot_machine.specs.Undoing.{Undoes};
+ghost use Rattle.ot_steps.specs.Kept.{LeadsTo};
 ghost use Rattle.ot_steps.specs.Lines.{plain_operation};
 ghost use Rattle.ot_steps.specs.Steps as steps;
 
-use ot_client::Client;
 use ot_isa::{Instr, Tagged};
-use ot_machine::{Head, Machine, Phase};
+use ot_machine::{Applied, Machine, Phase, Refusal, Undo};
 use ot_text::TextOp;
 use std::alloc::AllocError;
 
@@ -30,44 +31,35 @@ pub fn sends(machine: &Machine, instr: &Instr) -> bool
     }
 }
 
-// What the client makes of another's operation.
-fn carried(client: &Client<Tagged>, op: &TextOp<Tagged>) -> Result<TextOp<Tagged>, AllocError>
-    requires { MayDeliverState (state_of client.now) op.now }
-    ensures { IfOk result (λ applied. applied ≡ state.carried (state_of client.now).phase op.now) }
-{
-    match client.carry(op)? {
-        Some(applied) => Ok(applied),
-        None => op.copy(),
-    }
-}
-
-// What a delivery to the client, who is there, would apply.
-fn delivery(machine: &Machine, client: u16) -> Result<Option<TextOp<Tagged>>, AllocError>
-    requires { client < length machine.now.clients }
-    ensures { IfOk result (λ applied. option_map plain_operation applied ≡ steps.delivers machine.now client) }
-{
-    // For the proof: what every machine keeps.
-    let _sound = machine.clients();
-    let Some(head) = machine.down(client, 0) else {
-        return Ok(None);
-    };
-    let Head::Op(number) = head else {
-        return Ok(None);
-    };
-    let Some(entry) = machine.entry(number) else {
-        return Ok(None);
-    };
-    let applied = carried(machine.client(client), entry.operation())?;
-    Ok(Some(applied))
-}
-
 /// The operation that the instruction, where it is performed, applies to its client's document by a delivery: the operation at the
 /// head of the client's downlink, carried over what the client waits for. None where there is no such; or want of memory.
 pub fn applies(machine: &Machine, instr: &Instr) -> Result<Option<TextOp<Tagged>>, AllocError>
     ensures { IfOk result (λ applied. option_map plain_operation applied ≡ steps.applies instr.now machine.now) }
 {
     match instr {
-        Instr::Deliver(client) if *client < machine.clients() => delivery(machine, *client),
+        Instr::Deliver(client) if *client < machine.clients() => machine.delivery(*client),
         _ => Ok(None),
     }
+}
+
+/// Performs the instruction as `Machine::perform_applied` does, and gives what it applies to its client's document by a delivery, as [`applies`] says of
+/// the machine before it. The refusals are the machine's; after an error nothing has changed.
+pub fn perform(machine: &mut Machine, instr: &Instr) -> Result<Applied, Refusal>
+    ensures done { OnOk result (LeadsTo instr.now machine.old machine.new) }
+    ensures refused { IfErr result (λ r. IsRefusal (table.step machine.old instr.now) r) }
+    ensures unchanged { OnErr result (machine.new ≡ machine.old) }
+    ensures applied { IfOk result (λ given. option_map plain_operation (applied_in machine.new given) ≡ steps.applies instr.now machine.old) }
+{
+    machine.perform_applied(instr)
+}
+
+/// Performs the instruction as [`perform`] does, and gives what takes it back too.
+pub(crate) fn perform_kept(machine: &mut Machine, instr: &Instr) -> Result<(Undo, Applied), Refusal>
+    ensures done { OnOk result (LeadsTo instr.now machine.old machine.new) }
+    ensures refused { IfErr result (λ r. IsRefusal (table.step machine.old instr.now) r) }
+    ensures unchanged { OnErr result (machine.new ≡ machine.old) }
+    ensures undo { IfOk result (λ given. Undoes machine.old machine.new given.0) }
+    ensures applied { IfOk result (λ given. option_map plain_operation (applied_in machine.new given.1) ≡ steps.applies instr.now machine.old) }
+{
+    machine.perform_kept_applied(instr)
 }

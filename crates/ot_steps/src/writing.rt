@@ -12,7 +12,7 @@ ghost use Rattle.ot_steps.specs.Written.{IsMove, WritesRun, WritesUpTo};
 
 use crate::kept::{Kept, kept_of, nothing_kept, perform_keeping};
 use crate::lines::{print_end, print_opening, print_stop, write_step};
-use crate::moving::{applies, sends};
+use crate::moving::sends;
 use ot_isa::{Instr, Schedule};
 use ot_machine::{Machine, Refusal};
 use std::alloc::{AllocError, Global};
@@ -70,13 +70,13 @@ fn perform(
     ensures kept { IfOk result (λ answer. OnOk answer (AreKept kept.new.items machine.new.clients)) }
 {
     let sent = sends(machine, instr);
-    let applied = applies(machine, instr)?;
-    let applied = applied.as_ref();
-    if let Err(refusal) = perform_keeping(alloc, machine, instr, applied, kept)? {
-        return Ok(Err(refusal));
-    }
+    let applied = match perform_keeping(alloc, machine, instr, kept)? {
+        Ok(applied) => applied,
+        Err(refusal) => return Ok(Err(refusal)),
+    };
     let nothing = Kept::nothing();
     let own = kept_of(kept.as_slice(), &nothing, instr);
+    let applied = applied.operation(machine);
     write_step(
         alloc, line, machine, at, instr, sent, applied, own, documents,
     )?;

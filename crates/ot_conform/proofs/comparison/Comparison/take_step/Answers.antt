@@ -2,22 +2,21 @@ use Rattle.std.proofs.Common.{◌≡◌, ◌+◌, ap, ◌∙◌, Option}
 use Rattle.std.specs.Option.{option_copied, option_map}
 use Rattle.ot_isa.specs.declared.elements.Tagged.{Tagged}
 use Rattle.ot_text.specs.Operation.{Operation}
-use Rattle.ot_machine.specs.Reads.{shown_by}
 use Rattle.ot_steps.specs.Lines.{plain_operation}
-use Rattle.ot_steps.proofs.Progress.{performed_within}
+use Rattle.ot_steps.proofs.Progress.{leads_within}
 use Rattle.ot_conform.specs.Due.{step_due}
 use Rattle.ot_conform.specs.Read.{given_as}
 use Rattle.ot_conform.specs.declared.comparison.Comparison.{Comparison}
 use Rattle.ot_conform.specs.declared.comparison.Stage.TheVariants.{Running}
 use Rattle.ot_conform.proofs.Alike.{step_stands}
 use Rattle.ot_conform.proofs.Going.{due_is, goes_step}
-use Rattle.ot_conform.proofs.Settling.{agreed, if_ok, if_some, performed_is, step_decides, stop_goes, stop_verdict}
+use Rattle.ot_conform.proofs.Settling.{agreed, if_ok, if_some, step_decides, stop_goes, stop_verdict}
 use Rattle.ot_conform.proofs.comparison.Comparison.take_step.Goals as goal
 
 pub returns-in-Err-clause-goes : goal.returns-in-Err-clause-goes
 returns-in-Err-clause-goes c =
     let here = c.args.self.now in
-    let mid : Comparison = record here { machine = c.perform.new.self } in
+    let mid : Comparison = record here { machine = c.perform.new.machine } in
     let same : mid ≡ here = ap (λ m. record here { machine = m }) c.in-Err.ensures.unchanged in
     if_ok c.take_stop.result _ _
     (λ v went none. stop_goes c.args.schedule.now here mid c.take_stop.new.self (given_as c.args.line) c.args.instr.now c.in-Err.refusal c.requires.standing c.requires.here c.in-Err.ensures.refused same (went none))
@@ -26,7 +25,7 @@ returns-in-Err-clause-goes c =
 pub returns-in-Err-clause-decided : goal.returns-in-Err-clause-decided
 returns-in-Err-clause-decided c =
     let here = c.args.self.now in
-    let mid : Comparison = record here { machine = c.perform.new.self } in
+    let mid : Comparison = record here { machine = c.perform.new.machine } in
     let same : mid ≡ here = ap (λ m. record here { machine = m }) c.in-Err.ensures.unchanged in
     if_ok c.take_stop.result _ _
     (λ v. if_some v _ _ (λ verdict. stop_verdict c.args.schedule.now here mid (given_as c.args.line) c.args.instr.now c.in-Err.refusal verdict c.requires.here c.in-Err.ensures.refused same))
@@ -36,12 +35,12 @@ pub compare_step-requires : goal.compare_step-requires
 compare_step-requires c =
     let here = c.args.self.now in
     let i = c.args.instr.now in
-    let t = c.perform.new.self in
-    let delivered = option_map plain_operation (option_copied c.as_ref-delivered.result) in
-    let is = ap (λ (o : Option (Operation Tagged)). option_map plain_operation o) c.as_ref-delivered.ensures.value ∙ c.in_ok-delivered.ensures in
-    let performed = performed_is here.machine t i (option_map (shown_by t)) c.perform.result c.in_default.not-Err c.perform.ensures.done in
+    let t = c.perform.new.machine in
+    let delivered = option_map plain_operation (option_copied c.operation-delivered.result) in
+    let is = ap (λ (o : Option (Operation Tagged)). option_map plain_operation o) c.operation-delivered.ensures ∙ c.in-Ok.ensures.applied in
+    let performed = c.in-Ok.ensures.done in
     record {
-      there = performed_within here.machine t i (option_map (shown_by t)) c.perform.result c.in_default.not-Err c.perform.ensures.done;
+      there = leads_within here.machine t i c.in-Ok.ensures.done;
       printed = λ documents.
           step_stands documents c.args.schedule.now here i t performed.0 c.sends-sent.result delivered c.clients-clients.ensures.limits c.requires.standing c.requires.here performed.1 c.sends-sent.ensures is;
     }
@@ -50,12 +49,12 @@ pub returns-clause-goes : goal.returns-clause-goes
 returns-clause-goes c =
     let here = c.args.self.now in
     let i = c.args.instr.now in
-    let t = c.perform.new.self in
+    let t = c.perform.new.machine in
     let line = given_as c.args.line in
-    let delivered = option_map plain_operation (option_copied c.as_ref-delivered.result) in
+    let delivered = option_map plain_operation (option_copied c.operation-delivered.result) in
     let due = step_due (here.place + 1) i c.sends-sent.result delivered t in
-    let performed = performed_is here.machine t i (option_map (shown_by t)) c.perform.result c.in_default.not-Err c.perform.ensures.done in
-    let is = due_is here.place i c.sends-sent.result delivered here.machine t c.sends-sent.ensures (ap (λ (o : Option (Operation Tagged)). option_map plain_operation o) c.as_ref-delivered.ensures.value ∙ c.in_ok-delivered.ensures) in
+    let performed = c.in-Ok.ensures.done in
+    let is = due_is here.place i c.sends-sent.result delivered here.machine t c.sends-sent.ensures (ap (λ (o : Option (Operation Tagged)). option_map plain_operation o) c.operation-delivered.ensures ∙ c.in-Ok.ensures.applied) in
     λ none.
     let both = agreed due line here.counts c.in_ok-judged.judged (λ counts. record here { machine = t; place = here.place + 1; stage = Running; counts = counts }) c.settle.new.self
     c.in_ok-judged.ensures (c.settle.ensures.none none) in
@@ -65,10 +64,10 @@ pub returns-clause-decided : goal.returns-clause-decided
 returns-clause-decided c =
     let here = c.args.self.now in
     let i = c.args.instr.now in
-    let t = c.perform.new.self in
+    let t = c.perform.new.machine in
     let line = given_as c.args.line in
-    let delivered = option_map plain_operation (option_copied c.as_ref-delivered.result) in
+    let delivered = option_map plain_operation (option_copied c.operation-delivered.result) in
     let due = step_due (here.place + 1) i c.sends-sent.result delivered t in
-    let performed = performed_is here.machine t i (option_map (shown_by t)) c.perform.result c.in_default.not-Err c.perform.ensures.done in
-    let is = due_is here.place i c.sends-sent.result delivered here.machine t c.sends-sent.ensures (ap (λ (o : Option (Operation Tagged)). option_map plain_operation o) c.as_ref-delivered.ensures.value ∙ c.in_ok-delivered.ensures) in
+    let performed = c.in-Ok.ensures.done in
+    let is = due_is here.place i c.sends-sent.result delivered here.machine t c.sends-sent.ensures (ap (λ (o : Option (Operation Tagged)). option_map plain_operation o) c.operation-delivered.ensures ∙ c.in-Ok.ensures.applied) in
     step_decides c.args.schedule.now here line i t performed.0 due c.in_ok-judged.judged c.settle.result c.requires.here performed.1 is c.in_ok-judged.ensures c.settle.ensures.some
