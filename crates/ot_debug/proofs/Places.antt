@@ -20,7 +20,7 @@ use Rattle.ot_debug.specs.Stops.{IsRefusedAt}
 use Rattle.ot_debug.specs.declared.command.Watched.{Watched}
 use Rattle.ot_debug.specs.declared.recent.Recent.{Recent}
 use Rattle.ot_debug.specs.Session.{IsSession}
-use Rattle.ot_debug.specs.Stepping.{session_of, is_read, undos_in, Advances, AreLast, AreRecords, AreShownBefore, AreUndos, GoOn, IsKept, IsPushed, OneMore, shown_at, AreLists}
+use Rattle.ot_debug.specs.Stepping.{session_of, is_read, undos_in, Advances, AreLast, AreRecords, AreShownBefore, AreUndos, GoOn, IsKept, IsPushed, IsStateAt, OneMore, shown_at, AreLists}
 use Rattle.ot_debug.proofs.Rows.{row_leaves}
 
 -- the place is there as far as the run goes
@@ -159,11 +159,6 @@ pushed_some undo undos records pushed none =
     let f : length (pushed.rest ++ undo ∷ []) ≡ 0 = ap length (sym pushed.are ∙ none) in
     absurd (omega (arith, e, f))
 
--- the state is the run's after so many instructions, whatever lists they showed
-pub record IsStateAt (s : Program) (p : ℕ) (state : State) : Type 0 where
-  pub shown : List Shown
-  pub at : place_at s p ≡ Some (record { state = state; shown = shown })
-
 -- one more instruction performed again, with a record
 pub recorded_next :
     (s : Program) (p q : ℕ) (state t : State) (undos records : Recent) (i : Instr) (list : Option Shown)
@@ -281,18 +276,6 @@ pub undoable :
 undoable s p state shown undos front breaks watches undo session last is =
     let b = before_last s p (last.first + length front) state shown undos front breaks watches undo session last is (counted p last.first undos front undo last.many is) in (b.earlier.state, b.undoes)
 
--- where an instruction is to be taken back there is a record
-pub last_some : (s : Program) (p : ℕ) (undos : Recent) → 0 < p → AreRecords s p undos → undos_in undos ≡ [] → ⊥
-last_some s p undos less are none = are.some less none
-
--- the debugger where the last instruction is not taken back: its record is there still
-pub kept_still :
-    (s : Program) (p : ℕ) (state t : State) (shown : List Shown) (undos records : Recent) (breaks : List Bool) (watches : List Watched)
-    → IsSession (session_of s p state shown breaks watches) → AreRecords s p undos → t ≡ state → undos_in records ≡ undos_in undos → records.kept ≡ undos.kept → IsKept s p t shown records breaks watches
-kept_still s p state t shown undos records breaks watches session are same stay kept =
-    subst (λ u. IsKept s p u shown records breaks watches) (sym same)
-    (record { session = session; last = subst (AreLast s p) (sym stay) are.last; idle = λ not. absurd (let e = sym (kept ∙ are.kept) ∙ not in cc) })
-
 -- the lists shown before the last instruction
 take_all : {X : Type 0} (xs : List X) (y : X) → take (length xs) (xs ++ y ∷ []) ≡ xs
 take_all [] y = refl
@@ -333,23 +316,24 @@ none_before false lists front none is = is ∙ none
 
 -- and one instruction back
 pub lists_back :
-    (kept : Bool) (s : Program) (p r : ℕ) (state : State) (lists front : List Shown) (breaks : List Bool) (watches : List Watched) (i : Instr)
-    → IsSession (session_of s p state (shown_at s p) breaks watches) → p ≡ suc r → slice_get s.instrs r ≡ Some i → AreLists kept (shown_at s p) lists → AreShownBefore (is_read i) lists front
+    (kept : Bool) (s : Program) (p r : ℕ) (lists front : List Shown) (i : Instr)
+    → p ≤ done s → p ≡ suc r → slice_get s.instrs r ≡ Some i → AreLists kept (shown_at s p) lists → AreShownBefore (is_read i) lists front
     → AreLists kept (shown_at s r) front
-lists_back false s p r state lists front breaks watches i session next here are were = none_before (is_read i) lists front are were
-lists_back true s p r state lists front breaks watches i session next here are were =
-    let earlier = there s r (let le : p ≤ done s = session.reached in omega (arith, le, next)) in
-    let l = led s r i earlier.0 (record { state = state; shown = shown_at s p }) here earlier.1 (ap (place_at s) (sym next) ∙ session.at) in
-    shown_before (is_read i) front lists earlier.0.shown l.list (row_leaves earlier.0.state i l.state l.list l.step).1 (are ∙ ap (λ (q : Place). q.shown) l.is) were
+lists_back false s p r lists front i le next here are were = none_before (is_read i) lists front are were
+lists_back true s p r lists front i le next here are were =
+    let earlier = there s r (omega (arith, le, next)) in
+    let later = there s p le in
+    let l = led s r i earlier.0 later.0 here earlier.1 (ap (place_at s) (sym next) ∙ later.1) in
+    shown_before (is_read i) front lists earlier.0.shown l.list (row_leaves earlier.0.state i l.state l.list l.step).1 (are ∙ shown_is s p later.0 later.1 ∙ ap (λ (q : Place). q.shown) l.is) were
     ∙ sym (shown_is s r earlier.0 earlier.1)
 
 -- the debugger one instruction back
 pub kept_back :
-    (s : Program) (p r : ℕ) (state t : State) (undos : List Undo) (rest : Recent) (breaks : List Bool) (watches : List Watched) (i : Instr) (undo : Undo)
-    → IsSession (session_of s p state (shown_at s p) breaks watches) → AreLast s p undos → undos ≡ undos_in rest ++ undo ∷ [] → p ≡ suc r → slice_get s.instrs r ≡ Some i
+    (s : Program) (p r : ℕ) (state t : State) (undos : List Undo) (rest : Recent) (breaks : List Bool) (watches : List Watched) (undo : Undo)
+    → IsSession (session_of s p state (shown_at s p) breaks watches) → AreLast s p undos → undos ≡ undos_in rest ++ undo ∷ [] → p ≡ suc r
     → ((earlier : State) → Undoes earlier state undo → t ≡ earlier) → (IsTrue rest.kept ↔ (0 < r))
     → IsKept s r t (shown_at s r) rest breaks watches
-kept_back s p r state t undos rest breaks watches i undo session last is next here back kept =
+kept_back s p r state t undos rest breaks watches undo session last is next back kept =
     record {
       session = record {
         limits = session.limits;

@@ -74,6 +74,11 @@ pub record OneMore (earlier s : State) (undos records : List Undo) : Type 0 wher
 abbrev pub GoOn : State → State → Recent → Recent → Type 0
 GoOn earlier s undos records = MatchBool undos.kept (OneMore earlier s (undos_in undos) (undos_in records) × (records.kept ≡ true)) (records ≡ undos)
 
+-- the state is the run's after so many instructions, whatever lists they showed
+pub record IsStateAt (s : Program) (p : ℕ) (state : State) : Type 0 where
+  pub shown : List Shown
+  pub at : place_at s p ≡ Some (record { state = state; shown = shown })
+
 -- the records of the last instructions before a position, of one instruction at least, if there is one; what is performed leaves more
 pub record AreRecords (s : Program) (position : ℕ) (undos : Recent) : Type 0 where
   pub last : AreLast s position (undos_in undos)

@@ -21,10 +21,10 @@ pub enum Command {
     Run,
     /// Performs this many instructions, or those before the first refused one, or all that are left; breaks and watches do not count.
     Step(u32),
-    /// Takes this many instructions back, or all. The first time since the opening it performs once more what is performed, for the
-    /// records that take it back; these are kept, so from then on a `Back` costs what it takes back. Where the records of all that is performed would
-    /// be too large, those of the last instructions alone are kept, and a `Back` beyond them performs once more what is performed, once for each
-    /// budget's worth of records.
+    /// Takes this many instructions back, or all. The first time since the opening it performs the schedule once more, up to the place where it
+    /// goes, for the records of the instructions before it; these are kept, so from then on a `Back` costs what it takes back. Where the
+    /// records of all these would be too large, those of the last ones alone are kept, and a `Back` beyond them performs the schedule once more
+    /// up to the place where it goes. To the opening that is nothing.
     Back(u32),
     /// Sets a break at a place, 0 to the schedule's length.
     Break(u32),

@@ -19,16 +19,16 @@
 //! - What watches see of an instruction is told before it is performed (specs/Changes.antt): so no list is copied or compared for them.
 //!   Of equal watches the first alone is looked at.
 //! - [`laws`] says that stops are exact: a run has one stop at most, for one reason.
-//! - Going forth leaves no records, and costs what a run costs. Where an instruction is to be taken back and there are no records,
-//!   another machine performs all that is performed once more from the opening, and leaves a record of each (`Machine::perform_kept`).
+//! - Going forth leaves no records, and costs what a run costs. Where `Back` is to go further and there are no records, another machine performs
+//!   the schedule once more, from the opening up to the place where one goes, and leaves a record of each instruction (`Machine::perform_kept`);
+//!   then it takes the place of the first one. To the opening that is nothing.
 //!   The records are a stack: `Back` takes them off one by one, and what is performed until the opening is reached adds its own.
 //! - The records together have a budget. Beyond it the oldest go, so they are those of the last performed instructions, of half a budget's worth at least.
-//!   So the memory that they take is bounded, and between two visits of the opening the way is gone once more for each budget's worth of instructions
-//!   taken back: in most sessions once at most.
+//!   So the memory that they take is bounded, and a `Back` performs once more at most, however far it goes.
 //! - What grows does so before anything is changed. After `Memory` the debugger stands after a whole number of instructions,
 //!   between its old place and the one to which the command would have gone.
 //!
-//! Begin reading at `Debugging` in debugger.rt, then stepping.rt (one instruction back and forth), records.rt (what takes one back), recent.rt (their stack),
+//! Begin reading at `Debugging` in debugger.rt, then stepping.rt (one instruction forth, and back), records.rt (what takes one back), recent.rt (their stack),
 //! watching.rt (what watches see), changing.rt (whether an operation changes a list) and moving.rt (the commands that move); settings.rt has the others.
 #![tactic(auto)]
 

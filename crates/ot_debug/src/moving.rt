@@ -110,13 +110,14 @@ impl<const LISTS: u8> Debugging<LISTS> {
     pub(crate) fn back(&mut self, count: u32) -> Reply
         ensures { MovesBack count self.old result self.new }
     {
-        for _ in 0..self.position().min(count as usize) {
-            if let Err(_e) = self.backward() {
+        let target = self.position().saturating_sub(count as usize);
+        while self.position() > target {
+            if let Err(_e) = self.backward(target) {
                 return Reply::Memory;
             }
         }
         Reply::Stopped {
-            at: self.position(),
+            at: target,
             why: Why::Count,
         }
     }

@@ -9,7 +9,7 @@
 //! push there are records of half the budget's size at least, or all that were ever pushed and not popped, and never more than two halves and what each
 //! has beyond its size, which is a part of one record.
 
-ghost use Rattle.std.specs.Prelude.{◌≡◌, ◌≢◌, ◌<◌, ◌↔◌, ◌++◌, ◌∷◌, [], true, false, vec_capacity, vec_len, IfOk, IfSome, IsTrue, None, OnOk};
+ghost use Rattle.std.specs.Prelude.{◌≡◌, ◌≢◌, ◌<◌, ◌↔◌, ◌++◌, ◌∷◌, ◌⊎◌, [], true, false, vec_capacity, vec_len, IfOk, IfSome, IsTrue, None, OnOk};
 ghost use Rattle.ot_debug.specs.Stepping.{undos_in, IsAsBefore, IsPushed};
 
 use ot_machine::Undo;
@@ -43,7 +43,7 @@ impl Half {
 pub(crate) struct Recent {
     // where the newer half is as large, or larger, it is full
     limit: usize,
-    // whether what is performed leaves records: from the first instruction that was taken back, until the opening is reached
+    // whether what is performed leaves records: from where somebody goes back, until the opening is reached
     pub kept: bool,
     older: Half,
     newer: Half,
@@ -53,6 +53,7 @@ impl Recent {
     /// No records, and what is performed leaves none.
     pub(crate) fn new(alloc: Global, limit: usize) -> Recent
         ensures none { undos_in result ≡ [] }
+        ensures limit { result.limit ≡ limit }
         ensures kept { result.kept ≡ false }
     {
         Recent {
@@ -70,6 +71,7 @@ impl Recent {
         count: usize,
     ) -> Result<Recent, AllocError>
         ensures none { IfOk result (λ recent. undos_in recent ≡ []) }
+        ensures limit { IfOk result (λ recent. recent.limit ≡ limit) }
         ensures kept { IfOk result (λ recent. recent.kept ≡ true) }
     {
         let undos = Vec::with_capacity(alloc, count)?;
@@ -87,7 +89,9 @@ impl Recent {
     }
 
     /// From which size on a half is full.
-    pub(crate) fn limit(&self) -> usize {
+    pub(crate) fn limit(&self) -> usize
+        ensures { result ≡ self.now.limit }
+    {
         self.limit
     }
 
@@ -99,9 +103,10 @@ impl Recent {
         self.older.undos.as_slice().is_empty() && self.newer.undos.as_slice().is_empty()
     }
 
-    /// What they are told where an instruction was taken back: at the opening no more are wanted, until somebody goes back again.
+    /// What they are told where somebody has gone back: at the opening no more are wanted, until somebody goes back again.
     pub(crate) fn went_back_to(&mut self, position: usize)
         ensures same { undos_in self.new ≡ undos_in self.old }
+        ensures limit { self.new.limit ≡ self.old.limit }
         ensures kept { IsTrue self.new.kept ↔ (0 < position) }
     {
         self.kept = position > 0;
@@ -110,6 +115,7 @@ impl Recent {
     /// Makes room for one more.
     pub(crate) fn reserve_one(&mut self) -> Result<(), AllocError>
         ensures same { IsAsBefore self.old self.new }
+        ensures limit { self.new.limit ≡ self.old.limit }
         ensures room { OnOk result (vec_len self.new.newer.undos < vec_capacity self.new.newer.undos) }
     {
         self.newer.undos.reserve(1)?;
@@ -121,6 +127,7 @@ impl Recent {
         requires { vec_len self.old.newer.undos < vec_capacity self.old.newer.undos }
         ensures older { self.new.older ≡ self.old.older }
         ensures newer { self.new.newer.undos.items ≡ self.old.newer.undos.items ++ undo ∷ [] }
+        ensures limit { self.new.limit ≡ self.old.limit }
         ensures kept { self.new.kept ≡ self.old.kept }
     {
         self.newer.size = self.newer.size.saturating_add(undo.size());
@@ -131,6 +138,9 @@ impl Recent {
     pub(crate) fn push(&mut self, undo: Undo)
         requires { vec_len self.old.newer.undos < vec_capacity self.old.newer.undos }
         ensures more { IsPushed undo (undos_in self.old) (undos_in self.new) }
+        ensures stay { self.new.older.size < self.old.limit → undos_in self.new ≡ undos_in self.old ++ undo ∷ [] }
+        ensures few { (self.new.newer.size < self.old.limit) ⊎ (self.new.newer.undos.items ≡ []) }
+        ensures limit { self.new.limit ≡ self.old.limit }
         ensures kept { self.new.kept ≡ self.old.kept }
     {
         self.put_back(undo);
@@ -146,6 +156,7 @@ impl Recent {
         ensures none { result ≡ None → undos_in self.old ≡ [] }
         ensures some { IfSome result (λ undo. undos_in self.old ≡ undos_in self.new ++ undo ∷ []) }
         ensures room { IfSome result (λ undo. vec_len self.new.newer.undos < vec_capacity self.new.newer.undos) }
+        ensures limit { self.new.limit ≡ self.old.limit }
         ensures kept { self.new.kept ≡ self.old.kept }
     {
         if self.newer.undos.is_empty() {

@@ -1,11 +1,11 @@
-//! Instructions performed with and without records, and the records made where somebody goes back.
+//! Instructions performed with and without records, and once more where somebody goes back beyond these.
 
-ghost use Rattle.std.specs.Prelude.{◌≡◌, ◌≢◌, ◌≤◌, ◌==◌, [], false, IfErr, IfOk, OnErr, OnOk};
+ghost use Rattle.std.specs.Prelude.{◌≡◌, ◌≢◌, ◌≤◌, ◌==◌, IfErr, IfOk, OnErr, OnOk};
 ghost use Rattle.ot_model.specs.declared.shown.Refusal.TheVariants.{Memory};
 ghost use Rattle.ot_model.specs.Runs.{done};
 ghost use Rattle.ot_model.specs.Table.{step, Refused};
 ghost use Rattle.ot_machine.specs.Undoing.{Undoes};
-ghost use Rattle.ot_debug.specs.Stepping.{undos_in, AreLast, AreRecords, Gives, GoOn, IsAsBefore, OneMore};
+ghost use Rattle.ot_debug.specs.Stepping.{undos_in, AreRecords, Gives, GoOn, IsAsBefore, IsStateAt, OneMore};
 
 use crate::debugger::opening;
 use crate::recent::Recent;
@@ -54,6 +54,7 @@ fn perform_recorded<const LISTS: u8>(
 ) -> Result<Option<Shown>, Refusal>
     ensures done { IfOk result (λ list. Gives (LISTS == 1) machine.old instr.now machine.new list) }
     ensures record { OnOk result (OneMore machine.old machine.new (undos_in undos.old) (undos_in undos.new)) }
+    ensures limit { undos.new.limit ≡ undos.old.limit }
     ensures kept { undos.new.kept ≡ undos.old.kept }
     ensures refused { IfErr result (λ r. r ≢ Memory → step machine.old instr.now ≡ Refused r) }
     ensures unchanged { OnErr result (machine.new ≡ machine.old) }
@@ -85,15 +86,18 @@ pub(crate) fn perform<const LISTS: u8>(
     }
 }
 
-// The records of the last of so many of the schedule's instructions, which another machine performs from the opening on.
-fn records_of(
+/// Performs so many of the schedule's instructions once more, from the opening on. Gives another machine, which stands after them, and the records of
+/// the last ones, of one at least where there is one.
+pub(crate) fn perform_again(
     alloc: Global,
     schedule: &Schedule,
     count: usize,
     limit: usize,
-) -> Result<Recent, AllocError>
+) -> Result<(Machine, Recent), AllocError>
     requires { count ≤ done schedule.now }
-    ensures { IfOk result (λ undos. AreRecords schedule.now count undos) }
+    ensures state { IfOk result (λ given. IsStateAt schedule.now count given.0) }
+    ensures records { IfOk result (λ given. AreRecords schedule.now count given.1) }
+    ensures limit { IfOk result (λ given. given.1.limit ≡ limit) }
 {
     let mut machine = opening(alloc, schedule)?;
     let mut undos = Recent::with_capacity(alloc, limit, count)?;
@@ -108,24 +112,5 @@ fn records_of(
             }
         }
     }
-    Ok(undos)
-}
-
-/// Where there is no record of the last performed instruction, all that are performed are performed again for those of the last ones. For want of
-/// memory all is as it was.
-pub(crate) fn recall(
-    schedule: &Schedule,
-    position: usize,
-    undos: &mut Recent,
-) -> Result<(), AllocError>
-    requires reached { position ≤ done schedule.now }
-    requires last { AreLast schedule.now position (undos_in undos.old) }
-    requires idle { undos.old.kept ≡ false → undos_in undos.old ≡ [] }
-    ensures done { OnOk result (AreRecords schedule.now position undos.new) }
-    ensures unchanged { OnErr result (undos.new ≡ undos.old) }
-{
-    if undos.is_empty() {
-        *undos = records_of(undos.allocator(), schedule, position, undos.limit())?;
-    }
-    Ok(())
+    Ok((machine, undos))
 }

@@ -22,7 +22,7 @@ invariant_of-self-2 g c = (
   c.self.invariant.1,
   lists_forth _ (shown_at c.self.inside.schedule c.self.inside.position) (shown_at c.self.inside.schedule (c.self.inside.position + 1)) c.self.inside.shown.items c.keep_shown.new.shown.items c.in_ok-list.list c.in_ok-list.ensures.done.0 c.self.invariant.2 c.in_ok-list.ensures.done.2
       (shown_next c.self.inside.schedule c.self.inside.position (c.self.inside.position + 1) c.self.inside.machine c.perform.new.machine c.in-Some.instr.now c.in_ok-list.ensures.done.0 c.self.invariant.0.session.at c.in-Some.ensures.some c.in_ok-list.ensures.done.1 (omega arith))
-      (c.keep_shown.ensures ∙ ap (λ xs. with_shown xs c.in_ok-list.list) c.in_ok-reserve.ensures.items),
+      (c.keep_shown.ensures ∙ ap (λ xs. with_shown xs c.in_ok-list.list) c.reserve_shown.ensures.same),
 )
 
 pub returns-clause-done : goal.returns-clause-done

@@ -1,8 +1,8 @@
-use Rattle.std.proofs.Common.{◌+◌, ◌≤◌, length, arith, refl, rules}
+use Rattle.std.proofs.Common.{◌+◌, ◌≤◌, length, arith, refl, rules, ◌∙◌}
 use Rattle.ot_model.specs.Runs.{done, opening_of}
 use Rattle.ot_model.proofs.Runs.{performed-length}
 use Rattle.ot_debug.proofs.Places.{not_refused, recorded_next}
-use Rattle.ot_debug.proofs.records.records_of.Goals as goal
+use Rattle.ot_debug.proofs.records.perform_again.Goals as goal
 
 pub unreachable-requires : goal.unreachable-requires
 unreachable-requires c =
@@ -20,5 +20,8 @@ unreachable-requires-in_default-refusal c =
 pub loop-place-preserved : goal.loop-place-preserved
 loop-place-preserved c =
     let performed = c.in_default-perform_recorded in
+    let (state, records) =
     recorded_next c.args.schedule.now c.loop-place.place (c.loop-place.place + 1) c.loop-place.machine c.perform_recorded.new.machine c.loop-place.undos c.perform_recorded.new.undos
     c.in-Some.instr.now performed.ensures.done.0 c.loop-place.invariant.0 c.loop-place.invariant.1 c.in-Some.ensures.some performed.ensures.done.1 performed.ensures.record performed.ensures.kept (omega arith)
+    in
+    (state, records, performed.ensures.limit ∙ c.loop-place.invariant.2)
