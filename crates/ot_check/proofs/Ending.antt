@@ -106,13 +106,13 @@ whole_stuck s place t i is traced at stuck =
     ∙ ap (λ (xs : List EventView). events_of t ++ xs) (events-stuck t.machine (counts_of t.ledger) i (drop (suc place) s.instrs) stuck)
     ∙ append-nil (events_of t)) ∙ traced.rest)
 
-pub full_at : (s : Program) (place : ℕ) (t : Tracer) (i : Instr) → IsProgram s → IsTracedTo s place t → slice_get s.instrs place ≡ Some i → Overflows t i → is_full (events.trace_of s) ≡ true
-full_at s place t i is traced at over =
+pub full_at : (s : Program) (place : ℕ) (t : Tracer) (i : Instr) (state : State) → IsProgram s → IsTracedTo s place t → slice_get s.instrs place ≡ Some i → Overflows t i state → is_full (events.trace_of s) ≡ true
+full_at s place t i state is traced at over =
     let counts : Counts = counts_of t.ledger in
-    let behind = events_by over.state (counts_after counts i (acting t.machine i)) (drop (suc place) s.instrs) in
+    let behind = events_by state (counts_after counts i (acting t.machine i)) (drop (suc place) s.instrs) in
     let whole : (events_of t ++ event_at t.machine counts i) ++ behind ≡ (events.trace_of s).events =
     append_assoc (events_of t) (event_at t.machine counts i) behind
-    ∙ ap (λ (xs : List EventView). events_of t ++ xs) (sym (events-performed t.machine over.state counts i (drop (suc place) s.instrs) over.performed))
+    ∙ ap (λ (xs : List EventView). events_of t ++ xs) (sym (events-performed t.machine state counts i (drop (suc place) s.instrs) over.performed))
     ∙ ap (λ (js : List Instr). events_of t ++ events_by t.machine counts js) (sym (drop_entry s.instrs place i at))
     ∙ traced.rest ∙ trace_events s (runnable s is) in
     full_of (events.trace_of s) (subst PassLimits whole (passed-more (events_of t ++ event_at t.machine counts i) behind over.past))

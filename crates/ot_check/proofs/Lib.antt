@@ -5,4 +5,7 @@ pub mod Stepping
 pub mod Noting
 pub mod Same
 pub mod Ending
+pub mod Followed
+pub mod Tags
+pub mod Deletions
 pub mod Examples

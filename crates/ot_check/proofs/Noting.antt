@@ -119,10 +119,9 @@ follows_event old new i e x n is size same within leads counted pushed claimed f
     }
 
 pub overflows_event : (old : Tracer) (i : Instr) (t : State) (x : EventView) (n : ℕ) → length x.list ≡ n → x ∷ [] ≡ event_at old.machine (counts_of old.ledger) i
-    → IsWithin (events_of old) old.entries → LeadsTo (step old.machine i) t → (4000 ≤ length old.events.items) ⊎ (4000000 < old.entries + n) → Overflows old i
+    → IsWithin (events_of old) old.entries → LeadsTo (step old.machine i) t → (4000 ≤ length old.events.items) ⊎ (4000000 < old.entries + n) → Overflows old i t
 overflows_event old i t x n size same within leads full =
     record {
-      state = t;
       performed = leads;
       past = subst (λ ys. PassLimits (events_of old ++ ys)) same (overflow (events_of old) x old.entries n within size (full_views full));
     }

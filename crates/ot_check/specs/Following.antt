@@ -1,18 +1,24 @@
 -- A run that is being traced: what of its trace is made, and what an instruction adds.
-use Rattle.std.specs.Prelude.{◌≡◌, ℕ, ◌+◌, ◌<◌, ◌≤◌, ◌⊎◌, List, ◌++◌, length, map, drop, Option}
+use Rattle.std.specs.Prelude.{◌≡◌, ℕ, ◌+◌, ◌<◌, ◌≤◌, ◌⊎◌, List, ◌++◌, length, map, drop, Option, Some, true, false}
 use Rattle.std.specs.List.{All}
 use Rattle.ot_isa.specs.Program.{Program}
 use Rattle.ot_isa.specs.declared.instruction.Instr.{Instr}
+use Rattle.ot_model.specs.declared.shown.Refusal.{Refusal}
 use Rattle.ot_model.specs.declared.shown.Shown.{Shown}
 use Rattle.ot_machine.specs.declared.state.Phase as name
 use Rattle.ot_machine.specs.declared.state.Phase.TheVariants as phase
 use Rattle.ot_model.specs.Table.{State, Outcome, Performed, Refused, NoRow, step}
-use Rattle.ot_model.specs.Runs.{opening_of}
+use Rattle.ot_model.specs.Events as events
+use Rattle.ot_model.specs.Runs.{opening_of, place_at}
+use Rattle.ot_machine.specs.Answers.{IsRefusal}
+use Rattle.ot_machine.specs.Ended.{IsEnding}
 use Rattle.ot_model.specs.Sound.{IsSound}
 use Rattle.ot_model.specs.Trace.{EventView}
-use Rattle.ot_judge.specs.Making.{entries}
+use Rattle.ot_judge.specs.Making.{entries, is_full}
 use Rattle.ot_judge.specs.Views.{views}
 use Rattle.ot_check.specs.declared.ledger.Ledger.{Ledger}
+use Rattle.ot_check.specs.declared.traced.Followed.{Followed}
+use Rattle.ot_check.specs.declared.traced.Followed.TheVariants.{Whole, Full}
 use Rattle.ot_check.specs.declared.tracing.Tracer.{Tracer}
 use Rattle.ot_check.specs.Rows.{Counts, no_counts, made_by, waiting_of, counts_after, acting, event_at, events_by}
 
@@ -68,11 +74,17 @@ pub record Follows (old new : Tracer) (i : Instr) : Type 0 where
   pub noted : events_of new ≡ events_of old ++ event_at old.machine (counts_of old.ledger) i
   pub within : IsWithin (events_of new) new.entries
 
--- the instruction is performed, and with its event a limit is passed
-pub record Overflows (old : Tracer) (i : Instr) : Type 0 where
-  pub state : State
+-- the instruction is performed, which leads to this state, and with its event a limit is passed
+pub record Overflows (old : Tracer) (i : Instr) (state : State) : Type 0 where
   pub performed : LeadsTo (step old.machine i) state
   pub past : PassLimits (events_of old ++ event_at old.machine (counts_of old.ledger) i)
+
+-- the table refuses the instruction for this reason, and nothing is performed or noted
+pub record Stays (old new : Tracer) (i : Instr) (r : Refusal) : Type 0 where
+  pub refused : IsRefusal (step old.machine i) r
+  pub stuck : IsStuck (step old.machine i)
+  pub machine : new.machine ≡ old.machine
+  pub events : new.events ≡ old.events
 
 -- the first instructions of the schedule are performed, and these are their events
 pub record IsTracedTo (s : Program) (place : ℕ) (t : Tracer) : Type 0 where
@@ -80,3 +92,15 @@ pub record IsTracedTo (s : Program) (place : ℕ) (t : Tracer) : Type 0 where
   pub fits : FitsState t.machine (counts_of t.ledger)
   pub within : IsWithin (events_of t) t.entries
   pub rest : events_of t ++ events_by t.machine (counts_of t.ledger) (drop place s.instrs) ≡ events_by (opening_of s) (no_counts s.clients) s.instrs
+
+-- so many first instructions of the schedule lead to this state
+pub record IsAt (s : Program) (place : ℕ) (state : State) : Type 0 where
+  pub inside : place ≤ length s.instrs
+  pub shown : List Shown
+  pub at : place_at s place ≡ Some (record { state = state; shown = shown })
+
+-- the run ended there, and these are all events of its trace, within the limits; or they pass a limit, and the run came so far
+abbrev pub IsFollowed : Program → Followed → Type 0
+IsFollowed s (Whole t stopped) =
+    IsEnding s (record { machine = t.machine; stopped = stopped }) × (events_of t ≡ (events.trace_of s).events) × (is_full (events.trace_of s) ≡ false)
+IsFollowed s (Full machine place) = IsAt s place machine × (is_full (events.trace_of s) ≡ true)

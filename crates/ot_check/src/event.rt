@@ -1,6 +1,6 @@
 //! One event of a trace.
 
-ghost use Rattle.std.specs.Prelude.{◌≡◌, ◌+◌, ◌≤◌, ◌<◌, ◌++◌, ◌||◌, filter, not, length, IfOk, OnOk};
+ghost use Rattle.std.specs.Prelude.{◌≡◌, ◌+◌, ◌≤◌, ◌<◌, ◌++◌, ◌||◌, filter, not, length, take, IfOk, OnOk};
 ghost use Rattle.std.specs.HashSet.{contains as set_contains};
 ghost use Rattle.ot_isa.specs.declared.elements.Tag.{Tag};
 ghost use Rattle.ot_isa.specs.Tagging.{tagged_operation};
@@ -21,12 +21,26 @@ use ot_text::{Component, Doc, TextOp};
 use std::alloc::{AllocError, Global};
 use std::collections::HashSet;
 
-// The tags of a list, in order.
+// Adds the tags of a piece of a list.
+fn push_tags(found: &mut Vec<Tag>, piece: &[Tagged]) -> Result<(), AllocError>
+    ensures { OnOk result (found.new.items ≡ found.old.items ++ tags piece.now) }
+{
+    for item in piece {
+        found.push(item.tag)?;
+    }
+    Ok(())
+}
+
+// The tags of a list, in order. There is room for all of them before the first one, so none is left over.
 pub(crate) fn tags_of(alloc: Global, document: &Doc<Tagged>) -> Result<Vec<Tag>, AllocError>
     ensures { IfOk result (λ v. v.items ≡ tags document.now) }
 {
-    let items = document.to_vec()?;
-    items.iter().map(|item| item.tag).collect(alloc)
+    let mut found = Vec::with_capacity(alloc, document.len())?;
+    let mut ahead = document.pieces();
+    while let Some(piece) = ahead.next() {
+        push_tags(&mut found, piece)?;
+    }
+    Ok(found)
 }
 
 // The tags of a list as a set.
@@ -51,12 +65,41 @@ fn outside(alloc: Global, set: &HashSet<Tag>, list: &[Tag]) -> Result<Vec<Tag>, 
         .collect(alloc)
 }
 
-// Those tags of the list before that are not in the one after, in order.
+// How many tags two lists begin with that are the same.
+fn same_tags(a: &[Tag], b: &[Tag]) -> usize
+    ensures first { result ≤ length a.now }
+    ensures second { result ≤ length b.now }
+    ensures same { take result a.now ≡ take result b.now }
+{
+    let shorter = a.len().min(b.len());
+    for place in 0..shorter {
+        if a[place] != b[place] {
+            return place;
+        }
+    }
+    shorter
+}
+
+// Those tags of a list that are not in the one after, in order.
+fn missing(alloc: Global, list: &[Tag], after: &[Tag]) -> Result<Vec<Tag>, AllocError>
+    ensures { IfOk result (λ v. v.items ≡ filter (λ t. not (contains after.now t)) list.now) }
+{
+    let kept = set_of(alloc, after)?;
+    outside(alloc, &kept, list)
+}
+
+// Those tags of the list before that are not in the one after, in order. Where tags were put in at one place alone there are none, and no
+// set is made.
 fn deletions(alloc: Global, before: &[Tag], after: &[Tag]) -> Result<Vec<Tag>, AllocError>
     ensures { IfOk result (λ v. v.items ≡ filter (λ t. not (contains after.now t)) before.now) }
 {
-    let kept = set_of(alloc, after)?;
-    outside(alloc, &kept, before)
+    let rest = &before[same_tags(before, after)..];
+    if rest.len() <= after.len()
+        && same_tags(rest, &after[after.len() - rest.len()..]) == rest.len()
+    {
+        return Ok(Vec::new(alloc));
+    }
+    missing(alloc, rest, after)
 }
 
 // Adds `count` neighbours, of one maker, numbered from `first` on, the first at `place`.

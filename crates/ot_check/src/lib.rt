@@ -2,15 +2,18 @@
 //!
 //! ```text
 //!   machine  ----- convergence ---->  quiet | not quiet: client, up or down | differs: client, place
-//!   schedule ----- trace_of ------->  trace  ----- judge ---->  holds | the first fault
+//!   schedule ----- traced_run ----->  where it ends: a machine, and its stop
+//!               |                     trace, or none where it is full  ----- judge ---->  holds | the first fault
+//!               -- trace_of ------->    "
 //!   JSON     ----- read_trace ----->    "
 //! ```
 //!
 //! - `convergence` says of a machine what is the first thing that is not settled: by client, its phase, its message to the
 //!   server, the messages to it. Where all is settled it compares all lists; it then always answers `Quiet`, since every
 //!   run converges. `differs` is that comparison by itself. `specs/Convergence.antt` computes both answers.
-//! - `trace_of` gives the trace of a schedule's run, as `specs/Events.antt` of `ot_model` defines it: one event for each
-//!   performed edit and read, with what it saw of each replica's edits. It runs the machine and counts beside it: how many
+//! - `traced_run` runs a schedule once and gives where the run ended, and its trace, as `specs/Events.antt` of `ot_model`
+//!   defines it: one event for each performed edit and read, with what it saw of each replica's edits; `trace_of` gives the
+//!   trace alone, and goes no further where it is full. They run the machine and count beside it: how many
 //!   edits each client made, how many of them wait in its buffer, and for each number of log entries a row that says how
 //!   many of each replica's edits lie in them (`specs/Rows.antt`, `specs/Following.antt`).
 //! - `judge` and `read_trace` are those of `ot_judge`. `laws` has the theorem that joins the two: of a schedule's trace the
@@ -24,7 +27,7 @@
 //!   2: of 0, its buffer of 2   3 1 0
 //! ```
 //!
-//! Begin with `convergence` in settling.rt, then with `Tracer::follow` in tracing.rt.
+//! Begin with `convergence` in settling.rt, then with `traced_run` in traced.rt and `Tracer::follow` in tracing.rt.
 #![tactic(auto)]
 
 mod comparing;
@@ -34,6 +37,7 @@ mod ledger;
 mod outcome;
 mod settling;
 mod stop;
+mod traced;
 mod tracing;
 
 pub use comparing::differs;
@@ -43,4 +47,4 @@ pub use ot_judge::{
 pub use outcome::{Convergence, Unsettled};
 pub use settling::convergence;
 pub use stop::TraceStop;
-pub use tracing::trace_of;
+pub use traced::{TracedRun, trace_of, traced_run};

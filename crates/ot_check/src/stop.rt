@@ -1,8 +1,10 @@
-//! Why a schedule's trace is not given.
+//! Why a schedule's trace is not given, or not followed any further.
 
 ghost use Rattle.std.specs.Prelude.{◌≡◌};
+ghost use Rattle.ot_check.specs.declared.stop.Halt.TheVariants as halt;
 ghost use Rattle.ot_check.specs.declared.stop.TraceStop.TheVariants.{Memory};
 
+use ot_machine::Refusal;
 use std::alloc::{AllocError, AllocFailed};
 use thiserror::Error;
 
@@ -25,10 +27,29 @@ impl From<AllocError> for TraceStop {
     }
 }
 
-impl<T: Drop> From<AllocFailed<T>> for TraceStop {
-    ghost from_gives = { λ _ e. e ≡ Memory };
+/// Why a run is not traced any further.
+#[derive(Clone, Copy)]
+pub(crate) enum Halt {
+    /// The table refuses the instruction, for this reason, which is not `Memory`.
+    Refused(Refusal),
+    /// The instruction is performed, and its event passes a limit of the trace.
+    Full,
+    /// No memory was found.
+    Memory,
+}
 
-    fn from(_e: AllocFailed<T>) -> TraceStop {
-        TraceStop::Memory
+impl From<AllocError> for Halt {
+    ghost from_gives = { λ _ e. e ≡ halt.Memory };
+
+    fn from(_e: AllocError) -> Halt {
+        Halt::Memory
+    }
+}
+
+impl<T: Drop> From<AllocFailed<T>> for Halt {
+    ghost from_gives = { λ _ e. e ≡ halt.Memory };
+
+    fn from(_e: AllocFailed<T>) -> Halt {
+        Halt::Memory
     }
 }

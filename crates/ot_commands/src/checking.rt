@@ -8,17 +8,20 @@ use crate::running::status_of;
 use ot_asm::assemble_from;
 use ot_input::complain_of_line;
 use ot_isa::Schedule;
-use ot_machine::{Ending, end_of_run};
-use ot_report::find;
+use ot_report::{Findings, find};
 use outcomes::{complain_of_memory, give};
 use std::alloc::Global;
 use std::io::{Read, Write};
 
-// The status of a run that ended so, and of its trace.
-fn check_status(ending: &Ending, full: bool) -> u8
-    ensures { result ≡ check_status full ending.now.stopped }
+// The status of what is found of a run.
+fn check_status(found: &Findings) -> u8
+    ensures { result ≡ check_status found.now.full found.now.stopped }
 {
-    if full { 1 } else { status_of(ending.stopped) }
+    if found.full {
+        1
+    } else {
+        status_of(found.stopped)
+    }
 }
 
 // Runs the schedule and prints what is found.
@@ -30,19 +33,11 @@ fn report_findings<O: Write, F: Write>(
 ) -> u8
     ensures { MayFind schedule.now result (record { output = O.contents output.old; output' = O.contents output.new; faults = F.contents faults.old; faults' = F.contents faults.new }) }
 {
-    let Ok(ending) = end_of_run(alloc, schedule) else {
+    let Ok(found) = find(alloc, schedule) else {
         complain_of_memory(faults);
         return 1;
     };
-    let Ok(found) = find(alloc, schedule, &ending) else {
-        complain_of_memory(faults);
-        return 1;
-    };
-    give(
-        found.text.as_bytes(),
-        check_status(&ending, found.full),
-        output,
-    )
+    give(found.text.as_bytes(), check_status(&found), output)
 }
 
 /// Runs the schedule whose text is the input, and prints what is found of it.

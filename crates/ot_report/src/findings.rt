@@ -1,16 +1,20 @@
 //! What `check` prints of a schedule.
 
-ghost use Rattle.std.specs.Prelude.{◌≡◌, IfOk, string_bytes};
-ghost use Rattle.ot_model.specs.Events.{trace_of};
-ghost use Rattle.ot_judge.specs.Making.{is_full};
-ghost use Rattle.ot_report.specs.Findings.{findings, trace_text, verdict_of};
+ghost use Rattle.std.specs.Prelude.{◌≡◌, ◌++◌, IfOk, IfSome, string_bytes};
+ghost use Rattle.std.specs.Option.{option_map};
+ghost use Rattle.ot_model.specs.Trace.{TraceView};
+ghost use Rattle.ot_model.specs.WeakList.{WeakListProperty};
+ghost use Rattle.ot_report.specs.Findings.{trace_text, IsFound};
+ghost use Rattle.ot_report.specs.Printed.{stop_text};
+ghost use Rattle.ot_report.specs.Verdicts.{convergence_line};
 
 use crate::running::push_stop;
 use crate::verdicts::{print_convergence, print_verdict};
-use ot_check::{TraceStop, convergence, trace_of};
+use ot_check::{Convergence, TracedRun, convergence, traced_run};
 use ot_isa::Schedule;
-use ot_judge::{Verdict, judge};
+use ot_judge::{Trace, Verdict, judge};
 use ot_machine::Ending;
+use ot_model::Refusal;
 use std::alloc::{AllocError, Global};
 
 /// What is found of a schedule's run.
@@ -18,21 +22,23 @@ use std::alloc::{AllocError, Global};
 pub struct Findings {
     /// The lines: the stop, if there was one, and the two verdicts.
     pub text: String,
+    /// The place of the instruction that was not performed, and why; none where all were performed.
+    pub stopped: Option<(usize, Refusal)>,
     /// Whether the schedule's trace is too large to be judged.
     pub full: bool,
 }
 
-// The verdict of the schedule's trace; none where the trace is too large.
-fn verdict_of(alloc: Global, schedule: &Schedule) -> Result<Option<Verdict>, AllocError>
-    ensures { IfOk result (λ v. v ≡ verdict_of schedule.now) }
+// The verdict of a schedule's trace; none where the trace is too large.
+fn verdict_of(alloc: Global, trace: Option<Trace>) -> Result<Option<Verdict>, AllocError>
+    requires { IfSome trace WeakListProperty }
+    ensures { IfOk result (λ v. v ≡ option_map (λ (t : TraceView). Verdict.Holds) trace) }
 {
-    match trace_of(alloc, schedule) {
-        Ok(trace) => {
+    match trace {
+        Some(trace) => {
             let verdict = judge(alloc, &trace)?;
             Ok(Some(verdict))
         }
-        Err(TraceStop::TraceFull) => Ok(None),
-        Err(TraceStop::Memory) => Err(AllocError),
+        None => Ok(None),
     }
 }
 
@@ -46,22 +52,39 @@ fn print_trace(alloc: Global, verdict: Option<Verdict>) -> Result<String, AllocE
     }
 }
 
-/// What is found of a schedule and of where its run ended: the stop if an instruction was not performed, whether all is quiet with one list where the
-/// run ended, and the verdict of the schedule's trace, which is `holds`, or `trace full` where it has more than 4,000 events or 4,000,000
-/// list entries.
-pub fn find(alloc: Global, schedule: &Schedule, ending: &Ending) -> Result<Findings, AllocError>
-    ensures text { IfOk result (λ f. string_bytes f.text ≡ findings schedule.now ending.now) }
-    ensures full { IfOk result (λ f. f.full ≡ is_full (trace_of schedule.now)) }
+// The lines of what is found.
+fn found_text(
+    alloc: Global,
+    stopped: Option<(usize, Refusal)>,
+    convergence: Convergence,
+    verdict: Option<Verdict>,
+) -> Result<String, AllocError>
+    ensures { IfOk result (λ s. string_bytes s ≡ stop_text stopped ++ convergence_line convergence ++ trace_text verdict) }
 {
-    let verdict = verdict_of(alloc, schedule)?;
-    let first = print_convergence(alloc, convergence(&ending.machine))?;
+    let first = print_convergence(alloc, convergence)?;
     let second = print_trace(alloc, verdict)?;
     let mut text = String::new(alloc);
-    push_stop(alloc, &mut text, ending.stopped)?;
+    push_stop(alloc, &mut text, stopped)?;
     text.push_str(first.as_str())?;
     text.push_str(second.as_str())?;
+    Ok(text)
+}
+
+/// Runs the schedule once, and says what is found of it: the stop if an instruction was not performed, whether all is quiet with one list
+/// where the run ended, and the verdict of the schedule's trace, which is `holds`, or `trace full` where it has more than 4,000 events or
+/// 4,000,000 list entries. The machine is dropped before the trace is judged.
+pub fn find(alloc: Global, schedule: &Schedule) -> Result<Findings, AllocError>
+    ensures { IfOk result (λ found. IsFound schedule.now found) }
+{
+    let TracedRun { ending, trace } = traced_run(alloc, schedule)?;
+    let Ending { machine, stopped } = ending;
+    let convergence = convergence(&machine);
+    drop(machine);
+    let verdict = verdict_of(alloc, trace)?;
+    let text = found_text(alloc, stopped, convergence, verdict)?;
     Ok(Findings {
         text,
+        stopped,
         full: verdict.is_none(),
     })
 }

@@ -2,8 +2,8 @@
 //!
 //! ```text
 //!   Replay ── print_run ──▶ its reads, its stop, and its end (print_end: the state of any machine)
-//!   Ending ── find ───────▶ its stop, whether all is quiet with one list, and the verdict of the schedule's trace
 //!   Schedule ── write_report ──▶ the same lines as print_run's, written while the run goes
+//!   Schedule ── find ──▶ the stop of its run, whether all is quiet with one list, and the verdict of its trace
 //! ```
 //!
 //! Every line ends with LF; a text is printed as a JSON string. Each call that prints answers an error only for want of memory, and its

@@ -10,12 +10,13 @@ use Rattle.ot_commands.proofs.checking.report_findings.Goals as goal
 pub returns : goal.returns
 returns g c =
     let contents = g.O.Write.contents in
-    let right : c.check_status.result ≡ check_status (is_full (trace_of c.args.schedule.now)) c.in-Ok.ending.stopped =
-    c.check_status.ensures ∙ ap (λ (full : Bool). check_status full c.in-Ok.ending.stopped) c.in-Ok-find.ensures.full in
-    let written = subst (λ (bytes : List ℕ). Puts c.check_status.result bytes c.give.result (contents c.args.output.now) (contents c.give.new.output)) (c.as_bytes.ensures.value ∙ c.in-Ok-find.ensures.text) c.give.ensures in
-    let given = subst (λ (status : ℕ). Puts status (findings c.args.schedule.now c.in-Ok.ending) c.give.result (contents c.args.output.now) (contents c.give.new.output)) right written in
+    let found = c.in-Ok.ensures in
+    let right : c.check_status.result ≡ check_status (is_full (trace_of c.args.schedule.now)) found.ending.stopped =
+    c.check_status.ensures ∙ ap (λ (full : Bool). check_status full c.in-Ok.found.stopped) found.full ∙ ap (check_status (is_full (trace_of c.args.schedule.now))) found.stopped in
+    let written = subst (λ (bytes : List ℕ). Puts c.check_status.result bytes c.give.result (contents c.args.output.now) (contents c.give.new.output)) (c.as_bytes.ensures.value ∙ found.text) c.give.ensures in
+    let given = subst (λ (status : ℕ). Puts status (findings c.args.schedule.now found.ending) c.give.result (contents c.args.output.now) (contents c.give.new.output)) right written in
     inl (record {
-      ending = c.in-Ok.ending;
-      is_ending = c.in-Ok.ensures;
+      ending = found.ending;
+      is_ending = found.is_ending;
       gives = (given, Keeps-refl (g.F.Write.contents c.args.faults.now));
     })
