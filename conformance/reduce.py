@@ -64,16 +64,33 @@ def longer_start(schedule):
             yield dataclasses.replace(schedule, start=start, instructions=instructions[:at] + instructions[at + 1:])
 
 
+def without_client(schedule, gone, heir):
+    """Without a client, the others keeping their order; its instructions are another one's, or nobody's where that is None."""
+    left = []
+    for instruction in schedule.instructions:
+        client = heir if instruction.client == gone else instruction.client
+        if client is not None:
+            client -= client > gone
+        if client is not None or instruction.word == "read-server":
+            left.append(dataclasses.replace(instruction, client=client))
+    present = schedule.present - (gone < schedule.present)
+    return dataclasses.replace(schedule, clients=schedule.clients - 1, present=present, instructions=tuple(left))
+
+
 def fewer_clients(schedule):
-    """Without a client, the others keeping their order; and with a joiner who is there from the beginning."""
-    for gone in range(schedule.clients if schedule.clients > 1 else 0):
-        left = [dataclasses.replace(instruction, client=instruction.client - (instruction.client > gone))
-                if instruction.client is not None else instruction
-                for instruction in schedule.instructions if instruction.client != gone]
-        present = schedule.present - (gone < schedule.present)
-        yield dataclasses.replace(schedule, clients=schedule.clients - 1, present=present, instructions=tuple(left))
+    """Without a client, or with its instructions given to a neighbour; and with a joiner who is there from the beginning."""
+    if schedule.clients > 1:
+        for is_given in (False, True):
+            for gone in range(schedule.clients):
+                yield without_client(schedule, gone, (gone - 1 if gone else 1) if is_given else None)
     if schedule.present < schedule.clients:
         yield dataclasses.replace(schedule, present=schedule.present + 1)
+
+
+def no_texts(schedule):
+    """With all edits empty, and the start too or as it is, for a fault to which they are nothing."""
+    emptied = with_instructions(schedule, (dataclasses.replace(instruction, edit=()) for instruction in schedule.instructions))
+    yield from (dataclasses.replace(emptied, start=""), emptied)
 
 
 def shorter(text):
@@ -105,7 +122,7 @@ def shorter_texts(schedule):
 def smaller(schedule):
     """What may stand for a schedule, each one smaller than it and none twice."""
     seen = set()
-    for way in (fewer_instructions, longer_start, fewer_clients, shorter_texts):
+    for way in (fewer_instructions, longer_start, fewer_clients, no_texts, shorter_texts):
         for candidate in way(schedule):
             candidate = repaired(candidate)
             if candidate not in seen and size(candidate) < size(schedule):
@@ -113,15 +130,19 @@ def smaller(schedule):
                 yield candidate
 
 
+def cut(schedule, needed):
+    """The schedule up to where it shows it, if instructions stand behind that."""
+    if needed < len(schedule.instructions):
+        yield with_instructions(schedule, schedule.instructions[:needed])
+
+
 def reduced(schedule, first_shown):
     """
-    The smallest schedule that was found. `first_shown` is given schedules, and answers the first that still shows it and how many
-    of its instructions it takes, or None.
+    The smallest schedule that was found, or None where not even the given one shows it again. `first_shown` is given schedules, and
+    answers the first that still shows it and how many of its instructions it takes, or None: it is cut there if it shows it then too.
     """
-    shown = first_shown([schedule])
+    shown, schedule = first_shown([schedule]), None
     while shown:
         schedule, needed = shown
-        if needed < len(schedule.instructions):
-            schedule = with_instructions(schedule, schedule.instructions[:needed])
-        shown = first_shown(smaller(schedule))
+        shown = first_shown(itertools.chain(cut(schedule, needed), smaller(schedule)))
     return schedule

@@ -51,13 +51,19 @@ class Reducing(unittest.TestCase):
         def first_shown(schedules):
             first = next(iter(schedules))
             asked.append(len(first.instructions))
-            return (first, 5) if len(asked) == 1 else None
+            return (first, 5) if len(asked) < 3 else None
 
         self.assertEqual(reduced(session, first_shown).instructions, session.instructions[:5])
+        self.assertEqual(asked[:2], [len(session.instructions), 5])
 
-    def test_a_session_that_shows_nothing_stays(self):
-        session = generated(1, 3, 40)
-        self.assertEqual(reduced(session, lambda schedules: None), session)
+    def test_what_stands_behind_the_difference_stays_where_it_is_needed(self):
+        def first_shown(schedules):
+            return next(((it, 1) for it in schedules if len(it.instructions) > 3), None)
+
+        self.assertEqual(len(reduced(generated(1, 3, 40), first_shown).instructions), 4)
+
+    def test_a_session_that_shows_nothing_is_not_reduced(self):
+        self.assertIsNone(reduced(generated(1, 3, 40), lambda schedules: None))
 
 
 if __name__ == "__main__":

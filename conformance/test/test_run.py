@@ -66,6 +66,26 @@ class Runs(unittest.TestCase):
         self.assertRegex(printed, r"^fails: join-an-emptied-document, 15 instructions of 2 clients; here reduced to 15 of 2\n\nclients 2\n")
         self.assertTrue(printed.endswith("differs at 99: deliver 0: line\nfound \"wrong 99\"\nthe driver did not do this each time\n"), printed)
 
+    def test_a_port_that_fails_once_in_a_smaller_session_is_shown_as_it_fails_each_time(self):
+        with tempfile.TemporaryDirectory() as room:
+            fails = f"[ $(echo \"$text\" | wc -l) -ge 17 ] || mkdir {room}/seen 2>/dev/null"
+            driver = ["sh", "-c", f"text=$(cat); case $text in *join*) if {fails}; then echo wrong 99; fi;; esac"]
+            status, printed, _ = self.run_kit(driver, "--jobs", "1")
+        self.assertEqual(status, 1)
+        self.assertRegex(printed, r"^fails: join-an-emptied-document, 15 instructions of 2 clients; here reduced to 15 of 2\n\nclients 2\n")
+        self.assertTrue(printed.endswith("\"wrong 99\"\nin a smaller session the driver did not do this each time\n"), printed)
+
+    def test_a_port_whose_fault_comes_of_what_stands_behind_it_is_reduced(self):
+        driver = ["sh", "-c", "if [ $(grep -c edit) -gt 3 ]; then echo wrong 2; fi"]
+        status, printed, _ = self.run_kit(driver)
+        self.assertEqual(status, 1)
+        said = "here reduced to 4 of 1\n\nclients 1\n" + 4 * "edit 0 []\n" + "\ndiffers at 2: deliver 0: line\nfound \"wrong 2\"\n"
+        self.assertTrue(printed.endswith(said), printed)
+
+    def test_one_client_is_no_clients(self):
+        driver = ["sh", "-c", "if grep -q 'clients 1$'; then echo wrong 0; fi"]
+        self.assertRegex(self.run_kit(driver)[1], r"^fails: [a-z-]+, [0-9]+ instructions of 1 client; here reduced to 0 of 1\n")
+
     def test_a_port_that_differs_is_not_reduced_to_one_that_is_slow(self):
         driver = ["sh", "-c", "text=$(cat); case $text in *join*) if [ $(echo \"$text\" | wc -l) -lt 12 ]; then sleep 60; fi; echo wrong 99;; esac"]
         status, printed, _ = self.run_kit(driver, "--seconds", "3", "--reduce-seconds", "4", "--jobs", "8")
@@ -93,12 +113,39 @@ class Runs(unittest.TestCase):
     def test_what_cannot_be_tried(self):
         rows = [
             (["echo", "refused"], JUDGE, f"run: {JUDGE}: judge: refused\n"),
-            (["/there/is/none"], JUDGE, "run: [Errno 2] No such file or directory: '/there/is/none'\n"),
             (["true"], "/there/is/none", "run: [Errno 2] No such file or directory: '/there/is/none'\n"),
         ]
         for driver, judge, said in rows:
             self.assertEqual(self.run_kit(driver, judge=judge), (2, "", said))
-        self.assertEqual(self.run_kit([])[0], 2)
+
+    def test_words_that_are_not_understood(self):
+        digits, times = "it takes one to nine digits", "it takes more than 0, at most 1000000"
+        rows = [
+            ("--sessions", "-1", "it takes 0 or more"),
+            ("--seed", "-3", digits),
+            ("--seed", "9999999999", digits),
+            ("--clients", "0", "it takes 1 to 64"),
+            ("--clients", "99", "it takes 1 to 64"),
+            ("--instructions", "-5", "it takes 0 to 100000"),
+            ("--instructions", "200000", "it takes 0 to 100000"),
+            ("--jobs", "0", "it takes 1 or more"),
+            ("--jobs", "two", "it takes 1 or more"),
+            ("--most-bytes", "0", "it takes 1 or more"),
+            ("--seconds", "0", times),
+            ("--seconds", "inf", times),
+            ("--reduce-seconds", "-1", times),
+        ]
+        for word, value, takes in rows:
+            self.refused(f"argument {word}: invalid value '{value}': {takes}", ["true"], word, value)
+
+    def test_drivers_that_are_no_programs(self):
+        self.refused("which command is the driver?", [])
+        self.refused("the driver /there/is/none is not there", ["/there/is/none"])
+        self.refused(f"the driver {KIT} is a folder, and no program", [KIT])
+        self.refused(f"the driver {KIT}/README.md is no program: it may not be executed", [KIT / "README.md"])
+
+    def refused(self, said, driver, *words):
+        self.assertEqual(self.run_kit(driver, *words), (2, "", f"usage: conformance/run [options] COMMAND ..\nrun: error: {said}\n"))
 
 
 @unittest.skipUnless(BUILT.exists(), "the program is not built")
