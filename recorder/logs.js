@@ -79,6 +79,7 @@ function readLogs(events) {
   if (servers.length > 1) throw new Error(`${servers.map((log) => nameOf(log[0])).join(" and ")}: one session has one server`);
   const [server] = servers;
   const clients = all.filter((log) => log[0].role !== "server").sort((a, b) => a[0].revision - b[0].revision);
+  if (clients.length === 0) throw new Error("no log is a client's");
   for (const [opening] of clients) checkOpening(opening, server[0]);
   return { server, clients };
 }

@@ -10,6 +10,7 @@ const { nameOf } = require("./logs.js");
 
 const receives = (event) => event.do === "deliver" || event.do === "ack";
 const same = (a, b) => JSON.stringify(a) === JSON.stringify(b);
+const isGiven = (message, take) => same(message, { revision: take.given.revision, operation: take.given.operation });
 const text = (message) => `${JSON.stringify(message.operation)} at revision ${message.revision}`;
 
 /* What is said of an event that threw, behind what else is said of it. */
@@ -33,6 +34,7 @@ class Order {
   constructor({ server, clients }) {
     this.server = server;
     this.first = server[0].revision;
+    this.taken = server.filter((event) => event.do === "take" && event.stopped === undefined).length; // in its log
     this.clients = clients.map((log, number) => new Client(log, number, this.first));
     this.makers = [];
     this.clients.forEach((client) => this.#acknowledgements(client));
@@ -64,7 +66,7 @@ class Order {
   /* Whose message the server takes: who acknowledges it, else who has it under way. */
   #maker(take) {
     const entry = this.appended.length;
-    const sender = (client) => client.up && same(client.up, { revision: take.given.revision, operation: take.given.operation });
+    const sender = (client) => client.up && isGiven(client.up, take);
     const acknowledger = this.#acknowledger(take);
     if (acknowledger) {
       const { client, name } = acknowledger;
@@ -129,21 +131,39 @@ class Order {
 
   /* Where nothing else can come: the first event that threw over an operation that the server did not take. It ends the schedule. */
   #layThrow() {
-    const threw = ({ joined, log, next }) => joined && log[next] && log[next].stopped !== undefined;
+    const threw = ({ joined, log, next, entries }) => joined && entries >= this.taken && log[next] && log[next].stopped !== undefined;
     const client = this.clients.find(threw);
     if (client) this.events.push({ event: client.log[client.next], client: client.number });
   }
 
-  /* What waits for something that did not come. */
+  /*
+   * What a client waits for. Nothing is said of what the server's log has, as that waits for the server's next take, but where
+   * a method threw over it.
+   */
+  #wait(client) {
+    const event = client.log[client.joined ? client.next : 0];
+    if (!event) return null;
+    const isTaken = client.entries + (client.joined ? 1 : 0) <= this.taken;
+    if (isTaken && event.stopped === undefined) return null;
+    const what = client.joined ? `${event.do} of operation ${this.first + client.entries}` : `joins at revision ${event.revision}`;
+    const lack = isTaken ? "" : `, which the server did not ${client.joined ? "take" : "reach"}`;
+    return `${nameOf(event)}: ${what}${lack}${thrown(event)}`;
+  }
+
+  /* What is said of a take whose message nobody has under way. */
+  #unsent(take) {
+    const acknowledger = this.#acknowledger(take);
+    if (acknowledger) return `; ${acknowledger.name} acknowledges it, and had nothing under way`;
+    const sent = this.clients.flatMap(({ log }) => log).find((event) => event.sent && isGiven(event.sent, take));
+    if (sent) return `, which ${nameOf(sent)} sent, and which is not under way${thrown(take)}: did it come twice?`;
+    return `, which no client of these logs sent${thrown(take)}: is a client's log missing, or cut?`;
+  }
+
+  /* What waits for something that did not come: the server first, since others may wait for what it took. */
   #waiting() {
-    const waits = [];
-    for (const client of this.clients) {
-      const event = client.log[client.joined ? client.next : 0];
-      const what = client.joined ? `${event && event.do} of operation ${this.first + client.entries}` : `joins at revision ${event.revision}`;
-      if (event) waits.push(`${nameOf(event)}: ${what}, which the server did not ${client.joined ? "take" : "reach"}${thrown(event)}`);
-    }
+    const waits = this.clients.map((client) => this.#wait(client)).filter((wait) => wait !== null);
     const take = this.server[this.nextTake];
-    if (take) waits.push(`${nameOf(take)}: take of ${text(take.given)}, which no client sent${thrown(take)}`);
+    if (take) waits.unshift(`${nameOf(take)}: take of ${text(take.given)}${this.#unsent(take)}`);
     return waits.length ? waits.join("; ") : null;
   }
 

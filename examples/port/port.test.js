@@ -3,6 +3,7 @@
 const assert = require("node:assert/strict");
 const { spawnSync } = require("node:child_process");
 const fs = require("node:fs");
+const os = require("node:os");
 const path = require("node:path");
 const { test } = require("node:test");
 const { bugs } = require("./bugs.js");
@@ -104,4 +105,22 @@ test("the command line", () => {
   const refused = call("--bug", "none");
   assert.equal(refused.stderr, "driver: no such bug; there are tie, old-revision, buffer-kept, whole-log, order\n");
   assert.equal(refused.status, 1);
+});
+
+/* Beside a program that takes no schedule. */
+test("`show_bugs` without a session is one line", () => {
+  const tree = fs.mkdtempSync(path.join(os.tmpdir(), "otbench port "));
+  const shown = path.join(tree, "examples/port/show_bugs");
+  fs.mkdirSync(path.dirname(shown), { recursive: true });
+  fs.copyFileSync(path.join(__dirname, "show_bugs"), shown);
+  fs.writeFileSync(path.join(tree, "otbench"), "#!/bin/sh\necho 'otbench: line 1: NoClients' >&2\nexit 1\n", { mode: 0o755 });
+  const call = (...words) => spawnSync(shown, words, { encoding: "utf8" });
+  for (const words of [["nosuch"], ["--help"], [tree], [""], [__filename, __filename]]) {
+    const { status, stdout, stderr } = call(...words);
+    const usage = `usage: examples/port/show_bugs [SESSION], and '${words.join(" ")}' is no file that can be read\n`;
+    assert.deepEqual([status, stdout, stderr], [2, "", usage]);
+  }
+  const { status, stdout, stderr } = call(__filename);
+  assert.deepEqual([status, stdout, stderr], [1, "", "otbench: line 1: NoClients\n"]);
+  fs.rmSync(tree, { recursive: true });
 });

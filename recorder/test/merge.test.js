@@ -144,6 +144,7 @@ test("a log that is cut or mixed up is named", () => {
     [without("client a", 3), "the log of client a has no event 3"],
     [without("server", 0), "the log of server has no event 0"],
     [(events) => events.filter((event) => event.who !== "server"), "no log is a server's"],
+    [(events) => events.filter((event) => event.who === "server"), "no log is a client's"],
     [(events) => [...events, { ...find(events, "server", 0), who: "other" }], "server, event 0 and other, event 0: one session has one server"],
     [(events) => [...events, find(events, "client a", 2)], "client a, event 2 is there twice: have two participants one name?"],
     [(events) => void (find(events, "client a", 0).revision = -1), "client a, event 0 is at revision -1, before the server's log begins (0)"],
@@ -170,7 +171,7 @@ test("a message from elsewhere is named", () => {
   const foreign = (events) => void (find(events, "server", 1).given.operation = [4, "?"]);
   assert.match(mergeChanged(foreign), /^server, event 1: take of \[4,"\?"\] at revision 0; client [ab], event \d+ acknowledges it, and had sent \[.*\] at revision 0$/);
   const unknown = (events) => [...events.filter((event) => event.do !== "ack" && event.n < 2 && event.do !== "edit"), find(events, "server", 1)].filter((event, i, all) => all.indexOf(event) === i);
-  assert.match(mergeChanged(unknown), /^server, event 1: take of \[.*\] at revision 0, which no client sent$/);
+  assert.match(mergeChanged(unknown), /^server, event 1: take of \[.*\] at revision 0, which no client of these logs sent: is a client's log missing, or cut\?$/);
   const changed = (events) => void (events.find((event) => event.do === "deliver").operation = [1]);
   assert.match(mergeChanged(changed), /^client [ab], event \d+: deliver of \[1\], and the server's operation \d+ is \[.*\]$/);
 });
@@ -181,6 +182,11 @@ test("two acknowledgements of one operation are named", () => {
     deliver.do = "ack";
   };
   assert.match(mergeChanged(both), /^client [ab], event \d+ and client [ab], event \d+: both take operation \d+ as an acknowledgement$/);
+});
+
+test("where a client's log is left out, the take of its first message is named alone", () => {
+  const missing = /^server, event \d+: take of \[.*\] at revision \d+, which no client of these logs sent: is a client's log missing, or cut\?$/;
+  for (const who of ["client a", "client b"]) assert.match(mergeChanged((events) => events.filter((event) => event.who !== who)), missing);
 });
 
 /* The server takes "a" from ann or ben; each of them has just opened. */
@@ -229,10 +235,27 @@ test("what was thrown over an operation that the server did not take ends the sc
   assert.equal(fault, "ann, event 3: ack of operation 1, which the server did not take, and it stopped: Error: There is no pending operation.");
 });
 
+test("of those that wait for what the server took, only who threw over it is named, and ends no schedule", () => {
+  const taken = { who: "server", n: 2, time: 4, do: "take", given: { revision: 1, operation: [1, "b"] }, revision: 2, appended: [1, "b"], document: "ab" };
+  const waiting = { n: 3, time: 5, do: "deliver", operation: [1, "b"] };
+  const unsent = 'server, event 2: take of [1,"b"] at revision 1, which no client of these logs sent: is a client\'s log missing, or cut?';
+  const handed = merge([...acknowledged, taken, { who: "ann", ...waiting, ...quiet, revision: 2, applied: [1, "b"], document: "ab" }]);
+  assert.equal(handed.fault, unsent);
+  const threw = merge([...acknowledged, taken, { who: "ann", ...waiting, stopped: "Error: no" }]);
+  assert.deepEqual([threw.schedule, threw.fault], [handed.schedule, `${unsent}; ann, event 3: deliver of operation 1, and it stopped: Error: no`]);
+});
+
+test("a message that came twice, and an acknowledgement without a message, are named", () => {
+  const twice = merge([...acknowledged, { ...take, n: 2, revision: 2, appended: [1, "a"], document: "aa" }]).fault;
+  assert.equal(twice, 'server, event 2: take of ["a"] at revision 0, which ann, event 1 sent, and which is not under way: did it come twice?');
+  const idle = merge([...openings, take, { who: "ann", n: 1, time: 3, do: "ack", ...quiet }, { who: "ben", ...edit }]).fault;
+  assert.equal(idle, 'server, event 1: take of ["a"] at revision 0; ann, event 1 acknowledges it, and had nothing under way');
+});
+
 test("what was thrown is named beside what else is wrong with its event", () => {
   const taken = { who: "server", n: 2, time: 4, do: "take", given: { revision: 0, operation: ["?"] }, stopped: "Error: no" };
   const unsent = merge([...acknowledged, taken]).fault;
-  assert.equal(unsent, 'server, event 2: take of ["?"] at revision 0, which no client sent, and it stopped: Error: no');
+  assert.equal(unsent, 'server, event 2: take of ["?"] at revision 0, which no client of these logs sent, and it stopped: Error: no: is a client\'s log missing, or cut?');
   const delivered = { who: "ben", n: 1, time: 3, do: "deliver", operation: ["b"], stopped: "Error: no" };
   const changed = merge([...acknowledged, delivered]).fault;
   assert.equal(changed, 'ben, event 1: deliver of ["b"], and the server\'s operation 0 is ["a"], and it stopped: Error: no');
@@ -297,6 +320,8 @@ test("the command line", () => {
   fs.writeFileSync(file, log.split("\n").slice(1).join("\n"));
   assert.deepEqual([call(file).status, call(file).stdout], [1, ""]);
   assert.match(call(file).stderr, /^merge: the log of .* has no event 0\n$/);
+  fs.writeFileSync(file, log.split("\n").find((line) => JSON.parse(line).role === "server"));
+  assert.deepEqual([call("--schedule", file).status, call(file).stdout, call(file).stderr], [1, "", "merge: no log is a client's\n"]);
   fs.writeFileSync(file, Buffer.concat([Buffer.from(`${log}\n`), Buffer.from([0xe9])]));
   assert.deepEqual([call(file).status, call(file).stdout], [1, ""]);
   assert.match(call(file).stderr, /^merge: .*session\.log, line \d+ is no UTF-8\n$/);

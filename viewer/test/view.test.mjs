@@ -63,6 +63,13 @@ test("a page with a session in it", () => {
   assert.deepEqual(linesIn(stdout), { steps: linesOf(example("weak-order")), port: null, answer: [] });
 });
 
+test("a page that cannot be written is named in a line", { skip: !fs.existsSync("/dev/full") }, () => {
+  const full = fs.openSync("/dev/full", "w");
+  const { status, stderr } = spawnSync(link, ["view"], { input: example("weak-order"), stdio: ["pipe", full, "pipe"], encoding: "utf8" });
+  assert.deepEqual([status, stderr], [1, "otbench: WriteFault\n"]);
+  fs.closeSync(full);
+});
+
 test("words behind `view` are answered by what it reads", () => {
   for (const words of [["view", "story.ots"], ["view", "--help"], ["help", "view"]]) {
     const { stdout, stderr, status } = call(words, example("weak-order"));
