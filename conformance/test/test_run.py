@@ -58,22 +58,22 @@ class Runs(unittest.TestCase):
                 "clients 1\npresent 0\njoin 0\n\ndiffers at 99: deliver 0: line\nfound \"wrong 99\"\n")
         self.assertEqual((status, printed), (1, said))
 
+    def check_is_shown_as_found(self, driver, note):
+        status, printed, _ = self.run_kit(driver, "--jobs", "1")
+        self.assertEqual(status, 1)
+        self.assertRegex(printed, r"^fails: join-an-emptied-document, 15 instructions of 2 clients; here reduced to 15 of 2\n\nclients 2\n")
+        self.assertTrue(printed.endswith(f"differs at 99: deliver 0: line\nfound \"wrong 99\"\n{note}\n"), printed)
+
     def test_a_port_that_fails_once_is_shown_as_it_failed(self):
         with tempfile.TemporaryDirectory() as room:
             driver = ["sh", "-c", f"if grep -q join && mkdir {room}/seen 2>/dev/null; then echo wrong 99; fi"]
-            status, printed, _ = self.run_kit(driver, "--jobs", "1")
-        self.assertEqual(status, 1)
-        self.assertRegex(printed, r"^fails: join-an-emptied-document, 15 instructions of 2 clients; here reduced to 15 of 2\n\nclients 2\n")
-        self.assertTrue(printed.endswith("differs at 99: deliver 0: line\nfound \"wrong 99\"\nthe driver did not do this each time\n"), printed)
+            self.check_is_shown_as_found(driver, "the driver did not do this each time")
 
     def test_a_port_that_fails_once_in_a_smaller_session_is_shown_as_it_fails_each_time(self):
         with tempfile.TemporaryDirectory() as room:
             fails = f"[ $(echo \"$text\" | wc -l) -ge 17 ] || mkdir {room}/seen 2>/dev/null"
             driver = ["sh", "-c", f"text=$(cat); case $text in *join*) if {fails}; then echo wrong 99; fi;; esac"]
-            status, printed, _ = self.run_kit(driver, "--jobs", "1")
-        self.assertEqual(status, 1)
-        self.assertRegex(printed, r"^fails: join-an-emptied-document, 15 instructions of 2 clients; here reduced to 15 of 2\n\nclients 2\n")
-        self.assertTrue(printed.endswith("\"wrong 99\"\nin a smaller session the driver did not do this each time\n"), printed)
+            self.check_is_shown_as_found(driver, "in a smaller session the driver did not do this each time")
 
     def test_a_port_whose_fault_comes_of_what_stands_behind_it_is_reduced(self):
         driver = ["sh", "-c", "if [ $(grep -c edit) -gt 3 ]; then echo wrong 2; fi"]
