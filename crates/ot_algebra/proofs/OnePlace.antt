@@ -1,12 +1,12 @@
 -- How transform goes past an operation that changes one place, within what one run of the other keeps.
 use Rattle.std.proofs.Common.{◌≡◌, ℕ, zero, suc, ◌+◌, ◌-◌, ◌<◌, ◌≤◌, List, [], ◌∷◌, ◌++◌, length, take, drop, get_or, Some, Bool, true, false, refl, sym, ap, subst, ◌∙◌, arith, append-nil, append_assoc, add-one}
-use Rattle.std.specs.Prelude.{Vec, set, slice_get}
-use Rattle.std.specs.declared.alloc.Global.{Global}
+use Rattle.std.specs.Prelude.{set, slice_get}
 use Rattle.std.proofs.lemmas.List.{take-append-drop, take-set, drop-set, length-map}
 use Rattle.std.proofs.lemmas.Option.{slice_get_within, get_or_from_slice_get}
 use Rattle.std.proofs.Math.Seq.{drop-cons}
 use Rattle.std.proofs.Math.ListN.{drop_of_length-le}
 use Rattle.ot_text.specs.declared.Component.{Component}
+use Rattle.ot_text.specs.Texts.{Text}
 use Rattle.ot_text.specs.declared.Component.TheVariants.{Retain, Insert, Delete}
 use Rattle.ot_text.specs.Operation.{Operation, empty, with_retain, IsTooLong}
 use Rattle.ot_text.specs.Run.{Run, Keep, Add, base_of, image_from, operation_of, IsNormal}
@@ -213,7 +213,7 @@ filled_text [] xs some = absurd (omega (arith, some))
 filled_text (x ∷ text) xs some = refl
 
 pub begins_added :
-    {T : Type 0} (cs rest : List (Component T)) (text : Vec T Global) (come : ℕ) → cs ≡ Insert text ∷ rest → come ≡ length text.items → IsNormal (runs cs)
+    {T : Type 0} (cs rest : List (Component T)) (text : Text T) (come : ℕ) → cs ≡ Insert text ∷ rest → come ≡ length text.items → IsNormal (runs cs)
     → BeginsWithText (runs cs) come (runs rest)
 begins_added cs rest text come is long normal =
     let parts = rw is at normal in

@@ -4,8 +4,8 @@ use Rattle.std.specs.Borrow.{Bor}
 use Rattle.ot_algebra.specs.declared.cursor.Cursor.{Cursor}
 use Rattle.ot_text.specs.Operation.{Operation, IsOperation, news, IsTooLong}
 use Rattle.ot_algebra.specs.Merge.{first_after, second_after}
-use Rattle.ot_text.specs.Run.{Run, Keep, Add, Skip, operation_of}
-use Rattle.ot_algebra.specs.Cursor.{appended, skipped, runs_left, runs_from, span_of, keeps_of, transformed_part}
+use Rattle.ot_text.specs.Run.{Run, Keep, Add, Skip, base_of, operation_of}
+use Rattle.ot_algebra.specs.Cursor.{appended, skipped, runs_left, runs_from, span_of, keeps_of, kept_of, made_of, transformed_part, HasFirst, MakesFirst}
 use Rattle.ot_text.specs.Components.{run_of}
 use Rattle.ot_algebra.specs.declared.cursor.Front.{Front}
 use Rattle.ot_algebra.specs.declared.cursor.Front.TheVariants.{Retain as RetainHead, Insert as InsertHead, Delete as DeleteHead, End}
@@ -86,6 +86,33 @@ size_skipped count some (RetainHead m) xs within = runs_size-skipped_retain coun
 size_skipped count some (InsertHead text) xs within = absurd (omega (arith, within, some))
 size_skipped count some (DeleteHead m) xs within = runs_size-skipped_delete count m xs within
 size_skipped count some End xs within = absurd (omega (arith, within, some))
+
+-- a part that covers some elements has them first
+pub has_first : {A : Type 0} (count : ℕ) (h : Front A) → 0 < count → count ≤ span_of h → HasFirst count h
+has_first count (RetainHead m) some within = within
+has_first count (InsertHead text) some within = absurd (omega (arith, within, some))
+has_first count (DeleteHead m) some within = within
+has_first count End some within = absurd (omega (arith, within, some))
+
+pub has_kept : {A : Type 0} (count : ℕ) (h : Front A) → 0 < count → count ≤ kept_of h → HasFirst count h
+has_kept count (RetainHead m) some within = within
+has_kept count (InsertHead text) some within = absurd (omega (arith, within, some))
+has_kept count (DeleteHead m) some within = absurd (omega (arith, within, some))
+has_kept count End some within = absurd (omega (arith, within, some))
+
+-- a part that makes some elements makes them first
+pub makes_first : {A : Type 0} (count : ℕ) (h : Front A) → 0 < count → count ≤ made_of h → MakesFirst count h
+makes_first count (RetainHead m) some within = within
+makes_first count (InsertHead text) some within = within
+makes_first count (DeleteHead m) some within = absurd (omega (arith, within, some))
+makes_first count End some within = absurd (omega (arith, within, some))
+
+-- what a part keeps it takes
+pub kept_le : {A : Type 0} (h : Front A) (xs : List (Run A)) → kept_of h ≤ base_of (runs_from h xs)
+kept_le (RetainHead m) xs = omega arith
+kept_le (InsertHead text) xs = omega arith
+kept_le (DeleteHead m) xs = omega arith
+kept_le End xs = omega arith
 
 -- what the arms add is never too long
 

@@ -16,7 +16,7 @@ ghost use Rattle.ot_text.specs.declared.TheConstants.{LIMIT};
 ghost use Rattle.ot_algebra.specs.declared.ahead.Measure.TheVariants.{Taken};
 
 use crate::cursor::{self, Cursor};
-use ot_text::Component;
+use ot_text::{Component, Element};
 
 /// From how many components on it pays to look which of them stay.
 pub(crate) const MANY: usize = 16;
@@ -150,7 +150,7 @@ fn retain_before<T>(components: &[Component<T>], end: Place) -> Place
 }
 
 // The components before a place stay, and of the retain that stands there what is within `count` elements. None where they are few.
-fn staying_up_to<T: Copy>(
+fn staying_up_to<T: Element>(
     components: &[Component<T>],
     place: Place,
     by: Measure,
@@ -177,7 +177,7 @@ fn staying_up_to<T: Copy>(
 
 /// The components that stay where another operation keeps the next `count` elements, of those that they take or of those that they make: as many
 /// as end before the last retain that it keeps something of, and what it keeps of that one. None where they are few.
-pub(crate) fn staying<T: Copy>(
+pub(crate) fn staying<T: Element>(
     components: &[Component<T>],
     by: Measure,
     count: usize,
@@ -191,7 +191,7 @@ pub(crate) fn staying<T: Copy>(
 
 /// As `staying`, where the other operation is on the same document and stands at `other`; all the components make `made` elements. Where it keeps
 /// all that is left, nothing is counted: they take what it keeps.
-pub(crate) fn staying_beside<'a, T: Copy>(
+pub(crate) fn staying_beside<'a, T: Element>(
     components: &'a [Component<T>],
     made: usize,
     other: Cursor<'_, T>,

@@ -68,7 +68,7 @@ fn carry<T: Element>(a: TextOp<T>, b: &TextOp<T>) -> Result<TextOp<T>, AllocErro
                     keeps = true;
                     ahead = count;
                 }
-                Some(Component::Insert(text)) => only_memory(first.insert_vec(text))?,
+                Some(Component::Insert(text)) => only_memory(first.insert_text(text))?,
                 Some(Component::Delete(count)) => {
                     keeps = false;
                     ahead = count;

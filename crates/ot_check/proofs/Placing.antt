@@ -1,11 +1,10 @@
 -- Insertions component by component.
 use Rattle.std.proofs.Common.{◌≡◌, ℕ, zero, suc, ◌+◌, ◌<◌, ◌≤◌, List, [], ◌∷◌, ◌++◌, map, max, length, get_or, refl, sym, ap, ◌∙◌, arith, length-append, append_assoc}
-use Rattle.std.specs.Prelude.{Vec}
-use Rattle.std.specs.declared.alloc.Global.{Global}
 use Rattle.std.proofs.Common.{inl, inr}
 use Rattle.std.proofs.lemmas.Bool.{cases_lt}
 use Rattle.std.proofs.lemmas.List.{append-nil, length-map}
 use Rattle.ot_text.specs.declared.Component.{Component}
+use Rattle.ot_text.specs.Texts.{Text}
 use Rattle.ot_text.specs.declared.Component.TheVariants.{Retain, Insert, Delete}
 use Rattle.ot_text.specs.Operation.{Item, Old, New, olds, Operation, news, empty, with_retain, with_insert, with_delete}
 use Rattle.ot_text.specs.Run.{base_of, image_from}
@@ -89,7 +88,7 @@ module _ {cs : List (Component ℕ)} {origin first i serial place : ℕ} {made :
   pub placed_delete : (n : ℕ) → c ≡ Delete n → IsPlacedTo cs origin first (i + 1) serial place made
   placed_delete n is = record { op = with_delete so_far.op n; tagged = next_delete here at_i so_far.tagged n is; made_is = so_far.made_is; place_is = so_far.place_is }
 
-  pub placed_insert : (text : Vec ℕ Global) → c ≡ Insert text → IsPlacedTo cs origin first (i + 1) (serial + length text.items) (place + length text.items) (made ++ placed_run origin serial place (length text.items))
+  pub placed_insert : (text : Text ℕ) → c ≡ Insert text → IsPlacedTo cs origin first (i + 1) (serial + length text.items) (place + length text.items) (made ++ placed_run origin serial place (length text.items))
   placed_insert text is =
       let op = so_far.op in
       let new : List (Item Tagged) = map New (tagged_chars origin serial text.items) in
@@ -120,7 +119,7 @@ module _ {cs : List (Component ℕ)} {origin first i serial place : ℕ} {made :
       let room = short (next.op.base) (length next.op.image) (room_to_retain here at_i so_far.tagged base target n is) in
       omega arith
 
-  pub insert_fits : (text : Vec ℕ Global) → c ≡ Insert text → place + length text.items ≤ 1000000
+  pub insert_fits : (text : Text ℕ) → c ≡ Insert text → place + length text.items ≤ 1000000
   unfolding placed_insert
   insert_fits text is =
       let next = placed_insert here at_i so_far text is in
@@ -128,5 +127,5 @@ module _ {cs : List (Component ℕ)} {origin first i serial place : ℕ} {made :
       let room = short (next.op.base) (length next.op.image) (room_to_insert here at_i so_far.tagged base target text is) in
       omega arith
 
-  pub serials_fit_in : (text : Vec ℕ Global) → c ≡ Insert text → first + length (news (image_from 0 (runs cs))) ≤ 15000 → serial + length text.items ≤ 15000
+  pub serials_fit_in : (text : Text ℕ) → c ≡ Insert text → first + length (news (image_from 0 (runs cs))) ≤ 15000 → serial + length text.items ≤ 15000
   serials_fit_in text is most = let le = serials_fit cs origin first i serial so_far.op c here at_i so_far.tagged text is in omega arith

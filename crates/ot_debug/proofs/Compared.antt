@@ -3,10 +3,10 @@ use Rattle.std.proofs.Common.{◌≡◌, ◌≢◌, ℕ, zero, suc, ◌+◌, ◌
 use Rattle.std.proofs.lemmas.List.{drop-drop, length-drop, length-take, length-take-le, take_all}
 use Rattle.std.proofs.lemmas.Option.{same_Some}
 use Rattle.std.proofs.Math.Seq.{take-add}
-use Rattle.std.specs.Prelude.{slice_get, Vec, MatchBool, not}
+use Rattle.std.specs.Prelude.{slice_get, MatchBool, not}
 use Rattle.std.proofs.lemmas.Bool.{eqb-false, eqb-true}
-use Rattle.std.specs.declared.alloc.Global.{Global}
 use Rattle.ot_text.specs.declared.Component.{Component}
+use Rattle.ot_text.specs.Texts.{Text}
 use Rattle.ot_text.specs.declared.Component.TheVariants.{Retain, Insert, Delete}
 use Rattle.ot_text.specs.Operation.{Operation, apply}
 use Rattle.ot_text.specs.Run.{base_of, operation_of}
@@ -110,10 +110,10 @@ module _ {X : Type 0} (cs : List (Component X)) (list : List X) (i from to : ℕ
   retained_other n op is spells other e =
       other (sym (stands_there list (take n (drop from list)) _ to n same.to_in (retained_length n is) ((retained n is).made ∙ ap (λ (o : Operation X). apply o list) spells ∙ e)))
 
-  inserted : (v : Vec X Global) → c ≡ Insert v → IsApplied cs list (i + 1) (drop from list) (take to list ++ v.items)
+  inserted : (v : Text X) → c ≡ Insert v → IsApplied cs list (i + 1) (drop from list) (take to list ++ v.items)
   inserted v is = applied_insert cs list i (drop from list) (take to list) c less here same.applied v is
 
-  pub inserted_same : (v : Vec X Global) (k : ℕ) → c ≡ Insert v → take (length v.items) (drop to list) ≡ v.items → k ≡ to + length v.items → IsSame cs list (i + 1) from k
+  pub inserted_same : (v : Text X) (k : ℕ) → c ≡ Insert v → take (length v.items) (drop to list) ≡ v.items → k ≡ to + length v.items → IsSame cs list (i + 1) from k
   inserted_same v k is stands further =
       record {
         applied = subst (λ m. IsApplied cs list (i + 1) (drop from list) (take m list)) (sym further)
@@ -122,7 +122,7 @@ module _ {X : Type 0} (cs : List (Component X)) (list : List X) (i from to : ℕ
         to_in = let e = length_there list to (length v.items) v.items same.to_in refl stands in omega (arith, e, further);
       }
 
-  pub inserted_other : (v : Vec X Global) (op : Operation X) → c ≡ Insert v → operation_of (runs cs) ≡ op → take (length v.items) (drop to list) ≢ v.items → apply op list ≢ list
+  pub inserted_other : (v : Text X) (op : Operation X) → c ≡ Insert v → operation_of (runs cs) ≡ op → take (length v.items) (drop to list) ≢ v.items → apply op list ≢ list
   unfolding apply
   inserted_other v op is spells other e =
       other (stands_there list v.items _ to (length v.items) same.to_in refl ((inserted v is).made ∙ ap (λ (o : Operation X). apply o list) spells ∙ e))

@@ -16,7 +16,7 @@ use ot_machine::Undo;
 use std::alloc::{AllocError, Global};
 use std::mem;
 
-/// How large the records of a debugger may be in all, counted as `Undo::size` counts: a unit takes 32 bytes, and up to 230 where many clients wait for much, so they
+/// How large the records of a debugger may be in all, counted as `Undo::size` counts: a unit takes 24 bytes, and up to 230 where many clients wait for much, so they
 /// stay below 1 GB. 100,000 instructions of thirty components each are within it.
 pub(crate) const BUDGET: usize = 4_000_000;
 

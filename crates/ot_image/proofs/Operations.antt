@@ -6,7 +6,7 @@ use Rattle.std.specs.List.{flat_map}
 use Rattle.std.specs.Int.{w32}
 use Rattle.ot_text.specs.Operation.{New, olds, Operation, empty, with_insert}
 use Rattle.ot_text.specs.Run.{Run, Keep, Add, Skip, base_of, image_from, operation_of, IsFilled, MayFollow, IsNormal, normal_runs}
-use Rattle.ot_text.proofs.RunLemmas.{base_of-append, image_from-append, length-olds, one_more_keep, one_more_drop, one_more_add, MayEnd, normal_push, front_may_end, longest_retain, longest_insert}
+use Rattle.ot_text.proofs.RunLemmas.{base_of-append, image_from-append, length-olds, runs_few, one_more_keep, one_more_drop, one_more_add, MayEnd, normal_push, front_may_end, longest_retain, longest_insert}
 use Rattle.ot_image.specs.Reading.{Spot, number_at, times, Edited, may_follow, push_component, components_at, operation_at}
 use Rattle.ot_text.proofs.Normal.{normal_runs_back}
 use Rattle.ot_image.specs.Spelling.{code_of, size_of, component, components}
@@ -181,13 +181,6 @@ components_spelled op is =
     let k = edit_lead [] rs start begun is.normal (rw (ap (λ (o : Operation ℕ). o.base) is.spelled) is.base) (rw (ap (λ (o : Operation ℕ). o.image) is.spelled) is.target) is.scalars in
     subst (λ (o : Operation ℕ). Spells (components_at (length rs)) (flat_map component rs) o) (k.2.op ∙ is.spelled)
     (Spells-map (times push_component (length rs) start) (λ edited. edited.op) k.0 (flat_map component rs) (components_spell start rs k.0 k.1))
-
--- each component of the normal form takes a place of the base or of the target
-pub runs_few : (from : ℕ) (rs : List (Run ℕ)) → IsNormal rs → length rs ≤ base_of rs + length (image_from from rs)
-runs_few from [] n = omega arith
-runs_few from (Keep k ∷ rs) n = omega (arith, n.0, runs_few (from + k) rs n.2, length-append (olds {A = ℕ} from k) (image_from (from + k) rs))
-runs_few from (Add s ∷ rs) n = omega (arith, n.0, runs_few from rs n.2, length-append (map New s) (image_from from rs), length-map s (λ (x : ℕ). New x))
-runs_few from (Skip k ∷ rs) n = omega (arith, n.0, runs_few (from + k) rs n.2)
 
 pub operation_takes : (s : Spot) (op : Operation ℕ) (t : Spot) → IsBytes s.rest → operation_at s ≡ Ok (op, t) → Takes s (components (normal_runs op)) t
 unfolding operation_at

@@ -14,7 +14,7 @@ use Rattle.ot_text.proofs.Compared.{runs_more}
 use Rattle.ot_isa.specs.declared.instruction.Instr.{Instr}
 use Rattle.ot_isa.proofs.Lists.{take_got}
 use Rattle.ot_image.specs.Spelling.{size_of, component, components, instruction}
-use Rattle.ot_image.proofs.Operations.{runs_few}
+use Rattle.ot_text.proofs.RunLemmas.{runs_few}
 
 later : (n from : ℕ) (r : Run ℕ) (rs : List (Run ℕ)) → ((at : ℕ) → n ≤ base_of rs + length (image_from at rs)) → n ≤ base_of (r ∷ rs) + length (image_from from (r ∷ rs))
 later n from (Keep k) rs h = omega (arith, h (from + k), length-append (olds {A = ℕ} from k) (image_from (from + k) rs))

@@ -1,8 +1,7 @@
 -- What takes back an operation that changes one place.
 use Rattle.std.proofs.Common.{◌≡◌, ℕ, ◌+◌, ◌≤◌, List, [], ◌∷◌, ◌++◌, map, length, take, drop, refl, sym, ap, ◌∙◌, arith, length-append, Option, Some, None}
 use Rattle.std.proofs.lemmas.List.{length-map, length-take, length-drop}
-use Rattle.std.specs.Prelude.{Vec}
-use Rattle.std.specs.declared.alloc.Global.{Global}
+use Rattle.ot_text.specs.Texts.{Text}
 use Rattle.ot_text.specs.declared.Component.{Component}
 use Rattle.ot_text.specs.declared.Component.TheVariants.{Retain, Insert, Delete}
 use Rattle.ot_text.specs.Components.{runs}
@@ -14,12 +13,12 @@ use Rattle.ot_inverse.specs.declared.place.Change.{Change}
 use Rattle.ot_inverse.specs.Inverses.{SpellSame, BeginsWithText, ChangesPlace, change_at, operation_at, text_of}
 
 -- a text at the front
-pub first_text : {A : Type 0} (cs rest : List (Component A)) (text : Vec A Global) (come : ℕ) → cs ≡ Insert text ∷ rest → come ≡ length text.items → BeginsWithText (runs cs) come (runs rest)
+pub first_text : {A : Type 0} (cs rest : List (Component A)) (text : Text A) (come : ℕ) → cs ≡ Insert text ∷ rest → come ≡ length text.items → BeginsWithText (runs cs) come (runs rest)
 first_text cs rest text come is long = rw is (record { text = Some text; long = sym long; same = (refl, λ from. refl) })
 
 -- the inverse of such a change
 inverse_at :
-    {A : Type 0} (before gone behind : ℕ) (added : Option (Vec A Global)) (d : List A) → base_of (change_at before (text_of added) gone behind) ≡ length d
+    {A : Type 0} (before gone behind : ℕ) (added : Option (Text A)) (d : List A) → base_of (change_at before (text_of added) gone behind) ≡ length d
     → operation_at before (length (text_of added)) (take gone (drop before d)) behind ≡ invert (operation_of (change_at before (text_of added) gone behind)) d
 inverse_at {A} before gone behind (Some v) d fits =
     let cs : List (Component A) = Retain before ∷ Insert v ∷ Delete gone ∷ Retain behind ∷ [] in

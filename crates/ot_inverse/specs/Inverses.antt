@@ -1,6 +1,6 @@
 -- An operation that changes one place of a document, and what takes it back.
-use Rattle.std.specs.Prelude.{◌≡◌, ℕ, ◌+◌, ◌≤◌, List, [], ◌∷◌, length, Option, Some, None, Vec}
-use Rattle.std.specs.declared.alloc.Global.{Global}
+use Rattle.std.specs.Prelude.{◌≡◌, ℕ, ◌+◌, ◌≤◌, List, [], ◌∷◌, length, Option, Some, None}
+use Rattle.ot_text.specs.Texts.{Text}
 use Rattle.ot_text.specs.Operation.{Operation, empty, with_retain, with_insert, with_delete}
 use Rattle.ot_text.specs.Run.{Run, Keep, Add, Skip, base_of, image_from}
 use Rattle.ot_text.specs.declared.TheConstants.{LIMIT}
@@ -13,13 +13,13 @@ abbrev pub SpellSame : {A : Type 0} → List (Run A) → List (Run A) → Type 0
 SpellSame rs ss = (base_of rs ≡ base_of ss) × ((from : ℕ) → image_from from rs ≡ image_from from ss)
 
 -- a text, if there is one
-abbrev pub text_of : {A : Type 0} → Option (Vec A Global) → List A
+abbrev pub text_of : {A : Type 0} → Option (Text A) → List A
 text_of None = []
 text_of (Some text) = text.items
 
 -- the runs begin with a text of that length, or none, and the rest
 pub record BeginsWithText {A : Type 0} (rs : List (Run A)) (come : ℕ) (rest : List (Run A)) : Type 0 where
-  pub text : Option (Vec A Global)
+  pub text : Option (Text A)
   pub long : length (text_of text) ≡ come
   pub same : SpellSame rs (Add (text_of text) ∷ rest)
 
@@ -29,7 +29,7 @@ change_at before text gone behind = Keep before ∷ Add text ∷ Skip gone ∷ K
 
 -- the runs are such a change, with these counts
 pub record ChangesPlace {A : Type 0} (rs : List (Run A)) (change : Change) : Type 0 where
-  pub text : Option (Vec A Global)
+  pub text : Option (Text A)
   pub long : length (text_of text) ≡ change.come
   pub same : SpellSame rs (change_at change.before (text_of text) change.gone change.behind)
 

@@ -3,9 +3,8 @@ use Rattle.std.proofs.Common.{◌≡◌, ℕ, zero, suc, ◌+◌, ◌<◌, List,
 use Rattle.std.proofs.lemmas.List.{append-nil}
 use Rattle.std.proofs.lemmas.Bool.{and_parts, and_from}
 use Rattle.std.proofs.lemmas.List.Elements.{filter_map-append}
+use Rattle.ot_text.specs.Texts.{Text}
 use Rattle.ot_text.specs.declared.Component.TheVariants.{Retain, Insert, Delete}
-use Rattle.std.specs.Prelude.{Vec}
-use Rattle.std.specs.declared.alloc.Global.{Global}
 use Rattle.std.specs.Str.{all_scalars}
 use Rattle.std.specs.Char.{IsScalar}
 use Rattle.ot_text.specs.declared.Component.{Component}
@@ -52,10 +51,10 @@ next_scalars cs i c here at_i so_far is =
     of_run from (Delete n) is = refl
 
 -- a component that inserts nothing
-pub none_inserted : (c : Component ℕ) → ((text : Vec ℕ Global) → c ≡ Insert text → ⊥) → all_scalars (inserted (run_of c ∷ [])) ≡ true
+pub none_inserted : (c : Component ℕ) → ((text : Text ℕ) → c ≡ Insert text → ⊥) → all_scalars (inserted (run_of c ∷ [])) ≡ true
 none_inserted (Retain n) other = rw (append-nil, olds_none) refl
 none_inserted (Insert text) other = absurd (other text refl)
 none_inserted (Delete n) other = refl
 
-pub text_inserted : (c : Component ℕ) (text : Vec ℕ Global) → c ≡ Insert text → all_scalars text.items ≡ true → all_scalars (inserted (run_of c ∷ [])) ≡ true
+pub text_inserted : (c : Component ℕ) (text : Text ℕ) → c ≡ Insert text → all_scalars text.items ≡ true → all_scalars (inserted (run_of c ∷ [])) ≡ true
 text_inserted c text is scalars = rw (is, append-nil, news_map) scalars

@@ -1,9 +1,8 @@
 -- Tagging an operation component by component.
 use Rattle.std.proofs.Common.{◌≡◌, ℕ, ◌+◌, ◌<◌, ◌≤◌, List, [], ◌∷◌, ◌++◌, map, length, take, drop, get_or, refl, sym, ap, ◌∙◌, arith, add-one, length-append}
-use Rattle.std.specs.Prelude.{Vec}
-use Rattle.std.specs.declared.alloc.Global.{Global}
 use Rattle.std.proofs.lemmas.List.{take-append-drop, append-nil}
 use Rattle.ot_text.specs.declared.Component.{Component}
+use Rattle.ot_text.specs.Texts.{Text}
 use Rattle.ot_text.specs.declared.Component.TheVariants.{Retain, Insert, Delete}
 use Rattle.ot_text.specs.Operation.{New, olds, Operation, IsTooLong, news, empty, with_retain, with_insert, with_delete}
 use Rattle.ot_text.specs.Run.{Run, Keep, Add, Skip, base_of, image_from, operation_of}
@@ -80,7 +79,7 @@ module _ {cs : List (Component ℕ)} {origin first i serial : ℕ} {op : Operati
         serial_is = rw more (omega (arith, count, so_far.serial_is));
       }
 
-  pub next_insert : (text : Vec ℕ Global) → c ≡ Insert text → IsTaggedTo cs origin first (i + 1) (serial + length text.items) (with_insert op (tagged_chars origin serial text.items))
+  pub next_insert : (text : Text ℕ) → c ≡ Insert text → IsTaggedTo cs origin first (i + 1) (serial + length text.items) (with_insert op (tagged_chars origin serial text.items))
   next_insert text is =
       let more : take (i + 1) (runs cs) ≡ take i (runs cs) ++ Add text.items ∷ [] = rw add-one (runs_more cs i c here at_i ∙ rw is refl) in
       let before : Operation ℕ = operation_of (take i (runs cs)) in
@@ -101,11 +100,11 @@ module _ {cs : List (Component ℕ)} {origin first i serial : ℕ} {op : Operati
   pub room_to_delete : (n : ℕ) → c ≡ Delete n → IsTooLong (with_delete op n) → ⊥
   room_to_delete n is = front_fits cs origin first (i + 1) _ base target (next_delete here at_i so_far n is).made
 
-  pub room_to_insert : (text : Vec ℕ Global) → c ≡ Insert text → IsTooLong (with_insert op (tagged_chars origin serial text.items)) → ⊥
+  pub room_to_insert : (text : Text ℕ) → c ≡ Insert text → IsTooLong (with_insert op (tagged_chars origin serial text.items)) → ⊥
   room_to_insert text is = front_fits cs origin first (i + 1) _ base target (next_insert here at_i so_far text is).made
 
 -- a component's characters are among those of the operation
 pub serials_fit : (cs : List (Component ℕ)) (origin first i serial : ℕ) (op : Operation Tagged) (c : Component ℕ) → i < length cs → c ≡ get_or cs i c → IsTaggedTo cs origin first i serial op
-    → (text : Vec ℕ Global) → c ≡ Insert text → serial + length text.items ≤ first + length (news (image_from 0 (runs cs)))
+    → (text : Text ℕ) → c ≡ Insert text → serial + length text.items ≤ first + length (news (image_from 0 (runs cs)))
 serials_fit cs origin first i serial op c here at_i so_far text is =
     omega (arith, (next_insert here at_i so_far text is).serial_is, inserted_within (runs cs) (i + 1))

@@ -23,4 +23,6 @@ impl Element for Tagged {
     ghost use Rattle.std.proofs.Common.{rules};
 
     ghost equal_is_same = { Prim.search rules };
+
+    ghost fits_in_memory = { Prim.search rules };
 }

@@ -21,7 +21,7 @@ fn value_of(alloc: Global, component: &Component<char>) -> Result<Value, AllocEr
         Component::Retain(count) => Ok(Value::from(*count as u64)),
         Component::Delete(count) => Ok(Value::from(-1 - (*count as u64 - 1) as i64)),
         Component::Insert(text) => {
-            let letters: String = text.iter().copied().collect(alloc)?;
+            let letters: String = text.as_slice().iter().copied().collect(alloc)?;
             Ok(Value::String(letters))
         }
     }

@@ -1,8 +1,9 @@
 -- An operation on its way over another one whose text goes first.
-use Rattle.std.proofs.Common.{◌≡◌, ℕ, zero, suc, ◌-◌, ◌<◌, ◌≤◌, List, [], ◌∷◌, length, Vec, Global, Bool, true, false, refl, arith}
+use Rattle.std.proofs.Common.{◌≡◌, ℕ, zero, suc, ◌-◌, ◌<◌, ◌≤◌, List, [], ◌∷◌, length, Bool, true, false, refl, arith}
 use Rattle.ot_text.specs.Operation.{Operation, with_retain, with_delete}
 use Rattle.ot_text.specs.Components.{runs}
 use Rattle.ot_text.specs.declared.Component.{Component}
+use Rattle.ot_text.specs.Texts.{Text}
 use Rattle.ot_text.specs.declared.Component.TheVariants.{Insert}
 use Rattle.ot_text.specs.Run.{Run, Keep, Add, Skip, MayLead}
 use Rattle.ot_algebra.specs.Cursor.{appended, skipped, transformed_part}
@@ -60,7 +61,7 @@ arm_both a b first second count some false false (suc all) (suc more) xs ys in_o
     rw (skipped_gone count (suc all) (suc all - count) xs (omega (arith, in_other)), skipped_gone count (suc more) (suc more - count) ys (omega (arith, in_hand))) at here
 
 -- a text of the other one, which goes first
-pub other_text : (a b first second : Operation ℕ) (other_keeps : Bool) (other_ahead : ℕ) (others rest : List (Component ℕ)) (component : Component ℕ) (text : Vec ℕ Global) (ys : List (Run ℕ)) → other_ahead ≡ 0 → others ≡ component ∷ rest → component ≡ Insert text
+pub other_text : (a b first second : Operation ℕ) (other_keeps : Bool) (other_ahead : ℕ) (others rest : List (Component ℕ)) (component : Component ℕ) (text : Text ℕ) (ys : List (Run ℕ)) → other_ahead ≡ 0 → others ≡ component ∷ rest → component ≡ Insert text
     → Progress a b first second (left other_keeps other_ahead (runs others)) ys
     → Progress a b (appended first (Add text.items)) (appended second (Keep (length text.items))) (left other_keeps other_ahead (runs rest)) ys
 other_text a b first second other_keeps zero others rest component text ys none others_are is w =
@@ -68,7 +69,7 @@ other_text a b first second other_keeps zero others rest component text ys none 
 other_text a b first second other_keeps (suc more) others rest component text ys none others_are is w = absurd (omega (arith, none))
 
 -- a text of the operation, where the other one has none here
-pub own_text : (a b first second : Operation ℕ) (keeps : Bool) (ahead : ℕ) (parts rest : List (Component ℕ)) (part : Component ℕ) (text : Vec ℕ Global) (xs : List (Run ℕ)) → StartsOtherwise xs → ahead ≡ 0 → parts ≡ part ∷ rest → part ≡ Insert text
+pub own_text : (a b first second : Operation ℕ) (keeps : Bool) (ahead : ℕ) (parts rest : List (Component ℕ)) (part : Component ℕ) (text : Text ℕ) (xs : List (Run ℕ)) → StartsOtherwise xs → ahead ≡ 0 → parts ≡ part ∷ rest → part ≡ Insert text
     → Progress a b first second xs (left keeps ahead (runs parts))
     → Progress a b (appended first (Keep (length text.items))) (appended second (Add text.items)) xs (left keeps ahead (runs rest))
 own_text a b first second keeps zero parts rest part text xs otherwise none parts_are is w =

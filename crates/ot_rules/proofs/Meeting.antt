@@ -1,8 +1,9 @@
 -- Two operations that insert at no place both: whose text would go first there makes no difference.
-use Rattle.std.proofs.Common.{◌≡◌, ℕ, zero, suc, ◌+◌, ◌-◌, ◌<◌, ◌≤◌, List, [], ◌∷◌, ◌++◌, length, map, Vec, Global, Bool, refl, sym, ap, ◌∙◌, true, false, arith}
+use Rattle.std.proofs.Common.{◌≡◌, ℕ, zero, suc, ◌+◌, ◌-◌, ◌<◌, ◌≤◌, List, [], ◌∷◌, ◌++◌, length, map, Bool, refl, sym, ap, ◌∙◌, true, false, arith}
 use Rattle.ot_text.specs.Operation.{Item, Operation, Old, New, news, olds, empty}
 use Rattle.ot_text.specs.Components.{run_of, runs}
 use Rattle.ot_text.specs.declared.Component.{Component}
+use Rattle.ot_text.specs.Texts.{Text}
 use Rattle.ot_text.specs.declared.Component.TheVariants.{Retain, Insert, Delete}
 use Rattle.ot_text.specs.Run.{Run, Keep, Add, Skip, IsNormal, base_of, image_from, operation_of}
 use Rattle.ot_text.proofs.Replaced.{inserted-append}
@@ -181,7 +182,7 @@ text_alone (Delete count) = refl
 pub text_counted : (component : Component ℕ) (rest : List (Component ℕ)) → length (news (image_from 0 (runs (component ∷ rest)))) ≡ text_of component + length (news (image_from 0 (runs rest)))
 text_counted component rest = inserted-append (run_of component ∷ []) (runs rest) ∙ ap (λ n. n + length (news (image_from 0 (runs rest)))) (text_alone component)
 
-pub text_none : (component : Component ℕ) → ((text : Vec ℕ Global) → component ≡ Insert text → ⊥) → text_of component ≡ 0
+pub text_none : (component : Component ℕ) → ((text : Text ℕ) → component ≡ Insert text → ⊥) → text_of component ≡ 0
 text_none (Retain count) other = refl
 text_none (Insert text) other = absurd (other text refl)
 text_none (Delete count) other = refl

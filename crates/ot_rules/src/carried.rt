@@ -144,7 +144,7 @@ fn carry(op: TextOp<char>, other: &TextOp<char>) -> Result<TextOp<char>, AllocEr
                     keeps = true;
                     ahead = count;
                 }
-                Some(Component::Insert(text)) => only_memory(carried.insert_vec(text))?,
+                Some(Component::Insert(text)) => only_memory(carried.insert_text(text))?,
                 Some(Component::Delete(count)) => {
                     keeps = false;
                     ahead = count;

@@ -89,7 +89,7 @@ fn add<T: Element>(
 {
     match component {
         Component::Retain(_) => only_memory(front.retain(count)),
-        Component::Insert(text) => only_memory(front.insert(text)),
+        Component::Insert(text) => only_memory(front.insert(text.as_slice())),
         Component::Delete(_) => only_memory(front.delete(count)),
     }
 }

@@ -1,5 +1,5 @@
 -- Short items, gathered in bytes.
-use Rattle.std.proofs.Common.{◌≡◌, ℕ, zero, suc, ◌+◌, ◌-◌, ◌*◌, ◌<◌, ◌≤◌, List, [], ◌∷◌, ◌++◌, length, map, set, take, get_or, sym, ap, ◌∙◌, arith, append_assoc, length-set, Vec, Global, Option, Some, None}
+use Rattle.std.proofs.Common.{◌≡◌, ℕ, zero, suc, ◌+◌, ◌-◌, ◌*◌, ◌<◌, ◌≤◌, List, [], ◌∷◌, ◌++◌, length, map, set, take, get_or, sym, ap, ◌∙◌, arith, append_assoc, length-set, Option, Some, None}
 use Rattle.std.specs.Prelude.{true, IfSome, ◌/◌, ◌%◌, decimal}
 use Rattle.std.specs.Char.{encode_utf8}
 use Rattle.std.specs.Str.{IsAscii, encode_utf8_all}
@@ -12,6 +12,7 @@ use Rattle.json.specs.Print.{quoted}
 use Rattle.json.proofs.Printed.Strings.{escape_byte_plain}
 use Rattle.serde_json.specs.Written.{compact_text}
 use Rattle.ot_text.specs.declared.Component.{Component}
+use Rattle.ot_text.specs.Texts.{Text}
 use Rattle.ot_text.specs.declared.Component.TheVariants.{Retain, Insert, Delete}
 use Rattle.ot_text.specs.Components.{run_of}
 use Rattle.ot_text.specs.Run.{IsFilled, Skip}
@@ -68,7 +69,7 @@ one_letter code [] x c one at is ascii = absurd (omega (arith, one))
 one_letter code (y ∷ []) x c one at is ascii = append-nil (encode_utf8 (code y)) ∙ ap (λ z. encode_utf8 (code z)) (sym at) ∙ ap encode_utf8 (sym is) ∙ encode_ascii c ascii
 one_letter code (y ∷ z ∷ letters) x c one at is ascii = absurd (omega (arith, one))
 
-pub inserted : {A : Type 0} (code : A → ℕ) (component : Component A) (letters : Vec A Global) (x : A) (c : ℕ) → component ≡ Insert letters → length letters.items ≡ 1 → x ≡ get_or letters.items 0 x → c ≡ code x
+pub inserted : {A : Type 0} (code : A → ℕ) (component : Component A) (letters : Text A) (x : A) (c : ℕ) → component ≡ Insert letters → length letters.items ≡ 1 → x ≡ get_or letters.items 0 x → c ≡ code x
     → 32 ≤ c → c < 128 → (c ≡ 34 → ⊥) → (c ≡ 92 → ⊥) → part code component ≡ 34 ∷ c ∷ 34 ∷ []
 inserted code component letters x c component_is one at is printable ascii unquoted unescaped =
     ap (part code) component_is

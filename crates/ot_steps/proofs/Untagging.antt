@@ -1,9 +1,8 @@
 -- An operation's tags taken off, component by component.
 use Rattle.std.proofs.Common.{◌≡◌, ℕ, zero, suc, ◌+◌, ◌<◌, ◌≤◌, List, [], ◌∷◌, ◌++◌, map, length, take, drop, get_or, refl, sym, ap, ◌∙◌, arith, add-one, length-append}
-use Rattle.std.specs.Prelude.{Vec}
-use Rattle.std.specs.declared.alloc.Global.{Global}
 use Rattle.std.proofs.lemmas.List.{append-nil, length-map, map-append, take-append-drop}
 use Rattle.ot_text.specs.declared.Component.{Component}
+use Rattle.ot_text.specs.Texts.{Text}
 use Rattle.ot_text.specs.declared.Component.TheVariants.{Retain, Insert, Delete}
 use Rattle.ot_text.specs.Operation.{Item, Old, New, olds, Operation, IsTooLong, empty, with_retain, with_insert, with_delete}
 use Rattle.ot_text.specs.Run.{Run, Keep, Add, Skip, base_of, image_from, operation_of, IsFilled, IsNormal, MayFollow, MayLead}
@@ -77,7 +76,7 @@ module _ {cs : List (Component Tagged)} {i : ℕ} {op : Operation ℕ} {c : Comp
         made = ap (λ (o : Operation ℕ). with_delete o n) so_far.made ∙ ap plain_operation (sym one) ∙ ap (λ (rs : List (Run Tagged)). plain_operation (operation_of rs)) (sym more);
       }
 
-  pub next_insert : (text : Vec Tagged Global) → c ≡ Insert text → IsPlainTo cs (i + 1) (with_insert op (chars_of text.items))
+  pub next_insert : (text : Text Tagged) → c ≡ Insert text → IsPlainTo cs (i + 1) (with_insert op (chars_of text.items))
   next_insert text is =
       let more : take (i + 1) (runs cs) ≡ take i (runs cs) ++ Add text.items ∷ [] = rw add-one (runs_more cs i c here at_i ∙ rw is refl) in
       let before : Operation Tagged = operation_of (take i (runs cs)) in
@@ -96,7 +95,7 @@ module _ {cs : List (Component Tagged)} {i : ℕ} {op : Operation ℕ} {c : Comp
   pub room_to_delete : (n : ℕ) → c ≡ Delete n → IsTooLong (with_delete op n) → ⊥
   room_to_delete n is = front_fits cs (i + 1) _ base target (next_delete here at_i so_far n is).made
 
-  pub room_to_insert : (text : Vec Tagged Global) → c ≡ Insert text → IsTooLong (with_insert op (chars_of text.items)) → ⊥
+  pub room_to_insert : (text : Text Tagged) → c ≡ Insert text → IsTooLong (with_insert op (chars_of text.items)) → ⊥
   room_to_insert text is = front_fits cs (i + 1) _ base target (next_insert here at_i so_far text is).made
 
 -- ---- the components themselves, without tags

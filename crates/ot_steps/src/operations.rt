@@ -11,7 +11,7 @@ ghost use Rattle.ot_text.specs.Run.{IsFilled, IsNormal};
 ghost use Rattle.ot_steps.specs.Lettered.{items_from, lettered};
 
 use itoa::Buffer;
-use ot_text::Component;
+use ot_text::{Component, Element};
 use ot_values::{Letter, ascii_text, push_letters};
 use std::alloc::{AllocError, Global};
 
@@ -65,7 +65,7 @@ pub fn push_decimal(text: &mut String, number: u64) -> Result<(), AllocError>
 }
 
 // A component as an item of the array.
-pub(crate) fn push_component<T: Letter>(
+pub(crate) fn push_component<T: Element + Letter>(
     alloc: Global,
     text: &mut String,
     component: &Component<T>,
@@ -112,7 +112,11 @@ fn put_digits(number: usize, bytes: &mut [u8], at: usize) -> Option<usize>
 
 // Puts a comma and the component behind the first `at` bytes, if it is short: a count of at most two digits, or one letter of one byte that
 // JSON writes as it is. Answers where it ends.
-fn put_item<T: Letter>(component: &Component<T>, bytes: &mut [u8], at: usize) -> Option<usize>
+fn put_item<T: Element + Letter>(
+    component: &Component<T>,
+    bytes: &mut [u8],
+    at: usize,
+) -> Option<usize>
     requires filled { IsFilled (run_of component.now) }
     requires room { at + SHORT ≤ length bytes.old }
     ensures put { IfSome result (λ end. take end bytes.new ≡ take at bytes.old ++ 44 ∷ compact_text (data_of (lettered T.code (run_of component.now)))) }
@@ -130,7 +134,7 @@ fn put_item<T: Letter>(component: &Component<T>, bytes: &mut [u8], at: usize) ->
             if letters.len() != 1 {
                 return None;
             }
-            let letter = letters[0].letter();
+            let letter = letters.as_slice()[0].letter();
             if letter < ' ' || letter > '~' || letter == '"' || letter == '\\' {
                 return None;
             }
@@ -150,7 +154,7 @@ fn put_item<T: Letter>(component: &Component<T>, bytes: &mut [u8], at: usize) ->
 
 // Puts the components from `start` on into the bytes, up to one that is not short, and as many as there is room for. Answers which comes next,
 // and how many bytes they are.
-fn put_items<T: Letter>(
+fn put_items<T: Element + Letter>(
     components: &[Component<T>],
     start: usize,
     bytes: &mut [u8],
@@ -176,7 +180,7 @@ fn put_items<T: Letter>(
 }
 
 // The items behind the first, and the closing bracket.
-fn push_later<T: Letter>(
+fn push_later<T: Element + Letter>(
     alloc: Global,
     text: &mut String,
     components: &[Component<T>],
@@ -201,7 +205,7 @@ fn push_later<T: Letter>(
 }
 
 /// The compact array of components in normal form.
-pub(crate) fn push_components<T: Letter>(
+pub(crate) fn push_components<T: Element + Letter>(
     alloc: Global,
     text: &mut String,
     components: &[Component<T>],

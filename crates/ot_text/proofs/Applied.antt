@@ -3,10 +3,9 @@ use Rattle.std.proofs.Common.{◌≡◌, ℕ, zero, suc, ◌+◌, ◌<◌, ◌�
 use Rattle.std.specs.Prelude.{slice_get}
 use Rattle.std.specs.List.{filter_map, cons_option}
 use Rattle.std.proofs.lemmas.List.Elements.{filter_map-append}
-use Rattle.std.specs.Prelude.{Vec}
-use Rattle.std.specs.declared.alloc.Global.{Global}
 use Rattle.std.proofs.lemmas.List.{append-nil, drop-drop, length-drop}
 use Rattle.ot_text.specs.declared.Component.{Component}
+use Rattle.ot_text.specs.Texts.{Text}
 use Rattle.ot_text.specs.declared.Component.TheVariants.{Retain, Insert, Delete}
 use Rattle.ot_text.proofs.Built.{past_end}
 use Rattle.ot_text.specs.Operation.{Item, Old, New, olds, Operation, value_in, apply}
@@ -112,7 +111,7 @@ module _ {T : Type 0} (cs : List (Component T)) (d : List T) (i : ℕ) (left ite
         fits = rw add-one (omega (arith, f, length-drop n left));
       }
 
-  pub applied_insert : (v : Vec T Global) → c ≡ Insert v → IsApplied cs d (i + 1) left (items ++ v.items)
+  pub applied_insert : (v : Text T) → c ≡ Insert v → IsApplied cs d (i + 1) left (items ++ v.items)
   applied_insert v is =
       let f = rw (rest_is (Insert v) is) at before.fits in
       let m = rw (rest_is (Insert v) is, values-append, values-news) at before.made in

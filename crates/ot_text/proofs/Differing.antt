@@ -2,10 +2,13 @@
 use Rattle.std.proofs.Common.{◌≡◌, ℕ, zero, suc, ◌+◌, ◌-◌, ◌<◌, ◌≤◌, List, [], ◌∷◌, ◌++◌, length, take, drop, get_or, refl, sym, ap, ◌∙◌, subst, arith, append_assoc, length-append, length-drop}
 use Rattle.std.specs.Prelude.{slice_get}
 use Rattle.std.specs.List.{slice_range}
-use Rattle.std.proofs.lemmas.List.{drop_at, drop_all, drop_more, length-take, take-append-drop}
+use Rattle.std.proofs.lemmas.List.{drop_at, drop_all, drop_more, length-take, take-append-drop, append-nil}
+use Rattle.ot_text.specs.declared.Component.{Component}
 use Rattle.ot_text.specs.Run.{Run}
+use Rattle.ot_text.specs.Components.{runs}
 use Rattle.ot_text.specs.Splices.{Piece, AreInOrder, StandApart, spliced, spliced_up_to}
 use Rattle.ot_text.specs.Patch.{IsLeastPiece, AreLeast, LeadBack}
+use Rattle.ot_text.proofs.Patched.{Found, found_runs}
 use Rattle.ot_text.proofs.Ranges.{range_split, range_rest, range_behind, take_left, order_le, order_longer, order_push, apart_push, spliced_longer, spliced_agree, spliced_last, spliced_none}
 
 get_left : {X : Type 0} (xs ys : List X) (i : ℕ) → i < length xs → slice_get (xs ++ ys) i ≡ slice_get xs i
@@ -36,6 +39,18 @@ least_push (q ∷ ps) p xs least own = (least.0, least_push ps p xs least.1 own)
 
 pub lead_none : {A : Type 0} (xs : List (Run A)) → LeadBack [] xs xs
 lead_none xs = record { in_order = omega arith; apart = tt; older_is = spliced_none xs; least = tt }
+
+-- where nothing stands between what the two share at the front and at the back
+pub found_none :
+    {T : Type 0} (a b rest_a rest_b between : List (Component T)) (front back : ℕ) → Found a b rest_a rest_b between between front back
+    → length between ≡ 0 → length rest_b ≡ back → LeadBack [] (runs b) (runs a)
+found_none a b rest_a rest_b [] front back found none all =
+    let no_more : front + (length rest_b - back) ≡ front = omega (arith, all) in
+    let whole : (take front (runs b) ++ []) ++ drop (front + (length rest_b - back)) (runs b) ≡ runs a = found_runs a b rest_a rest_b [] [] front back found in
+    let same : runs b ≡ runs a = sym (take-append-drop front (runs b)) ∙ ap (λ n. take front (runs b) ++ drop n (runs b)) (sym no_more)
+    ∙ ap (λ xs. xs ++ drop (front + (length rest_b - back)) (runs b)) (sym (append-nil (take front (runs b)))) ∙ whole in
+    subst (λ us. LeadBack [] (runs b) us) same (lead_none (runs b))
+found_none a b rest_a rest_b (c ∷ cs) front back found none all = absurd (omega (arith, none))
 
 -- with more behind that stays
 pub lead_more : {A : Type 0} (ps : List (Piece A)) (xs us more : List (Run A)) → LeadBack ps xs us → LeadBack ps (xs ++ more) (us ++ more)

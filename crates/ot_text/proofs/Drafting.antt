@@ -1,9 +1,8 @@
 -- The draft that components make of chunks.
 use Rattle.std.proofs.Common.{◌≡◌, ℕ, zero, suc, ◌+◌, ◌<◌, ◌≤◌, List, [], ◌∷◌, ◌++◌, length, take, drop, get_or, refl, sym, ap, ◌∙◌, arith, add-one, append_assoc}
-use Rattle.std.specs.Prelude.{Vec}
-use Rattle.std.specs.declared.alloc.Global.{Global}
 use Rattle.std.proofs.lemmas.List.{append-nil, nil_from_length, drop-drop}
 use Rattle.ot_text.specs.declared.Component.{Component}
+use Rattle.ot_text.specs.Texts.{Text}
 use Rattle.ot_text.specs.declared.Component.TheVariants.{Retain, Insert, Delete}
 use Rattle.ot_text.specs.declared.draft.Draft.{Draft}
 use Rattle.ot_text.specs.declared.draft.Piece.{Piece}
@@ -61,7 +60,7 @@ module _ {T : Type 0} (components : List (Component T)) (cs : List (List T)) (fi
     first_is = omega (arith, before.first_is, f);
   }
 
-  pub drafting_insert : (v : Vec T Global) → c ≡ Insert v → (draft' : Draft T) → Continues cs draft draft' v.items → IsDrafting components cs first prior d (i + 1) chunk offset draft'
+  pub drafting_insert : (v : Text T) → c ≡ Insert v → (draft' : Draft T) → Continues cs draft draft' v.items → IsDrafting components cs first prior d (i + 1) chunk offset draft'
   drafting_insert v is draft' q = record {
     items = before.items ++ v.items;
     text_is = rw (q.text_is, before.text_is, append_assoc) refl;

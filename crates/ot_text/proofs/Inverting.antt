@@ -1,9 +1,8 @@
 -- The components of an operation taken back, over a document in chunks.
 use Rattle.std.proofs.Common.{◌≡◌, ℕ, ◌+◌, ◌-◌, ◌<◌, ◌≤◌, List, length, take, drop, get_or, refl, sym, ap, ◌∙◌, arith}
-use Rattle.std.specs.Prelude.{Vec}
-use Rattle.std.specs.declared.alloc.Global.{Global}
 use Rattle.std.proofs.lemmas.List.{length-drop, drop-drop}
 use Rattle.ot_text.specs.declared.Component.{Component}
+use Rattle.ot_text.specs.Texts.{Text}
 use Rattle.ot_text.specs.declared.Component.TheVariants.{Retain, Insert, Delete}
 use Rattle.ot_text.specs.Operation.{Operation, empty, with_retain, with_insert, with_delete, IsTooLong, invert}
 use Rattle.ot_text.specs.Run.{base_of, image_from, operation_of}
@@ -71,7 +70,7 @@ module _ {T : Type 0} (components : List (Component T)) (cs : List (List T)) (i 
         inside = before.inside;
       }
 
-  pub inverting_insert : (v : Vec T Global) → c ≡ Insert v → IsInverting components cs (i + 1) chunk offset ahead (with_delete op (length v.items))
+  pub inverting_insert : (v : Text T) → c ≡ Insert v → IsInverting components cs (i + 1) chunk offset ahead (with_delete op (length v.items))
   inverting_insert v is = record {
     inverted = inverted_insert components (concatenated cs) i at op c h e before.inverted v is;
     left_is = before.left_is;
@@ -93,7 +92,7 @@ module _ {T : Type 0} (components : List (Component T)) (cs : List (List T)) (i 
     pub retain_has_room : (n : ℕ) → c ≡ Retain n → IsTooLong (with_retain op n) → ⊥
     retain_has_room = room_to_retain components (concatenated cs) i at op c h e before.inverted target_fits base_fits
 
-    pub delete_has_room : (v : Vec T Global) → c ≡ Insert v → IsTooLong (with_delete op (length v.items)) → ⊥
+    pub delete_has_room : (v : Text T) → c ≡ Insert v → IsTooLong (with_delete op (length v.items)) → ⊥
     delete_has_room = room_to_delete components (concatenated cs) i at op c h e before.inverted target_fits base_fits
 
     pub insert_has_room : (n : ℕ) → c ≡ Delete n → IsTooLong (with_insert op (take n (drop ahead left))) → ⊥

@@ -123,7 +123,7 @@ module _ {T : Type 0} (a b rest_a rest_b between kept : List (Component T)) (fro
   many_newer : length rest_b - back ≡ length (drop front (runs b)) - back
   many_newer = ap (λ n. n - back) (sym (length-map rest_b (run_of {T = T})) ∙ ap length behind_b)
 
-  found_runs : take front (runs b) ++ runs kept ++ drop (front + (length rest_b - back)) (runs b) ≡ runs a
+  pub found_runs : take front (runs b) ++ runs kept ++ drop (front + (length rest_b - back)) (runs b) ≡ runs a
   found_runs = is_older (runs a) (runs b) (runs kept) front back (length rest_b - back) found.fronts backs_are kept_are many_newer
 
   there : (front - 0 ≡ front)

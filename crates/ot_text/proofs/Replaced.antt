@@ -2,9 +2,8 @@
 use Rattle.std.proofs.Common.{◌≡◌, ◌↔◌, ℕ, zero, suc, ◌+◌, ◌-◌, ◌<◌, ◌≤◌, List, [], ◌∷◌, ◌++◌, length, take, drop, map, get_or, refl, sym, ap, subst, ◌∙◌, arith, length-append}
 use Rattle.std.proofs.lemmas.List.{length-map, map-append, take-map, drop-map, drop_more}
 use Rattle.std.specs.List.{splice, slice_range}
-use Rattle.std.specs.Prelude.{Vec}
-use Rattle.std.specs.declared.alloc.Global.{Global}
 use Rattle.ot_text.specs.declared.Component.{Component}
+use Rattle.ot_text.specs.Texts.{Text}
 use Rattle.ot_text.specs.declared.Component.TheVariants.{Retain, Insert, Delete}
 use Rattle.ot_text.specs.declared.lengths.Lengths.{Lengths}
 use Rattle.ot_text.specs.Operation.{Item, New, olds, news, IsTooLong}
@@ -134,7 +133,7 @@ module _ {T : Type 0} (whole : List (Component T)) (c : Component T) (rest : Lis
       }
 
   pub counted_insert :
-      (text : Vec T Global) (n : ℕ) → c ≡ Insert text → n ≡ length text.items → Counted whole (c ∷ rest) base target inserted
+      (text : Text T) (n : ℕ) → c ≡ Insert text → n ≡ length text.items → Counted whole (c ∷ rest) base target inserted
       → Counted whole rest base (target + n) (inserted + n)
   counted_insert text n is size w =
       let here : Counted whole (Insert text ∷ rest) base target inserted = rw is at w in

@@ -1,10 +1,9 @@
 -- The survey that components make of chunks, and the edit.
 use Rattle.std.proofs.Common.{◌≡◌, ℕ, suc, ◌+◌, ◌<◌, ◌≤◌, List, [], ◌∷◌, ◌++◌, length, take, drop, get_or, refl, sym, ap, subst, ◌∙◌, arith, add-one, length-append}
-use Rattle.std.specs.Prelude.{Vec}
-use Rattle.std.specs.declared.alloc.Global.{Global}
 use Rattle.std.proofs.lemmas.List.{length-drop, length-take-le}
 use Rattle.ot_text.specs.declared.chunk.Chunk.{Chunk}
 use Rattle.ot_text.specs.declared.Component.{Component}
+use Rattle.ot_text.specs.Texts.{Text}
 use Rattle.ot_text.specs.declared.Component.TheVariants.{Retain, Insert, Delete}
 use Rattle.ot_text.specs.declared.survey.Survey.{Survey}
 use Rattle.ot_text.specs.declared.edit.Place.{Place}
@@ -83,7 +82,7 @@ module _ {T : Type 0} (components : List (Component T)) (cs : List (List T)) (fr
             r later (more_then _ _ _ more m) ((λ k lo hi. let x = own k (omega arith) (omega arith) in let y = m k in omega arith), rooms));
       }
 
-  pub surveying_insert : (v : Vec T Global) → c ≡ Insert v → (survey' : Survey) (now' : List (Chunk T)) → lists now' ≡ lists now → HasMore (rooms now) (rooms now') → survey' ≡ record survey { done = survey.done + length v.items } → IsSurvey cs survey' → survey'.done + survey'.rest < get_or (rooms now') survey.chunk 0 → IsSurveying components cs from (i + 1) survey' now'
+  pub surveying_insert : (v : Text T) → c ≡ Insert v → (survey' : Survey) (now' : List (Chunk T)) → lists now' ≡ lists now → HasMore (rooms now) (rooms now') → survey' ≡ record survey { done = survey.done + length v.items } → IsSurvey cs survey' → survey'.done + survey'.rest < get_or (rooms now') survey.chunk 0 → IsSurveying components cs from (i + 1) survey' now'
   surveying_insert v is survey' now' same more added w enough =
       let f = rw (rest_is (Insert v) is) at before.within in
       let l = rw (rest_is (Insert v) is) at before.leads in
@@ -155,7 +154,7 @@ module _ {T : Type 0} (components : List (Component T)) (whole : Spot T) (i : �
   pub edit_delete_own : (n : ℕ) → c ≡ Delete n → HasRoom (Skip n) (spot_at (lists now) place) (rooms now)
   edit_delete_own n is = let r = rw (rest_of (Delete n) is) at before.room in r.0
 
-  pub edit_insert_room : (v : Vec T Global) → c ≡ Insert v → length (get_or (lists now) place.chunk []) + length v.items < get_or (rooms now) place.chunk 0
+  pub edit_insert_room : (v : Text T) → c ≡ Insert v → length (get_or (lists now) place.chunk []) + length v.items < get_or (rooms now) place.chunk 0
   edit_insert_room v is =
       let r = rw (rest_of (Insert v) is) at before.room in
       let chunk : List T = get_or (lists now) place.chunk [] in
@@ -195,7 +194,7 @@ module _ {T : Type 0} (components : List (Component T)) (whole : Spot T) (i : �
         room = rw add-one (subst (λ (t : Spot T). HaveRoom (runs (drop (suc i) components)) t (rooms now')) (sym is') (more_rooms _ _ _ _ more r.1));
       }
 
-  pub editing_insert : (v : Vec T Global) → c ≡ Insert v → (place' : Place) (now' : List (Chunk T)) → IsPlace (lists now') place' → spot_at (lists now') place' ≡ step (Add v.items) (spot_at (lists now) place) → HasMore (rooms now) (rooms now') → IsEditing components whole (i + 1) place' now'
+  pub editing_insert : (v : Text T) → c ≡ Insert v → (place' : Place) (now' : List (Chunk T)) → IsPlace (lists now') place' → spot_at (lists now') place' ≡ step (Add v.items) (spot_at (lists now) place) → HasMore (rooms now) (rooms now') → IsEditing components whole (i + 1) place' now'
   editing_insert v is place' now' p is' more =
       let f = rw (rest_of (Insert v) is) at before.within in
       let l = rw (rest_of (Insert v) is) at before.leads in

@@ -42,7 +42,7 @@ pub fn split_front<T>(components: &[Component<T>]) -> (usize, &[Component<T>])
 
 // Makes of the chunks what the components make of them, where they lie, where they then are chunks as they have to be. Says whether that
 // was made; else they are as they were.
-pub fn change_chunks<T: Copy>(
+pub fn change_chunks<T: Element>(
     components: &[Component<T>],
     chunks: &mut Vec<Chunk<T>>,
 ) -> Result<bool, AllocError>
@@ -64,7 +64,7 @@ pub fn change_chunks<T: Copy>(
 }
 
 // The draft of the document that the components make of the chunks.
-pub fn draft_components<T: Copy>(
+pub fn draft_components<T: Element>(
     alloc: Global,
     components: &[Component<T>],
     chunks: &[Chunk<T>],
@@ -85,7 +85,7 @@ pub fn draft_components<T: Copy>(
 }
 
 // The items that the components make of the chunks, in one list with room for `room` items.
-pub fn apply_components<T: Copy>(
+pub fn apply_components<T: Element>(
     alloc: Global,
     components: &[Component<T>],
     chunks: &[Chunk<T>],

@@ -7,9 +7,9 @@ ghost use Rattle.ot_text.specs.Components.{runs};
 ghost use Rattle.ot_text.specs.Chunks.{lists, concatenated, IsChunked, MayEnd, rest_at, left_at, IsInside};
 ghost use Rattle.ot_text.specs.Draft.{content, contents, IsInOrder, first_length, IsDraft, written, Continues, HasRetained, EndsBefore, StandFor};
 
-use crate::Component;
 use crate::chunk::{CHUNK, Chunk};
 use crate::cursor::Cursor;
+use crate::{Component, Element};
 use std::alloc::{AllocError, Global};
 
 /// How far a chunk is filled when it is written anew: what comes later then finds room.
@@ -42,7 +42,7 @@ fn content<'a, T>(chunks: &'a [Chunk<T>], piece: &'a Piece<T>) -> &'a [T]
     }
 }
 
-impl<T: Copy> Draft<T> {
+impl<T: Element> Draft<T> {
     // An empty draft with room for `room` pieces.
     pub fn new(alloc: Global, room: usize) -> Result<Draft<T>, AllocError>
         ensures pieces { IfOk result (λ d. d.pieces.items ≡ []) }
@@ -348,7 +348,7 @@ pub fn assemble<T: Drop>(
 }
 
 // The chunks that the pieces say, where the old ones stay: they are copied.
-pub fn copy_pieces<T: Copy>(
+pub fn copy_pieces<T: Element>(
     alloc: Global,
     chunks: &[Chunk<T>],
     pieces: Vec<Piece<T>>,

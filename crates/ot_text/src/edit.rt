@@ -6,8 +6,8 @@ ghost use Rattle.ot_text.specs.Components.{runs};
 ghost use Rattle.ot_text.specs.Chunks.{lists, concatenated};
 ghost use Rattle.ot_text.specs.Spots.{Spot, chunks_of, start, step, edited, rooms, HasMore, HasRoom, HaveRoom, behind, IsPlace, spot_at};
 
-use crate::Component;
 use crate::chunk::Chunk;
+use crate::{Component, Element};
 
 // A spot in chunks: how many items of its chunk lie before it.
 #[derive(Drop)]
@@ -89,7 +89,7 @@ impl Place {
 }
 
 // Makes of the chunks what the components make of them from a place on, which have room for it.
-pub fn edit_components<T: Copy>(
+pub fn edit_components<T: Element>(
     components: &[Component<T>],
     chunks: &mut Vec<Chunk<T>>,
     from: Place,

@@ -42,14 +42,14 @@
 //! ```
 //!
 //! - `specs/Operation.antt`: base and image, the builder's three calls, `apply`, `invert`.
-//! - `specs/Run.antt`, `specs/Components.antt`: the components as runs, their normal form, what they spell.
+//! - `specs/Run.antt`, `specs/Components.antt`, `specs/Texts.antt`: the components as runs, their normal form, what they spell, what they add.
 //! - `specs/Chunks.antt`, `specs/Draft.antt`, `specs/Spots.antt`: the rule on chunks, a place in them, the draft of a change, the change
 //!   where they lie.
 //! - `specs/Splices.antt`, `specs/Patch.antt`: parts in the place of components, and what leads from one operation to another.
 //! - `specs/Change.antt`, `specs/Prepared.antt`: an operation and what is about to become of it.
 //! - `specs/Rewriting.antt`: an operation that is written over an old one.
 //!
-//! Begin with `TextOp` below, then `build.rt` (normal form), `document.rt` (`Doc`), `survey.rt` and `edit.rt` (the change
+//! Begin with `TextOp` below, then `build.rt` (normal form), `text.rt` (what an insertion adds), `document.rt` (`Doc`), `survey.rt` and `edit.rt` (the change
 //! where chunks lie), `cursor.rt` and `draft.rt` (the draft), and `change.rt` (what components make of chunks). `patch.rt` leads from
 //! one operation to another, `prepared.rt` and `in_place.rt` change an operation where its components lie, `difference.rt` finds what
 //! leads back, and `rewrite.rt` writes an operation over an old one, of which long runs stay where they lie.
@@ -83,6 +83,7 @@ mod rewrite;
 mod shared;
 mod splices;
 mod survey;
+mod text;
 mod window;
 
 use build::{add_delete, add_insert, add_retain, add_text};
@@ -99,6 +100,7 @@ pub use rewrite::Rewrite;
 pub use splices::Splice;
 use std::alloc::{AllocError, Global};
 use std::marker::Model;
+pub use text::Text;
 
 /// The greatest length of a document, and of an operation's base and target, in elements.
 pub const LIMIT: usize = 1_000_000;
@@ -109,7 +111,7 @@ pub enum Component<T> {
     /// The next elements stay.
     Retain(usize),
     /// Elements come in.
-    Insert(Vec<T>),
+    Insert(Text<T>),
     /// The next elements go.
     Delete(usize),
 }
@@ -210,7 +212,7 @@ impl<T: Element> TextOp<T> {
     ///
     /// `TooLong` exactly where the target length would pass 1,000,000; else `Memory` where a growth was refused. After an
     /// error the operation is as it was, and the text is gone.
-    pub fn insert_vec(&mut self, text: Vec<T>) -> Result<(), OpRefusal>
+    pub fn insert_text(&mut self, text: Text<T>) -> Result<(), OpRefusal>
         ensures ok { OnOk result (self.new ≡ with_insert self.old text.items) }
         ensures too_long { IsErrOf result OpRefusal.TooLong ↔ IsTooLong (with_insert self.old text.items) }
         ensures err { OnErr result (self.new ≡ self.old) }
@@ -222,10 +224,31 @@ impl<T: Element> TextOp<T> {
         if added == 0 {
             return Ok(());
         }
-        add_text(&mut self.components, text)?;
+        let alloc = *self.components.allocator();
+        add_text(alloc, &mut self.components, text)?;
         self.target += added;
         self.inserted += added;
         Ok(())
+    }
+
+    /// Does as `insert_text` with the elements of a list.
+    ///
+    /// `TooLong` exactly where the target length would pass 1,000,000; else `Memory` where a growth was refused. After an
+    /// error the operation is as it was, and the list is gone.
+    pub fn insert_vec(&mut self, text: Vec<T>) -> Result<(), OpRefusal>
+        ensures ok { OnOk result (self.new ≡ with_insert self.old text.items) }
+        ensures too_long { IsErrOf result OpRefusal.TooLong ↔ IsTooLong (with_insert self.old text.items) }
+        ensures err { OnErr result (self.new ≡ self.old) }
+    {
+        if text.len() > LIMIT - self.target {
+            return Err(OpRefusal::TooLong);
+        }
+        if text.is_empty() {
+            return Ok(());
+        }
+        let alloc = *self.components.allocator();
+        let added = Text::from_vec(alloc, text)?;
+        self.insert_text(added)
     }
 
     /// Removes the next `count` elements of the document; 0 adds nothing, and a deletion at the end is lengthened.

@@ -12,8 +12,8 @@
 ghost use Rattle.std.specs.Prelude.{◌≡◌, ◌+◌, ◌≤◌, [], ◌∷◌, length, slice_range, IfErr, IfOk};
 ghost use Rattle.ot_text.specs.Change.{growth};
 
-use crate::Component;
 use crate::copy::copy_components;
+use crate::{Component, Element};
 use std::alloc::{AllocError, Global};
 use std::marker::Model;
 
@@ -58,7 +58,7 @@ impl<T> Splice<T> {
     }
 }
 
-impl<T: Copy> Splice<T> {
+impl<T: Element> Splice<T> {
     pub(crate) fn copy(&self, alloc: Global) -> Result<Splice<T>, AllocError>
         ensures { IfOk result (λ splice. splice ≡ self.now) }
     {
@@ -94,7 +94,7 @@ pub fn only_splice<T: Drop>(mut splices: Vec<Splice<T>>) -> Result<Splice<T>, Ve
     }
 }
 
-pub fn copy_splices<T: Copy>(
+pub fn copy_splices<T: Element>(
     alloc: Global,
     splices: &[Splice<T>],
 ) -> Result<Vec<Splice<T>>, AllocError>

@@ -8,13 +8,13 @@ ghost use Rattle.ot_text.specs.Chunks.{lists, concatenated, IsChunked, left_at};
 ghost use Rattle.ot_text.specs.Spots.{chunks_of, start, edited, IsPlace, spot_at};
 ghost use Rattle.ot_text.specs.Draft.{contents, IsInOrder, first_length, StandFor, piece_before};
 
-use crate::Component;
 use crate::change::split_front;
 use crate::chunk::Chunk;
 use crate::cursor::Cursor;
 use crate::draft::{Draft, Piece, assemble};
 use crate::edit::Place;
 use crate::replace::put;
+use crate::{Component, Element};
 use std::alloc::{AllocError, Global};
 
 // Pieces, and how many chunks they stand for.
@@ -25,7 +25,7 @@ struct Window<T> {
 }
 
 // A draft that begins with the first chunk, unless the change begins in that one.
-fn begin<T: Copy>(alloc: Global, room: usize, chunk: usize) -> Result<Draft<T>, AllocError>
+fn begin<T: Element>(alloc: Global, room: usize, chunk: usize) -> Result<Draft<T>, AllocError>
     ensures pieces { IfOk result (λ d. d.pieces.items ≡ piece_before chunk) }
     ensures pending { IfOk result (λ d. d.pending.items ≡ []) }
 {
@@ -38,7 +38,7 @@ fn begin<T: Copy>(alloc: Global, room: usize, chunk: usize) -> Result<Draft<T>, 
 
 // The draft of what components make of the chunks from a place in the first or second one on, up to where the others can stay.
 // It begins with the chunk before that place, so that what would be too short beside it is joined with it.
-fn draft_window<T: Copy>(
+fn draft_window<T: Element>(
     alloc: Global,
     components: &[Component<T>],
     chunks: &[Chunk<T>],
@@ -65,7 +65,7 @@ fn draft_window<T: Copy>(
 }
 
 // The chunks that the pieces say, over those from `start` up to `end`, of which none is wanted any more then.
-fn assemble_within<T: Copy>(
+fn assemble_within<T: Element>(
     chunks: &mut Vec<Chunk<T>>,
     start: usize,
     end: usize,
@@ -88,7 +88,7 @@ fn assemble_within<T: Copy>(
 }
 
 // Puts the pieces in the place of the chunks from `start` on that they stand for.
-fn put_window<T: Copy>(
+fn put_window<T: Element>(
     chunks: &mut Vec<Chunk<T>>,
     start: usize,
     window: Window<T>,
@@ -109,7 +109,7 @@ fn put_window<T: Copy>(
 }
 
 // Makes of the chunks what the components make of them: those that are touched are drafted anew.
-pub fn redraft_chunks<T: Copy>(
+pub fn redraft_chunks<T: Element>(
     components: &[Component<T>],
     chunks: &mut Vec<Chunk<T>>,
 ) -> Result<(), AllocError>

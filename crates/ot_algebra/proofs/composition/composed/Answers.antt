@@ -6,7 +6,7 @@ use Rattle.ot_text.specs.Run.{Add, Skip, normal_runs, operation_of}
 use Rattle.ot_text.specs.Rewriting.{Rewriting}
 use Rattle.ot_algebra.specs.Cursor.{appended, made_of, runs_left, span_of}
 use Rattle.ot_algebra.specs.declared.ahead.Measure.TheVariants.{Made}
-use Rattle.ot_algebra.proofs.TransformArms.{size_skipped}
+use Rattle.ot_algebra.proofs.TransformArms.{has_first, has_kept, makes_first, size_skipped}
 use Rattle.ot_algebra.proofs.ComposeProgress.{arm_delete, arm_insert, compose_end, size_skipped_made, small, small_composed, small_delete, small_insert}
 use Rattle.ot_algebra.proofs.SkippedLaws.{runs_size}
 use Rattle.ot_algebra.proofs.Staying.{size_stay, size_other}
@@ -185,3 +185,13 @@ loop-at_a-preserved g c =
     (composing_part c.args.a.now c.args.b.now (normal_runs c.args.a.now) c.loop-at_a.built c.add_part.new.built c.loop-at_a.at_a c.loop-at_a.at_b c.skip_made-at_a.result c.skip-at_b.result
     c.keeps.result c.min-count.result c.in_ok-add_part.ensures c.keeps.ensures
     c.skip_made-at_a.ensures.is c.skip_made-at_a.ensures.ends c.skip-at_b.ensures.is (omega arith) (omega arith) (omega arith) c.loop-at_a.invariant)
+
+pub skip_made-at_a-requires : goal.skip_made-at_a-requires
+skip_made-at_a-requires g c = makes_first c.min-count.result c.loop-at_a.at_a.head (omega arith) (omega arith)
+
+pub skip-at_b-requires : goal.skip-at_b-requires
+skip-at_b-requires g c = has_first c.min-count.result c.loop-at_a.at_b.head (omega arith) (omega arith)
+
+pub skip-at_b-requires-then-stays : goal.skip-at_b-requires-then-stays
+skip-at_b-requires-then-stays g c =
+    has_kept (c.in-Some.stay.place.made + c.in-Some.stay.then) c.skip-at_b.result.head (omega (arith, c.in-Some.ensures.some)) (omega (arith, c.in-Some.ensures.within, c.kept.ensures))

@@ -6,8 +6,8 @@ use Rattle.ot_text.specs.Run.{Keep, Add}
 use Rattle.ot_text.proofs.Refused.{OnOk-at_ok}
 use Rattle.ot_algebra.specs.Cursor.{appended, runs_left, span_of, keeps_of, transformed_part}
 use Rattle.ot_algebra.proofs.TransformProgress.{progress_begin, progress_insert_first}
-use Rattle.ot_algebra.proofs.TransformArms.{whole_of}
-use Rattle.ot_algebra.proofs.PartLeft.{arm_left, arm_left_insert, end_insert, end_none, none_left, small_end, small_left, small_left_insert, small_text, span_some}
+use Rattle.ot_algebra.proofs.TransformArms.{whole_of, size_skipped}
+use Rattle.ot_algebra.proofs.PartLeft.{begin_keep, begin_skip, arm_left, arm_left_insert, end_insert, end_none, none_left, small_end, small_left, small_left_insert, small_text, span_some}
 use Rattle.ot_algebra.proofs.one_sided.carry.Goals as goal
 use Rattle.ot_algebra.proofs.one_sided.carry.Goals.{in-Insert+in_ok-only_memory-in-None, in_default}
 
@@ -24,12 +24,12 @@ only_memory-requires g c = λ e.
     let whole = whole_of c.args.a c.args.b.now (map run_of c.components.result.now) (map run_of c.components-2.result.now) c.components.ensures.spells c.components-2.ensures.spells c.requires.same_base c.requires.fits in
     let here = rw (c.if-ahead-eq0.true, c.in-Some-Insert.ensures.cases.0, c.in-Some-Insert.field-0-is) at c.loop-ahead.invariant.1 in
     small_text c.args.a c.args.b.now c.loop-ahead.first c.loop-ahead.invariant.0 c.in-Some-Insert.text.items (runs (into_iter_items c.next.new.self)) (runs_left c.loop-ahead.at_b)
-    whole here (c.insert_vec.ensures.too_long.0 e)
+    whole here (c.insert_text.ensures.too_long.0 e)
 
 pub loop-ahead-preserved-in_ok-only_memory-in-Some-Insert : goal.loop-ahead-preserved-in_ok-only_memory-in-Some-Insert
 loop-ahead-preserved-in_ok-only_memory-in-Some-Insert g c =
     let here = rw (c.if-ahead-eq0.true, c.in-Some-Insert.ensures.cases.0, c.in-Some-Insert.field-0-is) at c.loop-ahead.invariant.1 in
-    rw (c.if-ahead-eq0.true, OnOk-at_ok c.insert_vec.result c.in_ok-only_memory-in-Some-Insert.ensures c.insert_vec.ensures.ok) (
+    rw (c.if-ahead-eq0.true, OnOk-at_ok c.insert_text.result c.in_ok-only_memory-in-Some-Insert.ensures c.insert_text.ensures.ok) (
       appended c.loop-ahead.invariant.0 (Keep (length c.in-Some-Insert.text.items)),
       progress_insert_first c.args.a c.args.b.now c.loop-ahead.first c.loop-ahead.invariant.0 c.in-Some-Insert.text.items (runs (into_iter_items c.next.new.self)) (runs_left c.loop-ahead.at_b) here,
     )
@@ -97,3 +97,29 @@ loop-ahead-preserved g c =
       transformed_part c.loop-ahead.invariant.0 (keeps_of c.loop-ahead.at_b.head) c.loop-ahead.keeps c.min-count.result,
       arm_left c.args.a c.args.b.now c.loop-ahead.first c.loop-ahead.invariant.0 c.min-count.result counts c.loop-ahead.keeps c.loop-ahead.ahead c.loop-ahead.at_b.head items rest in_hand in_second c.loop-ahead.invariant.1,
     )
+
+pub loop-ahead-preserved-in-Some-Retain : goal.loop-ahead-preserved-in-Some-Retain
+loop-ahead-preserved-in-Some-Retain g c =
+    let here = rw (c.if-ahead-eq0.true, c.in-Some-Retain.ensures.cases.0, c.in-Some-Retain.field-0-is) at c.loop-ahead.invariant.1 in (
+      c.loop-ahead.invariant.0,
+      begin_keep c.args.a c.args.b.now c.loop-ahead.first c.loop-ahead.invariant.0 c.in-Some-Retain.count (runs (into_iter_items c.next.new.self)) (runs_left c.loop-ahead.at_b) here,
+    )
+
+pub loop-ahead-preserved-in-Some-Delete : goal.loop-ahead-preserved-in-Some-Delete
+loop-ahead-preserved-in-Some-Delete g c =
+    let here = rw (c.if-ahead-eq0.true, c.in-Some-Delete.ensures.cases.0, c.in-Some-Delete.field-0-is) at c.loop-ahead.invariant.1 in (
+      c.loop-ahead.invariant.0,
+      begin_skip c.args.a c.args.b.now c.loop-ahead.first c.loop-ahead.invariant.0 c.in-Some-Delete.count (runs (into_iter_items c.next.new.self)) (runs_left c.loop-ahead.at_b) here,
+    )
+
+pub loop-ahead-smaller : goal.loop-ahead-smaller
+loop-ahead-smaller g c =
+    let some : 0 < c.loop-ahead.ahead = omega (arith, c.if-ahead-eq0.false) in
+    let items = runs (into_iter_items c.loop-ahead.parts) in
+    let rest = map run_of c.loop-ahead.at_b.rest.now in
+    let spans = span_some c.args.a c.args.b.now c.loop-ahead.first c.loop-ahead.invariant.0 c.loop-ahead.keeps c.loop-ahead.ahead c.loop-ahead.at_b.head items rest some c.in_default-head.not-Insert c.loop-ahead.invariant.1 in
+    let counts : 0 < c.min-count.result = omega (arith, spans) in
+    let in_hand : c.min-count.result ≤ c.loop-ahead.ahead = omega arith in
+    let in_second : c.min-count.result ≤ span_of c.loop-ahead.at_b.head = omega arith in
+    let less = size_skipped c.min-count.result counts c.loop-ahead.at_b.head rest in_second in
+    rw c.skip-at_b.ensures.is (omega (arith, less, counts, in_hand))

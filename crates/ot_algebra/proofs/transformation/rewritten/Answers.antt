@@ -5,7 +5,7 @@ use Rattle.ot_text.specs.Operation.{Operation, IsTooLong}
 use Rattle.ot_text.specs.Run.{Add, Keep, normal_runs, operation_of}
 use Rattle.ot_algebra.specs.Cursor.{appended, kept_of, runs_left, span_of, target_of}
 use Rattle.ot_algebra.proofs.TransformProgress.{progress_begin}
-use Rattle.ot_algebra.proofs.TransformArms.{whole_of, small, small_insert_first, small_insert_second, small_part, arm_insert_first, arm_insert_second, arm_end, size_skipped}
+use Rattle.ot_algebra.proofs.TransformArms.{has_kept, kept_le, whole_of, small, small_insert_first, small_insert_second, small_part, arm_insert_first, arm_insert_second, arm_end, size_skipped}
 use Rattle.ot_text.specs.Rewriting.{Rewriting}
 use Rattle.ot_algebra.proofs.SkippedLaws.{runs_size}
 use Rattle.ot_algebra.proofs.Staying.{skipped_all, made_fits, size_stay, size_other}
@@ -210,3 +210,18 @@ loop-at_a-preserved g c =
     (written_part c.args.a.now c.args.b.now (normal_runs c.args.a.now) c.loop-at_a.first c.add_both.new.first c.loop-at_a.second c.add_both.new.second c.loop-at_a.at_a c.loop-at_a.at_b c.skip-at_a.result c.skip-at_b.result
     c.keeps-keeps_a.result c.keeps-keeps_b.result c.min-count.result c.in_ok-add_both.ensures.first_is c.in_ok-add_both.ensures.second_is c.keeps-keeps_a.ensures c.keeps-keeps_b.ensures
     c.skip-at_a.ensures.is c.skip-at_a.ensures.ends c.skip-at_b.ensures.is (omega arith) (omega arith) (omega arith) c.loop-at_a.invariant)
+
+pub overflow_add-stay : goal.overflow_add-stay
+overflow_add-stay g c =
+    let here =
+    written_whole c.args.a.now c.args.b.now (normal_runs c.args.a.now) c.loop-at_a.first c.add_both.new.first c.loop-at_a.second c.add_both.new.second c.loop-at_a.at_a c.loop-at_a.at_b c.skip-at_b.result
+    c.keeps-keeps_a.result c.keeps-keeps_b.result c.min-count.result c.in_ok-add_both.ensures.first_is c.in_ok-add_both.ensures.second_is c.keeps-keeps_a.ensures c.keeps-keeps_b.ensures
+    c.skip-at_b.ensures.is (omega arith) (omega arith) (omega arith) c.loop-at_a.invariant in
+    let over_is : operation_of c.loop-at_a.first.over ≡ c.args.a.now =
+    ap operation_of (c.loop-at_a.invariant.over_is ∙ sym c.components-all.ensures.form) ∙ c.components-all.ensures.spells in
+    let fits = ahead_fits c.loop-at_a.first.over c.loop-at_a.first.start (runs c.loop-at_a.at_a.rest.now) c.loop-at_a.invariant.ahead c.args.a.now over_is c.components-all.ensures.fits in
+    omega (arith, c.in-Some.ensures.within, kept_le c.skip-at_b.result.head (map run_of c.skip-at_b.result.rest.now), here.progress.same_base, fits.0)
+
+pub skip-at_b-requires-then-stays : goal.skip-at_b-requires-then-stays
+skip-at_b-requires-then-stays g c =
+    has_kept (c.in-Some.stay.place.taken + c.in-Some.stay.then) c.skip-at_b.result.head (omega (arith, c.in-Some.ensures.some)) c.in-Some.ensures.within

@@ -26,7 +26,7 @@ loop-component-preserved c =
           (inserted_same c.components-components.result.now c.args.list.now c.loop-component.component-index c.loop-component.from c.loop-component.to c.component-item.result c.loop-component-test.true c.component-item.is
           c.loop-component.invariant w.in-Insert.text c.match-component.to w.in-Insert.is
           (ap (λ xs. take (length xs) (drop c.loop-component.to c.args.list.now)) (sym w.as_slice.ensures.value) ∙ w.has_text.ensures.0 w.if-not-has_text.false ∙ w.as_slice.ensures.value)
-          (let e = w.to-is in let f = w.len-to.ensures in let g = w.in-Insert.text.ok in omega (arith, e, f, g.0)))
+          (let e = w.to-is in let f = w.len-to.ensures in omega (arith, e, f)))
       | in-Delete w ↦
           subst (IsSame c.components-components.result.now c.args.list.now (c.loop-component.component-index + 1) c.match-component.from) (sym w.to-is)
           (deleted_same c.components-components.result.now c.args.list.now c.loop-component.component-index c.loop-component.from c.loop-component.to c.component-item.result c.loop-component-test.true c.component-item.is

@@ -1,4 +1,4 @@
-use Rattle.std.proofs.Common.{◌≡◌, ◌<◌, ◌≤◌, length, arith, rules}
+use Rattle.std.proofs.Common.{◌≡◌, ◌<◌, ◌≤◌, length, arith}
 use Rattle.std.specs.Vec.Iter.{into_iter_items}
 use Rattle.ot_text.specs.Components.{runs}
 use Rattle.ot_text.specs.Operation.{empty}
@@ -24,17 +24,15 @@ loop-other_ahead-init c =
 pub only_memory-requires : goal.only_memory-requires
 only_memory-requires c = λ e.
     let whole = whole_of c.args.other.now c.args.op (runs c.components-others.result.now) (runs c.into_components.result.items) c.components-others.ensures.spells c.into_components.ensures.spells c.requires.same_base c.requires.fits in
-    let long : length c.in-Insert.text.items ≡ c.in-Insert.text.len = search rules in
     let ys = left c.loop-other_ahead.keeps c.loop-other_ahead.ahead (runs (into_iter_items c.loop-other_ahead.parts)) in
     let after = other_text c.args.other.now c.args.op c.loop-other_ahead.invariant.0 c.loop-other_ahead.carried c.loop-other_ahead.other_keeps c.loop-other_ahead.other_ahead c.loop-other_ahead.others.now
     c.in-Some.rest.now c.in-Some.component.now c.in-Insert.text ys c.if-other_ahead-eq0.true c.in-Some.ensures.cases.0 c.in-Insert.is c.loop-other_ahead.invariant.1 in
-    (small c.args.other.now c.args.op _ _ _ ys whole after).1 (rw (c.len.ensures, ← long) at c.retain.ensures.too_long.0 e)
+    (small c.args.other.now c.args.op _ _ _ ys whole after).1 (rw c.len.ensures at c.retain.ensures.too_long.0 e)
 
 pub loop-other_ahead-preserved-in_ok-only_memory-in-Insert : goal.loop-other_ahead-preserved-in_ok-only_memory-in-Insert
 loop-other_ahead-preserved-in_ok-only_memory-in-Insert c =
-    let long : length c.in-Insert.text.items ≡ c.in-Insert.text.len = search rules in
     let ys = left c.loop-other_ahead.keeps c.loop-other_ahead.ahead (runs (into_iter_items c.loop-other_ahead.parts)) in
-    rw (OnOk-at_ok c.retain.result c.in_ok-only_memory-in-Insert.ensures c.retain.ensures.ok, c.len.ensures, ← long) (
+    rw (OnOk-at_ok c.retain.result c.in_ok-only_memory-in-Insert.ensures c.retain.ensures.ok, c.len.ensures) (
       appended c.loop-other_ahead.invariant.0 (Add c.in-Insert.text.items),
       other_text c.args.other.now c.args.op c.loop-other_ahead.invariant.0 c.loop-other_ahead.carried c.loop-other_ahead.other_keeps c.loop-other_ahead.other_ahead c.loop-other_ahead.others.now
           c.in-Some.rest.now c.in-Some.component.now c.in-Insert.text ys c.if-other_ahead-eq0.true c.in-Some.ensures.cases.0 c.in-Insert.is c.loop-other_ahead.invariant.1,
@@ -50,7 +48,7 @@ only_memory-requires-in-Some-Insert c = λ e.
     let xs = left c.loop-other_ahead.other_keeps c.loop-other_ahead.other_ahead (runs c.loop-other_ahead.others.now) in
     let after = own_text c.args.other.now c.args.op c.loop-other_ahead.invariant.0 c.loop-other_ahead.carried c.loop-other_ahead.keeps c.loop-other_ahead.ahead (into_iter_items c.loop-other_ahead.parts)
     (into_iter_items c.next.new.self) c.in-Some-Insert.field-0 c.in-Some-Insert.text xs otherwise c.if-ahead-eq0.true c.in-Some-Insert.ensures.cases.0 c.in-Some-Insert.field-0-is c.loop-other_ahead.invariant.1 in
-    (small c.args.other.now c.args.op _ _ xs _ whole after).1 (c.insert_vec.ensures.too_long.0 e)
+    (small c.args.other.now c.args.op _ _ xs _ whole after).1 (c.insert_text.ensures.too_long.0 e)
 
 pub loop-other_ahead-preserved-in_ok-only_memory-in-Some-Insert : goal.loop-other_ahead-preserved-in_ok-only_memory-in-Some-Insert
 loop-other_ahead-preserved-in_ok-only_memory-in-Some-Insert c =
@@ -59,7 +57,7 @@ loop-other_ahead-preserved-in_ok-only_memory-in-Some-Insert c =
       | else-other_ahead-eq0 w ↦ some_otherwise c.loop-other_ahead.other_keeps c.loop-other_ahead.other_ahead (runs c.loop-other_ahead.others.now) w.if-other_ahead-eq0.false
     ] in
     let xs = left c.loop-other_ahead.other_keeps c.loop-other_ahead.other_ahead (runs c.loop-other_ahead.others.now) in
-    rw (OnOk-at_ok c.insert_vec.result c.in_ok-only_memory-in-Some-Insert.ensures c.insert_vec.ensures.ok) (
+    rw (OnOk-at_ok c.insert_text.result c.in_ok-only_memory-in-Some-Insert.ensures c.insert_text.ensures.ok) (
       appended c.loop-other_ahead.invariant.0 (Keep (length c.in-Some-Insert.text.items)),
       own_text c.args.other.now c.args.op c.loop-other_ahead.invariant.0 c.loop-other_ahead.carried c.loop-other_ahead.keeps c.loop-other_ahead.ahead (into_iter_items c.loop-other_ahead.parts)
           (into_iter_items c.next.new.self) c.in-Some-Insert.field-0 c.in-Some-Insert.text xs otherwise c.if-ahead-eq0.true c.in-Some-Insert.ensures.cases.0 c.in-Some-Insert.field-0-is c.loop-other_ahead.invariant.1,

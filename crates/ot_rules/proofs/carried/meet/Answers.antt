@@ -1,4 +1,4 @@
-use Rattle.std.proofs.Common.{◌≡◌, ℕ, ◌<◌, ◌≤◌, length, ap, sym, ◌∙◌, true, arith, rules}
+use Rattle.std.proofs.Common.{◌≡◌, ℕ, ◌<◌, ◌≤◌, length, ap, sym, ◌∙◌, true, arith}
 use Rattle.ot_text.specs.Components.{runs}
 use Rattle.ot_text.specs.Operation.{Operation, news}
 use Rattle.ot_text.specs.Run.{image_from}
@@ -28,11 +28,10 @@ loop-to_come-init c = (
 
 pub overflow_sub-to_come : goal.overflow_sub-to_come
 overflow_sub-to_come c =
-    let long : length c.in-Insert.text.items ≡ c.in-Insert.text.len = search rules in
     let counted = text_counted c.in-Some.component.now c.in-Some.rest.now in
     let text = ap text_of c.in-Insert.is in
     let all = ap (λ parts. length (news (image_from 0 (runs parts)))) c.in-Some.ensures.cases.0 in
-    omega (arith, long, c.len-to_come.ensures, counted, text, all, c.loop-to_come.invariant.3)
+    omega (arith, c.len-to_come.ensures, counted, text, all, c.loop-to_come.invariant.3)
 
 pub loop-to_come-preserved-then-other_ahead-eq0 : goal.loop-to_come-preserved-then-other_ahead-eq0
 loop-to_come-preserved-then-other_ahead-eq0 c =
@@ -48,8 +47,7 @@ loop-to_come-preserved-then-other_ahead-eq0 c =
     ] in
     let left_is : c.match-component.to_come ≡ length (news (image_from 0 (runs c.in-Some.rest.now))) = elim c.match-component.branch [
       | in-Insert+else-ahead-eq0 w ↦
-          (let long : length w.in-Insert.text.items ≡ w.in-Insert.text.len = search rules in
-          omega (arith, w.to_come-is, w.len-to_come.ensures, long, counted, ap text_of w.in-Insert.is, all, c.loop-to_come.invariant.3))
+          omega (arith, w.to_come-is, w.len-to_come.ensures, counted, ap text_of w.in-Insert.is, all, c.loop-to_come.invariant.3)
       | in_default-component w ↦ omega (arith, w.to_come-is, counted, text_none c.in-Some.component.now w.in_default-component.not-Insert, all, c.loop-to_come.invariant.3)
     ] in
     let turn = next_first c.args.other.now c.args.op.now c.loop-to_come.invariant.0 c.loop-to_come.other_ahead c.span-other_ahead.result c.in-Some.component.now c.loop-to_come.others.now c.in-Some.rest.now

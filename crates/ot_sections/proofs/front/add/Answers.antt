@@ -33,7 +33,7 @@ pub only_memory-requires : goal.only_memory-requires
 only_memory-requires g c = λ k. short c.args.front.now c.args.count _ _ c.in-Retain.is c.requires (c.retain.ensures.too_long.0 k)
 
 pub only_memory-requires-in-Insert : goal.only_memory-requires-in-Insert
-only_memory-requires-in-Insert g c = λ k. short c.args.front.now c.args.count _ _ c.in-Insert.is c.requires (rw c.deref.ensures.value at (c.insert.ensures.too_long.0 k))
+only_memory-requires-in-Insert g c = λ k. short c.args.front.now c.args.count _ _ c.in-Insert.is c.requires (rw c.as_slice.ensures.value at (c.insert.ensures.too_long.0 k))
 
 pub only_memory-requires-in-Delete : goal.only_memory-requires-in-Delete
 only_memory-requires-in-Delete g c = λ k. short c.args.front.now c.args.count _ _ c.in-Delete.is c.requires (c.delete.ensures.too_long.0 k)
@@ -45,7 +45,7 @@ returns-in-Retain g c =
 pub returns-in-Insert : goal.returns-in-Insert
 returns-in-Insert g c =
     made c.args.front.now c.insert.new.self c.args.count _ _ c.only_memory-in-Insert.result c.insert.result c.in-Insert.is c.only_memory-in-Insert.ensures
-    (rw c.deref.ensures.value at c.insert.ensures.ok)
+    (rw c.as_slice.ensures.value at c.insert.ensures.ok)
 
 pub returns-in-Delete : goal.returns-in-Delete
 returns-in-Delete g c =

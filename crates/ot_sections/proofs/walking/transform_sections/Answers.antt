@@ -141,3 +141,8 @@ loop-second-preserved g c =
     let here = (goal.at.loop-second-preserved g c).Joined-part in
     let done = passed g here in
     (done.walks, done.keeps (omega (arith, c.if-at-ops.false, done.walks.within)), carries g here)
+
+pub loop-second-smaller : goal.loop-second-smaller
+loop-second-smaller g c =
+    let done = passed g (goal.at.loop-second-smaller g c).Joined-part in
+    omega (arith, done.further (omega (arith, c.if-at-ops.false, done.walks.within)), done.walks.within)

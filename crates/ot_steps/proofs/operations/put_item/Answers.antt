@@ -18,12 +18,12 @@ pub returns-else-letter-eq92-clause-put : goal.returns-else-letter-eq92-clause-p
 returns-else-letter-eq92-clause-put g c =
     let letter = c.letter-letter.result in
     put_four c.args.bytes.now c.args.at 44 34 letter 34 c.requires.room
-    ∙ ap (λ (t : List ℕ). take c.args.at c.args.bytes.now ++ 44 ∷ t) (sym (inserted g.T.Letter.code c.args.component.now c.in-Insert.letters c.index.result.now letter c.in-Insert.is (omega (arith, c.len.ensures, c.if-len-ne1.false)) c.index.ensures c.letter-letter.ensures
+    ∙ ap (λ (t : List ℕ). take c.args.at c.args.bytes.now ++ 44 ∷ t) (sym (inserted g.T.Letter.code c.args.component.now c.in-Insert.letters c.index-as_slice-0.result letter c.in-Insert.is (omega (arith, c.len.ensures, c.if-len-ne1.false)) (rw c.as_slice.ensures.value at c.index-as_slice-0.is) c.letter-letter.ensures
     c.if-letter-lt32.false (omega (arith, c.if-letter-gt126.false)) c.if-letter-eq34.false c.if-letter-eq92.false))
 
 pub returns-else-letter-eq92-clause-ascii : goal.returns-else-letter-eq92-clause-ascii
 returns-else-letter-eq92-clause-ascii g c =
     let letter = c.letter-letter.result in
-    rw (inserted g.T.Letter.code c.args.component.now c.in-Insert.letters c.index.result.now letter c.in-Insert.is (omega (arith, c.len.ensures, c.if-len-ne1.false)) c.index.ensures c.letter-letter.ensures
+    rw (inserted g.T.Letter.code c.args.component.now c.in-Insert.letters c.index-as_slice-0.result letter c.in-Insert.is (omega (arith, c.len.ensures, c.if-len-ne1.false)) (rw c.as_slice.ensures.value at c.index-as_slice-0.is) c.letter-letter.ensures
     c.if-letter-lt32.false (omega (arith, c.if-letter-gt126.false)) c.if-letter-eq34.false c.if-letter-eq92.false)
     (IsAscii-cons 34 (letter ∷ 34 ∷ []) (omega arith) (IsAscii-cons letter (34 ∷ []) (omega (arith, c.if-letter-gt126.false)) (IsAscii-cons 34 [] (omega arith) IsAscii-nil)))

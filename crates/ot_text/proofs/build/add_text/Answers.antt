@@ -9,7 +9,7 @@ use Rattle.ot_text.proofs.build.add_text.Goals.{then-length-gt0+in-Retain, else-
 
 pub returns-in_err-extend_from_slice-in-Insert-clause-err : goal.returns-in_err-extend_from_slice-in-Insert-clause-err
 returns-in_err-extend_from_slice-in-Insert-clause-err g c =
-    on_err _ (same_insert _ _ _ _ _ c.index_mut.ensures.value c.in-Insert.is c.in_err-extend_from_slice-in-Insert.ensures.items)
+    on_err _ (same_insert _ _ _ _ _ c.index_mut.ensures.value c.in-Insert.is c.in_err-extend_from_slice-in-Insert.ensures.err)
 
 pub returns-in-Insert-clause-ok : goal.returns-in-Insert-clause-ok
 returns-in-Insert-clause-ok g c =

@@ -8,7 +8,7 @@ use Rattle.ot_text.proofs.build.text_before_delete.Goals.{then-length-gt1+in_def
 
 pub returns-in_err-extend_from_slice-clause-err : goal.returns-in_err-extend_from_slice-clause-err
 returns-in_err-extend_from_slice-clause-err g c =
-    on_err _ (same_insert _ _ _ _ _ c.index_mut.ensures.value c.in-Insert.is c.in_err-extend_from_slice.ensures.items)
+    on_err _ (same_insert _ _ _ _ _ c.index_mut.ensures.value c.in-Insert.is c.in_err-extend_from_slice.ensures.err)
 
 pub returns-in-Insert-clause-ok : goal.returns-in-Insert-clause-ok
 returns-in-Insert-clause-ok g c =

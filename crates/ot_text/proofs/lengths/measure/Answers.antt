@@ -47,7 +47,7 @@ loop-component-preserved g c =
     elim c.match-component.branch [
       | in-Retain w ↦ rw (w.base-is, w.target-is, w.inserted-is) (counted_retain _ _ _ _ _ _ _ w.in-Retain.is here)
       | in-Insert w ↦
-          let size : w.len-count.result ≡ length w.in-Insert.text.items = omega (arith, w.len-count.ensures, w.in-Insert.text.ok) in
+          let size : w.len-count.result ≡ length w.in-Insert.text.items = w.len-count.ensures in
           rw (w.base-is, w.target-is, w.inserted-is) (counted_insert _ _ _ _ _ _ w.in-Insert.text w.len-count.result w.in-Insert.is size here)
       | in-Delete w ↦ rw (w.base-is, w.target-is, w.inserted-is) (counted_delete _ _ _ _ _ _ _ w.in-Delete.is here)
     ]

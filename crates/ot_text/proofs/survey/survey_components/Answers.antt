@@ -1,4 +1,4 @@
-use Rattle.std.proofs.Common.{◌≡◌, length, arith}
+use Rattle.std.proofs.Common.{◌≡◌, length}
 use Rattle.ot_text.proofs.Surveying.{surveying_retain, surveying_insert, surveying_delete}
 use Rattle.ot_text.proofs.survey.survey_components.Goals as goal
 use Rattle.ot_text.proofs.survey.survey_components.Goals.{in-Retain, in-Insert+in_ok-fits-in-Insert, in-Delete+in_ok-fits-in-Delete}
@@ -14,8 +14,7 @@ loop-component-preserved g c =
           (surveying_retain _ _ _ _ _ _ _ c.loop-component-test.true c.component-item.is inv _ w.in-Retain.is _ (rw (e, inv.same) at w.keep-fits.ensures.survey) ((rw (e, inv.same) at w.keep-fits.ensures.ahead) yes) ((rw (e, inv.same) at w.keep-fits.ensures.spot) yes))
       | in-Insert+in_ok-fits-in-Insert w ↦
           let yes = rw w.fits-is at c.if-not-fits.false in
-          let ok = w.in-Insert.text.ok in
-          let size : w.len.result ≡ length w.in-Insert.text.items = omega (arith, ok, w.len.ensures) in
+          let size : w.len.result ≡ length w.in-Insert.text.items = w.len.ensures in
           let done = w.in_ok-fits-in-Insert.ensures in
           rw (w.chunks-is, w.survey-is)
           (surveying_insert _ _ _ _ _ _ _ c.loop-component-test.true c.component-item.is inv _ w.in-Insert.is _ _ w.insert.ensures.same w.insert.ensures.more (rw size at (done.added yes)) (rw inv.same at w.insert.ensures.survey) (done.room yes))

@@ -3,7 +3,7 @@ use Rattle.ot_text.specs.Run.{image_from}
 use Rattle.ot_text.specs.Components.{runs}
 use Rattle.ot_text.proofs.RunLemmas.{sound_insert, too_long_insert, fits_insert, length-news-le}
 use Rattle.ot_text.proofs.Refused.{memory_only, ok_only}
-use Rattle.ot_text.proofs.TextOp.insert_vec.Goals as goal
+use Rattle.ot_text.proofs.TextOp.insert_text.Goals as goal
 
 pub returns-then-added-self-clause-too_long : goal.returns-then-added-self-clause-too_long
 returns-then-added-self-clause-too_long g c =
