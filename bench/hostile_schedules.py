@@ -368,6 +368,7 @@ SHAPES = {
     "unchanged-watched": unchanged_watched,
     "blocks-debugged": lambda: debugged(blocks(True), "run", "back 1"),
     "every-place-debugged": lambda: debugged(every_place(False), "run", "back 1"),
+    "every-place-back": lambda: debugged(every_place(False), "run", "back 20"),
     "back-and-forth": lambda: debugged(split_deletion(), *["run", "back 100000"] * 5),
     "long-message-differs": lambda: differs_last(long_message(), "appended"),
     "reads-debugged": lambda: debugged(reads(), "run", "back 100000", "run"),

@@ -94,12 +94,6 @@ has_first count (InsertHead text) some within = absurd (omega (arith, within, so
 has_first count (DeleteHead m) some within = within
 has_first count End some within = absurd (omega (arith, within, some))
 
-pub has_kept : {A : Type 0} (count : ℕ) (h : Front A) → 0 < count → count ≤ kept_of h → HasFirst count h
-has_kept count (RetainHead m) some within = within
-has_kept count (InsertHead text) some within = absurd (omega (arith, within, some))
-has_kept count (DeleteHead m) some within = absurd (omega (arith, within, some))
-has_kept count End some within = absurd (omega (arith, within, some))
-
 -- a part that makes some elements makes them first
 pub makes_first : {A : Type 0} (count : ℕ) (h : Front A) → 0 < count → count ≤ made_of h → MakesFirst count h
 makes_first count (RetainHead m) some within = within

@@ -7,22 +7,24 @@ use Rattle.ot_isa.specs.declared.instruction.Instr.{Instr}
 use Rattle.ot_model.specs.declared.shown.Refusal.{Refusal}
 use Rattle.ot_model.specs.Table.{State, step}
 use Rattle.ot_judge.specs.Views.{views}
-use Rattle.ot_machine.proofs.Ended.{IsAfter, is_next, is_stopped, is_whole}
+use Rattle.ot_model.specs.Runs.{IsStateAt}
+use Rattle.ot_model.proofs.Runs.{state_next}
+use Rattle.ot_machine.proofs.Ended.{is_stopped, is_whole}
 use Rattle.ot_check.specs.declared.traced.Followed.TheVariants.{Whole, Full}
 use Rattle.ot_check.specs.declared.tracing.Tracer.{Tracer}
-use Rattle.ot_check.specs.Following.{LeadsTo, Follows, Stays, Overflows, IsTracedTo, IsAt, IsFollowed}
+use Rattle.ot_check.specs.Following.{LeadsTo, Follows, Stays, Overflows, IsTracedTo, IsFollowed}
 use Rattle.ot_check.proofs.Ending.{traced_next, whole_end, whole_stuck, full_at}
 
 -- the first instructions are performed, and traced
 pub record IsCome (s : Program) (place : ℕ) (t : Tracer) : Type 0 where
   pub traced : IsTracedTo s place t
-  pub after : IsAfter s place t.machine
+  pub after : IsStateAt s place t.machine
 
 -- one more instruction
-after_next : (s : Program) (p n : ℕ) (i : Instr) (state t : State) → n ≡ p + 1 → IsAfter s p state → slice_get s.instrs p ≡ Some i → LeadsTo (step state i) t → IsAfter s n t
+after_next : (s : Program) (p n : ℕ) (i : Instr) (state t : State) → n ≡ p + 1 → IsStateAt s p state → slice_get s.instrs p ≡ Some i → LeadsTo (step state i) t → IsStateAt s n t
 after_next s p n i state t next after at (shown, is) =
     let same : p + 1 ≡ n = omega arith in
-    subst (λ (k : ℕ). IsAfter s k t) same (is_next s p i state t shown after at is)
+    subst (λ (k : ℕ). IsStateAt s k t) same (state_next s p i state t shown after at is)
 
 pub come_next : (s : Program) (p n : ℕ) (old new : Tracer) (i : Instr) → IsProgram s → n ≡ p + 1 → IsCome s p old → slice_get s.instrs p ≡ Some i → Follows old new i → IsCome s n new
 come_next s p n old new i is next come at follows =
@@ -44,13 +46,7 @@ followed_end s p t is le ge come =
 
 -- ---- past the limits
 
-is_at : (s : Program) (p : ℕ) (state : State) → p ≤ length s.instrs → IsAfter s p state → IsAt s p state
-is_at s p state le after = record { inside = le; shown = after.shown; at = after.at }
-
-pub after_of : (s : Program) (p : ℕ) (state : State) → IsAt s p state → IsAfter s p state
-after_of s p state at = record { shown = at.shown; at = at.at }
-
 pub followed_full : (s : Program) (p n : ℕ) (t : Tracer) (i : Instr) (state : State) → IsProgram s → n ≡ p + 1 → IsCome s p t → slice_get s.instrs p ≡ Some i → Overflows t i state → IsFollowed s (Full state n)
 followed_full s p n t i state is next come at over =
     let inside = slice_get_within s.instrs p i at in
-    (is_at s n state (omega arith) (after_next s p n i t.machine state next come.after at over.performed), full_at s p t i state is come.traced at over)
+    (omega (arith, inside), after_next s p n i t.machine state next come.after at over.performed, full_at s p t i state is come.traced at over)

@@ -1,5 +1,5 @@
 -- A run that is being traced: what of its trace is made, and what an instruction adds.
-use Rattle.std.specs.Prelude.{◌≡◌, ℕ, ◌+◌, ◌<◌, ◌≤◌, ◌⊎◌, List, ◌++◌, length, map, drop, Option, Some, true, false}
+use Rattle.std.specs.Prelude.{◌≡◌, ℕ, ◌+◌, ◌<◌, ◌≤◌, ◌⊎◌, List, ◌++◌, length, map, drop, Option, true, false}
 use Rattle.std.specs.List.{All}
 use Rattle.ot_isa.specs.Program.{Program}
 use Rattle.ot_isa.specs.declared.instruction.Instr.{Instr}
@@ -9,7 +9,7 @@ use Rattle.ot_machine.specs.declared.state.Phase as name
 use Rattle.ot_machine.specs.declared.state.Phase.TheVariants as phase
 use Rattle.ot_model.specs.Table.{State, Outcome, Performed, Refused, NoRow, step}
 use Rattle.ot_model.specs.Events as events
-use Rattle.ot_model.specs.Runs.{opening_of, place_at}
+use Rattle.ot_model.specs.Runs.{opening_of, IsStateAt}
 use Rattle.ot_machine.specs.Answers.{IsRefusal}
 use Rattle.ot_machine.specs.Ended.{IsEnding}
 use Rattle.ot_model.specs.Sound.{IsSound}
@@ -93,14 +93,8 @@ pub record IsTracedTo (s : Program) (place : ℕ) (t : Tracer) : Type 0 where
   pub within : IsWithin (events_of t) t.entries
   pub rest : events_of t ++ events_by t.machine (counts_of t.ledger) (drop place s.instrs) ≡ events_by (opening_of s) (no_counts s.clients) s.instrs
 
--- so many first instructions of the schedule lead to this state
-pub record IsAt (s : Program) (place : ℕ) (state : State) : Type 0 where
-  pub inside : place ≤ length s.instrs
-  pub shown : List Shown
-  pub at : place_at s place ≡ Some (record { state = state; shown = shown })
-
 -- the run ended there, and these are all events of its trace, within the limits; or they pass a limit, and the run came so far
 abbrev pub IsFollowed : Program → Followed → Type 0
 IsFollowed s (Whole t stopped) =
     IsEnding s (record { machine = t.machine; stopped = stopped }) × (events_of t ≡ (events.trace_of s).events) × (is_full (events.trace_of s) ≡ false)
-IsFollowed s (Full machine place) = IsAt s place machine × (is_full (events.trace_of s) ≡ true)
+IsFollowed s (Full machine place) = (place ≤ length s.instrs) × IsStateAt s place machine × (is_full (events.trace_of s) ≡ true)

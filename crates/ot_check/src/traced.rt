@@ -6,7 +6,7 @@ ghost use Rattle.ot_model.specs.WeakList.{WeakListProperty};
 ghost use Rattle.ot_machine.specs.Ended.{IsEnding};
 ghost use Rattle.ot_judge.specs.Making.{is_full};
 ghost use Rattle.ot_judge.specs.Views.{views};
-ghost use Rattle.ot_check.specs.Following.{IsAt, IsFollowed};
+ghost use Rattle.ot_check.specs.Following.{IsFollowed};
 ghost use Rattle.ot_check.specs.Traced.{trace_within};
 
 use crate::event::tags_of;
@@ -14,7 +14,7 @@ use crate::stop::{Halt, TraceStop};
 use crate::tracing::Tracer;
 use ot_isa::{Schedule, start_doc};
 use ot_judge::{Event, Trace};
-use ot_machine::{Ending, Machine, Refusal};
+use ot_machine::{Ending, Machine, Refusal, run_on};
 use std::alloc::{AllocError, Global};
 
 /// A schedule's run, as far as it went, and its trace.
@@ -56,32 +56,6 @@ fn follow_schedule(alloc: Global, schedule: &Schedule) -> Result<Followed, Alloc
         }
     }
     Ok(Followed::Whole(tracer, None))
-}
-
-// Runs the schedule on from the place that the machine has come to.
-fn run_on(schedule: &Schedule, from: usize, machine: Machine) -> Ending
-    requires { IsAt schedule.now from machine }
-    ensures { IsEnding schedule.now result }
-{
-    let mut machine = machine;
-    for place in from..schedule.len() {
-        let Some(instr) = schedule.get(place) else {
-            unreachable!()
-        };
-        match machine.perform(instr) {
-            Ok(_who) => {}
-            Err(refusal) => {
-                return Ending {
-                    machine,
-                    stopped: Some((place, refusal)),
-                };
-            }
-        }
-    }
-    Ending {
-        machine,
-        stopped: None,
-    }
 }
 
 // The trace of these events, which are all of the schedule's run.

@@ -2,13 +2,13 @@
 use Rattle.std.proofs.Common.{◌≡◌, ℕ, zero, suc, ◌+◌, ◌-◌, ◌<◌, ◌≤◌, ◌≢◌, List, [], ◌∷◌, ◌++◌, length, take, refl, ap, sym, ◌∙◌, subst, arith, Option, Some, None, Bool, true, false, length-append, inl, inr}
 use Rattle.std.proofs.lemmas.Option.{same_Some, slice_get_within}
 use Rattle.std.proofs.lemmas.Bool.{cases_eq}
-use Rattle.std.specs.Prelude.{◌↔◌, is_some, slice_get, unwrap_or, IsSome, IsTrue, MatchBool}
+use Rattle.std.specs.Prelude.{is_some, slice_get, unwrap_or, IsSome, MatchBool}
 use Rattle.std.specs.Option.{option_map}
 use Rattle.ot_isa.specs.Program.{Program}
 use Rattle.ot_isa.specs.declared.instruction.Instr.{Instr}
 use Rattle.ot_model.specs.declared.shown.Shown.{Shown}
 use Rattle.ot_model.specs.Table.{State, Place, Outcome, Performed, Refused, NoRow, step, run, begin, with_shown}
-use Rattle.ot_model.specs.Runs.{done, place_at, opening_of}
+use Rattle.ot_model.specs.Runs.{done, place_at, opening_of, IsStateAt}
 use Rattle.ot_model.proofs.Runs.{run-append, place_at-next, reaches, performed-length}
 use Rattle.ot_model.proofs.States.{take_entry}
 use Rattle.ot_machine.specs.declared.undo.Undo.{Undo}
@@ -20,7 +20,7 @@ use Rattle.ot_debug.specs.Stops.{IsRefusedAt}
 use Rattle.ot_debug.specs.declared.command.Watched.{Watched}
 use Rattle.ot_debug.specs.declared.recent.Recent.{Recent}
 use Rattle.ot_debug.specs.Session.{IsSession}
-use Rattle.ot_debug.specs.Stepping.{session_of, is_read, undos_in, Advances, AreLast, AreRecords, AreShownBefore, AreUndos, GoOn, IsKept, IsPushed, IsStateAt, OneMore, shown_at, AreLists}
+use Rattle.ot_debug.specs.Stepping.{session_of, is_read, undos_in, Advances, AreLast, AreRecords, AreShownBefore, AreUndos, GoOn, IsKept, IsPushed, OneMore, shown_at, AreLists}
 use Rattle.ot_debug.proofs.Rows.{row_leaves}
 
 -- the place is there as far as the run goes
@@ -179,31 +179,18 @@ recorded_next s p q state t undos records i list was are here performed one kept
     next = place_at-next s p (record { state = state; shown = was.shown }) i t list was.at here performed
 
 -- the records as an instruction that is performed leaves them
-record AreLeft (s : Program) (p : ℕ) (undos : Recent) : Type 0 where
-  last : AreLast s p (undos_in undos)
-  idle : undos.kept ≡ false → undos_in undos ≡ []
-
 go_on :
-    (s : Program) (p : ℕ) (q r : Place) (undos records : Recent) (kept : Bool) → undos.kept ≡ kept → AreLast s p (undos_in undos) → (undos.kept ≡ false → undos_in undos ≡ [])
-    → place_at s p ≡ Some q → place_at s (suc p) ≡ Some r → GoOn q.state r.state undos records
-    → AreLeft s (suc p) records
-go_on s p q r undos records true is last idle at next on =
-    let one = subst (λ b. MatchBool b (OneMore q.state r.state (undos_in undos) (undos_in records) × (records.kept ≡ true)) (records ≡ undos)) is on in
-    record {
-      last = last_more s p q r (undos_in undos) (undos_in records) last at next one.0;
-      idle = λ not. absurd (let e = sym one.1 ∙ not in cc);
-    }
-go_on s p q r undos records false is last idle at next on =
-    let same = subst (λ b. MatchBool b (OneMore q.state r.state (undos_in undos) (undos_in records) × (records.kept ≡ true)) (records ≡ undos)) is on in
-    let none : undos_in records ≡ [] = ap undos_in same ∙ idle is in
-    record { last = last_none s (suc p) (undos_in records) none; idle = λ not. none }
+    (s : Program) (p : ℕ) (q r : Place) (undos records : Recent) (leaves : Bool) → AreLast s p (undos_in undos) → place_at s p ≡ Some q → place_at s (suc p) ≡ Some r
+    → GoOn leaves q.state r.state undos records → AreLast s (suc p) (undos_in records)
+go_on s p q r undos records true last at next on = last_more s p q r (undos_in undos) (undos_in records) last at next on.0
+go_on s p q r undos records false last at next on = last_none s (suc p) (undos_in records) on.0
 
 -- the debugger one instruction on
 kept_next :
-    (s : Program) (p : ℕ) (state t : State) (shown : List Shown) (undos records : Recent) (breaks : List Bool) (watches : List Watched) (i : Instr) (list : Option Shown)
-    → IsKept s p state shown undos breaks watches → slice_get s.instrs p ≡ Some i → step state i ≡ Performed t list → GoOn state t undos records
+    (s : Program) (p : ℕ) (state t : State) (shown : List Shown) (undos records : Recent) (breaks : List Bool) (watches : List Watched) (i : Instr) (list : Option Shown) (leaves : Bool)
+    → IsKept s p state shown undos breaks watches → slice_get s.instrs p ≡ Some i → step state i ≡ Performed t list → GoOn leaves state t undos records
     → IsKept s (suc p) t (with_shown shown list) records breaks watches
-kept_next s p state t shown undos records breaks watches i list kept here performed on =
+kept_next s p state t shown undos records breaks watches i list leaves kept here performed on =
     record {
       session = record {
         limits = kept.session.limits;
@@ -213,8 +200,7 @@ kept_next s p state t shown undos records breaks watches i list kept here perfor
         breaks = kept.session.breaks;
         watches = kept.session.watches;
       };
-      last = left.last;
-      idle = left.idle;
+      last = go_on s p _ _ undos records leaves kept.last kept.session.at next on;
     }
   where
     next : place_at s (suc p) ≡ Some (record { state = t; shown = with_shown shown list })
@@ -223,16 +209,13 @@ kept_next s p state t shown undos records breaks watches i list kept here perfor
     inside : suc p ≤ length s.instrs
     inside = let e = slice_get_within s.instrs p i here in omega (arith, e)
 
-    left : AreLeft s (suc p) records
-    left = go_on s p _ _ undos records undos.kept refl kept.last kept.idle kept.session.at next on
-
 pub kept_forth :
-    (s : Program) (p q : ℕ) (state t : State) (shown lists : List Shown) (undos records : Recent) (breaks : List Bool) (watches : List Watched) (i : Instr) (list : Option Shown)
-    → IsKept s p state shown undos breaks watches → slice_get s.instrs p ≡ Some i → step state i ≡ Performed t list → GoOn state t undos records
+    (s : Program) (p q : ℕ) (state t : State) (shown lists : List Shown) (undos records : Recent) (breaks : List Bool) (watches : List Watched) (i : Instr) (list : Option Shown) (leaves : Bool)
+    → IsKept s p state shown undos breaks watches → slice_get s.instrs p ≡ Some i → step state i ≡ Performed t list → GoOn leaves state t undos records
     → q ≡ suc p → lists ≡ with_shown shown list → IsKept s q t lists records breaks watches
-kept_forth s p q state t shown lists undos records breaks watches i list kept here performed on next lists_are =
+kept_forth s p q state t shown lists undos records breaks watches i list leaves kept here performed on next lists_are =
     subst (λ n. IsKept s n t lists records breaks watches) (sym next)
-    (subst (λ xs. IsKept s (suc p) t xs records breaks watches) (sym lists_are) (kept_next s p state t shown undos records breaks watches i list kept here performed on))
+    (subst (λ xs. IsKept s (suc p) t xs records breaks watches) (sym lists_are) (kept_next s p state t shown undos records breaks watches i list leaves kept here performed on))
 
 pub advances :
     (s : Program) (p q : ℕ) (state t : State) (shown lists : List Shown) (records : Recent) (breaks : List Bool) (watches : List Watched)
@@ -331,9 +314,8 @@ lists_back true s p r lists front i le next here are were =
 pub kept_back :
     (s : Program) (p r : ℕ) (state t : State) (undos : List Undo) (rest : Recent) (breaks : List Bool) (watches : List Watched) (undo : Undo)
     → IsSession (session_of s p state (shown_at s p) breaks watches) → AreLast s p undos → undos ≡ undos_in rest ++ undo ∷ [] → p ≡ suc r
-    → ((earlier : State) → Undoes earlier state undo → t ≡ earlier) → (IsTrue rest.kept ↔ (0 < r))
-    → IsKept s r t (shown_at s r) rest breaks watches
-kept_back s p r state t undos rest breaks watches undo session last is next back kept =
+    → ((earlier : State) → Undoes earlier state undo → t ≡ earlier) → IsKept s r t (shown_at s r) rest breaks watches
+kept_back s p r state t undos rest breaks watches undo session last is next back =
     record {
       session = record {
         limits = session.limits;
@@ -344,18 +326,10 @@ kept_back s p r state t undos rest breaks watches undo session last is next back
         watches = session.watches;
       };
       last = record { first = last.first; many = many; back = undos_front s last.first (undos_in rest) undo (subst (AreUndos s last.first) is last.back) };
-      idle = λ not. none (undos_in rest) (let e = opening not in omega (arith, e, many));
     }
   where
     many : last.first + length (undos_in rest) ≡ r
     many = let e = counted p last.first undos (undos_in rest) undo last.many is in omega (arith, e, next)
-
-    opening : rest.kept ≡ false → r ≡ 0
-    opening not = elim (cases_eq r 0) [ inl e ↦ e | inr differs ↦ let e = kept.1 (omega (arith, differs)) in absurd (cc) ]
-
-    none : (us : List Undo) → length us ≡ 0 → us ≡ []
-    none [] e = refl
-    none (u ∷ us) e = absurd (omega (arith, e))
 
     b : IsBefore s state r undo
     b = before_last s p r state (shown_at s p) undos (undos_in rest) breaks watches undo session last is next

@@ -47,11 +47,10 @@ pub record AreLast (s : Program) (position : ℕ) (undos : List Undo) : Type 0 w
   pub many : first + length undos ≡ position
   pub back : AreUndos s first undos
 
--- what the debugger keeps; where nothing leaves records there are none
+-- what the debugger keeps
 pub record IsKept (schedule : Program) (position : ℕ) (state : State) (shown : List Shown) (undos : Recent) (breaks : List Bool) (watches : List Watched) : Type 0 where
   pub session : IsSession (session_of schedule position state shown breaks watches)
   pub last : AreLast schedule position (undos_in undos)
-  pub idle : undos.kept ≡ false → undos_in undos ≡ []
 
 -- the same records are kept, and what is performed leaves some as before
 abbrev pub IsAsBefore : Recent → Recent → Type 0
@@ -70,14 +69,9 @@ pub record OneMore (earlier s : State) (undos records : List Undo) : Type 0 wher
   pub more : IsPushed undo undos records
   pub undoes : Undoes earlier s undo
 
--- the records after such a step: one more where it leaves one, and else those that there were
-abbrev pub GoOn : State → State → Recent → Recent → Type 0
-GoOn earlier s undos records = MatchBool undos.kept (OneMore earlier s (undos_in undos) (undos_in records) × (records.kept ≡ true)) (records ≡ undos)
-
--- the state is the run's after so many instructions, whatever lists they showed
-pub record IsStateAt (s : Program) (p : ℕ) (state : State) : Type 0 where
-  pub shown : List Shown
-  pub at : place_at s p ≡ Some (record { state = state; shown = shown })
+-- the records after such a step: one more where it leaves one, and else none
+abbrev pub GoOn : Bool → State → State → Recent → Recent → Type 0
+GoOn leaves earlier s undos records = MatchBool leaves (OneMore earlier s (undos_in undos) (undos_in records)) (undos_in records ≡ []) × (records.kept ≡ undos.kept)
 
 -- the records of the last instructions before a position, of one instruction at least, if there is one; what is performed leaves more
 pub record AreRecords (s : Program) (position : ℕ) (undos : Recent) : Type 0 where

@@ -21,10 +21,9 @@ pub enum Command {
     Run,
     /// Performs this many instructions, or those before the first refused one, or all that are left; breaks and watches do not count.
     Step(u32),
-    /// Takes this many instructions back, or all. The first time since the opening it performs the schedule once more, up to the place where it
-    /// goes, for the records of the instructions before it; these are kept, so from then on a `Back` costs what it takes back. Where the
-    /// records of all these would be too large, those of the last ones alone are kept, and a `Back` beyond them performs the schedule once more
-    /// up to the place where it goes. To the opening that is nothing.
+    /// Takes this many instructions back, or all, by the records that they left: the last 16 before a stop, all of them from the first `Back` on until the
+    /// opening is reached. That costs what it takes back. Where it goes beyond them it performs the schedule once more, up to the place where it goes, which leaves the
+    /// records of the instructions before it. Where these would be too large together, those of the last ones alone are kept. To the opening that is nothing.
     Back(u32),
     /// Sets a break at a place, 0 to the schedule's length.
     Break(u32),

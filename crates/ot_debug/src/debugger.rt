@@ -47,8 +47,8 @@ impl<const LISTS: u8> Model for Debugging<LISTS> {
 /// A debugger that keeps the lists which the performed reads showed.
 pub type Debugger = Debugging<1>;
 
-/// A debugger that keeps none of these lists: it takes the memory of the machine, and, where somebody goes back, of another machine meanwhile and of
-/// what takes the last performed instructions back, which is bounded.
+/// A debugger that keeps none of these lists: it takes the memory of the machine, of what takes the last performed instructions back, which is bounded, and, where
+/// somebody goes back beyond these, of another machine meanwhile.
 pub type Stepper = Debugging<0>;
 
 /// The machine at the schedule's opening.

@@ -12,6 +12,9 @@ use crate::debugger::Debugging;
 use crate::watching::first_changed;
 use ot_machine::Refusal;
 
+/// So many instructions before a place where a command stops leave records, so that the first steps back from there take no time.
+const NEAR: usize = 16;
+
 // The answer where the next instruction is not performed.
 fn halted(at: usize, refusal: Refusal) -> Reply
     ensures memory { refusal ≡ Memory → result ≡ Reply.Memory }
@@ -45,7 +48,8 @@ impl<const LISTS: u8> Debugging<LISTS> {
             self.watches.as_slice(),
             self.firsts.as_slice(),
         )?;
-        self.forward()?;
+        let near = changed.is_some() || self.is_near_stop(place);
+        self.forward(near)?;
         // For the proof: what every debugger keeps.
         let _kept = self.schedule();
         Ok(changed)
@@ -56,6 +60,18 @@ impl<const LISTS: u8> Debugging<LISTS> {
         ensures { IsTrue result ↔ IsBreak self.now place }
     {
         matches!(self.breaks.get(place), Some(true))
+    }
+
+    // The end of the schedule, or a break, is at most so many instructions ahead.
+    fn is_near_stop(&self, place: usize) -> bool {
+        if self.schedule.len().saturating_sub(place) <= NEAR {
+            return true;
+        }
+        let next = place.saturating_add(1);
+        match self.breaks.get(next..next.saturating_add(NEAR)) {
+            Some(ahead) => ahead.contains(&true),
+            None => false,
+        }
     }
 
     /// Goes on to the next stop.
@@ -91,12 +107,13 @@ impl<const LISTS: u8> Debugging<LISTS> {
         ensures { MovesForth (λ s q reason. IsStepStop s s.position count q reason) self.old result self.new }
     {
         let end = self.schedule.len();
-        for _ in 0..count {
+        for performed in 0..count {
             let at = self.position();
             if at >= end {
                 return Reply::Stopped { at, why: Why::End };
             }
-            if let Err(refusal) = self.forward() {
+            let near = (count - performed) as usize <= NEAR || end - at <= NEAR;
+            if let Err(refusal) = self.forward(near) {
                 return halted(at, refusal);
             }
         }

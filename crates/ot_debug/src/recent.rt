@@ -6,7 +6,7 @@
 //! ```
 //!
 //! What is pushed comes to the newer half. When this one is full, the older half goes, and the newer one is the older one from then on. So after a
-//! push there are records of half the budget's size at least, or all that were ever pushed and not popped, and never more than two halves and what each
+//! push there are records of half the budget's size at least, or all that were pushed since they were forgotten and not popped, and never more than two halves and what each
 //! has beyond its size, which is a part of one record.
 
 ghost use Rattle.std.specs.Prelude.{◌≡◌, ◌≢◌, ◌<◌, ◌↔◌, ◌++◌, ◌∷◌, ◌⊎◌, [], true, false, vec_capacity, vec_len, IfOk, IfSome, IsTrue, None, OnOk};
@@ -43,14 +43,14 @@ impl Half {
 pub(crate) struct Recent {
     // where the newer half is as large, or larger, it is full
     limit: usize,
-    // whether what is performed leaves records: from where somebody goes back, until the opening is reached
+    // whether all that is performed leaves records: from where somebody goes back, until the opening is reached
     pub kept: bool,
     older: Half,
     newer: Half,
 }
 
 impl Recent {
-    /// No records, and what is performed leaves none.
+    /// No records, and what is performed leaves some near a stop alone.
     pub(crate) fn new(alloc: Global, limit: usize) -> Recent
         ensures none { undos_in result ≡ [] }
         ensures limit { result.limit ≡ limit }
@@ -103,7 +103,21 @@ impl Recent {
         self.older.undos.as_slice().is_empty() && self.newer.undos.as_slice().is_empty()
     }
 
-    /// What they are told where somebody has gone back: at the opening no more are wanted, until somebody goes back again.
+    /// All of them go.
+    pub(crate) fn forget(&mut self)
+        ensures none { undos_in self.new ≡ [] }
+        ensures limit { self.new.limit ≡ self.old.limit }
+        ensures kept { self.new.kept ≡ self.old.kept }
+    {
+        if self.is_empty() {
+            return;
+        }
+        let alloc = self.allocator();
+        self.older = Half::new(alloc);
+        self.newer = Half::new(alloc);
+    }
+
+    /// What they are told where somebody has gone back: from then on all that is performed leaves some; at the opening no more are wanted, until somebody goes back again.
     pub(crate) fn went_back_to(&mut self, position: usize)
         ensures same { undos_in self.new ≡ undos_in self.old }
         ensures limit { self.new.limit ≡ self.old.limit }

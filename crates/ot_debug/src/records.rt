@@ -1,11 +1,11 @@
 //! Instructions performed with and without records, and once more where somebody goes back beyond these.
 
-ghost use Rattle.std.specs.Prelude.{◌≡◌, ◌≢◌, ◌≤◌, ◌==◌, IfErr, IfOk, OnErr, OnOk};
+ghost use Rattle.std.specs.Prelude.{◌≡◌, ◌≢◌, ◌≤◌, ◌==◌, ◌||◌, IfErr, IfOk, OnErr, OnOk};
 ghost use Rattle.ot_model.specs.declared.shown.Refusal.TheVariants.{Memory};
-ghost use Rattle.ot_model.specs.Runs.{done};
+ghost use Rattle.ot_model.specs.Runs.{done, IsStateAt};
 ghost use Rattle.ot_model.specs.Table.{step, Refused};
 ghost use Rattle.ot_machine.specs.Undoing.{Undoes};
-ghost use Rattle.ot_debug.specs.Stepping.{undos_in, AreRecords, Gives, GoOn, IsAsBefore, IsStateAt, OneMore};
+ghost use Rattle.ot_debug.specs.Stepping.{undos_in, AreRecords, Gives, GoOn, IsAsBefore, OneMore};
 
 use crate::debugger::opening;
 use crate::recent::Recent;
@@ -66,24 +66,27 @@ fn perform_recorded<const LISTS: u8>(
     Ok(list)
 }
 
-/// Performs the instruction, and gives the list that it shows where `LISTS` is 1. Where instructions leave records, it adds one too.
-/// Every refusal leaves all as it was.
+/// Performs the instruction, and gives the list that it shows where `LISTS` is 1. Where instructions leave records, or this one is to (`near`), it adds one
+/// too; else those that there were go. Every refusal leaves all as it was.
 pub(crate) fn perform<const LISTS: u8>(
     machine: &mut Machine,
     undos: &mut Recent,
     instr: &Instr,
+    near: bool,
 ) -> Result<Option<Shown>, Refusal>
     ensures done { IfOk result (λ list. Gives (LISTS == 1) machine.old instr.now machine.new list) }
-    ensures records { OnOk result (GoOn machine.old machine.new undos.old undos.new) }
+    ensures records { OnOk result (GoOn (undos.old.kept || near) machine.old machine.new undos.old undos.new) }
+    ensures limit { undos.new.limit ≡ undos.old.limit }
     ensures refused { IfErr result (λ r. r ≢ Memory → step machine.old instr.now ≡ Refused r) }
     ensures unchanged { OnErr result (machine.new ≡ machine.old) }
     ensures records_stay { OnErr result (IsAsBefore undos.old undos.new) }
 {
-    if undos.kept {
-        perform_recorded::<LISTS>(machine, undos, instr)
-    } else {
-        perform_plain::<LISTS>(machine, instr)
+    if undos.kept || near {
+        return perform_recorded::<LISTS>(machine, undos, instr);
     }
+    let list = perform_plain::<LISTS>(machine, instr)?;
+    undos.forget();
+    Ok(list)
 }
 
 /// Performs so many of the schedule's instructions once more, from the opening on. Gives another machine, which stands after them, and the records of

@@ -59,8 +59,8 @@ fn drop_shown(shown: &mut Vec<Shown>, schedule: &Schedule, from: usize, to: usiz
 }
 
 impl<const LISTS: u8> Debugging<LISTS> {
-    // Performs the next instruction. `Memory` leaves all as it was, as every refusal does.
-    pub(crate) fn forward(&mut self) -> Result<(), Refusal>
+    // Performs the next instruction, which leaves a record where somebody may soon go back (`near`). `Memory` leaves all as it was, as every refusal does.
+    pub(crate) fn forward(&mut self, near: bool) -> Result<(), Refusal>
         requires { self.old.position < length self.old.schedule.instrs }
         ensures done { OnOk result (Advances self.old self.new) }
         ensures refused { IfErr result (λ r. r ≢ Memory → IsRefusedAt self.old.schedule self.old.position r) }
@@ -70,7 +70,7 @@ impl<const LISTS: u8> Debugging<LISTS> {
         let Some(instr) = self.schedule.get(self.position) else {
             unreachable!()
         };
-        let list = perform::<LISTS>(&mut self.machine, &mut self.undos, instr)?;
+        let list = perform::<LISTS>(&mut self.machine, &mut self.undos, instr, near)?;
         self.position += 1;
         keep_shown(&mut self.shown, list);
         Ok(())

@@ -1,10 +1,11 @@
 //! Instructions and runs of which no list is kept: it stands in the machine, and is looked at there.
 
-ghost use Rattle.std.specs.Prelude.{◌≡◌, IfErr, IfOk, IfSome, None, OnErr, OnOk, Some};
+ghost use Rattle.std.specs.Prelude.{◌≡◌, ◌≤◌, length, IfErr, IfOk, IfSome, None, OnErr, OnOk, Some};
 ghost use Rattle.std.specs.Option.{option_map};
 ghost use Rattle.ot_isa.specs.declared.instruction.Instr.TheVariants.{Read, ReadServer};
 ghost use Rattle.ot_model.specs.declared.shown.Reader.TheVariants.{Client, Server};
 ghost use Rattle.ot_model.specs.declared.shown.Refusal.TheVariants.{Memory};
+ghost use Rattle.ot_model.specs.Runs.{IsStateAt};
 ghost use Rattle.ot_model.specs.Table.{step, Performed, Refused};
 ghost use Rattle.ot_machine.specs.Answers.{IsRefusal};
 ghost use Rattle.ot_machine.specs.Delivery.{applied_by, applied_in};
@@ -167,29 +168,40 @@ impl Machine {
     }
 }
 
+/// Runs the schedule on from the place to which the machine has come, as [`end_of_run`] does from the opening: the machine is as the schedule's first `from`
+/// instructions leave it, which are no more than the schedule has.
+pub fn run_on(schedule: &Schedule, from: usize, machine: Machine) -> Ending
+    requires inside { from ≤ length schedule.now.instrs }
+    requires at { IsStateAt schedule.now from machine }
+    ensures { IsEnding schedule.now result }
+{
+    let mut machine = machine;
+    for place in from..schedule.len() {
+        let Some(instr) = schedule.get(place) else {
+            unreachable!()
+        };
+        match machine.perform(instr) {
+            Ok(_who) => {}
+            Err(refusal) => {
+                return Ending {
+                    machine,
+                    stopped: Some((place, refusal)),
+                };
+            }
+        }
+    }
+    Ending {
+        machine,
+        stopped: None,
+    }
+}
+
 /// Runs the schedule as [`run`] does, and keeps none of the lists that its reads show: it takes the memory of the machine alone, and a read
 /// none.
 pub fn end_of_run(alloc: Global, schedule: &Schedule) -> Result<Ending, AllocError>
     ensures { IfOk result (λ ending. IsEnding schedule.now ending) }
 {
     let clients = schedule.clients();
-    let mut machine = Machine::with_present(alloc, clients, schedule.present(), schedule.start())?;
-    for place in 0..schedule.len() {
-        let Some(instr) = schedule.get(place) else {
-            unreachable!()
-        };
-        match machine.perform(instr) {
-            Ok(_) => {}
-            Err(refusal) => {
-                return Ok(Ending {
-                    machine,
-                    stopped: Some((place, refusal)),
-                });
-            }
-        }
-    }
-    Ok(Ending {
-        machine,
-        stopped: None,
-    })
+    let machine = Machine::with_present(alloc, clients, schedule.present(), schedule.start())?;
+    Ok(run_on(schedule, 0, machine))
 }

@@ -1,11 +1,12 @@
 -- A run, instruction by instruction.
-use Rattle.std.proofs.Common.{◌≡◌, ℕ, zero, suc, ◌+◌, ◌≤◌, List, [], ◌∷◌, ◌++◌, length, take, refl, ap, ◌∙◌, arith, Option, Some, None}
+use Rattle.std.proofs.Common.{◌≡◌, ℕ, zero, suc, ◌+◌, ◌≤◌, List, [], ◌∷◌, ◌++◌, length, take, refl, ap, subst, ◌∙◌, arith, Option, Some, None}
 use Rattle.std.specs.Prelude.{slice_get, ◌↔◌, IsSome}
 use Rattle.std.proofs.lemmas.Option.{same_Some}
 use Rattle.ot_isa.specs.Program.{Program}
 use Rattle.ot_isa.specs.declared.instruction.Instr.{Instr}
+use Rattle.ot_model.specs.declared.shown.Shown.{Shown}
 use Rattle.ot_model.specs.Table.{State, Place, Outcome, Performed, Refused, NoRow, with_shown, step, run, performed}
-use Rattle.ot_model.specs.Runs.{done, place_at}
+use Rattle.ot_model.specs.Runs.{done, opening_of, place_at, IsStateAt}
 use Rattle.ot_model.proofs.States.{take_entry}
 
 -- a run of more instructions goes on where the first ones end
@@ -75,6 +76,16 @@ run_performed i p t list e = rw (run, e) refl
 pub place_at-next : (s : Program) (p : ℕ) (q : Place) (i : Instr) (t : State) (list : Option _) → place_at s p ≡ Some q → slice_get s.instrs p ≡ Some i → step q.state i ≡ Performed t list
     → place_at s (suc p) ≡ Some (record { state = t; shown = with_shown q.shown list })
 place_at-next s p q i t list here at e = rw (take_entry s.instrs p i at) (run-append (take p s.instrs) (i ∷ []) _ q here ∙ run_performed i q t list e)
+
+-- the state at a place: at the opening, and one instruction on
+pub state_begun : (s : Program) (state : State) → state ≡ opening_of s → IsStateAt s 0 state
+state_begun s state is = record { shown = []; at = rw is refl }
+
+pub state_next : (s : Program) (p : ℕ) (i : Instr) (state t : State) (list : Option Shown) → IsStateAt s p state → slice_get s.instrs p ≡ Some i → step state i ≡ Performed t list → IsStateAt s (p + 1) t
+state_next s p i state t list is at performed =
+    let more : suc p ≡ p + 1 = omega arith in
+    subst (λ (n : ℕ). IsStateAt s n t) more
+    (record { shown = with_shown is.shown list; at = place_at-next s p (record { state = state; shown = is.shown }) i t list is.at at performed })
 
 pub reaches : (s : Program) (p : ℕ) → p ≤ length s.instrs → (p ≤ done s) ↔ IsSome (place_at s p)
 reaches s p le = (λ f. run-within s.instrs _ p f, λ some. run-past s.instrs _ p le some)

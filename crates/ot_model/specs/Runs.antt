@@ -1,6 +1,7 @@
 -- The run of a schedule: how far it goes, and where it is after each of its instructions.
-use Rattle.std.specs.Prelude.{ℕ, ◌≤◌, length, Option, take}
+use Rattle.std.specs.Prelude.{◌≡◌, ℕ, ◌≤◌, List, length, Option, Some, take}
 use Rattle.ot_isa.specs.Program.{Program}
+use Rattle.ot_model.specs.declared.shown.Shown.{Shown}
 use Rattle.ot_model.specs.Table.{State, Place, opening, begin, run, performed}
 use Rattle.ot_model.specs.Sound.{AreInstrs}
 use Rattle.ot_isa.specs.declared.builder.TheConstants.{CLIENT_LIMIT, START_LIMIT}
@@ -23,3 +24,8 @@ done s = performed s.instrs (opening_of s)
 -- the state and the lists shown after the first p instructions, where each of these is performed
 abbrev pub place_at : Program → ℕ → Option Place
 place_at s p = run (take p s.instrs) (begin s.clients s.present s.start)
+
+-- the state is the run's after the first p instructions, whatever lists they showed
+pub record IsStateAt (s : Program) (p : ℕ) (state : State) : Type 0 where
+  pub shown : List Shown
+  pub at : place_at s p ≡ Some (record { state = state; shown = shown })

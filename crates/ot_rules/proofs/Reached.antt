@@ -9,11 +9,10 @@ use Rattle.ot_isa.specs.declared.elements.Tagged.{Tagged}
 use Rattle.ot_isa.specs.declared.instruction.Instr.{Instr}
 use Rattle.ot_model.specs.declared.shown.Refusal.{Refusal}
 use Rattle.ot_model.specs.declared.shown.Refusal.TheVariants.{NoSuchClient, StepsFull, NotJoined, AlreadyJoined, BadBase, ClientFull, LinkEmpty, WrongHead, Memory}
-use Rattle.ot_model.specs.declared.shown.Shown.{Shown}
 use Rattle.ot_model.specs.Operation.{Operation, apply}
-use Rattle.ot_model.specs.Runs.{done, opening_of, place_at}
-use Rattle.ot_model.specs.Table.{Entry, Place, Performed, State, step, with_shown}
-use Rattle.ot_model.proofs.Runs.{place_at-next, reaches}
+use Rattle.ot_model.specs.Runs.{done, place_at, IsStateAt}
+use Rattle.ot_model.specs.Table.{Entry, Place, State, step}
+use Rattle.ot_model.proofs.Runs.{reaches}
 use Rattle.ot_model.proofs.States.{drop_entry}
 use Rattle.ot_machine.specs.Answers.{IsRefusal}
 use Rattle.ot_machine.specs.Ended.{IsStopAt}
@@ -25,20 +24,7 @@ use Rattle.ot_rules.specs.Texts.{replayed}
 
 -- ---- the run
 
-pub record IsAt (s : Program) (p : ℕ) (state : State) : Type 0 where
-  pub shown : List Shown
-  pub at : place_at s p ≡ Some (record { state = state; shown = shown })
-
-pub is_begun : (s : Program) (state : State) → state ≡ opening_of s → IsAt s 0 state
-is_begun s state is = record { shown = []; at = rw is refl }
-
-pub is_next : (s : Program) (p : ℕ) (i : Instr) (state t : State) (shown : Option Shown) → IsAt s p state → slice_get s.instrs p ≡ Some i → step state i ≡ Performed t shown → IsAt s (p + 1) t
-is_next s p i state t shown is at performed =
-    let next : suc p ≡ p + 1 = omega arith in
-    subst (λ (n : ℕ). IsAt s n t) next
-    (record { shown = with_shown is.shown shown; at = place_at-next s p (record { state = state; shown = is.shown }) i t shown is.at at performed })
-
-pub is_there : (s : Program) (p place : ℕ) (state : State) → place ≤ p → p ≤ place → IsAt s p state → Some state ≡ option_map state_in (place_at s place)
+pub is_there : (s : Program) (p place : ℕ) (state : State) → place ≤ p → p ≤ place → IsStateAt s p state → Some state ≡ option_map state_in (place_at s place)
 is_there s p place state le ge is =
     let same : p ≡ place = omega arith in
     sym (ap (λ (n : ℕ). option_map state_in (place_at s n)) (sym same) ∙ ap (option_map state_in) is.at)
@@ -55,7 +41,7 @@ done_is s state p WrongHead other stop = stop.0
 done_is s state p Memory other stop = absurd (other refl)
 
 -- behind a refusal there is no place
-pub is_nowhere : (s : Program) (p place : ℕ) (i : Instr) (r : Refusal) (state : State) → IsAt s p state → slice_get s.instrs p ≡ Some i → IsRefusal (step state i) r → r ≢ Memory → p < place → place ≤ length s.instrs
+pub is_nowhere : (s : Program) (p place : ℕ) (i : Instr) (r : Refusal) (state : State) → IsStateAt s p state → slice_get s.instrs p ≡ Some i → IsRefusal (step state i) r → r ≢ Memory → p < place → place ≤ length s.instrs
     → None ≡ option_map state_in (place_at s place)
 is_nowhere s p place i r state is at refused other before within = go (place_at s place) refl
   where

@@ -25,14 +25,14 @@ use crate::moving::{perform, perform_kept};
 use ot_client::{Client, Past};
 use ot_isa::{Instr, Tagged};
 use ot_machine::{Applied, Machine, Refusal};
-use ot_sections::Held;
+use ot_sections::{Held, is_long};
 use ot_text::Patch;
 use std::alloc::{AllocError, Global};
 
 /// The text of an operation of fewer components is not kept.
 const LONG: usize = 512;
 
-/// Of a step by an operation of more components nothing is kept.
+/// Of a step by an operation of more components nothing is kept, unless what waits is so long that it would go to sections.
 const FEW: usize = 16;
 
 /// Of what a client waits for the texts that are kept.
@@ -79,6 +79,25 @@ fn waits_for_much(client: &Client<Tagged>) -> bool {
     }
 }
 
+// Whether the operation is held in sections, or will be once it changes, unless what leads back is asked for.
+fn is_cut(op: &Held<Tagged>) -> bool {
+    match op.whole() {
+        Some(op) => is_long(op),
+        None => true,
+    }
+}
+
+// Whether the client waits for an operation that is in sections, or would be after its next change. All of it is written at each line, and so it is best one list.
+fn waits_in_sections(client: &Client<Tagged>) -> bool {
+    match client {
+        Client::Synchronized(_) => false,
+        Client::AwaitingConfirm(client) => is_cut(client.outstanding()),
+        Client::AwaitingWithBuffer(client) => {
+            is_cut(client.outstanding()) || is_cut(client.buffer())
+        }
+    }
+}
+
 // Whether the operation that comes next to the client, who is there, changes few places. What the client makes of it is not known yet.
 fn next_is_short(machine: &Machine, client: u16) -> bool
     requires { client < length machine.now.clients }
@@ -99,6 +118,16 @@ fn changes_little(machine: &Machine, instr: &Instr, client: u16) -> bool
         Instr::Acknowledge(_) => true,
         _ => false,
     }
+}
+
+// Whether the step of the client, who is there, is performed with what leads back from it: where it changes little of much, whose text is kept then, and where
+// what the client waits for would go to sections.
+fn is_followed(machine: &Machine, instr: &Instr, client: u16) -> bool
+    requires { client < length machine.now.clients }
+{
+    machine.joined(client)
+        && waits_for_much(machine.client(client))
+        && (changes_little(machine, instr, client) || waits_in_sections(machine.client(client)))
 }
 
 // Whether the instruction leaves what each client waits for as it is.
@@ -224,10 +253,7 @@ fn perform_from(
             Err(refusal) => Ok(Err(refusal)),
         };
     }
-    if !changes_little(machine, instr, client)
-        || !machine.joined(client)
-        || !waits_for_much(machine.client(client))
-    {
+    if !is_followed(machine, instr, client) {
         return match perform(machine, instr) {
             Ok(applied) => Ok(Ok((Kept::nothing(), applied))),
             Err(refusal) => Ok(Err(refusal)),

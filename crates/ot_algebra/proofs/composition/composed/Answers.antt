@@ -6,10 +6,10 @@ use Rattle.ot_text.specs.Run.{Add, Skip, normal_runs, operation_of}
 use Rattle.ot_text.specs.Rewriting.{Rewriting}
 use Rattle.ot_algebra.specs.Cursor.{appended, made_of, runs_left, span_of}
 use Rattle.ot_algebra.specs.declared.ahead.Measure.TheVariants.{Made}
-use Rattle.ot_algebra.proofs.TransformArms.{has_first, has_kept, makes_first, size_skipped}
+use Rattle.ot_algebra.proofs.TransformArms.{has_first, makes_first, size_skipped}
 use Rattle.ot_algebra.proofs.ComposeProgress.{arm_delete, arm_insert, compose_end, size_skipped_made, small, small_composed, small_delete, small_insert}
 use Rattle.ot_algebra.proofs.SkippedLaws.{runs_size}
-use Rattle.ot_algebra.proofs.Staying.{size_stay, size_other}
+use Rattle.ot_algebra.proofs.Staying.{has_kept, size_stay, size_other}
 use Rattle.ot_algebra.proofs.Written.{ahead_length, ahead_fits, stay_behind, stay_retain}
 use Rattle.ot_algebra.proofs.Composing.{bounds_here, composed_begin, composing_begin, composing_part, composing_small, composing_stay, composing_step, composing_whole, made_all}
 use Rattle.ot_algebra.proofs.composition.composed.Goals as goal

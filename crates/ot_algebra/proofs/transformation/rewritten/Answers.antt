@@ -5,10 +5,10 @@ use Rattle.ot_text.specs.Operation.{Operation, IsTooLong}
 use Rattle.ot_text.specs.Run.{Add, Keep, normal_runs, operation_of}
 use Rattle.ot_algebra.specs.Cursor.{appended, kept_of, runs_left, span_of, target_of}
 use Rattle.ot_algebra.proofs.TransformProgress.{progress_begin}
-use Rattle.ot_algebra.proofs.TransformArms.{has_kept, kept_le, whole_of, small, small_insert_first, small_insert_second, small_part, arm_insert_first, arm_insert_second, arm_end, size_skipped}
+use Rattle.ot_algebra.proofs.TransformArms.{kept_le, whole_of, small, small_insert_first, small_insert_second, small_part, arm_insert_first, arm_insert_second, arm_end, size_skipped}
 use Rattle.ot_text.specs.Rewriting.{Rewriting}
 use Rattle.ot_algebra.proofs.SkippedLaws.{runs_size}
-use Rattle.ot_algebra.proofs.Staying.{skipped_all, made_fits, size_stay, size_other}
+use Rattle.ot_algebra.proofs.Staying.{has_kept, skipped_all, made_fits, size_stay, size_other}
 use Rattle.ot_algebra.specs.declared.ahead.Measure.TheVariants.{Taken}
 use Rattle.ot_algebra.proofs.Written.{ahead_length, ahead_fits, made_left, stay_behind, stay_retain, stay_small, written_begin, written_part, written_step, written_stay, written_whole}
 use Rattle.ot_algebra.proofs.transformation.rewritten.Goals as goal

@@ -1,5 +1,6 @@
 use Rattle.std.specs.Prelude.{◌≡◌}
-use Rattle.ot_debug.specs.Stepping.{AreRecords, IsStateAt}
+use Rattle.ot_model.specs.Runs.{IsStateAt}
+use Rattle.ot_debug.specs.Stepping.{AreRecords}
 use Rattle.ot_debug.proofs.records.perform_again.Given as goal
 
 abbrev pub invariant-loop-place : goal.invariant-loop-place

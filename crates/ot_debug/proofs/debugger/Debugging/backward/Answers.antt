@@ -12,7 +12,7 @@ pub invariant_of-self-2 : goal.invariant_of-self-2
 invariant_of-self-2 g c = (
   kept_back c.self.inside.schedule c.self.inside.position (c.self.inside.position - 1) c.self.inside.machine c.undo.new.self
       (undos_in c.self.inside.undos) c.went_back_to.new.self c.self.inside.breaks.items c.self.inside.watches.items c.in-Some.undo c.self.invariant.0.session c.self.invariant.0.last (c.in-Some.ensures.some ∙ ap (λ us. us ++ c.in-Some.undo ∷ []) (sym c.went_back_to.ensures.same))
-      (search rules) (λ earlier is. c.in_default-undo.ensures.ok earlier is) c.went_back_to.ensures.kept,
+      (search rules) (λ earlier is. c.in_default-undo.ensures.ok earlier is),
   c.self.invariant.1,
   c.drop_shown.ensures _ c.self.invariant.2,
 )

@@ -1,6 +1,7 @@
 use Rattle.std.proofs.Common.{arith, refl}
-use Rattle.ot_machine.proofs.Ended.{is_next, is_stopped, is_whole}
-use Rattle.ot_check.proofs.traced.run_on.Goals as goal
+use Rattle.ot_model.proofs.Runs.{state_next}
+use Rattle.ot_machine.proofs.Ended.{is_stopped, is_whole}
+use Rattle.ot_machine.proofs.performing.run_on.Goals as goal
 
 pub returns-in-Err : goal.returns-in-Err
 returns-in-Err c =
@@ -9,7 +10,7 @@ returns-in-Err c =
 
 pub loop-place-preserved : goal.loop-place-preserved
 loop-place-preserved c =
-    is_next c.args.schedule.now c.loop-place.place c.in-Some.instr.now c.loop-place.machine c.perform.new.self _
+    state_next c.args.schedule.now c.loop-place.place c.in-Some.instr.now c.loop-place.machine c.perform.new.self _
     c.loop-place.invariant c.in-Some.ensures.some c.in-Ok.ensures.done
 
 pub returns : goal.returns

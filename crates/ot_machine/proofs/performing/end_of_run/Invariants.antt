@@ -1,5 +1,0 @@
-use Rattle.ot_machine.proofs.Ended.{IsAfter}
-use Rattle.ot_machine.proofs.performing.end_of_run.Given as goal
-
-abbrev pub invariant-loop-place : goal.invariant-loop-place
-invariant-loop-place l = IsAfter l.schedule l.place l.machine
