@@ -21,6 +21,9 @@ LATE = b'{"clients":2,"workers":1,"present":1,"typing":[[{"at":0,"insert":"a"}],
 # Reads whose lines are more than are gathered before they are written.
 READS = b"clients 1\nstart \"" + b"x" * 30000 + b"\"\n" + b"read 0\n" * 6
 
+# An edit at twelve places of one chunk, which are edited together.
+PLACES = b"clients 2\nstart \"" + b"x" * 300 + b"\"\nedit 0 [" + b"20,\"ab\",-3," * 12 + b"24]\ntake 0\nack 0\ndeliver 1\nread 1\n"
+
 # What ot.js prints over examples/one-client.ots, and a port whose buffer a delivery does not change over examples/weak-order.ots.
 ONE_CLIENT = """{"at":0,"clients":1,"present":1,"start":"𝒳y"}
 {"at":1,"do":"edit","client":0,"edit":[1,"é",1],"revision":0,"state":"awaiting-confirm","outstanding":[1,"é",1],"buffer":null,"document":"𝒳éy"}
@@ -40,6 +43,7 @@ def cases():
     yield ["run"], text("weak-order.ots")
     yield ["run"], text("late-join.ots")
     yield ["run"], READS
+    yield ["run"], PLACES
     yield ["run", "--image"], text("late-join.img")
     yield ["asm"], text("weak-order.ots")
     yield ["dis"], text("late-join.img")

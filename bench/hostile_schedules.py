@@ -267,6 +267,27 @@ def every_place(at_once, clients=64, length=40000, count=15000):
     return lines
 
 
+def overflowing(clients=64, length=40000, count=14500, more=400):
+    """As `every_place`, one after the other, and each puts 400 characters in at the end too, which the last chunk of a document has no room for."""
+    lines = opening(clients, length)
+    for k in range(clients):
+        lines += [f"edit {k} {grid(2, (length - 2) // count, count, length, False)[:-1]},\"{'y' * more}\"]", f"take {k}"]
+        lines += [f"ack {c}" if c == k else f"deliver {c}" for c in range(clients)]
+        length += count + more
+    return lines
+
+
+def thinned(clients=64, letters=15000, length=40000):
+    """64 clients that each put 15,000 characters in; then eight of them take each fourth to tenth character out, of a million, at up to 180,000 places."""
+    lines = opening(clients, length)
+    for k, gap in enumerate([0] * clients + [7, 5, 3, 9, 4, 6, 8, 7]):
+        count, k = length // (gap + 1), k % clients
+        op = f'"{"b" * letters}",{length}' if gap == 0 else ",".join([f"{gap},-1"] * count + [str(length % (gap + 1))] * (length % (gap + 1) > 0))
+        lines += [f"edit {k} [{op}]", f"take {k}", *[f"ack {c}" if c == k else f"deliver {c}" for c in range(clients)]]
+        length += letters if gap == 0 else -count
+    return lines
+
+
 def wide_deletions(clients=64, first=31, length=40000):
     """31 clients type 505,000 characters and delete them; each of the others puts 15,000 characters in between those, and deletes all that it sees;
     then each takes what all put in: 64 deletions of up to 930,000 components."""
@@ -355,6 +376,8 @@ SHAPES = {
     "alternate-crowd": alternate_crowd,
     "every-place": lambda: every_place(False),
     "every-place-at-once": lambda: every_place(True),
+    "every-place-overflowing": overflowing,
+    "thinned": thinned,
     "wide-deletions": wide_deletions,
     "deleted-by-all": deleted_by_all,
     "fallen-cycle": fallen_cycle,

@@ -1,11 +1,9 @@
 //! Which of an operation's components another one leaves as they are.
 //!
 //! Looking for them costs no more than a few times what passing them one by one does. There is one look for each component of the other operation, and it
-//! ends where the retain ends at which the other stands, or with the operation's own last retain before that; where it finds few, it has passed few. So two
-//! looks pass the same component only where they cannot stay since what is written so far may not stand before them (`Rewrite::keep` refuses): then there
-//! is another look behind the next component. As soon as a retain is written there, all that may follow it in the operation may follow it here too, and no
-//! more than an insertion and a deletion stand between two retains: a transformation is refused once within one retain of the other operation, a
-//! composition twice at most.
+//! ends where the retain ends at which the other stands, or with the operation's own last retain before that; where it finds few, it has passed few. Where
+//! what is written so far may not stand before them (`Rewrite::may_precede`) they are not looked at: there is a look behind the next component. So no
+//! component is passed by two looks.
 
 ghost use Rattle.std.specs.Prelude.{◌≡◌, ◌+◌, ◌≤◌, ◌<◌, ◌^◌, [], ◌∷◌, IfSome};
 ghost use Rattle.ot_text.specs.Run.{base_of};

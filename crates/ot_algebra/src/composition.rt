@@ -34,7 +34,7 @@ pub fn compose<T: Element>(
 }
 
 /// The composition, as a change of `a`. Where `b` has few components (`ahead::may_stay`), long runs of components whose elements it keeps stay where they lie:
-/// they cost a look each, or up to three. Where it has more, all is written anew: then it costs the components of both, and the text that is inserted.
+/// they cost a look each. Where it has more, all is written anew: then it costs the components of both, and the text that is inserted.
 pub(crate) fn composed<T: Element>(
     alloc: Global,
     a: &TextOp<T>,
@@ -72,7 +72,11 @@ pub(crate) fn composed<T: Element>(
         add_part(&mut built, at_a.head, cursor::keeps(at_b.head), count)?;
         at_a = cursor::skip_made(at_a, count);
         at_b = cursor::skip(at_b, count);
-        if rest.len() < MANY || count < made || at_b.rest.len() >= looked {
+        if rest.len() < MANY
+            || count < made
+            || at_b.rest.len() >= looked
+            || !built.may_precede(rest)
+        {
             continue;
         }
         looked = at_b.rest.len();
@@ -80,13 +84,11 @@ pub(crate) fn composed<T: Element>(
             continue;
         };
         let from = ours.len() - rest.len();
+        // (They may follow, and are eight at least: so they stay.)
         let stays = built.keep(from, from + stay.place.at, stay.then)?;
         if stays {
             at_a = stay.behind;
             at_b = cursor::skip(at_b, stay.place.made + stay.then);
-        } else {
-            // Behind the next component they may stay after all.
-            looked = others.len();
         }
     }
 }

@@ -16,7 +16,7 @@ use std::alloc::AllocError;
 /// carries an operation over its log. Where `a` has fewer than 16 components and `b` changes one place, within what one retain of `a` keeps, the count of this
 /// retain changes where it lies: no memory is taken, nothing moves, and it costs a look at the components up to that retain. Else, and where `b` has more than
 /// 32 components and `a` fewer than eight for each of them, the texts of `a` move, and it costs the components of both. Where `a` has 16 or more and `b` no more
-/// than these, the components of `a` that `b` touches are made anew, and the others stay as they are: it costs a look, or two, at those before the last that
+/// than these, the components of `a` that `b` touches are made anew, and the others stay as they are: it costs a look at those before the last that
 /// `b` touches, and for each of a few places at which their number changes a move of those behind, or for many such places one move of all.
 ///
 /// `Err` comes only where memory was refused, and `a` is gone then; `b` is only read.
@@ -94,8 +94,8 @@ fn carry<T: Element>(a: TextOp<T>, b: &TextOp<T>) -> Result<TextOp<T>, AllocErro
     }
 }
 
-/// What `b` becomes after `a`: the second result of `transform`, under its conditions. It costs `b`, the components of `a` that `b` touches, and a look, or
-/// two, at those between them; where `b` has more than 32 components, and `a` fewer than eight for each of them, it costs all components of `a`.
+/// What `b` becomes after `a`: the second result of `transform`, under its conditions. It costs `b`, the components of `a` that `b` touches, and a look at
+/// those between them; where `b` has more than 32 components, and `a` fewer than eight for each of them, it costs all components of `a`.
 ///
 /// `Err` comes only where memory was refused; `a` and `b` are only read.
 pub fn transform_second<T: Element>(a: &TextOp<T>, b: &TextOp<T>) -> Result<TextOp<T>, AllocError>

@@ -56,7 +56,7 @@ pub(crate) fn changed<T: Element>(op: TextOp<T>, change: Patch<T>) -> Result<Tex
 }
 
 /// What `a` becomes after `b`, as a change of it, and what `b` becomes after `a`. Where `b` has few components (`ahead::may_stay`), long runs of components that
-/// it keeps stay where they lie: they cost a look each, or two, and those behind all that `b` changes cost nothing. Where it has more, all is written anew:
+/// it keeps stay where they lie: they cost a look each, and those behind all that `b` changes cost nothing. Where it has more, all is written anew:
 /// then it costs the components of both, and the text that is inserted.
 pub(crate) fn rewritten<T: Element>(
     alloc: Global,
@@ -100,7 +100,11 @@ pub(crate) fn rewritten<T: Element>(
         add_both(&mut first, &mut second, keeps_a, keeps_b, count)?;
         at_a = cursor::skip(at_a, count);
         at_b = cursor::skip(at_b, count);
-        if rest.len() < MANY || count < span || at_b.rest.len() >= looked {
+        if rest.len() < MANY
+            || count < span
+            || at_b.rest.len() >= looked
+            || !first.may_precede(rest)
+        {
             continue;
         }
         looked = at_b.rest.len();
@@ -110,13 +114,11 @@ pub(crate) fn rewritten<T: Element>(
             continue;
         };
         let from = all.len() - rest.len();
+        // (They may follow, and are eight at least: so they stay.)
         let stays = keep(&mut first, &mut second, from, from + stay.place.at, stay)?;
         if stays {
             at_a = stay.behind;
             at_b = cursor::skip(at_b, stay.place.taken + stay.then);
-        } else {
-            // Behind the next component they may stay after all.
-            looked = others.len();
         }
     }
 }

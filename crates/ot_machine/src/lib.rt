@@ -25,7 +25,7 @@
 //! - [`Machine::delivery`] is what a delivery would apply (specs/Delivery.antt), and changes nothing. [`Machine::perform_applied`]
 //!   performs an instruction and gives what a delivery applied ([`Applied`]): nobody who performs one need carry its operation twice.
 //! - [`Machine::perform`] performs an instruction too and says who is read by it; [`Machine::document_of`] shows that
-//!   list, where `step` copies it, [`end_of_run`] runs a schedule so, and [`run_on`] from a place on (specs/Reads.antt).
+//!   list, where `step` copies it, [`end_of_run`] runs a schedule so, and [`run_on`] from a place on (specs/Ended.antt).
 //! - [`Machine::part`] copies a joined client with its downlink, and no element of its list after [`Machine::share`]; [`Machine::begins`] says whether such a
 //!   part still begins the client that is here, and [`Machine::install`] puts a client back that made
 //!   steps off the machine (specs/Parts.antt, over specs/Part.antt and specs/Session.antt of `ot_model`).

@@ -48,6 +48,14 @@ pub joins_part :
 joins_part front part back normal joins =
     joins_within front (normal_runs part) back (rw (normal_runs_back (front ++ normal_runs part) normal) at joins)
 
+-- what may stand behind the part may stand behind the whole, which ends with it
+pub joins_whole :
+    {A : Type 0} (front : List (Run A)) (part : Operation A) (back : List (Run A)) → IsNormal (front ++ normal_runs part) → (0 < length front → BeginsKept part)
+    → Joins (normal_runs part) back → Joins (normal_runs (operation_of (front ++ normal_runs part))) back
+joins_whole front part back normal begins joins =
+    let some : 0 < length front → 0 < length (normal_runs part) = λ more. rw (first_kept part (begins more)).1.1 (omega arith) in
+    rw (normal_runs_back (front ++ normal_runs part) normal) (joins_behind front (normal_runs part) back some joins)
+
 -- the runs from a place on, as the components from there on
 module _ {T : Type 0} (written own : List (Component T)) (part : Operation T) (from : ℕ) (is : runs written ≡ normal_runs part) where
   all_own : take (length own - from) (drop from own) ≡ drop from own

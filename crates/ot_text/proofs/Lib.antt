@@ -5,6 +5,7 @@ pub mod Refused
 mod Moved
 pub mod Normal
 pub mod Compared
+mod Crowded
 pub mod ApplyLaws
 pub mod OperationLaws
 pub mod InvertLaws

@@ -3,7 +3,7 @@ use Rattle.std.specs.Prelude.{◌≡◌, ℕ, suc, ◌+◌, ◌-◌, ◌<◌, �
 use Rattle.ot_text.specs.declared.chunk.Chunk.{Chunk}
 use Rattle.ot_text.specs.declared.survey.Survey.{Survey}
 use Rattle.ot_text.specs.declared.edit.Place.{Place}
-use Rattle.ot_text.specs.Run.{Run, Keep, Add, Skip}
+use Rattle.ot_text.specs.Run.{Run, Keep, Add, Skip, base_of}
 use Rattle.ot_text.specs.Chunks.{room_in, concatenated, IsChunked, MayEnd}
 
 -- the chunks before a spot, its own chunk up to it and from it on, and the chunks after it
@@ -69,6 +69,22 @@ HasRoom (Skip count) s room = AreOwn (length s.before) (length (step (Skip count
 abbrev pub HaveRoom : {A : Type 0} → List (Run A) → Spot A → List ℕ → Type 0
 HaveRoom [] s room = Unit {0}
 HaveRoom (run ∷ runs) s room = HasRoom run s room × HaveRoom runs (step run s) room
+
+-- there is a spot of a chunk with room for no more than `room`, behind `done` and before `rest`, from which on the chunks have room for what the runs make
+pub record HaveRoomHere {A : Type 0} (runs : List (Run A)) (done rest : List A) (room : ℕ) : Type 0 where
+  pub before : List (List A)
+  pub after : List (List A)
+  pub rooms : List ℕ
+  pub within : get_or rooms (length before) 0 ≤ room
+  pub have : HaveRoom runs (record { before = before; done = done; rest = rest; after = after }) rooms
+
+-- some of the runs lead from one spot of a chunk to another, and `left` is left of them: these make there what all make, and have room where all have. What the others take is
+-- what has been passed of the rest of the chunk
+pub record LeadsTo {A : Type 0} (runs left : List (Run A)) (done rest done' rest' : List A) : Type 0 where
+  pub edited_is : (before after : List (List A)) → edited left (record { before = before; done = done'; rest = rest'; after = after }) ≡ edited runs (record { before = before; done = done; rest = rest; after = after })
+  pub room : (before after : List (List A)) (rooms : List ℕ) → HaveRoom runs (record { before = before; done = done; rest = rest; after = after }) rooms → HaveRoom left (record { before = before; done = done'; rest = rest'; after = after }) rooms
+  pub base : base_of left + length rest ≡ base_of runs + length rest'
+  pub shorter : length rest' ≤ length rest
 
 -- the place stands in a chunk, or at its end
 pub record IsPlace {A : Type 0} (cs : List (List A)) (place : Place) : Type 0 where

@@ -5,17 +5,27 @@ ghost use Rattle.ot_text.specs.Operation.{apply, invert};
 ghost use Rattle.ot_text.specs.Run.{Keep, base_of, image_from, operation_of};
 ghost use Rattle.ot_text.specs.Components.{runs};
 ghost use Rattle.ot_text.specs.Chunks.{lists, concatenated, IsChunked};
-ghost use Rattle.ot_text.specs.Spots.{Spot, chunks_of, start, step, edited};
+ghost use Rattle.ot_text.specs.Spots.{Spot, chunks_of, start, step, edited, rooms, HaveRoom, behind, IsPlace, spot_at};
 ghost use Rattle.ot_text.specs.Draft.{IsInOrder, IsDraft, written};
 ghost use Rattle.ot_text.specs.declared.TheConstants.{LIMIT};
 
-use crate::chunk::Chunk;
+use crate::chunk::{CHUNK, Chunk};
+use crate::crowd::edit_crowd;
 use crate::cursor::Cursor;
 use crate::draft::Draft;
 use crate::edit::{Place, edit_components};
-use crate::survey::survey_components;
+use crate::survey::{may_fit, survey_components};
 use crate::{Component, Element, TextOp, only_memory};
 use std::alloc::{AllocError, Global};
+
+// About how many components for each chunk are made one by one, each of which moves what stands behind it in its chunk. With more of them it is cheaper to move all
+// that stands behind the first one twice.
+const CROWD: usize = 4;
+
+// Are there too many components for so many chunks to be made one by one?
+fn is_crowded(components: usize, chunks: usize) -> bool {
+    components / CROWD > chunks
+}
 
 // The components up to the last one that changes something.
 pub fn without_last_retain<T>(components: &[Component<T>]) -> &[Component<T>]
@@ -40,6 +50,23 @@ pub fn split_front<T>(components: &[Component<T>]) -> (usize, &[Component<T>])
     (0, components)
 }
 
+// As `edit_components`: all places of a chunk at once where there are many, and memory for what is left of one.
+fn edit_chunks<T: Element>(components: &[Component<T>], chunks: &mut Vec<Chunk<T>>, from: Place)
+    requires chunked { IsChunked (lists chunks.old.items) }
+    requires place { IsPlace (lists chunks.old.items) from }
+    requires base { base_of (runs components.now) ≤ length (spot_at (lists chunks.old.items) from).rest + behind (lists chunks.old.items) from.chunk }
+    requires room { HaveRoom (runs components.now) (spot_at (lists chunks.old.items) from) (rooms chunks.old.items) }
+    ensures { lists chunks.new.items ≡ chunks_of (edited (runs components.now) (spot_at (lists chunks.old.items) from)) }
+{
+    if is_crowded(components.len(), chunks.len()) {
+        if let Ok(rest) = Vec::with_capacity(*chunks.allocator(), CHUNK) {
+            edit_crowd(components, chunks, from, rest);
+            return;
+        }
+    }
+    edit_components(components, chunks, from);
+}
+
 // Makes of the chunks what the components make of them, where they lie, where they then are chunks as they have to be. Says whether that
 // was made; else they are as they were.
 pub fn change_chunks<T: Element>(
@@ -56,10 +83,13 @@ pub fn change_chunks<T: Element>(
 {
     let (front, touched) = split_front(components);
     let place = Place::after(chunks.as_slice(), front);
+    if is_crowded(touched.len(), chunks.len()) && !may_fit(touched, chunks.as_slice(), &place) {
+        return Ok(false);
+    }
     if !survey_components(touched, chunks, &place)? {
         return Ok(false);
     }
-    edit_components(touched, chunks, place);
+    edit_chunks(touched, chunks, place);
     Ok(true)
 }
 

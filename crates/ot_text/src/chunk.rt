@@ -17,6 +17,15 @@ pub enum Chunk<T> {
     Shared(Arc<Vec<T>>),
 }
 
+// Room for so many items and a few more: where all chunks of a long document grow a little, again and again, room for twice as many would be much memory.
+fn with_spare(size: usize) -> usize
+    requires { size ≤ 512 }
+    ensures enough { size ≤ result }
+    ensures small { result ≤ 512 }
+{
+    (size + size / 8 + 16).min(CHUNK)
+}
+
 impl<T> Chunk<T> {
     // The items.
     pub fn items(&self) -> &[T]
@@ -58,7 +67,7 @@ impl<T: Copy> Chunk<T> {
         Ok(copy)
     }
 
-    // The items are its own then, with room for `size`: for twice as many, where that is no more than a chunk may have.
+    // The items are its own then, with room for `size` and some more.
     pub fn make_room(&mut self, size: usize) -> Result<(), AllocError>
         requires { size ≤ 512 }
         ensures items { items_in self.new ≡ items_in self.old }
@@ -68,11 +77,11 @@ impl<T: Copy> Chunk<T> {
         if let Chunk::Own(items) = self {
             let length = items.len();
             if items.capacity() < size {
-                items.reserve_exact((size * 2).min(CHUNK) - length)?;
+                items.reserve_exact(with_spare(size) - length)?;
             }
             return Ok(());
         }
-        let own = self.copy_items((size * 2).min(CHUNK))?;
+        let own = self.copy_items(with_spare(size))?;
         *self = Chunk::Own(own);
         Ok(())
     }

@@ -36,15 +36,6 @@ impl<T> Model for Doc<T> {
     ghost invariant = { λ d. IsHeld (lists d.chunks.items) d.count };
 }
 
-// How many components for each chunk are made in place. A place costs there what stands behind it in its chunk, and a draft copies a chunk once
-// for all its places: with more of them that is cheaper.
-const CROWD: usize = 8;
-
-// Are there too many components for so many chunks to be made in place?
-fn is_crowded(components: usize, chunks: usize) -> bool {
-    components / CROWD > chunks
-}
-
 fn copy_chunks<T: Copy>(alloc: Global, chunks: &[Chunk<T>]) -> Result<Vec<Chunk<T>>, AllocError>
     ensures { IfOk result (λ v. lists v.items ≡ lists chunks.now) }
 {
@@ -169,10 +160,11 @@ impl<T: Element> Doc<T> {
     /// Makes this document what the operation makes of it, which has to fit.
     ///
     /// Chunks are edited where they lie, where each still has 1 to 512 elements then, and more than 512 with its neighbour: what is
-    /// copied is the text that comes and what stands behind it in its chunk, and chunks that are not touched are counted alone.
-    /// Else, and where there are more than eight components for each chunk, the touched chunks are copied, and a chunk beside them where one
-    /// would be too short; those between them move, and the list of those behind them moves where there are more or fewer chunks then. A shared
-    /// chunk that is touched is copied first. `AllocError` where a growth was refused: every growth comes first, so the document is then as it was.
+    /// copied is the text that comes and, for each place, what stands behind it in its chunk; or, where there are more than about four components for
+    /// each chunk of the document, what stands behind the first place of each, twice. Chunks that are not touched are counted alone.
+    /// Else the touched chunks are copied, and a chunk beside them where one would be too short; those between them move, and the list of those behind
+    /// them moves where there are more or fewer chunks then. A shared chunk that is touched is copied first. `AllocError` where a growth was refused:
+    /// every growth comes first, so the document is then as it was.
     pub fn change(&mut self, op: &TextOp<T>) -> Result<(), AllocError>
         requires { op.now.base ≡ length self.old }
         ensures ok { OnOk result (self.new ≡ apply op.now self.old) }
@@ -196,7 +188,7 @@ impl<T: Element> Doc<T> {
         ensures err { OnErr result (self.new ≡ self.old) }
     {
         let touched = without_last_retain(op.components());
-        if self.chunks.is_empty() || is_crowded(touched.len(), self.chunks.len()) {
+        if self.chunks.is_empty() {
             return Ok(false);
         }
         if !change_chunks(touched, &mut self.chunks)? {

@@ -39,7 +39,7 @@ impl Place {
     }
 
     // Goes over items, which stay.
-    fn keep<T>(&mut self, chunks: &[Chunk<T>], count: usize)
+    pub fn keep<T>(&mut self, chunks: &[Chunk<T>], count: usize)
         requires place { IsPlace (lists chunks.now) self.old }
         requires within { count ≤ length (spot_at (lists chunks.now) self.old).rest + behind (lists chunks.now) self.old.chunk }
         ensures place { IsPlace (lists chunks.now) self.new }
@@ -69,7 +69,7 @@ impl Place {
     }
 
     // Takes the next items out.
-    fn delete<T: Copy>(&mut self, chunks: &mut Vec<Chunk<T>>, count: usize)
+    pub fn delete<T: Copy>(&mut self, chunks: &mut Vec<Chunk<T>>, count: usize)
         requires place { IsPlace (lists chunks.old.items) self.old }
         requires within { count ≤ length (spot_at (lists chunks.old.items) self.old).rest + behind (lists chunks.old.items) self.old.chunk }
         requires own { HasRoom (Skip count) (spot_at (lists chunks.old.items) self.old) (rooms chunks.old.items) }

@@ -25,6 +25,13 @@ use std::vec::IntoIter;
 // are spread over the list move more. Beyond that it is cheaper, as measured over 300 to 14,000 components, to move all into another list, once.
 const TIMES: usize = 2;
 
+// Another list has room for a multiple of so many components: so lists of about as many have as much room, and one that goes leaves a place in memory where the
+// next one fits, which is faster to write than one that was not used for long.
+const STEP: usize = 1024;
+
+// From so many components on: so no more than an eighth of the room is to spare.
+const LARGE: usize = 8 * STEP;
+
 // An operation and parts that are to take the place of some of its components, with room for all of them: in the components' own list, or in
 // another one.
 #[derive(Drop)]
@@ -146,6 +153,17 @@ fn with_parts<T: Drop>(
     }
 }
 
+// The next multiple of `STEP`, where there are many.
+fn rounded(count: usize) -> usize
+    ensures { count ≤ result }
+{
+    let over = count % STEP;
+    if count < LARGE || over == 0 {
+        return count;
+    }
+    count.saturating_add(STEP - over)
+}
+
 // Room for all that comes: another list where too much would move in this one.
 fn make_room<T: Drop>(
     components: &mut Vec<Component<T>>,
@@ -159,7 +177,7 @@ fn make_room<T: Drop>(
     let more = added_components(splices);
     // (No more than so many parts move no more than that.)
     if splices.len() > TIMES && moved_components(splices, count) > count.saturating_mul(TIMES) {
-        let list = Vec::with_capacity(*components.allocator(), count + more)?;
+        let list = Vec::with_capacity(*components.allocator(), rounded(count + more))?;
         return Ok(Some(list));
     }
     components.reserve(more)?;

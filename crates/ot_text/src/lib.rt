@@ -19,7 +19,8 @@
 //! ```text
 //!     chunks  [ 512 elements ] [ 512 ] [ 130 ] [ 400 ] ..      1 to 512 elements each; two neighbours have more than 512
 //!
-//!     change  [ as it is     ] [ 430 -> 431 ] [ as it is ] ..   edited where it lies, where the rule on chunks still holds then
+//!     change  [ as it is     ] [ 430 -> 431 ] [ as it is ] ..   edited where it lies, place by place or many places of it at once, where the rule
+//!                                                              on chunks still holds then
 //!
 //!     else    [ moved        ] [ 384 ] [ 129 ] [ moved ] ..    a draft: chunks that the operation touches are written anew, to
 //!                                                              three quarters, and those that would be too short beside them
@@ -49,8 +50,8 @@
 //! - `specs/Change.antt`, `specs/Prepared.antt`: an operation and what is about to become of it.
 //! - `specs/Rewriting.antt`: an operation that is written over an old one.
 //!
-//! Begin with `TextOp` below, then `build.rt` (normal form), `text.rt` (what an insertion adds), `document.rt` (`Doc`), `survey.rt` and `edit.rt` (the change
-//! where chunks lie), `cursor.rt` and `draft.rt` (the draft), and `change.rt` (what components make of chunks). `patch.rt` leads from
+//! Begin with `TextOp` below, then `build.rt` (normal form), `text.rt` (what an insertion adds), `document.rt` (`Doc`), `survey.rt`, `edit.rt` and `crowd.rt` (the
+//! change where chunks lie), `cursor.rt` and `draft.rt` (the draft), and `change.rt` (what components make of chunks). `patch.rt` leads from
 //! one operation to another, `prepared.rt` and `in_place.rt` change an operation where its components lie, `difference.rt` finds what
 //! leads back, and `rewrite.rt` writes an operation over an old one, of which long runs stay where they lie.
 #![tactic(auto)]
@@ -65,6 +66,7 @@ mod change;
 mod chunk;
 mod compare;
 mod copy;
+mod crowd;
 mod cursor;
 mod difference;
 mod document;

@@ -1,9 +1,10 @@
 //! An operation that is written anew over an old one, of which components stay where they lie.
 
-ghost use Rattle.std.specs.Prelude.{◌≡◌, ℕ, ◌-◌, ◌<◌, ◌≤◌, [], length, take, drop, slice_get, Some, IfOk, OnOk, OnErr, true, false};
+ghost use Rattle.std.specs.Prelude.{◌≡◌, ◌↔◌, ℕ, ◌-◌, ◌<◌, ◌≤◌, [], length, take, drop, slice_get, Some, IfOk, OnOk, OnErr, IsTrue, true, false};
 ghost use Rattle.ot_text.specs.Operation.{Operation, empty, with_retain, with_insert, with_delete, IsTooLong};
 ghost use Rattle.ot_text.specs.Run.{Keep, operation_of, normal_runs};
 ghost use Rattle.ot_text.specs.Joint.{Joins};
+ghost use Rattle.ot_text.specs.Components.{runs};
 ghost use Rattle.ot_text.specs.Rewriting.{with_runs, HasPushed};
 ghost use Rattle.ot_text.specs.Patch.{patched, FitsOn};
 ghost use Rattle.ot_text.specs.declared.TheConstants.{LIMIT};
@@ -110,6 +111,15 @@ impl<'a, T: Element> Rewrite<'a, T> {
         ensures { OnOk result (self.new ≡ record self.old { built = with_delete self.old.built count }) }
     {
         only_memory(self.part.delete(count))
+    }
+
+    /// Whether these components may stand directly behind what is written so far. A look-up. Where those of the old operation from a place on may not,
+    /// `keep` lets none stay from there on.
+    #[inline(always)]
+    pub fn may_precede(&self, components: &[Component<T>]) -> bool
+        ensures { IsTrue result ↔ Joins (normal_runs self.now.built) (runs components.now) }
+    {
+        joins(self.part.components(), components)
     }
 
     /// Lets the old components from `from` up to `to` stay where they are, and keeps `then` elements of the one that stands at `to`, which is a

@@ -127,6 +127,19 @@ impl Survey {
         Ok(true)
     }
 
+    // Counts items that come, where the chunk can hold them.
+    fn grow(&mut self, count: usize) -> bool
+        requires { self.old.done + self.old.rest ≤ 512 }
+        ensures small { self.new.done + self.new.rest ≤ 512 }
+        ensures added { IsTrue result → (self.new ≡ record self.old { done = self.old.done + count }) }
+    {
+        if count > CHUNK - (self.done + self.rest) {
+            return false;
+        }
+        self.done += count;
+        true
+    }
+
     // Lets items come, where the chunk can hold them.
     fn insert<T: Copy>(
         &mut self,
@@ -173,6 +186,27 @@ fn size_before<T>(chunks: &[Chunk<T>], chunk: usize) -> usize
         return CHUNK;
     }
     chunks[chunk - 1].len()
+}
+
+// Whether the chunks may hold what the components add, where what they take out is counted as if it stayed: where it says no there may be room after all, and where it says
+// yes a survey may say no. It makes no room: a survey makes it on its way, which would be for nothing where the last of many chunks cannot hold what comes.
+pub fn may_fit<T>(components: &[Component<T>], chunks: &[Chunk<T>], from: &Place) -> bool
+    requires chunked { IsChunked (lists chunks.now) }
+    requires place { IsPlace (lists chunks.now) from.now }
+    requires base { base_of (runs components.now) ≤ length (spot_at (lists chunks.now) from.now).rest + behind (lists chunks.now) from.now.chunk }
+{
+    let mut survey = Survey::start(chunks, from);
+    for component in components {
+        let fits = match component {
+            Component::Retain(count) => survey.keep(chunks, *count),
+            Component::Insert(text) => survey.grow(text.len()),
+            Component::Delete(count) => survey.keep(chunks, *count),
+        };
+        if !fits {
+            return false;
+        }
+    }
+    true
 }
 
 // Can the components be made of the chunks where they lie, from a place on, so that they are chunks of 1 to 512 items, each two
