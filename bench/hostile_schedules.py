@@ -146,17 +146,16 @@ def split_deletion(clients=64, groups=7000, places=700):
     return [*lines, *["deliver 0"] * (entries + 1)]
 
 
-def split_crowd(waiting=32, clients=64, groups=7000, places=330):
+def split_crowd(length=30000, groups=7000, near=4, far=100, waiting=32, clients=64, places=330):
     """32 clients that delete all, and take an operation that splits each one's deletion into 14,000 components; then as many deliveries as there can be, some 90,000, of
     operations that change it at 330 more places, from 31 clients that join one after the other."""
-    length = 30000
     lines = [f"clients {clients}", f"present {waiting + 1}", 'start "' + "a" * length + '"', *(f"edit {c} [-{length}]" for c in range(waiting))]
-    lines += [f"edit {waiting} {grid(1, 4, groups, length, False)}", f"take {waiting}", f"ack {waiting}"]
+    lines += [f"edit {waiting} {grid(1, near, groups, length, False)}", f"take {waiting}", f"ack {waiting}"]
     length, entries = length + groups, 1
     for c in range(waiting + 1, clients):
         lines.append(f"join {c}")
         for k in range(2 * (15000 // places)):
-            lines += [f"edit {c} {grid(3, 100, places, length, k % 2)}", f"take {c}", f"ack {c}"]
+            lines += [f"edit {c} {grid(3, far, places, length, k % 2)}", f"take {c}", f"ack {c}"]
             entries += 1
     entries = min(entries, (100000 - len(lines)) // waiting)
     return [*lines, *[f"deliver {c}" for _ in range(entries) for c in range(waiting)]]
@@ -267,6 +266,16 @@ def every_place(at_once, clients=64, length=40000, count=15000):
     return lines
 
 
+def every_place_waiting(clients=64, length=40000, count=14999):
+    """As `every_place`, all at once, and each has typed one letter more behind its own 14,999, which the server never takes: nobody is synchronized while the others' come, so no
+    two have their list in common."""
+    lines = opening(clients, length)
+    for c in range(clients):
+        lines += [f"edit {c} {grid(2, 2, count, length, False)}", f'edit {c} ["p",{length + count}]']
+    lines += [f"take {c}" for c in range(clients)]
+    return [*lines, *[f"ack {c}" if c == k else f"deliver {c}" for k in range(clients) for c in range(clients)]]
+
+
 def overflowing(clients=64, length=40000, count=14500, more=400):
     """As `every_place`, one after the other, and each puts 400 characters in at the end too, which the last chunk of a document has no room for."""
     lines = opening(clients, length)
@@ -366,6 +375,7 @@ SHAPES = {
     "fifteen-places": lambda: at_places(15),
     "split-deletion": split_deletion,
     "split-crowd": split_crowd,
+    "split-crowd-longer": lambda: split_crowd(length=39990, groups=14990, near=2, far=120),
     "reads-between": reads_between,
     "blocks": lambda: blocks(False),
     "blocks-both-ends": lambda: blocks(True),
@@ -376,6 +386,7 @@ SHAPES = {
     "alternate-crowd": alternate_crowd,
     "every-place": lambda: every_place(False),
     "every-place-at-once": lambda: every_place(True),
+    "every-place-waiting": every_place_waiting,
     "every-place-overflowing": overflowing,
     "thinned": thinned,
     "wide-deletions": wide_deletions,

@@ -4,6 +4,7 @@ pub mod Carrying
 pub mod Taking
 pub mod Accepting
 pub mod Delivering
+pub mod Sharing
 pub mod Receiving
 pub mod Applying
 pub mod Acknowledging

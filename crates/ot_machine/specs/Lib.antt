@@ -3,6 +3,7 @@ pub mod Answers
 pub mod Readers
 pub mod Reads
 pub mod Delivery
+pub mod Common
 pub mod Ended
 pub mod Laws
 pub mod Undoing

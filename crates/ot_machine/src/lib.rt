@@ -26,6 +26,8 @@
 //!   performs an instruction and gives what a delivery applied ([`Applied`]): nobody who performs one need carry its operation twice.
 //! - [`Machine::perform`] performs an instruction too and says who is read by it; [`Machine::document_of`] shows that
 //!   list, where `step` copies it, [`end_of_run`] runs a schedule so, and [`run_on`] from a place on (specs/Ended.antt).
+//! - A delivery may give a synchronized client the list of the server, or of another one that has taken the same entry: where an operation changes a very long
+//!   document all over, the lists of many clients have their chunks in common (common.rt, specs/Common.antt).
 //! - [`Machine::part`] copies a joined client with its downlink, and no element of its list after [`Machine::share`]; [`Machine::begins`] says whether such a
 //!   part still begins the client that is here, and [`Machine::install`] puts a client back that made
 //!   steps off the machine (specs/Parts.antt, over specs/Part.antt and specs/Session.antt of `ot_model`).
@@ -42,6 +44,7 @@
 //! row changes one client; specs/Seats.antt says how the fields are the table's state.
 #![tactic(auto)]
 
+mod common;
 mod delivery;
 mod kept;
 pub mod laws;

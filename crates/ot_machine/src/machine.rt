@@ -1,10 +1,11 @@
 //! The machine.
 
-ghost use Rattle.std.specs.Prelude.{◌≡◌, ◌<◌, ◌≤◌, length, OnOk, OnErr, IfErr, IfOk, IsSomeAnd, IsTrue, Some, None};
+ghost use Rattle.std.specs.Prelude.{◌≡◌, ◌<◌, ◌≤◌, length, OnOk, OnErr, IfErr, IfOk, IfSome, IsSomeAnd, IsTrue, Some, None};
 ghost use Rattle.ot_isa.specs.declared.instruction.Instr.TheVariants.{Acknowledge, Deliver, Edit, Join, Take, Read, ReadServer};
 ghost use Rattle.ot_isa.specs.Program.{AreClients};
 ghost use Rattle.ot_model.specs.Table.{opening, step, Performed, Refused};
 ghost use Rattle.ot_machine.specs.Answers.{IsRefusal};
+ghost use Rattle.ot_machine.specs.Common.{IsDelivered};
 ghost use Rattle.ot_machine.specs.Delivery.{applied_by, applied_in};
 ghost use Rattle.ot_machine.specs.Undoing.{IsRecord};
 ghost use Rattle.ot_isa.specs.declared.builder.TheConstants.{START_LIMIT};
@@ -17,7 +18,7 @@ use ot_isa::{Instr, Tagged, start_doc, tagged};
 pub use ot_model::STEP_LIMIT;
 use ot_model::{Reader, Refusal, Shown};
 use ot_server::Server;
-use ot_text::TextOp;
+use ot_text::{Doc, TextOp};
 use std::alloc::{AllocError, Global};
 use std::marker::Model;
 
@@ -146,6 +147,26 @@ impl Machine {
         ensures kept { IsTrue KEPT → IfOk result (λ given. IsSomeAnd given.0 (IsRecord self.old self.new)) }
         ensures applied { IfOk result (λ given. applied_in self.new given.1 ≡ applied_by self.old (Deliver client)) }
     {
+        let mut common = None;
+        if self.takes_wide(client) {
+            common = self.common_list(client);
+        }
+        self.deliver_with::<KEPT>(client, &mut common)
+    }
+
+    // So it does, where the list that the delivery makes may be given: it takes the place of the client's own, which is not changed then.
+    fn deliver_with<const KEPT: bool>(
+        &mut self,
+        client: u16,
+        common: &mut Option<Doc<Tagged>>,
+    ) -> Result<(Option<Record>, Applied), Refusal>
+        requires { IfSome common.old (IsDelivered self.old client) }
+        ensures done { OnOk result (step self.old (Deliver client) ≡ Performed self.new None) }
+        ensures refused { IfErr result (λ r. IsRefusal (step self.old (Deliver client)) r) }
+        ensures unchanged { OnErr result (self.new ≡ self.old) }
+        ensures kept { IsTrue KEPT → IfOk result (λ given. IsSomeAnd given.0 (IsRecord self.old self.new)) }
+        ensures applied { IfOk result (λ given. applied_in self.new given.1 ≡ applied_by self.old (Deliver client)) }
+    {
         let place = client as usize;
         if place >= self.seats.len() {
             return Err(Refusal::NoSuchClient);
@@ -163,7 +184,7 @@ impl Machine {
         if entry.maker() == client {
             return Err(Refusal::WrongHead);
         }
-        let (before, applied) = seat::deliver::<KEPT>(seat, entry.operation())?;
+        let (before, applied) = seat::deliver::<KEPT>(seat, entry.operation(), common)?;
         self.steps += 1;
         Ok((Record::of_client(client, before), applied))
     }

@@ -1,7 +1,7 @@
 //! A client's place in the machine, and the rows there. A row gives what takes it back where it is `KEPT` (kept.rt). Each has one caller, and is
 //! put in its place there, so that a plain row pays nothing for a record that it does not give.
 
-ghost use Rattle.std.specs.Prelude.{◌≡◌, ◌+◌, ◌≤◌, ◌<◌, ◌↔◌, ◌++◌, drop, length, map, replicate, slice_get, true, OnOk, OnErr, IfOk, IsSomeAnd, IsTrue, None, Some};
+ghost use Rattle.std.specs.Prelude.{◌≡◌, ◌+◌, ◌≤◌, ◌<◌, ◌↔◌, ◌++◌, drop, length, map, replicate, slice_get, true, OnOk, OnErr, IfOk, IfSome, IsSomeAnd, IsTrue, None, Some};
 ghost use Rattle.std.specs.Option.{option_copied, option_map};
 ghost use Rattle.ot_text.specs.Operation.{apply, news};
 ghost use Rattle.ot_client.specs.State as state;
@@ -23,6 +23,7 @@ use ot_sections::Held;
 use ot_server::{Entry, Server, ServerFault};
 use ot_text::{Doc, TextOp};
 use std::alloc::{AllocError, Global};
+use std::mem;
 
 /// A client, if it has joined, with its list, how much it has inserted, and its two links.
 #[derive(Drop)]
@@ -99,21 +100,26 @@ pub(crate) fn put_up(up: &mut Uplink<Sent<Tagged>>, sent: Option<Sent<Tagged>>)
     }
 }
 
-// The list of the client, which is taken out of its seat, after what its prepared step applies, and what takes the step back where it is `KEPT`.
+// The list of the client, which is taken out of its seat, after what its prepared step applies, made here or given; and what takes the step back where it is `KEPT`.
 #[inline(always)]
 fn change_list<const KEPT: bool>(
     seat: &mut Seat,
     step: &PreparedStep<Tagged>,
     applied: &TextOp<Tagged>,
+    common: &mut Option<Doc<Tagged>>,
     received: bool,
 ) -> Result<Option<Before>, AllocError>
-    requires { applied.now.base ≡ length seat.old.list }
+    requires base { applied.now.base ≡ length seat.old.list }
+    requires common { IfSome common.old (λ list. list ≡ apply applied.now seat.old.list) }
     ensures ok { OnOk result (seat.new ≡ record { client = seat.old.client; list = apply applied.now seat.old.list; count = seat.old.count; up = seat.old.up; down = seat.old.down }) }
     ensures err { OnErr result (seat.new ≡ seat.old) }
     ensures kept { IsTrue KEPT → IfOk result (λ kept. IsSomeAnd kept (λ before. IsBefore before (client_in step.now.before seat.old) (phase_in step.now.after.phase) (apply applied.now seat.old.list) received)) }
 {
     let before = kept::before_change::<KEPT>(seat, step, applied, received)?;
-    seat.list.change(applied)?;
+    match common {
+        Some(list) => mem::swap(&mut seat.list, list),
+        None => seat.list.change(applied)?,
+    }
     Ok(before)
 }
 
@@ -142,7 +148,7 @@ pub(crate) fn edit<const KEPT: bool>(
             return Err(AllocError);
         }
     };
-    match change_list::<KEPT>(seat, &step, op, false) {
+    match change_list::<KEPT>(seat, &step, op, &mut None, false) {
         Ok(before) => {
             let (client, sent) = step.commit();
             seat.client = Some(client);
@@ -230,13 +236,16 @@ pub(crate) fn are_settled(seats: &[Seat]) -> bool
     true
 }
 
-// Takes the first message, another's operation, to the client. Gives what it applied, too.
+// Takes the first message, another's operation, to the client. Where the list that this makes is given it becomes the client's, and what that had is left in its place. Gives
+// what it applied, too.
 #[inline(always)]
 pub(crate) fn deliver<const KEPT: bool>(
     seat: &mut Seat,
     op: &TextOp<Tagged>,
+    common: &mut Option<Doc<Tagged>>,
 ) -> Result<(Option<Before>, Applied), AllocError>
     requires may { MaySeatDeliver seat.old op.now }
+    requires common { IfSome common.old (λ list. list ≡ (delivered (client_of seat.old) op.now).list) }
     ensures ok { OnOk result (client_of seat.new ≡ delivered (client_of seat.old) op.now) }
     ensures down { OnOk result (seat.new.down.items ≡ drop 1 seat.old.down.items) }
     ensures err { OnErr result (seat.new ≡ seat.old) }
@@ -255,7 +264,7 @@ pub(crate) fn deliver<const KEPT: bool>(
         }
     };
     let applied = carried.as_ref().unwrap_or(op);
-    match change_list::<KEPT>(seat, &step, applied, true) {
+    match change_list::<KEPT>(seat, &step, applied, common, true) {
         Ok(before) => {
             let (client, _sent) = step.commit();
             seat.client = Some(client);

@@ -77,6 +77,14 @@ impl<T: Element> Server<T> {
         &self.document
     }
 
+    /// Makes the document's chunks shared ([`Doc::share`]): copies of it have them in common from then on. Nothing else changes; where a growth was refused
+    /// some chunks are shared and others not.
+    pub fn share(&mut self) -> Result<(), AllocError>
+        ensures { self.new ≡ self.old }
+    {
+        self.document.share()
+    }
+
     /// The log, oldest entry first.
     pub fn entries(&self) -> &[Entry<T>]
         ensures value { result.now ≡ self.now.log }

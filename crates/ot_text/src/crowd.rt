@@ -23,12 +23,16 @@ use crate::chunk::Chunk;
 use crate::edit::Place;
 use crate::{Component, Element};
 
-// Adds items to a list that has room for them.
+// Adds items to a list that has room for them. A single one, as most insertions have, needs no call of the library's copy.
 fn push_all<T: Copy>(items: &mut Vec<T>, more: &[T])
     requires { length items.old.items + length more.now ≤ vec_capacity items.old }
     ensures items { items.new.items ≡ items.old.items ++ more.now }
     ensures room { vec_capacity items.old ≤ vec_capacity items.new }
 {
+    if let [one] = more {
+        items.push_reserved(*one);
+        return;
+    }
     if items.extend_from_slice(more).is_err() {
         unreachable!();
     }

@@ -148,6 +148,11 @@ impl<T: Element> Doc<T> {
         })
     }
 
+    /// Whether the first chunk is shared, as all are behind `share` until the document is changed. It says only what a copy costs. A look-up.
+    pub fn is_shared(&self) -> bool {
+        matches!(self.chunks.as_slice(), [Chunk::Shared(_), ..])
+    }
+
     /// Makes all chunks shared: copies have them in common from then on, and each document copies a shared chunk before it changes it. A chunk that
     /// was not shared is copied for it. The elements stay what they are; `AllocError` where a growth was refused, with some chunks shared and
     /// others not.

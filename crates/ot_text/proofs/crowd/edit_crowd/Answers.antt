@@ -1,4 +1,4 @@
-use Rattle.std.proofs.Common.{rules, ◌≡◌, ℕ, ◌-◌, ◌+◌, ◌<◌, ◌≤◌, ◌∷◌, List, [], ◌++◌, length, take, drop, get_or, arith}
+use Rattle.std.proofs.Common.{◌≡◌, ℕ, ◌-◌, ◌+◌, ◌<◌, ◌≤◌, List, length, take, drop, arith}
 use Rattle.std.proofs.lemmas.List.{length-drop, take_all}
 use Rattle.ot_text.specs.declared.chunk.Chunk.{Chunk}
 use Rattle.ot_text.specs.Chunks.{lists}

@@ -1,4 +1,3 @@
-use Rattle.std.proofs.Common.{◌≡◌, length}
 use Rattle.ot_text.proofs.Crowded.{looked_retain, looked_insert, looked_delete}
 use Rattle.ot_text.proofs.survey.may_fit.Goals as goal
 use Rattle.ot_text.proofs.survey.may_fit.Goals.{in-Retain, in-Insert, in-Delete}

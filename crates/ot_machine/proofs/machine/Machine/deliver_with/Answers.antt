@@ -5,7 +5,8 @@ use Rattle.ot_machine.specs.Seats.{client_of}
 use Rattle.ot_machine.proofs.RowLaws.{seat_at, of_value, wanting}
 use Rattle.ot_machine.proofs.Delivering.{receiver_queue, receiver_may, receiver_empty, receiver_done, receiver_performs, receiver_wrong}
 use Rattle.ot_machine.proofs.Keeping.{kept_client}
-use Rattle.ot_machine.proofs.machine.Machine.deliver.Goals as goal
+use Rattle.ot_machine.proofs.Sharing.{common_is}
+use Rattle.ot_machine.proofs.machine.Machine.deliver_with.Goals as goal
 
 pub head-requires : goal.head-requires
 head-requires g c =
@@ -30,6 +31,9 @@ deliver-requires g c =
       may = receiver_may c.self.inside.server c.self.inside.seats.items c.self.inside.steps c.args.client c.index_mut-seat.result.now c.in-Some.entry.now
           (record { kept = c.self.invariant; at = seat_at c.self.inside.seats.items c.args.client c.len.result c.index_mut-seat.result.now (search rules) (search rules) c.index_mut-seat.ensures.value; below = search rules; on = c.if-is_none.ensures })
           (sym c.in-Some.ensures) (search rules);
+      common = common_is c.self.inside.server c.self.inside.seats.items c.self.inside.steps c.args.client c.index_mut-seat.result.now c.in-Some.entry.now c.args.self.now c.args.common.now
+          c.self.view_is (seat_at c.self.inside.seats.items c.args.client c.len.result c.index_mut-seat.result.now (search rules) (search rules) c.index_mut-seat.ensures.value)
+          (sym c.in-Some.ensures) c.requires;
     })
 
 pub returns-in_err-before-clause-refused : goal.returns-in_err-before-clause-refused
