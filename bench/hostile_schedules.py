@@ -253,6 +253,29 @@ def alternate_crowd(clients=32, length=40000, entries=2900):
     return [*lines, *[f"deliver {c}" for _ in range(entries) for c in range(1, clients)]]
 
 
+def alternate_crowd_places(typists, waiting, senders, buffers=False, clients=64, length=40000):
+    """Clients that type 15,000 characters each; then others that delete every second character of the text (and with buffers every second one of what is left), to
+    which as many operations are delivered by turns as there can be, some 90,000: each changes some 300 places all over the text. They come from clients that join
+    one after the other, and each takes out again what the one before it put in."""
+    lines = [f"clients {clients}", "present 0", 'start "' + "a" * length + '"']
+    for c in range(typists):
+        lines += [f"join {c}", f'edit {c} [{length},"{"b" * 15000}"]', f"take {c}", f"ack {c}"]
+        length += 15000
+    those = range(typists, typists + waiting)
+    lines += [*[f"join {c}" for c in those], *[every_second(c, length) for c in those]]
+    if buffers:
+        lines += [every_second(c, length - length // 2) for c in those]
+    entries = (100000 - len(lines) - senders) // (waiting + 3)
+    places = senders * 30000 // entries
+    turns = 2 * (15000 // places)
+    entries = min(entries, senders * turns)
+    for k in range(entries):
+        sender, turn = divmod(k, turns)
+        c = typists + waiting + sender
+        lines += [*[f"join {c}"] * (turn == 0), f"edit {c} {grid(1, (length - 2) // places, places, length, k % 2)}", f"take {c}", f"ack {c}"]
+    return [*lines, *[f"deliver {c}" for _ in range(entries) for c in those]]
+
+
 def every_place(at_once, clients=64, length=40000, count=15000):
     """64 clients that each put 15,000 characters in at as many places, which all others take: one after the other, or all with their own under way."""
     lines = opening(clients, length)
@@ -384,6 +407,9 @@ SHAPES = {
     "alternate-places": alternate_places,
     "alternate-edited": alternate_edited,
     "alternate-crowd": alternate_crowd,
+    "alternate-crowd-places": lambda: alternate_crowd_places(5, 29, 30),
+    "alternate-crowd-longer": lambda: alternate_crowd_places(9, 27, 28),
+    "alternate-crowd-buffers": lambda: alternate_crowd_places(5, 29, 30, buffers=True),
     "every-place": lambda: every_place(False),
     "every-place-at-once": lambda: every_place(True),
     "every-place-waiting": every_place_waiting,

@@ -10,13 +10,14 @@ use Rattle.ot_algebra.specs.Merge.{first_after, second_after}
 use Rattle.ot_algebra.proofs.LengthLaws.{second_after-base, length-after, length-first_after}
 use Rattle.ot_algebra.proofs.OrderLaws.{length-image}
 use Rattle.ot_sections.specs.Joined.{joined, joined_all, KeepsLast, AreSections}
-use Rattle.ot_sections.specs.Steps.{after}
+use Rattle.ot_sections.specs.Steps.{after, TurnsInto}
 use Rattle.ot_sections.specs.Walk.{count_of, front_of, IsPart}
 use Rattle.ot_sections.specs.declared.steps.Step.{Step}
 use Rattle.ot_sections.specs.declared.steps.Step.TheVariants.{Stay as StayStep, Change as ChangeStep}
 use Rattle.ot_sections.specs.declared.walking.Measure.TheVariants.{Taken}
 use Rattle.ot_sections.specs.declared.walking.Part.{Part}
-use Rattle.ot_sections.specs.declared.walking.Part.TheVariants.{Stay, Change}
+use Rattle.ot_sections.specs.declared.walking.Part.TheVariants.{Stay, One, Change}
+use Rattle.ot_sections.specs.declared.walking.Single.{Single}
 use Rattle.ot_sections.specs.declared.walking.Staying.{Staying}
 use Rattle.ot_sections.specs.declared.walking.Group.{Group}
 use Rattle.ot_sections.proofs.AfterJoined.{first_after-KeepsLast}
@@ -24,7 +25,7 @@ use Rattle.ot_sections.proofs.IdentityLaws.{first_after-identity, second_after-i
 use Rattle.ot_sections.proofs.JoinedLaws.{joined-empty, empty-joined, back-IsOperation, front-TooLong, joined-identity}
 use Rattle.ot_sections.proofs.PartsLaws.{first_after-parts, second_after-empty, walked_second}
 use Rattle.ot_sections.proofs.Splitting.{drop-IsOperation, fits_front, fits_back}
-use Rattle.ot_sections.proofs.Walked.{Walks, Passed, split_is, same_behind, part_ends, passed_stay, passed_change}
+use Rattle.ot_sections.proofs.Walked.{Walks, Passed, split_is, same_behind, part_ends, passed_stay, passed_one, passed_change}
 
 -- what the other operation has become so far, with what becomes of the rest of it, is the whole; and the rest of both is within the limits
 pub record Carries {A : Type 0} (ops : List (Operation A)) (b second : Operation A) (at : ℕ) (left : Operation A) : Type 0 where
@@ -132,6 +133,15 @@ module _
         (ap (λ n. first_after part (identity n)) is_part.same ∙ first_after-identity part is_part.sections_rise)
         (part_split ops b second left left_after steps at (Stay stay) sections rises left_rises before keeps carries is_part)
 
+    pub transformed_one :
+        (single : Single A) (step : Step A) → IsPart (drop at ops) Taken left left_after (One single) → more ≡ steps ++ step ∷ [] → at_after ≡ at + 1
+        → TurnsInto (first_after single.part.now single.front) step → Passed first_after Taken ops b more at at_after left_after
+    transformed_one single step is_part more_is at_is turns =
+        let part = joined_all (take 1 (drop at ops)) in
+        passed_one first_after Taken ops b left left_after steps more at at_after single step sections before keeps is_part more_is at_is turns
+        (first_after-KeepsLast part single.front is_part.sections_rise is_part.front_rises (sym is_part.same))
+        (part_split ops b second left left_after steps at (One single) sections rises left_rises before keeps carries is_part)
+
     pub transformed_change :
         (group : Group A) (new : Vec (Operation A) Global) → IsPart (drop at ops) Taken left left_after (Change group) → more ≡ steps ++ ChangeStep group.count new ∷ []
         → at_after ≡ at + group.count → joined_all new.items ≡ first_after group.part group.front → AreSections new.items
@@ -158,6 +168,29 @@ module _
         carries_on ops b second left left_after steps at (Stay stay) sections rises left_rises before keeps carries is_part (identity stay.made) second_after_it at_after
         (stays_carried part stay is_part.sections_rise is_part.same is_part.sections)
         (second_is ∙ sym (joined-identity second stay.made))
+        at_is
+
+    pub one_fits :
+        (single : Single A) → IsPart (drop at ops) Taken left left_after (One single)
+        → single.part.now.base + length (news single.part.now.image) + length (news single.front.image) ≤ LIMIT
+    one_fits single is_part =
+        subst (λ (op : Operation A). op.base + length (news op.image) + length (news single.front.image) ≤ LIMIT) (sym is_part.sections)
+        (part_fits ops b second left left_after steps at (One single) sections rises left_rises before keeps carries is_part)
+
+    pub one_short :
+        (single : Single A) (carried : Operation A) → IsPart (drop at ops) Taken left left_after (One single) → carried ≡ second_after single.part.now single.front
+        → (IsTooLong (second_after (joined_all ops) b) → ⊥) → IsTooLong (joined second carried) → ⊥
+    one_short single carried is_part carried_is short =
+        next_short ops b second left left_after steps at (One single) sections rises left_rises before keeps carries is_part short carried
+        (carried_is ∙ ap (λ op. second_after op single.front) is_part.sections)
+
+    pub one_carries :
+        (single : Single A) (carried second_after_it : Operation A) → IsPart (drop at ops) Taken left left_after (One single) → carried ≡ second_after single.part.now single.front
+        → second_after_it ≡ joined second carried → at_after ≡ at + 1 → Carries ops b second_after_it at_after left_after
+    one_carries single carried second_after_it is_part carried_is second_is at_is =
+        carries_on ops b second left left_after steps at (One single) sections rises left_rises before keeps carries is_part carried second_after_it at_after
+        (carried_is ∙ ap (λ op. second_after op single.front) is_part.sections)
+        second_is
         at_is
 
     pub change_fits :

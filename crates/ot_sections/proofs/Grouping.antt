@@ -6,8 +6,9 @@ use Rattle.ot_sections.specs.Joined.{joined, joined_all, KeepsLast}
 use Rattle.ot_sections.specs.Walk.{measured, IsPart}
 use Rattle.ot_sections.specs.declared.walking.Measure.{Measure}
 use Rattle.ot_sections.specs.declared.walking.Measure.TheVariants.{Taken, Made}
+use Rattle.ot_sections.specs.declared.walking.Single.{Single}
 use Rattle.ot_sections.specs.declared.walking.Group.{Group}
-use Rattle.ot_sections.specs.declared.walking.Part.TheVariants.{Change}
+use Rattle.ot_sections.specs.declared.walking.Part.TheVariants.{One, Change}
 use Rattle.ot_sections.proofs.JoinedLaws.{joined-empty, empty-joined, front-IsOperation}
 use Rattle.ot_sections.proofs.Splitting.{take-TooLong}
 use Rattle.ot_sections.proofs.Staying.{measured-split, next_section, next_measured, next_rises}
@@ -82,3 +83,20 @@ group_all ops by all front left left_after group before count_is front_is left_i
   same = ap (λ (op : Operation _). op.base) (front_is ∙ before.whole) ∙ sym same ∙ ap (λ xs. measured by (joined_all xs)) (sym (take_all group.count ops (omega (arith, count_is))));
   ends = inl (count_is, left_is);
 }
+
+-- the first section by itself, where others follow it
+pub one_part :
+    {A : Type 0} (ops : List (Operation A)) (by : Measure) (all left : Operation A) (single : Single A) → 1 < length ops → single.part.now ≡ get_or ops 0 single.part.now
+    → IsOperation single.part.now → single.front.base ≡ measured by single.part.now → joined single.front left ≡ all → KeepsLast single.front → IsOperation all
+    → IsPart ops by all left (One single)
+one_part ops by all left single more part_is part_rises base whole keeps rises =
+    let first : joined_all (take 1 ops) ≡ single.part.now = next_section ops 0 single.part.now (omega (arith, more)) part_is ∙ empty-joined single.part.now in
+    record {
+      within = omega (arith, more);
+      sections = sym first;
+      sections_rise = subst IsOperation (sym first) part_rises;
+      whole = whole;
+      front_rises = front-IsOperation single.front left keeps (subst IsOperation (sym whole) rises);
+      same = base ∙ ap (measured by) (sym first);
+      ends = inr (omega arith, more, keeps);
+    }

@@ -8,14 +8,15 @@ use Rattle.std.proofs.lemmas.List.Elements.{All-append}
 use Rattle.ot_text.specs.Operation.{Operation, IsTooLong, empty, identity}
 use Rattle.ot_algebra.specs.Compose.{compose}
 use Rattle.ot_sections.specs.Joined.{joined, joined_all, KeepsLast, AreSections}
-use Rattle.ot_sections.specs.Steps.{after, taken}
+use Rattle.ot_sections.specs.Steps.{after, taken, new_of, TurnsInto}
 use Rattle.ot_sections.specs.Walk.{measured, count_of, front_of, IsPart}
 use Rattle.ot_sections.specs.declared.steps.Step.{Step}
 use Rattle.ot_sections.specs.declared.steps.Step.TheVariants.{Stay as StayStep, Change as ChangeStep}
 use Rattle.ot_sections.specs.declared.walking.Measure.{Measure}
 use Rattle.ot_sections.specs.declared.walking.Measure.TheVariants.{Made}
 use Rattle.ot_sections.specs.declared.walking.Part.{Part}
-use Rattle.ot_sections.specs.declared.walking.Part.TheVariants.{Stay, Change}
+use Rattle.ot_sections.specs.declared.walking.Part.TheVariants.{Stay, One, Change}
+use Rattle.ot_sections.specs.declared.walking.Single.{Single}
 use Rattle.ot_sections.specs.declared.walking.Staying.{Staying}
 use Rattle.ot_sections.specs.declared.walking.Group.{Group}
 use Rattle.ot_sections.proofs.JoinedLaws.{joined-empty, empty-joined, joined-assoc, joined_all-append, back-TooLong}
@@ -23,7 +24,7 @@ use Rattle.ot_sections.proofs.Splitting.{joined_all-split, sections_append, sect
 use Rattle.ot_sections.proofs.ComposeJoined.{compose-joined, compose-KeepsLast}
 use Rattle.ot_sections.proofs.IdentityLaws.{compose-identity}
 use Rattle.ot_sections.proofs.Staying.{measured-joined}
-use Rattle.ot_sections.proofs.StepLaws.{taken-append, after-push_stay, after-push_change}
+use Rattle.ot_sections.proofs.StepLaws.{taken-append, taken-one, after-push_stay, after-push_change, after-push_one}
 
 drop_more : {X : Type 0} (m n : ℕ) (xs : List X) → drop n (drop m xs) ≡ drop (m + n) xs
 drop_more zero n xs = ap (λ k. drop k xs) (let same : n ≡ 0 + n = omega arith in same)
@@ -191,6 +192,30 @@ module _
         split
         )
 
+-- a section that changes by itself
+module _
+    {A : Type 0} (f : Operation A → Operation A → Operation A) (by : Measure) (ops : List (Operation A)) (b left left_after : Operation A) (steps more : List (Step A)) (at at_after : ℕ)
+    (single : Single A) (step : Step A) (sections : AreSections ops) (before : Walks f by ops b steps at left) (keeps : All KeepsLast (after steps (take at ops)))
+    (is_part : IsPart (drop at ops) by left left_after (One single)) (more_is : more ≡ steps ++ step ∷ []) (at_is : at_after ≡ at + 1)
+    (turns : TurnsInto (f single.part.now single.front) step)
+    (f_keeps : KeepsLast (joined_all (take 1 (drop at ops))) → KeepsLast single.front → KeepsLast (f (joined_all (take 1 (drop at ops))) single.front))
+    (split :
+    f (joined (joined_all (take 1 (drop at ops))) (joined_all (drop (at + 1) ops))) (joined single.front left_after)
+    ≡ joined (f (joined_all (take 1 (drop at ops))) single.front) (f (joined_all (drop (at + 1) ops)) left_after))
+  where
+    pub passed_one : Passed f by ops b more at at_after left_after
+    passed_one = rw (more_is, at_is) (
+        passed f by ops b left left_after steps at (One single) sections before keeps is_part (steps ++ step ∷ []) (new_of step)
+        (omega (arith, taken-append steps (step ∷ []), taken-one step turns.one, before.taken_is))
+        (after-push_one steps at ops before.taken_is step turns.one)
+        (turns.whole ∙ ap (λ op. f op single.front) is_part.sections)
+        turns.sections
+        (λ within.
+        let ends = part_fewer f by ops b left left_after steps at (One single) sections before keeps is_part within in
+        turns.last (subst (λ op. KeepsLast (f op single.front)) (sym is_part.sections) (f_keeps ends.0 ends.1)))
+        split
+        )
+
 -- sections that change
 module _
     {A : Type 0} (f : Operation A → Operation A → Operation A) (by : Measure) (ops : List (Operation A)) (b left left_after : Operation A) (steps more : List (Step A)) (at at_after : ℕ)
@@ -229,6 +254,15 @@ module _
         passed_stay compose Made ops b left left_after steps more at at_after stay sections before keeps is_part more_is at_is
         (ap (λ n. compose part (identity n)) is_part.same ∙ compose-identity part)
         (compose-joined part (joined_all (drop (at + stay.count) ops)) (identity stay.seen) left_after is_part.front_rises (sym is_part.same))
+
+    pub composed_one :
+        (single : Single A) (step : Step A) → IsPart (drop at ops) Made left left_after (One single) → more ≡ steps ++ step ∷ [] → at_after ≡ at + 1
+        → TurnsInto (compose single.part.now single.front) step → Passed compose Made ops b more at at_after left_after
+    composed_one single step is_part more_is at_is turns =
+        let part = joined_all (take 1 (drop at ops)) in
+        passed_one compose Made ops b left left_after steps more at at_after single step sections before keeps is_part more_is at_is turns
+        (compose-KeepsLast part single.front (sym is_part.same))
+        (compose-joined part (joined_all (drop (at + 1) ops)) single.front left_after is_part.front_rises (sym is_part.same))
 
     pub composed_change :
         (group : Group A) (new : Vec (Operation A) Global) → IsPart (drop at ops) Made left left_after (Change group) → more ≡ steps ++ ChangeStep group.count new ∷ []

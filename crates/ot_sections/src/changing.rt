@@ -5,7 +5,7 @@ ghost use Rattle.ot_text.specs.Operation.{news};
 ghost use Rattle.ot_algebra.specs.Compose.{compose as composition};
 ghost use Rattle.ot_algebra.specs.Merge.{first_after, second_after};
 ghost use Rattle.ot_sections.specs.Joined.{joined_all, AreSound};
-ghost use Rattle.ot_sections.specs.Steps.{after};
+ghost use Rattle.ot_sections.specs.Steps.{after, taken};
 ghost use Rattle.ot_text.specs.declared.TheConstants.{LIMIT};
 
 use crate::sections::{Sections, whole_of};
@@ -15,13 +15,14 @@ use ot_text::{Element, TextOp};
 use std::alloc::AllocError;
 use std::marker::Model;
 
-/// Sections, the steps that are about to be taken with them, and an empty list with room for all that stay and come. A contract sees the operation before
-/// and after.
+/// Sections, the steps that are about to be taken with them, and an empty list with room for all that stay and come, where one is wanted. A contract sees the
+/// operation before and after.
 #[derive(Drop)]
 pub(crate) struct InSteps<T> {
     ops: Vec<TextOp<T>>,
+    size: usize,
     steps: Vec<Step<T>>,
-    room: Vec<TextOp<T>>,
+    room: Option<Vec<TextOp<T>>>,
 }
 
 impl<T> Model for InSteps<T> {
@@ -37,16 +38,22 @@ impl<T> Model for InSteps<T> {
 }
 
 impl<T: Element> InSteps<T> {
-    // Takes memory for the list of sections; where that was refused the sections come back.
-    fn new(ops: Vec<TextOp<T>>, steps: Vec<Step<T>>) -> Result<InSteps<T>, Sections<T>>
+    // Takes memory for another list of sections where one is wanted; where that was refused the sections come back.
+    fn new(ops: Vec<TextOp<T>>, size: usize, steps: Vec<Step<T>>) -> Result<InSteps<T>, Sections<T>>
         requires before { AreSound ops.items }
         requires later { AreSound (after steps.items ops.items) }
+        requires within { taken steps.items ≤ length ops.items }
         ensures ok { IfOk result (λ change. change ≡ record { before = joined_all ops.items; after = joined_all (after steps.items ops.items) }) }
         ensures err { IfErr result (λ same. same ≡ joined_all ops.items) }
     {
         match make_room(*ops.allocator(), ops.as_slice(), steps.as_slice()) {
-            Ok(room) => Ok(InSteps { ops, steps, room }),
-            Err(_) => Err(Sections { ops }),
+            Ok(room) => Ok(InSteps {
+                ops,
+                size,
+                steps,
+                room,
+            }),
+            Err(_) => Err(Sections { ops, size }),
         }
     }
 
@@ -56,6 +63,7 @@ impl<T: Element> InSteps<T> {
     {
         Sections {
             ops: take_steps(self.ops, self.steps, self.room),
+            size: self.size,
         }
     }
 
@@ -63,7 +71,10 @@ impl<T: Element> InSteps<T> {
     pub(crate) fn roll_back(self) -> Sections<T>
         ensures { result ≡ self.before }
     {
-        Sections { ops: self.ops }
+        Sections {
+            ops: self.ops,
+            size: self.size,
+        }
     }
 
     // The operation as it was, in one list of components: these are copied.
@@ -81,8 +92,8 @@ impl<T: Element> Sections<T> {
         ensures ok { IfOk result (λ change. change ≡ record { before = self; after = composition self op.now }) }
         ensures err { IfErr result (λ same. same ≡ self) }
     {
-        match compose_sections(self.ops.as_slice(), op) {
-            Ok(steps) => InSteps::new(self.ops, steps),
+        match compose_sections(self.ops.as_slice(), self.size, op) {
+            Ok(steps) => InSteps::new(self.ops, self.size, steps),
             Err(_) => Err(self),
         }
     }
@@ -98,9 +109,9 @@ impl<T: Element> Sections<T> {
         ensures second { IfOk result (λ given. given.1 ≡ second_after self op.now) }
         ensures err { IfErr result (λ same. same ≡ self) }
     {
-        match transform_sections(self.ops.as_slice(), op) {
+        match transform_sections(self.ops.as_slice(), self.size, op) {
             Ok((steps, second)) => {
-                let change = InSteps::new(self.ops, steps)?;
+                let change = InSteps::new(self.ops, self.size, steps)?;
                 Ok((change, second))
             }
             Err(_) => Err(self),
@@ -113,6 +124,6 @@ impl<T: Element> Sections<T> {
         requires fits { self.now.base + length (news self.now.image) + length (news op.now.image) ≤ LIMIT }
         ensures { IfOk result (λ carried. carried ≡ second_after self.now op.now) }
     {
-        carry_sections(self.ops.as_slice(), op)
+        carry_sections(self.ops.as_slice(), self.size, op)
     }
 }

@@ -15,14 +15,14 @@ use ot_text::{Element, TextOp};
 use std::alloc::AllocError;
 use std::marker::Model;
 
-// An operation of that many components is held in sections when it changes. As measured, a small change of one list of so many costs a tenth of a millisecond, and
-// of one of a million more than eight milliseconds; in sections both cost less than a hundredth of one. To cut the list costs what five to ten such changes of it
-// do. Below that a list is cheap enough to be left as it is, and is not copied.
-const LONG: usize = 32_768;
+// An operation of that many components is held in sections when it changes. As measured, a small change of one list of so many costs a twentieth of a millisecond, and
+// of one of a million more than eight milliseconds; in sections both cost less than a hundredth of one, and a change of hundreds of places less than it does in one
+// list. To cut the list costs what five to ten such changes of it do. Below that a list is cheap enough to be left as it is, and is not copied.
+const LONG: usize = 16_384;
 
-/// Whether the operation has 32,768 components or more: it is held in sections when it changes. A look-up.
+/// Whether the operation has 16,384 components or more: it is held in sections when it changes. A look-up.
 pub fn is_long<T: Element>(op: &TextOp<T>) -> bool
-    ensures { IsTrue result ↔ (32768 ≤ length (normal_runs op.now)) }
+    ensures { IsTrue result ↔ (16384 ≤ length (normal_runs op.now)) }
 {
     op.components().len() >= LONG
 }
@@ -69,9 +69,9 @@ impl<T: Element> Held<T> {
         }
     }
 
-    // The operation in the form in which it is to change: in sections where it has many components, unless what leads back will be asked for (`kept`); then it
-    // is one list. Where memory was refused it comes back as it was.
-    fn formed(self, kept: bool) -> Result<Form<T>, Held<T>>
+    // The operation in the form in which one of `others` components is to change it: in sections where it has many, unless what leads back will be asked for
+    // (`kept`); then it is one list. Where memory was refused it comes back as it was.
+    fn formed(self, kept: bool, others: usize) -> Result<Form<T>, Held<T>>
         ensures ok { IfOk result (λ form. operation_in form ≡ self) }
         ensures err { IfErr result (λ same. same ≡ self) }
     {
@@ -80,14 +80,17 @@ impl<T: Element> Held<T> {
                 if kept || !is_long(&op) {
                     return Ok(Form::Whole(op));
                 }
-                match Sections::of(&op) {
+                match Sections::of(&op, others) {
                     Ok(sections) => Ok(Form::Cut(sections)),
                     Err(_) => Err(Held::new(op)),
                 }
             }
             Form::Cut(sections) => {
                 if !kept {
-                    return Ok(Form::Cut(sections));
+                    return match sections.suited(others) {
+                        Ok(sections) => Ok(Form::Cut(sections)),
+                        Err(sections) => Err(Held::in_sections(sections)),
+                    };
                 }
                 match sections.to_op() {
                     Ok(op) => Ok(Form::Whole(op)),
@@ -203,7 +206,7 @@ impl<T: Element> Held<T> {
         ensures ok { IfOk result (λ change. change ≡ record { before = self; after = composition self op.now }) }
         ensures err { IfErr result (λ same. same ≡ self) }
     {
-        match self.formed(kept)? {
+        match self.formed(kept, op.components().len())? {
             Form::Whole(whole) => match prepare_compose(whole, op) {
                 Ok(change) => Ok(PreparedHeld::whole(change)),
                 Err(whole) => Err(Held::new(whole)),
@@ -227,7 +230,7 @@ impl<T: Element> Held<T> {
         ensures second { IfOk result (λ given. given.1 ≡ second_after self op.now) }
         ensures err { IfErr result (λ same. same ≡ self) }
     {
-        match self.formed(kept)? {
+        match self.formed(kept, op.components().len())? {
             Form::Whole(whole) => match prepare_transform(whole, op) {
                 Ok((change, second)) => Ok((PreparedHeld::whole(change), second)),
                 Err(whole) => Err(Held::new(whole)),
@@ -324,7 +327,7 @@ impl<T: Element> Held<T> {
         requires fits { self.base + length (news self.image) + length (news op.now.image) ≤ LIMIT }
         ensures { IfOk result (λ after. after ≡ first_after self op.now) }
     {
-        match self.formed(false) {
+        match self.formed(false, op.components().len()) {
             Ok(Form::Whole(whole)) => match prepare_transform(whole, op) {
                 Ok((change, _)) => Ok(Held::new(change.commit())),
                 Err(_) => Err(AllocError),

@@ -1,6 +1,6 @@
 //! An operation in sections.
 
-ghost use Rattle.std.specs.Prelude.{◌≡◌, ◌≤◌, ◌↔◌, length, IfOk, IsTrue};
+ghost use Rattle.std.specs.Prelude.{◌≡◌, ◌≤◌, ◌↔◌, length, IfErr, IfOk, IsTrue};
 ghost use Rattle.ot_text.specs.Operation.{news, IsOperation};
 ghost use Rattle.ot_text.specs.Run.{normal_runs};
 ghost use Rattle.ot_sections.specs.Joined.{joined_all, AreSound};
@@ -8,16 +8,17 @@ ghost use Rattle.ot_text.specs.declared.TheConstants.{LIMIT};
 
 use crate::appending::append;
 use crate::counting::{count_components, count_inserted};
-use crate::cutting::cut;
+use crate::cutting::{are_unsuited, cut, size_for};
 use crate::images::{read, same_images};
 use ot_text::{Element, TextOp};
 use std::alloc::{AllocError, Global};
 use std::marker::Model;
 
-/// An operation in sections, each on its part of the document. A contract sees the operation.
+/// An operation in sections, each on its part of the document, and how many components they have where they are cut. A contract sees the operation.
 #[derive(Drop)]
 pub(crate) struct Sections<T> {
     pub(crate) ops: Vec<TextOp<T>>,
+    pub(crate) size: usize,
 }
 
 impl<T> Model for Sections<T> {
@@ -47,11 +48,32 @@ pub(crate) fn whole_of<T: Element>(
 }
 
 impl<T: Element> Sections<T> {
-    // The operation, cut. Its components are copied.
-    pub(crate) fn of(op: &TextOp<T>) -> Result<Sections<T>, AllocError>
+    // The operation, cut for a change by one of `others` components. Its components are copied.
+    pub(crate) fn of(op: &TextOp<T>, others: usize) -> Result<Sections<T>, AllocError>
         ensures { IfOk result (λ sections. sections ≡ op.now) }
     {
-        Ok(Sections { ops: cut(op)? })
+        let size = size_for(op.components().len(), others);
+        Ok(Sections {
+            ops: cut(op, size)?,
+            size,
+        })
+    }
+
+    // The same operation, cut otherwise where that suits a change by one of `others` components. Where memory was refused it comes back.
+    pub(crate) fn suited(self, others: usize) -> Result<Sections<T>, Sections<T>>
+        ensures ok { IfOk result (λ same. same ≡ self) }
+        ensures err { IfErr result (λ same. same ≡ self) }
+    {
+        if !are_unsuited(self.ops.len(), self.size, others) {
+            return Ok(self);
+        }
+        let Ok(op) = self.to_op() else {
+            return Err(self);
+        };
+        match Sections::of(&op, others) {
+            Ok(sections) => Ok(sections),
+            Err(_) => Err(self),
+        }
     }
 
     // Where the memory of the list of sections comes from.
@@ -89,7 +111,10 @@ impl<T: Element> Sections<T> {
         for op in ops {
             copied.push(op.copy()?)?;
         }
-        Ok(Sections { ops: copied })
+        Ok(Sections {
+            ops: copied,
+            size: self.size,
+        })
     }
 
     // The base length. It costs a look at each section.

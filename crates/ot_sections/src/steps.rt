@@ -3,23 +3,24 @@
 //! ```text
 //!     sections   [ a | b | c | d | e | f | g ]
 //!
-//!     steps      Stay(2), Change(1, [ x | y ]), Stay(1), Change(2, [ z ])
+//!     steps      Stay(2), Turn(x), Stay(1), Change(2, [ y ])
 //!
-//!     after      [ a | b | x | y | d | z | g ]
+//!     after      [ a | b | x | d | y | g ]
 //! ```
 
-ghost use Rattle.std.specs.Prelude.{◌≡◌, ◌+◌, ◌≤◌, ◌++◌, [], length, take, drop, IfOk, vec_len, vec_capacity};
+ghost use Rattle.std.specs.Prelude.{◌≡◌, ◌+◌, ◌≤◌, ◌++◌, [], length, take, drop, IfOk, IsTrue, vec_len, vec_capacity};
 ghost use Rattle.std.specs.Vec.Iter.{into_iter_items};
-ghost use Rattle.ot_sections.specs.Steps.{after, come};
+ghost use Rattle.ot_sections.specs.Steps.{after, come, taken, OnlyTurn, HasRoomFor};
 
 use ot_text::{Element, TextOp};
 use std::alloc::{AllocError, Global};
 use std::vec::IntoIter;
 
-/// What becomes of the next sections: so many stay, or these come in the place of so many. Behind the last step all sections stay.
+/// What becomes of the next sections: so many stay, one becomes another one, or these come in the place of so many. Behind the last step all sections stay.
 #[derive(Drop)]
 pub(crate) enum Step<T> {
     Stay(usize),
+    Turn(TextOp<T>),
     Change(usize, Vec<TextOp<T>>),
 }
 
@@ -30,24 +31,41 @@ fn count_come<T: Element>(steps: &[Step<T>]) -> usize
 {
     let mut count = 0;
     for step in steps {
-        if let Step::Change(_, part) = step {
-            count += part.len();
+        match step {
+            Step::Stay(_) => {}
+            Step::Turn(_) => count += 1,
+            Step::Change(_, part) => count += part.len(),
         }
     }
     count
 }
 
-// Room for all the sections that there are and for those that come.
+// Whether each section that changes becomes one other.
+fn only_turn<T: Element>(steps: &[Step<T>]) -> bool
+    ensures { IsTrue result → OnlyTurn steps.now }
+{
+    for step in steps {
+        if let Step::Change(_, _) = step {
+            return false;
+        }
+    }
+    true
+}
+
+// Room for all the sections that there are and for those that come, where not each that changes becomes one other: they take the places of these else.
 pub(crate) fn make_room<T: Element>(
     alloc: Global,
     ops: &[TextOp<T>],
     steps: &[Step<T>],
-) -> Result<Vec<TextOp<T>>, AllocError>
+) -> Result<Option<Vec<TextOp<T>>>, AllocError>
     requires { length ops.now + come steps.now ≤ 18446744073709551615 }
-    ensures empty { IfOk result (λ room. room.items ≡ []) }
-    ensures enough { IfOk result (λ room. length ops.now + come steps.now ≤ vec_capacity room) }
+    ensures { IfOk result (λ room. HasRoomFor ops.now steps.now room) }
 {
-    Vec::with_capacity(alloc, ops.len() + count_come(steps))
+    if only_turn(steps) {
+        return Ok(None);
+    }
+    let list = Vec::with_capacity(alloc, ops.len() + count_come(steps))?;
+    Ok(Some(list))
 }
 
 // Moves so many sections, or all that are left, behind those that are written.
@@ -89,7 +107,7 @@ fn move_part<T: Element>(written: &mut Vec<TextOp<T>>, mut part: Vec<TextOp<T>>)
 }
 
 // The sections after these steps, in the list `room`. It takes no memory: each section is moved, once.
-pub(crate) fn take_steps<T: Element>(
+fn write_all<T: Element>(
     ops: Vec<TextOp<T>>,
     steps: Vec<Step<T>>,
     room: Vec<TextOp<T>>,
@@ -104,6 +122,10 @@ pub(crate) fn take_steps<T: Element>(
     for step in steps {
         match step {
             Step::Stay(count) => move_over(&mut written, &mut rest, count),
+            Step::Turn(op) => {
+                leave_out(&mut rest, 1);
+                written.push_reserved(op);
+            }
             Step::Change(count, part) => {
                 leave_out(&mut rest, count);
                 move_part(&mut written, part);
@@ -112,4 +134,40 @@ pub(crate) fn take_steps<T: Element>(
     }
     move_over(&mut written, &mut rest, count);
     written
+}
+
+// The sections after these steps, each of which lets sections stay or makes one of one.
+fn turn_all<T: Element>(mut ops: Vec<TextOp<T>>, steps: Vec<Step<T>>) -> Vec<TextOp<T>>
+    requires only { OnlyTurn steps.items }
+    requires within { taken steps.items ≤ length ops.items }
+    ensures { result.items ≡ after steps.items ops.items }
+{
+    let mut at = 0;
+    for step in steps {
+        match step {
+            Step::Stay(count) => at += count,
+            Step::Turn(op) => {
+                ops[at] = op;
+                at += 1;
+            }
+            Step::Change(_, _) => unreachable!(),
+        }
+    }
+    ops
+}
+
+// The sections after these steps. It takes no memory: where each that changes becomes one other, the others are not moved; else each section is, once.
+pub(crate) fn take_steps<T: Element>(
+    ops: Vec<TextOp<T>>,
+    steps: Vec<Step<T>>,
+    room: Option<Vec<TextOp<T>>>,
+) -> Vec<TextOp<T>>
+    requires room { HasRoomFor ops.items steps.items room }
+    requires within { taken steps.items ≤ length ops.items }
+    ensures { result.items ≡ after steps.items ops.items }
+{
+    match room {
+        Some(list) => write_all(ops, steps, list),
+        None => turn_all(ops, steps),
+    }
 }

@@ -12,10 +12,10 @@ use Rattle.ot_sections.specs.declared.walking.Measure.TheVariants.{Made}
 use Rattle.ot_sections.proofs.PartsLaws.{compose-empty}
 use Rattle.ot_sections.proofs.Sounding.{sound_compose}
 use Rattle.ot_sections.proofs.Splitting.{drop-TooLong}
-use Rattle.ot_sections.proofs.Walked.{Passed, items_of, walks_begin, walks_end, composed_stay, composed_change}
+use Rattle.ot_sections.proofs.Walked.{Passed, items_of, walks_begin, walks_end, composed_stay, composed_one, composed_change}
 use Rattle.ot_sections.proofs.walking.compose_sections.Given.{Over}
 use Rattle.ot_sections.proofs.walking.compose_sections.Goals as goal
-use Rattle.ot_sections.proofs.walking.compose_sections.Goals.{Joined-part, Then-at-ops, in-Stay+in_ok-push-in-Stay, in-Change+in_ok-compose_group-in-Change+in_ok-push-in-Change}
+use Rattle.ot_sections.proofs.walking.compose_sections.Goals.{Joined-part, Then-at-ops, in-Stay+in_ok-push-in-Stay, in-One+in_ok-compose_single-in-One+in_ok-push-in-One, in-Change+in_ok-compose_group-in-Change+in_ok-push-in-Change}
 
 pub loop-steps-init : goal.loop-steps-init
 loop-steps-init g c =
@@ -39,6 +39,11 @@ passed g c =
           composed_stay c.args.ops.now c.args.b.now (left_of c.loop-steps.left) (left_of c.in_ok-part.behind) c.loop-steps.steps.items c.match-part.steps.items c.loop-steps.at c.match-part.at
           c.requires.sound.0 c.loop-steps.invariant.0 c.loop-steps.invariant.1 w.in-Stay.stay (rw w.in-Stay.is at is_part)
           (items_of c.match-part.steps w.push.new.self (c.loop-steps.steps.items ++ StayStep w.in-Stay.stay.count ∷ []) w.steps-is w.in_ok-push-in-Stay.ensures.items) w.at-is
+      | in-One+in_ok-compose_single-in-One+in_ok-push-in-One w ↦
+          composed_one c.args.ops.now c.args.b.now (left_of c.loop-steps.left) (left_of c.in_ok-part.behind) c.loop-steps.steps.items c.match-part.steps.items c.loop-steps.at c.match-part.at
+          c.requires.sound.0 c.loop-steps.invariant.0 c.loop-steps.invariant.1 w.in-One.single w.in_ok-compose_single-in-One.field-0 (rw w.in-One.is at is_part)
+          (items_of c.match-part.steps w.push-in-One.new.self (c.loop-steps.steps.items ++ w.in_ok-compose_single-in-One.field-0 ∷ []) w.steps-is w.in_ok-push-in-One.ensures.items) w.at-is
+          w.in_ok-compose_single-in-One.ensures
       | in-Change+in_ok-compose_group-in-Change+in_ok-push-in-Change w ↦
           composed_change c.args.ops.now c.args.b.now (left_of c.loop-steps.left) (left_of c.in_ok-part.behind) c.loop-steps.steps.items c.match-part.steps.items c.loop-steps.at c.match-part.at
           c.requires.sound.0 c.loop-steps.invariant.0 c.loop-steps.invariant.1 w.in-Change.group w.in_ok-compose_group-in-Change.field-0 (rw w.in-Change.is at is_part)
@@ -61,6 +66,11 @@ returns-then-at-ops-clause-sound g c =
     sound_compose c.args.ops.now (after c.match-part.steps.items c.args.ops.now) c.args.b.now c.requires.sound
     (is_operation (runs c.components.result.now) c.args.b.now c.components.ensures.spells) (λ long. omega (arith, long, c.components.ensures.fits))
     done.1 c.requires.fits done.0
+
+pub returns-then-at-ops-clause-within : goal.returns-then-at-ops-clause-within
+returns-then-at-ops-clause-within g c =
+    let done = passed g (goal.at.returns-then-at-ops-clause-within g c).Joined-part in
+    omega (arith, done.walks.taken_is, done.walks.within)
 
 pub loop-steps-preserved : goal.loop-steps-preserved
 loop-steps-preserved g c =

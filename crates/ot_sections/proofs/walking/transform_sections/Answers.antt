@@ -15,10 +15,10 @@ use Rattle.ot_sections.proofs.PartsLaws.{first_after-empty}
 use Rattle.ot_sections.proofs.Sounding.{sound_first_after}
 use Rattle.ot_sections.proofs.Splitting.{drop-TooLong}
 use Rattle.ot_sections.proofs.Walked.{Passed, items_of, walks_begin, walks_end}
-use Rattle.ot_sections.proofs.Carried.{Carries, carries_begin, carries_end, second_short, transformed_stay, transformed_change, stay_short, stay_carries, change_fits, change_short, change_carries}
+use Rattle.ot_sections.proofs.Carried.{Carries, carries_begin, carries_end, second_short, transformed_stay, transformed_one, transformed_change, stay_short, stay_carries, one_fits, one_short, one_carries, change_fits, change_short, change_carries}
 use Rattle.ot_sections.proofs.walking.transform_sections.Given.{Over}
 use Rattle.ot_sections.proofs.walking.transform_sections.Goals as goal
-use Rattle.ot_sections.proofs.walking.transform_sections.Goals.{In_ok-part, Joined-part, Then-at-ops, in-Stay+in_ok-only_memory-in-Stay+in_ok-push-in-Stay, in-Change+in_ok-made-in-Change+in_ok-append-in-Change+in_ok-push-in-Change}
+use Rattle.ot_sections.proofs.walking.transform_sections.Goals.{In_ok-part, Joined-part, Then-at-ops, in-Stay+in_ok-only_memory-in-Stay+in_ok-push-in-Stay, in-One+in_ok-step-in-One+in_ok-append-in-One+in_ok-push-in-One, in-Change+in_ok-made-in-Change+in_ok-append-in-Change+in_ok-push-in-Change}
 
 pub loop-second-init : goal.loop-second-init
 loop-second-init g c =
@@ -63,9 +63,23 @@ transform_group-requires-clause-fits g c =
     c.loop-second.at c.loop-second.at c.requires.sound.0 c.requires.sound.1 (left_rises g here) c.loop-second.invariant.0 c.loop-second.invariant.1 c.loop-second.invariant.2
     c.in-Change.group (rw c.in-Change.is at (part_is g here))
 
+pub transform_single-requires-clause-fits : goal.transform_single-requires-clause-fits
+transform_single-requires-clause-fits g c =
+    let here = (goal.at.transform_single-requires-clause-fits g c).In_ok-part in
+    one_fits c.args.ops.now c.args.b.now c.loop-second.second (left_of c.loop-second.left) (left_of c.in_ok-part.behind) c.loop-second.steps.items c.loop-second.steps.items
+    c.loop-second.at c.loop-second.at c.requires.sound.0 c.requires.sound.1 (left_rises g here) c.loop-second.invariant.0 c.loop-second.invariant.1 c.loop-second.invariant.2
+    c.in-One.single (rw c.in-One.is at (part_is g here))
+
 pub append-requires : goal.append-requires
 append-requires g c =
     let here = (goal.at.append-requires g c).In_ok-part in
+    one_short c.args.ops.now c.args.b.now c.loop-second.second (left_of c.loop-second.left) (left_of c.in_ok-part.behind) c.loop-second.steps.items c.loop-second.steps.items
+    c.loop-second.at c.loop-second.at c.requires.sound.0 c.requires.sound.1 (left_rises g here) c.loop-second.invariant.0 c.loop-second.invariant.1 c.loop-second.invariant.2
+    c.in-One.single c.in_ok-step-in-One.carried (rw c.in-One.is at (part_is g here)) c.in_ok-step-in-One.ensures.second (short g here)
+
+pub append-requires-in-Change : goal.append-requires-in-Change
+append-requires-in-Change g c =
+    let here = (goal.at.append-requires-in-Change g c).In_ok-part in
     change_short c.args.ops.now c.args.b.now c.loop-second.second (left_of c.loop-second.left) (left_of c.in_ok-part.behind) c.loop-second.steps.items c.loop-second.steps.items
     c.loop-second.at c.loop-second.at c.requires.sound.0 c.requires.sound.1 (left_rises g here) c.loop-second.invariant.0 c.loop-second.invariant.1 c.loop-second.invariant.2
     c.in-Change.group c.in_ok-made-in-Change.carried (rw c.in-Change.is at (part_is g here)) c.in_ok-made-in-Change.ensures.second (short g here)
@@ -84,6 +98,12 @@ passed g c =
           c.loop-second.at c.match-part.at c.requires.sound.0 c.requires.sound.1 rises c.loop-second.invariant.0 c.loop-second.invariant.1 c.loop-second.invariant.2
           w.in-Stay.stay (rw w.in-Stay.is at is_part)
           (items_of c.match-part.steps w.push.new.self (c.loop-second.steps.items ++ StayStep w.in-Stay.stay.count ∷ []) w.steps-is w.in_ok-push-in-Stay.ensures.items) w.at-is
+      | in-One+in_ok-step-in-One+in_ok-append-in-One+in_ok-push-in-One w ↦
+          transformed_one c.args.ops.now c.args.b.now c.loop-second.second (left_of c.loop-second.left) (left_of c.in_ok-part.behind) c.loop-second.steps.items c.match-part.steps.items
+          c.loop-second.at c.match-part.at c.requires.sound.0 c.requires.sound.1 rises c.loop-second.invariant.0 c.loop-second.invariant.1 c.loop-second.invariant.2
+          w.in-One.single w.in_ok-step-in-One.step (rw w.in-One.is at is_part)
+          (items_of c.match-part.steps w.push-in-One.new.self (c.loop-second.steps.items ++ w.in_ok-step-in-One.step ∷ []) w.steps-is w.in_ok-push-in-One.ensures.items) w.at-is
+          w.in_ok-step-in-One.ensures.first
       | in-Change+in_ok-made-in-Change+in_ok-append-in-Change+in_ok-push-in-Change w ↦
           transformed_change c.args.ops.now c.args.b.now c.loop-second.second (left_of c.loop-second.left) (left_of c.in_ok-part.behind) c.loop-second.steps.items c.match-part.steps.items
           c.loop-second.at c.match-part.at c.requires.sound.0 c.requires.sound.1 rises c.loop-second.invariant.0 c.loop-second.invariant.1 c.loop-second.invariant.2
@@ -104,6 +124,11 @@ carries g c =
           c.loop-second.at c.match-part.at c.requires.sound.0 c.requires.sound.1 rises c.loop-second.invariant.0 c.loop-second.invariant.1 c.loop-second.invariant.2
           w.in-Stay.stay c.match-part.second (rw w.in-Stay.is at is_part)
           (w.second-is ∙ OnOk-at_ok w.retain.result w.in_ok-only_memory-in-Stay.ensures w.retain.ensures.ok) w.at-is
+      | in-One+in_ok-step-in-One+in_ok-append-in-One+in_ok-push-in-One w ↦
+          one_carries c.args.ops.now c.args.b.now c.loop-second.second (left_of c.loop-second.left) (left_of c.in_ok-part.behind) c.loop-second.steps.items c.match-part.steps.items
+          c.loop-second.at c.match-part.at c.requires.sound.0 c.requires.sound.1 rises c.loop-second.invariant.0 c.loop-second.invariant.1 c.loop-second.invariant.2
+          w.in-One.single w.in_ok-step-in-One.carried c.match-part.second (rw w.in-One.is at is_part)
+          w.in_ok-step-in-One.ensures.second (w.second-is ∙ w.in_ok-append-in-One.ensures) w.at-is
       | in-Change+in_ok-made-in-Change+in_ok-append-in-Change+in_ok-push-in-Change w ↦
           change_carries c.args.ops.now c.args.b.now c.loop-second.second (left_of c.loop-second.left) (left_of c.in_ok-part.behind) c.loop-second.steps.items c.match-part.steps.items
           c.loop-second.at c.match-part.at c.requires.sound.0 c.requires.sound.1 rises c.loop-second.invariant.0 c.loop-second.invariant.1 c.loop-second.invariant.2
@@ -129,6 +154,11 @@ returns-then-at-ops-clause-sound g c =
     sound_first_after c.args.ops.now (after c.match-part.steps.items c.args.ops.now) c.args.b.now c.requires.sound
     (is_operation (runs c.components.result.now) c.args.b.now c.components.ensures.spells) (λ long. omega (arith, long, c.components.ensures.fits))
     done.1 c.requires.same_base c.requires.fits done.0
+
+pub returns-then-at-ops-clause-within : goal.returns-then-at-ops-clause-within
+returns-then-at-ops-clause-within g c =
+    let done = passed g (goal.at.returns-then-at-ops-clause-within g c).Joined-part in
+    omega (arith, done.walks.taken_is, done.walks.within)
 
 pub returns-then-at-ops-clause-second : goal.returns-then-at-ops-clause-second
 returns-then-at-ops-clause-second g c =

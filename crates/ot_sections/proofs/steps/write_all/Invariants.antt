@@ -2,7 +2,7 @@ use Rattle.std.proofs.Common.{length, vec_capacity}
 use Rattle.std.specs.Vec.Iter.{into_iter_items}
 use Rattle.ot_sections.specs.Steps.{after}
 use Rattle.ot_sections.proofs.Stepped.{IsTaking}
-use Rattle.ot_sections.proofs.steps.take_steps.Given as goal
+use Rattle.ot_sections.proofs.steps.write_all.Given as goal
 
 abbrev pub invariant-loop-step : goal.invariant-loop-step
 invariant-loop-step g l =
