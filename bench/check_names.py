@@ -20,7 +20,7 @@ FILE = re.compile(r"^[\w./-]+\.(?:antt|rt|py|js|c|h|ots|json|img|txt|md|html|edi
 BARE = re.compile(r"(?<![\w/`.])(?:proofs|specs)/\w+\.antt")
 WORD = re.compile(r"[A-Za-z_][A-Za-z0-9_'-]*")
 # What documents cite of other projects and of the toolchain.
-ELSEWHERE = {"byteorder", "rattle-kit-13b", "logic", "dac8208d650f15bf", "crates", "CRATE-NAME", "my-driver"}
+ELSEWHERE = {"byteorder", "rattle-kit-13f", "logic", "dac8208d650f15bf", "crates", "CRATE-NAME", "my-driver"}
 # What commands of the documents write.
 WRITTEN = {"session.html", "smaller.html", "smaller.ots"}
 # What stands for a name.

@@ -100,3 +100,20 @@ one_part ops by all left single more part_is part_rises base whole keeps rises =
       same = base ∙ ap (measured by) (sym first);
       ends = inr (omega arith, more, keeps);
     }
+
+-- the last section by itself, and all that is left of the other operation
+pub one_all :
+    {A : Type 0} (ops : List (Operation A)) (by : Measure) (all front left left_after : Operation A) (single : Single A) → length ops ≡ 1 → single.part.now ≡ get_or ops 0 single.part.now
+    → IsOperation single.part.now → joined front left ≡ all → single.front ≡ joined front left → left_after ≡ empty → measured by (joined_all ops) ≡ all.base → IsOperation all
+    → IsPart ops by all left_after (One single)
+one_all ops by all front left left_after single count_is part_is part_rises whole front_is left_is same rises =
+    let first : joined_all (take 1 ops) ≡ single.part.now = next_section ops 0 single.part.now (omega (arith, count_is)) part_is ∙ empty-joined single.part.now in
+    record {
+      within = omega (arith, count_is);
+      sections = sym first;
+      sections_rise = subst IsOperation (sym first) part_rises;
+      whole = ap (joined single.front) left_is ∙ joined-empty single.front ∙ front_is ∙ whole;
+      front_rises = subst IsOperation (sym (front_is ∙ whole)) rises;
+      same = ap (λ (op : Operation _). op.base) (front_is ∙ whole) ∙ sym same ∙ ap (λ xs. measured by (joined_all xs)) (sym (take_all 1 ops (omega (arith, count_is))));
+      ends = inl (sym count_is, left_is);
+    }

@@ -8,6 +8,7 @@ ghost use Rattle.ot_sections.specs.Joined.{joined_all, AreSound};
 ghost use Rattle.ot_sections.specs.Steps.{after, taken};
 ghost use Rattle.ot_text.specs.declared.TheConstants.{LIMIT};
 
+use crate::cutting::Lengths;
 use crate::sections::{Sections, whole_of};
 use crate::steps::{Step, make_room, take_steps};
 use crate::walking::{carry_sections, compose_sections, transform_sections};
@@ -20,7 +21,7 @@ use std::marker::Model;
 #[derive(Drop)]
 pub(crate) struct InSteps<T> {
     ops: Vec<TextOp<T>>,
-    size: usize,
+    lengths: Lengths,
     steps: Vec<Step<T>>,
     room: Option<Vec<TextOp<T>>>,
 }
@@ -39,7 +40,11 @@ impl<T> Model for InSteps<T> {
 
 impl<T: Element> InSteps<T> {
     // Takes memory for another list of sections where one is wanted; where that was refused the sections come back.
-    fn new(ops: Vec<TextOp<T>>, size: usize, steps: Vec<Step<T>>) -> Result<InSteps<T>, Sections<T>>
+    fn new(
+        ops: Vec<TextOp<T>>,
+        lengths: Lengths,
+        steps: Vec<Step<T>>,
+    ) -> Result<InSteps<T>, Sections<T>>
         requires before { AreSound ops.items }
         requires later { AreSound (after steps.items ops.items) }
         requires within { taken steps.items ≤ length ops.items }
@@ -49,11 +54,11 @@ impl<T: Element> InSteps<T> {
         match make_room(*ops.allocator(), ops.as_slice(), steps.as_slice()) {
             Ok(room) => Ok(InSteps {
                 ops,
-                size,
+                lengths,
                 steps,
                 room,
             }),
-            Err(_) => Err(Sections { ops, size }),
+            Err(_) => Err(Sections { ops, lengths }),
         }
     }
 
@@ -63,7 +68,7 @@ impl<T: Element> InSteps<T> {
     {
         Sections {
             ops: take_steps(self.ops, self.steps, self.room),
-            size: self.size,
+            lengths: self.lengths,
         }
     }
 
@@ -73,7 +78,7 @@ impl<T: Element> InSteps<T> {
     {
         Sections {
             ops: self.ops,
-            size: self.size,
+            lengths: self.lengths,
         }
     }
 
@@ -92,8 +97,8 @@ impl<T: Element> Sections<T> {
         ensures ok { IfOk result (λ change. change ≡ record { before = self; after = composition self op.now }) }
         ensures err { IfErr result (λ same. same ≡ self) }
     {
-        match compose_sections(self.ops.as_slice(), self.size, op) {
-            Ok(steps) => InSteps::new(self.ops, self.size, steps),
+        match compose_sections(self.ops.as_slice(), self.lengths.size, op) {
+            Ok(steps) => InSteps::new(self.ops, self.lengths, steps),
             Err(_) => Err(self),
         }
     }
@@ -109,9 +114,9 @@ impl<T: Element> Sections<T> {
         ensures second { IfOk result (λ given. given.1 ≡ second_after self op.now) }
         ensures err { IfErr result (λ same. same ≡ self) }
     {
-        match transform_sections(self.ops.as_slice(), self.size, op) {
+        match transform_sections(self.ops.as_slice(), self.lengths.size, op) {
             Ok((steps, second)) => {
-                let change = InSteps::new(self.ops, self.size, steps)?;
+                let change = InSteps::new(self.ops, self.lengths, steps)?;
                 Ok((change, second))
             }
             Err(_) => Err(self),
@@ -124,6 +129,6 @@ impl<T: Element> Sections<T> {
         requires fits { self.now.base + length (news self.now.image) + length (news op.now.image) ≤ LIMIT }
         ensures { IfOk result (λ carried. carried ≡ second_after self.now op.now) }
     {
-        carry_sections(self.ops.as_slice(), self.size, op)
+        carry_sections(self.ops.as_slice(), self.lengths.size, op)
     }
 }

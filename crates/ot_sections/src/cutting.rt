@@ -7,37 +7,77 @@ use crate::appending::append_component;
 use ot_text::{Component, Element, TextOp};
 use std::alloc::AllocError;
 
-// A section has at least so many components where it is cut. Fewer would make the list of sections longer, which every change looks through.
+// A short section has at least so many components where it is cut. Fewer would make the list of sections longer, which every change looks through.
 const LEAST: usize = 8;
 
-// And so many at most. More would make what a change costs in the sections that it touches, each of which is written anew, dearer than that look.
-const GREATEST: usize = 512;
+/// A long section has so many. More would make what a change costs in the sections that it touches, each of which is written anew, dearer than that look.
+pub(crate) const LONG: usize = 512;
 
-// No more than about so many sections there are at first.
+// So many short sections there are at most when an operation is cut, or a few more; and less than twice as many before it is cut anew.
 const SECTIONS: usize = 8192;
 
 // Where an operation changes fewer places than so many it costs little that long sections are written anew, and less to look through these.
 const PLACES: usize = 16;
 
-// Where an operation changes more than one in so many short sections, it costs no less to write these anew than a few long ones.
-const SPARSE: usize = 4;
+// Where an operation changes more than one in so many short sections, it costs no less to write these anew than long ones.
+const SPARSE: usize = 8;
 
-/// How many components a section has where an operation of `count` is cut that another one of `others` components changes: as few as may be where this changes
-/// many places, each in a short section among some that stay, and else as many as may be. A place takes about two components.
-pub(crate) fn size_for(count: usize, others: usize) -> usize {
-    let least = (count / SECTIONS).clamp(LEAST, GREATEST);
-    let places = others / 2;
-    if places < PLACES || places.saturating_mul(least) > count / SPARSE {
-        return GREATEST;
-    }
-    least
+// A change for which the other sections would be better counts for so much: at few places, and else.
+const FEW: usize = 1;
+
+const MANY: usize = 4;
+
+// So much of it costs about what it costs to cut the operation anew.
+const ENOUGH: usize = 64;
+
+/// How long sections are, and how much has come of changes for which others would be better, beyond what has come of those for which they are good.
+#[derive(Clone, Copy)]
+pub(crate) struct Lengths {
+    pub(crate) size: usize,
+    pub(crate) due: usize,
 }
 
-/// Whether so many sections, which had `size` components where they were cut, are best cut otherwise where an operation of `others` components changes them: they
-/// are too many, or long where short ones are better.
-pub(crate) fn are_unsuited(sections: usize, size: usize, others: usize) -> bool {
-    let count = sections.saturating_mul(GREATEST);
-    sections / 2 >= SECTIONS || size == GREATEST && size_for(count, others) < GREATEST
+// How many components a short section has, of an operation of so many.
+fn short(count: usize) -> usize {
+    (count / SECTIONS).clamp(LEAST, LONG)
+}
+
+// Whether short sections are better, where an operation of so many components is changed by one of `others`: this changes many places, each in a short section
+// among some that stay. A place takes about two components.
+fn wants_short(count: usize, others: usize) -> bool {
+    let places = others / 2;
+    places >= PLACES && places.saturating_mul(short(count)) <= count / SPARSE
+}
+
+/// How long so many sections are best, which are as long as `now` says, where an operation of `others` components changes them: as they are, until enough has come
+/// for which others would be better, or they are too many.
+pub(crate) fn lengths_for(now: Lengths, sections: usize, others: usize) -> Lengths {
+    let count = sections.saturating_mul(now.size);
+    let weight = if others / 2 < PLACES { FEW } else { MANY };
+    let are_short = now.size < LONG;
+    if wants_short(count, others) == are_short {
+        if sections / 2 < SECTIONS {
+            return Lengths {
+                size: now.size,
+                due: now.due.saturating_sub(weight),
+            };
+        }
+        return Lengths {
+            size: short(count),
+            due: 0,
+        };
+    }
+    let due = now.due.saturating_add(weight);
+    if due < ENOUGH {
+        return Lengths {
+            size: now.size,
+            due,
+        };
+    }
+    Lengths {
+        size: if are_short { LONG } else { short(count) },
+        due: 0,
+    }
 }
 
 // The operation has the components of a section, and ends with a retain.

@@ -15,14 +15,14 @@ use ot_text::{Element, TextOp};
 use std::alloc::AllocError;
 use std::marker::Model;
 
-// An operation of that many components is held in sections when it changes. As measured, a small change of one list of so many costs a twentieth of a millisecond, and
-// of one of a million more than eight milliseconds; in sections both cost less than a hundredth of one, and a change of hundreds of places less than it does in one
-// list. To cut the list costs what five to ten such changes of it do. Below that a list is cheap enough to be left as it is, and is not copied.
-const LONG: usize = 16_384;
+// An operation of that many components is held in sections when it changes. As measured, a small change of one list of so many costs a tenth of a millisecond, and
+// of one of a million more than eight milliseconds; in sections both cost less than a hundredth of one. To cut the list costs what five to ten such changes of it
+// do. Below that a list is cheap enough to be left as it is, and is not copied.
+const LONG: usize = 32_768;
 
-/// Whether the operation has 16,384 components or more: it is held in sections when it changes. A look-up.
+/// Whether the operation has 32,768 components or more: it is held in sections when it changes. A look-up.
 pub fn is_long<T: Element>(op: &TextOp<T>) -> bool
-    ensures { IsTrue result ↔ (16384 ≤ length (normal_runs op.now)) }
+    ensures { IsTrue result ↔ (32768 ≤ length (normal_runs op.now)) }
 {
     op.components().len() >= LONG
 }
@@ -80,7 +80,7 @@ impl<T: Element> Held<T> {
                 if kept || !is_long(&op) {
                     return Ok(Form::Whole(op));
                 }
-                match Sections::of(&op, others) {
+                match Sections::of(&op) {
                     Ok(sections) => Ok(Form::Cut(sections)),
                     Err(_) => Err(Held::new(op)),
                 }
@@ -248,7 +248,7 @@ impl<T: Element> Held<T> {
     /// `op` takes what the operation makes: `self.target_len() == op.base_len()`, in elements.
     ///
     /// One list costs what `prepare_compose` of `ot_algebra` says. In sections it costs a look at each and the components of those that `op` touches, which are
-    /// copied; to go over from one form to the other costs all components, once.
+    /// copied; to go over to the other form, or to other sections, costs all components.
     #[inline(always)]
     pub fn prepare_compose(self, op: &TextOp<T>, kept: bool) -> Result<PreparedHeld<T>, Held<T>>
         requires { length self.image ≡ op.now.base }

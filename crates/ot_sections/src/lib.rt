@@ -1,7 +1,7 @@
 //! Operations that wait, and change by others again and again, however many components they have.
 //!
 //! A change of a `TextOp` costs a look at all components up to the last that it touches, and a move of those behind one that comes or goes. Where an
-//! operation has many, and small changes come by the thousand, that is too much: so an operation of 16,384 components and more is held in sections,
+//! operation has many, and small changes come by the thousand, that is too much: so an operation of 32,768 components and more is held in sections,
 //! each an operation of its own on a part of the document, and a change costs the sections that it touches and a look at each of the others.
 //!
 //! ```text
@@ -18,20 +18,25 @@
 //! ```text
 //!     sections      [ 8 components ]  [ 10 ]  [ 9 ]                     [ 8 ]  [ 8 ]                [ 4 ]
 //!
-//!     the other     [ retain 40              | insert "c" | retain 21   | delete 30 | retain 50     | retain 300 ]
+//!     the other     [ retain 40              | insert "c" | retain 21   | delete 30 | retain 350                  ]
 //!
 //!     steps         Stay(2)                   Turn([ 10 ])              Change(2, [ [ 14 ] ])       Stay(1)
 //! ```
 //!
 //! Sections of which all elements stay cost a look each. One that changes by itself is written anew. Where the last element of a section goes, it and the next one
-//! become one, as the fourth and the fifth here. A section of more than twice as many components as there are in one that is cut is cut again. That are eight, and
-//! more where the operation has more than some 65,000, so that there are no more than some thousand sections to look at; where there are twice as many, all are cut
-//! anew. A change is prepared, which takes all memory: the steps, with the sections that come, and room for the list of sections where their number changes. To
-//! make it puts the sections that come into their places, or moves each section, once; neither that nor to take it back takes memory.
+//! become one, as the fourth and the fifth here. A section of twice as many components as one has where it is cut, or more, is cut again.
 //!
-//! An operation goes over to sections when another one changes it that has few components for each of its own, once it is that long, which copies its components.
-//! Where another one changes about all sections it is one list again, and so it is where what leads back from a change will be asked for, since a patch speaks of
-//! places in one list; that copies them too.
+//! Long sections have 512 components where they are cut, short ones eight, or more where the operation has more than some 73,000, so that there are some nine
+//! thousand at most. Long ones are better where few places change, or nearly all; short ones where many do, each in a section among some that stay. At first they
+//! are long; when changes for which the others are better have come again and again, and cost about what it takes to cut all anew, that is done. So it is where
+//! there are 16,384 short ones.
+//!
+//! A change is prepared, which takes all memory: the steps, with the sections that come, and room for another list of sections, unless each section that changes
+//! becomes one other, which takes its place. To make the change puts sections into their places, or moves each section, once; neither that nor to take it back
+//! takes memory.
+//!
+//! An operation goes over to sections when it is next changed once it is that long, which copies its components. Where what leads back from a change will be asked for
+//! it is one list again, since a patch speaks of places in one list; that copies them too.
 //!
 //! - `specs/Joined.antt`: operations on the parts of a document as one, and what sections are.
 //! - `specs/Steps.antt`: what becomes of sections, step by step.

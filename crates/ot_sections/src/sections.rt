@@ -8,17 +8,17 @@ ghost use Rattle.ot_text.specs.declared.TheConstants.{LIMIT};
 
 use crate::appending::append;
 use crate::counting::{count_components, count_inserted};
-use crate::cutting::{are_unsuited, cut, size_for};
+use crate::cutting::{LONG, Lengths, cut, lengths_for};
 use crate::images::{read, same_images};
 use ot_text::{Element, TextOp};
 use std::alloc::{AllocError, Global};
 use std::marker::Model;
 
-/// An operation in sections, each on its part of the document, and how many components they have where they are cut. A contract sees the operation.
+/// An operation in sections, each on its part of the document, and how long they are. A contract sees the operation.
 #[derive(Drop)]
 pub(crate) struct Sections<T> {
     pub(crate) ops: Vec<TextOp<T>>,
-    pub(crate) size: usize,
+    pub(crate) lengths: Lengths,
 }
 
 impl<T> Model for Sections<T> {
@@ -48,30 +48,34 @@ pub(crate) fn whole_of<T: Element>(
 }
 
 impl<T: Element> Sections<T> {
-    // The operation, cut for a change by one of `others` components. Its components are copied.
-    pub(crate) fn of(op: &TextOp<T>, others: usize) -> Result<Sections<T>, AllocError>
+    // The operation, cut into long sections. Its components are copied.
+    pub(crate) fn of(op: &TextOp<T>) -> Result<Sections<T>, AllocError>
         ensures { IfOk result (λ sections. sections ≡ op.now) }
     {
-        let size = size_for(op.components().len(), others);
         Ok(Sections {
-            ops: cut(op, size)?,
-            size,
+            ops: cut(op, LONG)?,
+            lengths: Lengths { size: LONG, due: 0 },
         })
     }
 
-    // The same operation, cut otherwise where that suits a change by one of `others` components. Where memory was refused it comes back.
+    // The same operation, which one of `others` components is to change: cut anew where others of its kind came for which other sections are better, and else
+    // only that it came is noted. Where memory was refused it comes back.
     pub(crate) fn suited(self, others: usize) -> Result<Sections<T>, Sections<T>>
         ensures ok { IfOk result (λ same. same ≡ self) }
         ensures err { IfErr result (λ same. same ≡ self) }
     {
-        if !are_unsuited(self.ops.len(), self.size, others) {
-            return Ok(self);
+        let lengths = lengths_for(self.lengths, self.ops.len(), others);
+        if lengths.size == self.lengths.size {
+            return Ok(Sections {
+                ops: self.ops,
+                lengths,
+            });
         }
         let Ok(op) = self.to_op() else {
             return Err(self);
         };
-        match Sections::of(&op, others) {
-            Ok(sections) => Ok(sections),
+        match cut(&op, lengths.size) {
+            Ok(ops) => Ok(Sections { ops, lengths }),
             Err(_) => Err(self),
         }
     }
@@ -113,7 +117,7 @@ impl<T: Element> Sections<T> {
         }
         Ok(Sections {
             ops: copied,
-            size: self.size,
+            lengths: self.lengths,
         })
     }
 

@@ -52,7 +52,7 @@ fn only_turn<T: Element>(steps: &[Step<T>]) -> bool
     true
 }
 
-// Room for all the sections that there are and for those that come, where not each that changes becomes one other: they take the places of these else.
+// Room in another list for all sections that stay and come; none where each that changes becomes one other, which takes its place.
 pub(crate) fn make_room<T: Element>(
     alloc: Global,
     ops: &[TextOp<T>],

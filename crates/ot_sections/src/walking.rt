@@ -1,9 +1,9 @@
 //! What becomes of sections by an operation on the whole document, or on the one that they make.
 //!
 //! A walk goes from part to part. Sections that lie within what the other operation keeps next are a part that stays. Else a part is a section whose last element
-//! the other operation keeps, or a group: the next sections as one operation, up to one whose last element it keeps. Its front is what the other operation does
-//! there. So both keep the last element of a part, and what becomes of the whole is what becomes of the parts, one behind the other. The last part is all that is
-//! left of both.
+//! the other operation keeps, or which is the last one, or a group: the next sections as one operation, up to such a one. Its front is what the other operation
+//! does there. So both keep the last element of a part, and what becomes of the whole is what becomes of the parts, one behind the other. The last part is all that
+//! is left of both.
 
 ghost use Rattle.std.specs.Prelude.{◌≡◌, ◌+◌, ◌<◌, ◌≤◌, length, take, All, IfOk, IfSome, OnOk};
 ghost use Rattle.ot_text.specs.Operation.{IsOperation, IsTooLong, news};
@@ -56,7 +56,7 @@ pub(crate) struct Group<T> {
     pub(crate) front: TextOp<T>,
 }
 
-/// Sections that stay, one that changes by itself, and several that change together.
+/// Sections that stay, one that changes by itself, and some that change together.
 #[derive(Drop)]
 pub(crate) enum Part<'a, T> {
     Stay(Staying),
@@ -147,7 +147,7 @@ fn take_group<'a, T: Element>(
     Ok((Group { count, part, front }, left))
 }
 
-// The first section, where others follow it and the other operation keeps its last element.
+// The first section, where it is the last one too, or the other operation keeps its last element.
 fn take_one<'a, T: Element>(
     alloc: Global,
     ops: &'a [TextOp<T>],
@@ -162,11 +162,12 @@ fn take_one<'a, T: Element>(
     let [part, rest @ ..] = ops else {
         return Ok(None);
     };
-    if rest.is_empty() {
-        return Ok(None);
-    }
     let mut front = TextOp::with_capacity(alloc, FEW)?;
     let behind = read(left, length_by(part, by), &mut front)?;
+    if rest.is_empty() {
+        let behind = read_rest(behind, &mut front)?;
+        return Ok(Some((Single { part, front }, behind)));
+    }
     if keeps_last(&front) {
         return Ok(Some((Single { part, front }, behind)));
     }
@@ -215,7 +216,7 @@ fn recut<T: Element>(op: TextOp<T>, size: usize) -> Result<Vec<TextOp<T>>, Alloc
     Ok(ops)
 }
 
-// Whether the operation has more than twice as many components as a section has that is cut.
+// Whether the operation has at least twice as many components as a section has that is cut.
 fn is_large<T: Element>(op: &TextOp<T>, size: usize) -> bool {
     op.components().len() / 2 >= size
 }
@@ -286,7 +287,8 @@ fn compose_group<T: Element>(group: Group<T>, size: usize) -> Result<Vec<TextOp<
     }
 }
 
-/// What the sections, which have `size` components where they are cut, become after `b`, as steps, and what `b` becomes after them: the two results of `transform` of `ot_algebra`, under its conditions.
+/// What the sections, which have `size` components where they are cut, become after `b`, as steps, and what `b` becomes after them: the two results of `transform`
+/// of `ot_algebra`, under its conditions.
 pub(crate) fn transform_sections<T: Element>(
     ops: &[TextOp<T>],
     size: usize,
