@@ -34,6 +34,18 @@ def seconds(text):
     return float(text)
 
 
+def to_write(text):
+    """A file that can be written, or made: a session that was found is not to be lost at the end."""
+    folder = os.path.dirname(text) or "."
+    if not os.path.isdir(folder):
+        raise argparse.ArgumentTypeError(f"invalid value '{text}': there is no folder {folder}")
+    if os.path.isdir(text):
+        raise argparse.ArgumentTypeError(f"invalid value '{text}': it is a folder")
+    if not os.access(text if os.path.exists(text) else folder, os.W_OK):
+        raise argparse.ArgumentTypeError(f"invalid value '{text}': it may not be written")
+    return text
+
+
 def arguments():
     words = argparse.ArgumentParser(usage="conformance/run [options] COMMAND ..")
     words.add_argument("--sessions", type=whole(0), default=200, metavar="N", help="how many sessions are made at random (200)")
@@ -47,7 +59,7 @@ def arguments():
     words.add_argument("--most-bytes", type=whole(1), default=1 << 24, help="the most that it may print (16,777,216)")
     words.add_argument("--reduce-seconds", type=seconds, default=60, help="about how long a failing session is reduced (60)")
     words.add_argument("--judge", help="the program that compares; without it `otbench conform`")
-    words.add_argument("--save", metavar="FILE", help="where the reduced schedule is written")
+    words.add_argument("--save", type=to_write, metavar="FILE", help="where the reduced schedule is written")
     words.add_argument("command", nargs=argparse.REMAINDER)
     given = words.parse_args()
     if not given.command:

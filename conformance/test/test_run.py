@@ -134,6 +134,8 @@ class Runs(unittest.TestCase):
             ("--seconds", "0", times),
             ("--seconds", "inf", times),
             ("--reduce-seconds", "-1", times),
+            ("--save", "/there/is/none/x", "there is no folder /there/is/none"),
+            ("--save", str(KIT), "it is a folder"),
         ]
         for word, value, takes in rows:
             self.refused(f"argument {word}: invalid value '{value}': {takes}", ["true"], word, value)
