@@ -72,7 +72,7 @@ impl<T: Element> InSteps<T> {
         }
     }
 
-    // The sections as they were.
+    // The sections as they were before the steps.
     pub(crate) fn roll_back(self) -> Sections<T>
         ensures { result ≡ self.before }
     {

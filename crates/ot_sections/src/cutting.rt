@@ -10,10 +10,11 @@ use std::alloc::AllocError;
 // A short section has at least so many components where it is cut. Fewer would make the list of sections longer, which every change looks through.
 const LEAST: usize = 8;
 
-/// A long section has so many. More would make what a change costs in the sections that it touches, each of which is written anew, dearer than that look.
+/// A long section has so many where it is cut. More would make what a change costs in the sections that it touches, each of which is written anew, dearer than the
+/// look at each of the others.
 pub(crate) const LONG: usize = 512;
 
-// So many short sections there are at most when an operation is cut, or a few more; and less than twice as many before it is cut anew.
+// About so many short sections there are at most when an operation is cut, or an eighth more. Where there are twice as many it is cut anew.
 const SECTIONS: usize = 8192;
 
 // Where an operation changes fewer places than so many it costs little that long sections are written anew, and less to look through these.
@@ -22,23 +23,25 @@ const PLACES: usize = 16;
 // Where an operation changes more than one in so many short sections, it costs no less to write these anew than long ones.
 const SPARSE: usize = 8;
 
-// A change for which the other sections would be better counts for so much: at few places, and else.
+// A change for which the other sections would be better counts for so much where it changes few places, and for `MANY` else; one for which these are good takes as
+// much off.
 const FEW: usize = 1;
 
 const MANY: usize = 4;
 
-// So much of it costs about what it costs to cut the operation anew.
+// When so much has come, it has cost about what it costs to cut the operation anew.
 const ENOUGH: usize = 64;
 
-/// How long sections are, and how much has come of changes for which others would be better, beyond what has come of those for which they are good.
+/// How many components sections have where they are cut, and how much has come of changes for which others would be better, less what has come of those for which
+/// they are good, and never below zero. A change that is taken back counts too.
 #[derive(Clone, Copy)]
 pub(crate) struct Lengths {
     pub(crate) size: usize,
     pub(crate) due: usize,
 }
 
-// How many components a short section has, of an operation of so many.
-fn short(count: usize) -> usize {
+/// How many components a short section has where it is cut, of an operation of so many.
+pub(crate) fn short(count: usize) -> usize {
     (count / SECTIONS).clamp(LEAST, LONG)
 }
 
@@ -49,22 +52,22 @@ fn wants_short(count: usize, others: usize) -> bool {
     places >= PLACES && places.saturating_mul(short(count)) <= count / SPARSE
 }
 
-/// How long so many sections are best, which are as long as `now` says, where an operation of `others` components changes them: as they are, until enough has come
-/// for which others would be better, or they are too many.
+/// What comes of sections, so many, of which `now` tells, where an operation of `others` components changes them: they stay as they are, until enough has come for
+/// which others would be better, or there are too many. The number of components is reckoned as if each section had as many as where it was cut.
 pub(crate) fn lengths_for(now: Lengths, sections: usize, others: usize) -> Lengths {
     let count = sections.saturating_mul(now.size);
-    let weight = if others / 2 < PLACES { FEW } else { MANY };
     let are_short = now.size < LONG;
-    if wants_short(count, others) == are_short {
-        if sections / 2 < SECTIONS {
-            return Lengths {
-                size: now.size,
-                due: now.due.saturating_sub(weight),
-            };
-        }
+    if are_short && sections / 2 >= SECTIONS {
         return Lengths {
             size: short(count),
             due: 0,
+        };
+    }
+    let weight = if others / 2 < PLACES { FEW } else { MANY };
+    if wants_short(count, others) == are_short {
+        return Lengths {
+            size: now.size,
+            due: now.due.saturating_sub(weight),
         };
     }
     let due = now.due.saturating_add(weight);

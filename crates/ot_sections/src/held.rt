@@ -16,7 +16,7 @@ use std::alloc::AllocError;
 use std::marker::Model;
 
 // An operation of that many components is held in sections when it changes. As measured, a small change of one list of so many costs a tenth of a millisecond, and
-// of one of a million more than eight milliseconds; in sections both cost less than a hundredth of one. To cut the list costs what five to ten such changes of it
+// of one of a million more than eight milliseconds; in long sections both cost less than a hundredth of one. To cut the list costs what five to ten such changes of it
 // do. Below that a list is cheap enough to be left as it is, and is not copied.
 const LONG: usize = 32_768;
 

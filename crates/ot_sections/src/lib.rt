@@ -27,9 +27,9 @@
 //! become one, as the fourth and the fifth here. A section of twice as many components as one has where it is cut, or more, is cut again.
 //!
 //! Long sections have 512 components where they are cut, short ones eight, or more where the operation has more than some 73,000, so that there are some nine
-//! thousand at most. Long ones are better where few places change, or nearly all; short ones where many do, each in a section among some that stay. At first they
-//! are long; when changes for which the others are better have come again and again, and cost about what it takes to cut all anew, that is done. So it is where
-//! there are 16,384 short ones.
+//! thousand when it is cut. Long ones are better where an operation changes fewer than 16 places, or more than one in eight of the short sections; short ones between
+//! these. At first they are long; when changes for which the others are better have come again and again, and cost about what it takes to cut all anew, that is done.
+//! So it is where there are 16,384 short ones.
 //!
 //! A change is prepared, which takes all memory: the steps, with the sections that come, and room for another list of sections, unless each section that changes
 //! becomes one other, which takes its place. To make the change puts sections into their places, or moves each section, once; neither that nor to take it back

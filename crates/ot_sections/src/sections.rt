@@ -8,13 +8,13 @@ ghost use Rattle.ot_text.specs.declared.TheConstants.{LIMIT};
 
 use crate::appending::append;
 use crate::counting::{count_components, count_inserted};
-use crate::cutting::{LONG, Lengths, cut, lengths_for};
+use crate::cutting::{LONG, Lengths, cut, lengths_for, short};
 use crate::images::{read, same_images};
 use ot_text::{Element, TextOp};
 use std::alloc::{AllocError, Global};
 use std::marker::Model;
 
-/// An operation in sections, each on its part of the document, and how long they are. A contract sees the operation.
+/// An operation in sections, each on its part of the document, and how many components these have where they are cut. A contract sees the operation.
 #[derive(Drop)]
 pub(crate) struct Sections<T> {
     pub(crate) ops: Vec<TextOp<T>>,
@@ -58,8 +58,8 @@ impl<T: Element> Sections<T> {
         })
     }
 
-    // The same operation, which one of `others` components is to change: cut anew where others of its kind came for which other sections are better, and else
-    // only that it came is noted. Where memory was refused it comes back.
+    // The same operation, which one of `others` components is to change: cut anew where `lengths_for` says so, and else only what it counts is kept. Where memory
+    // was refused it comes back as it was.
     pub(crate) fn suited(self, others: usize) -> Result<Sections<T>, Sections<T>>
         ensures ok { IfOk result (λ same. same ≡ self) }
         ensures err { IfErr result (λ same. same ≡ self) }
@@ -74,8 +74,16 @@ impl<T: Element> Sections<T> {
         let Ok(op) = self.to_op() else {
             return Err(self);
         };
-        match cut(&op, lengths.size) {
-            Ok(ops) => Ok(Sections { ops, lengths }),
+        let size = if lengths.size < LONG {
+            short(op.components().len())
+        } else {
+            LONG
+        };
+        match cut(&op, size) {
+            Ok(ops) => Ok(Sections {
+                ops,
+                lengths: Lengths { size, due: 0 },
+            }),
             Err(_) => Err(self),
         }
     }

@@ -174,7 +174,7 @@ fn take_one<'a, T: Element>(
     Ok(None)
 }
 
-// The first sections that stay, or the first one, or those up to one whose last element the other operation keeps.
+// The first sections that stay, or the first one by itself, or those up to one whose last element the other operation keeps, or all that are left.
 fn next_part<'a, T: Element>(
     alloc: Global,
     ops: &'a [TextOp<T>],
