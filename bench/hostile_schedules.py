@@ -206,20 +206,21 @@ def typed_by_many(clients, length):
     return [*lines, "join 0", "join 1"], length
 
 
-def every_second(client, length):
-    """An edit that deletes every second character: as many components as the text has characters, and none of them an insertion, of which a client may make 15,000."""
-    return f"edit {client} [" + ",".join(["1,-1"] * (length // 2) + ["1"] * (length % 2)) + "]"
+def every_second(client, length, text=""):
+    """An edit that deletes every second character, behind a text where one is given: as many components as the text has characters, and hardly any of them an insertion, of
+    which a client may make 15,000."""
+    return f"edit {client} [" + ",".join([f'"{text}"'] * bool(text) + ["1,-1"] * (length // 2) + ["1"] * (length % 2)) + "]"
 
 
 def ends_deleted(length):
     return f"[-1,{length - 2},-1]"
 
 
-def alternate(delivered, clients=64, entries=24000):
+def alternate(delivered, clients=64, entries=24000, text=""):
     """A client that deletes every second character of a text of 970,000, and 24,000 operations that each delete its first and its last character: they are
-    delivered to it, or its message is taken over them."""
+    delivered to it, or its message, in front of which a text may stand, is taken over them."""
     lines, length = typed_by_many(clients, 40000)
-    lines.append(every_second(0, length))
+    lines.append(every_second(0, length, text))
     for k in range(entries):
         lines += [f"edit 1 {ends_deleted(length - 2 * k)}", "take 1", "ack 1"]
     return [*lines, *["deliver 0"] * entries] if delivered else [*lines, "take 0"]
@@ -430,7 +431,15 @@ SHAPES = {
     "every-place-debugged": lambda: debugged(every_place(False), "run", "back 1"),
     "every-place-back": lambda: debugged(every_place(False), "run", "back 20"),
     "back-and-forth": lambda: debugged(split_deletion(), *["run", "back 100000"] * 5),
+    "alternate-pending-back": lambda: debugged(alternate(True), "run", "back 20"),
+    "alternate-places-back": lambda: debugged(alternate_places(), "run", "back 20"),
+    "alternate-edited-back": lambda: debugged(alternate_edited(), "run", "back 20"),
+    "alternate-pending-watched": lambda: debugged(alternate(True), "watch doc 0", *["run"] * 25000),
+    "alternate-pending-broken": lambda: debugged(alternate(True, entries=20000), *[f"break {place}" for place in range(60000, 80000)], *["run"] * 20000),
+    "wide-deletions-back": lambda: debugged(wide_deletions(), "run", "back 20"),
     "long-message-differs": lambda: differs_last(long_message(), "appended"),
+    "alternate-message-differs": lambda: differs_last(alternate(False), "appended"),
+    "alternate-message-with-a-letter-differs": lambda: differs_last(alternate(False, entries=2000, text="b"), "appended"),
     "reads-debugged": lambda: debugged(reads(), "run", "back 100000", "run"),
 }
 WORDS = ("run", "check", "steps", "explain", "conform")

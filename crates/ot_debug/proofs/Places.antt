@@ -20,7 +20,7 @@ use Rattle.ot_debug.specs.Stops.{IsRefusedAt}
 use Rattle.ot_debug.specs.declared.command.Watched.{Watched}
 use Rattle.ot_debug.specs.declared.recent.Recent.{Recent}
 use Rattle.ot_debug.specs.Session.{IsSession}
-use Rattle.ot_debug.specs.Stepping.{session_of, is_read, undos_in, Advances, AreLast, AreRecords, AreShownBefore, AreUndos, GoOn, IsKept, IsPushed, OneMore, shown_at, AreLists}
+use Rattle.ot_debug.specs.Stepping.{session_of, is_read, undos_in, Advances, AreLast, AreShownBefore, AreUndos, GoOn, IsAsBefore, IsKept, IsPushed, OneMore, shown_at, AreLists}
 use Rattle.ot_debug.proofs.Rows.{row_leaves}
 
 -- the place is there as far as the run goes
@@ -159,31 +159,36 @@ pushed_some undo undos records pushed none =
     let f : length (pushed.rest ++ undo ∷ []) ≡ 0 = ap length (sym pushed.are ∙ none) in
     absurd (omega (arith, e, f))
 
--- one more instruction performed again, with a record
-pub recorded_next :
-    (s : Program) (p q : ℕ) (state t : State) (undos records : Recent) (i : Instr) (list : Option Shown)
-    → IsStateAt s p state → AreRecords s p undos → slice_get s.instrs p ≡ Some i → step state i ≡ Performed t list → OneMore state t (undos_in undos) (undos_in records)
-    → records.kept ≡ undos.kept → q ≡ suc p
-    → IsStateAt s q t × AreRecords s q records
-recorded_next s p q state t undos records i list was are here performed one kept on =
-    subst (λ n. IsStateAt s n t × AreRecords s n records) (sym on) (
-      record { shown = with_shown was.shown list; at = next },
-      record {
-        last = last_more s p (record { state = state; shown = was.shown }) (record { state = t; shown = with_shown was.shown list }) (undos_in undos) (undos_in records) are.last was.at next one;
-        some = λ less. pushed_some one.undo (undos_in undos) (undos_in records) one.more;
-        kept = kept ∙ are.kept;
-      },
-    )
-  where
-    next : place_at s (suc p) ≡ Some (record { state = t; shown = with_shown was.shown list })
-    next = place_at-next s p (record { state = state; shown = was.shown }) i t list was.at here performed
-
 -- the records as an instruction that is performed leaves them
 go_on :
     (s : Program) (p : ℕ) (q r : Place) (undos records : Recent) (leaves : Bool) → AreLast s p (undos_in undos) → place_at s p ≡ Some q → place_at s (suc p) ≡ Some r
     → GoOn leaves q.state r.state undos records → AreLast s (suc p) (undos_in records)
 go_on s p q r undos records true last at next on = last_more s p q r (undos_in undos) (undos_in records) last at next on.0
 go_on s p q r undos records false last at next on = last_none s (suc p) (undos_in records) on.0
+
+-- one more instruction performed again
+pub again_next :
+    (s : Program) (p q : ℕ) (state t : State) (undos records : Recent) (i : Instr) (list : Option Shown) (leaves : Bool)
+    → IsStateAt s p state → AreLast s p (undos_in undos) → slice_get s.instrs p ≡ Some i → step state i ≡ Performed t list → GoOn leaves state t undos records → q ≡ suc p
+    → IsStateAt s q t × AreLast s q (undos_in records)
+again_next s p q state t undos records i list leaves was last here performed on next_is =
+    subst (λ n. IsStateAt s n t × AreLast s n (undos_in records)) (sym next_is) (
+      record { shown = with_shown was.shown list; at = next },
+      go_on s p (record { state = state; shown = was.shown }) (record { state = t; shown = with_shown was.shown list }) undos records leaves last was.at next on,
+    )
+  where
+    next : place_at s (suc p) ≡ Some (record { state = t; shown = with_shown was.shown list })
+    next = place_at-next s p (record { state = state; shown = was.shown }) i t list was.at here performed
+
+-- one that leaves a record has left one
+pub left_some : (state t : State) (undos records : Recent) (leaves : Bool) → leaves ≡ true → GoOn leaves state t undos records → undos_in records ≢ []
+left_some state t undos records true is_left on = pushed_some on.0.undo (undos_in undos) (undos_in records) on.0.more
+left_some state t undos records false is_left on = absurd (cc)
+
+-- it is so too where the records before it are kept in another way
+pub go_on_as_before : (state t : State) (undos later records : Recent) (leaves : Bool) → IsAsBefore undos later → GoOn leaves state t later records → GoOn leaves state t undos records
+go_on_as_before state t undos later records true same on = (subst (λ us. OneMore state t us (undos_in records)) same.0 on.0, on.1 ∙ same.1)
+go_on_as_before state t undos later records false same on = (on.0, on.1 ∙ same.1)
 
 -- the debugger one instruction on
 kept_next :

@@ -25,17 +25,21 @@
 //!   Where `Back` is to go further and there are no records, another machine performs the schedule once more, from the opening up to the place where one goes, and leaves a
 //!   record of each instruction; then it takes the place of the first one. To the opening that is nothing.
 //!   The records are a stack: `Back` takes them off one by one, and once somebody has gone back all that is performed adds its own, until the opening is reached.
+//! - Where an operation of 32,768 components or more waits, an instruction touches a few of them, and a record of it costs all (costs.rt). Going forth such records are left near
+//!   a stop alone, and few: 32, one more for each 1,024 instructions, and one for each step back. Where the schedule is performed once more the last 64 instructions leave
+//!   such ones.
 //! - The records together have a budget. Beyond it the oldest go, so they are those of the last performed instructions, of half a budget's worth at least where they were more.
 //!   So the memory that they take is bounded, and a `Back` performs once more at most, however far it goes.
 //! - What grows does so before anything is changed. After `Memory` the debugger stands after a whole number of instructions,
 //!   between its old place and the one to which the command would have gone.
 //!
-//! Begin reading at `Debugging` in debugger.rt, then stepping.rt (one instruction forth, and back), records.rt (what takes one back), recent.rt (their stack),
-//! watching.rt (what watches see), changing.rt (whether an operation changes a list) and moving.rt (the commands that move); settings.rt has the others.
+//! Begin reading at `Debugging` in debugger.rt, then stepping.rt (one instruction forth, and back), records.rt (what takes one back), costs.rt (which ones cost much), recent.rt
+//! (their stack), watching.rt (what watches see), changing.rt (whether an operation changes a list) and moving.rt (the commands that move); settings.rt has the others.
 #![tactic(auto)]
 
 mod changing;
 mod command;
+mod costs;
 mod debugger;
 pub mod laws;
 mod moving;

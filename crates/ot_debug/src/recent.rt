@@ -9,7 +9,7 @@
 //! push there are records of half the budget's size at least, or all that were pushed since they were forgotten and not popped, and never more than two halves and what each
 //! has beyond its size, which is a part of one record.
 
-ghost use Rattle.std.specs.Prelude.{◌≡◌, ◌≢◌, ◌<◌, ◌↔◌, ◌++◌, ◌∷◌, ◌⊎◌, [], true, false, vec_capacity, vec_len, IfOk, IfSome, IsTrue, None, OnOk};
+ghost use Rattle.std.specs.Prelude.{◌≡◌, ◌≢◌, ◌<◌, ◌↔◌, ◌++◌, ◌∷◌, ◌⊎◌, ◌||◌, [], true, false, vec_capacity, vec_len, IfOk, IfSome, IsTrue, None, OnOk};
 ghost use Rattle.ot_debug.specs.Stepping.{undos_in, IsAsBefore, IsPushed};
 
 use ot_machine::Undo;
@@ -38,6 +38,13 @@ impl Half {
     }
 }
 
+/// What a costly record takes of the credit, to which each instruction without one adds 1: so going forth all of them together cost about what the run does. Each step
+/// back adds a whole price.
+const PRICE: usize = 1024;
+
+/// The most credit that there is, and what there is at first: 32 costly records.
+const CREDIT: usize = 32 * PRICE;
+
 /// The records of the last instructions, in two halves of which the older one is forgotten where the newer one is full.
 #[derive(Drop)]
 pub(crate) struct Recent {
@@ -45,6 +52,8 @@ pub(crate) struct Recent {
     limit: usize,
     // whether all that is performed leaves records: from where somebody goes back, until the opening is reached
     pub kept: bool,
+    // for records that cost much
+    credit: usize,
     older: Half,
     newer: Half,
 }
@@ -59,6 +68,7 @@ impl Recent {
         Recent {
             limit,
             kept: false,
+            credit: CREDIT,
             older: Half::new(alloc),
             newer: Half::new(alloc),
         }
@@ -78,6 +88,7 @@ impl Recent {
         Ok(Recent {
             limit,
             kept: true,
+            credit: CREDIT,
             older: Half::new(alloc),
             newer: Half { undos, size: 0 },
         })
@@ -117,13 +128,30 @@ impl Recent {
         self.newer = Half::new(alloc);
     }
 
-    /// What they are told where somebody has gone back: from then on all that is performed leaves some; at the opening no more are wanted, until somebody goes back again.
+    /// What they are told where somebody has gone back: from then on all that is performed leaves some; at the opening no more are wanted, until somebody goes back again. There
+    /// is credit for one more costly record then: who goes back and forth by turns is not to lose all.
     pub(crate) fn went_back_to(&mut self, position: usize)
         ensures same { undos_in self.new ≡ undos_in self.old }
         ensures limit { self.new.limit ≡ self.old.limit }
         ensures kept { IsTrue self.new.kept ↔ (0 < position) }
     {
         self.kept = position > 0;
+        self.credit = self.credit.saturating_add(PRICE).min(CREDIT);
+    }
+
+    /// Whether the next instruction leaves a record: where all do, or it is `near` a stop. A costly one is left only near a stop, and where there is credit for it, which it takes.
+    pub(crate) fn leaves(&mut self, near: bool, costly: bool) -> bool
+        ensures same { IsAsBefore self.old self.new }
+        ensures limit { self.new.limit ≡ self.old.limit }
+        ensures cheap { costly ≡ false → result ≡ (self.old.kept || near) }
+        ensures costly { costly ≡ true → IsTrue result → IsTrue near }
+    {
+        if costly && near && self.credit >= PRICE {
+            self.credit -= PRICE;
+            return true;
+        }
+        self.credit = self.credit.saturating_add(1).min(CREDIT);
+        !costly && (self.kept || near)
     }
 
     /// Makes room for one more.

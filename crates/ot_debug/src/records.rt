@@ -1,17 +1,21 @@
 //! Instructions performed with and without records, and once more where somebody goes back beyond these.
 
-ghost use Rattle.std.specs.Prelude.{◌≡◌, ◌≢◌, ◌≤◌, ◌==◌, ◌||◌, IfErr, IfOk, OnErr, OnOk};
+ghost use Rattle.std.specs.Prelude.{◌≡◌, ◌≢◌, ◌≤◌, ◌==◌, IfErr, IfOk, OnErr, OnOk};
 ghost use Rattle.ot_model.specs.declared.shown.Refusal.TheVariants.{Memory};
 ghost use Rattle.ot_model.specs.Runs.{done, IsStateAt};
 ghost use Rattle.ot_model.specs.Table.{step, Refused};
 ghost use Rattle.ot_machine.specs.Undoing.{Undoes};
 ghost use Rattle.ot_debug.specs.Stepping.{undos_in, AreRecords, Gives, GoOn, IsAsBefore, OneMore};
 
+use crate::costs::is_costly;
 use crate::debugger::opening;
 use crate::recent::Recent;
 use ot_isa::{Instr, Schedule};
 use ot_machine::{Machine, Refusal, Shown, Undo};
 use std::alloc::{AllocError, Global};
+
+/// Where instructions are performed once more so many of the last ones leave records, however much these cost.
+const LAST: usize = 64;
 
 // Performs the instruction, and gives the list that it shows where `LISTS` is 1. Else no list is copied.
 fn perform_plain<const LISTS: u8>(
@@ -66,22 +70,22 @@ fn perform_recorded<const LISTS: u8>(
     Ok(list)
 }
 
-/// Performs the instruction, and gives the list that it shows where `LISTS` is 1. Where instructions leave records, or this one is to (`near`), it adds one
-/// too; else those that there were go. Every refusal leaves all as it was.
+/// Performs the instruction, and gives the list that it shows where `LISTS` is 1. Where it `leaves` a record this is added; else those that there were go. Every
+/// refusal leaves all as it was.
 pub(crate) fn perform<const LISTS: u8>(
     machine: &mut Machine,
     undos: &mut Recent,
     instr: &Instr,
-    near: bool,
+    leaves: bool,
 ) -> Result<Option<Shown>, Refusal>
     ensures done { IfOk result (λ list. Gives (LISTS == 1) machine.old instr.now machine.new list) }
-    ensures records { OnOk result (GoOn (undos.old.kept || near) machine.old machine.new undos.old undos.new) }
+    ensures records { OnOk result (GoOn leaves machine.old machine.new undos.old undos.new) }
     ensures limit { undos.new.limit ≡ undos.old.limit }
     ensures refused { IfErr result (λ r. r ≢ Memory → step machine.old instr.now ≡ Refused r) }
     ensures unchanged { OnErr result (machine.new ≡ machine.old) }
     ensures records_stay { OnErr result (IsAsBefore undos.old undos.new) }
 {
-    if undos.kept || near {
+    if leaves {
         return perform_recorded::<LISTS>(machine, undos, instr);
     }
     let list = perform_plain::<LISTS>(machine, instr)?;
@@ -90,7 +94,7 @@ pub(crate) fn perform<const LISTS: u8>(
 }
 
 /// Performs so many of the schedule's instructions once more, from the opening on. Gives another machine, which stands after them, and the records of
-/// the last ones, of one at least where there is one.
+/// the last ones, of one at least where there is one. A record that is costly is left by the last [`LAST`] alone.
 pub(crate) fn perform_again(
     alloc: Global,
     schedule: &Schedule,
@@ -108,7 +112,8 @@ pub(crate) fn perform_again(
         let Some(instr) = schedule.get(place) else {
             unreachable!()
         };
-        if let Err(refusal) = perform_recorded::<0>(&mut machine, &mut undos, instr) {
+        let leaves = count - place <= LAST || !is_costly(&machine, instr);
+        if let Err(refusal) = perform::<0>(&mut machine, &mut undos, instr, leaves) {
             match refusal {
                 Refusal::Memory => return Err(AllocError),
                 _ => unreachable!(),

@@ -8,6 +8,7 @@ ghost use Rattle.ot_debug.specs.Stops.{IsRefusedAt};
 ghost use Rattle.ot_debug.specs.Answers.{Keeps};
 ghost use Rattle.ot_debug.specs.Stepping.{is_read, shown_at, Advances, AreLists, AreShownBefore};
 
+use crate::costs::is_costly;
 use crate::debugger::Debugging;
 use crate::records::{perform, perform_again};
 use ot_isa::{Instr, Schedule};
@@ -59,7 +60,8 @@ fn drop_shown(shown: &mut Vec<Shown>, schedule: &Schedule, from: usize, to: usiz
 }
 
 impl<const LISTS: u8> Debugging<LISTS> {
-    // Performs the next instruction, which leaves a record where somebody may soon go back (`near`). `Memory` leaves all as it was, as every refusal does.
+    // Performs the next instruction, which leaves a record where somebody may soon go back (`near`), unless it would cost too much. `Memory` leaves all as it was, as
+    // every refusal does.
     pub(crate) fn forward(&mut self, near: bool) -> Result<(), Refusal>
         requires { self.old.position < length self.old.schedule.instrs }
         ensures done { OnOk result (Advances self.old self.new) }
@@ -70,7 +72,9 @@ impl<const LISTS: u8> Debugging<LISTS> {
         let Some(instr) = self.schedule.get(self.position) else {
             unreachable!()
         };
-        let list = perform::<LISTS>(&mut self.machine, &mut self.undos, instr, near)?;
+        let costly = is_costly(&self.machine, instr);
+        let leaves = self.undos.leaves(near, costly);
+        let list = perform::<LISTS>(&mut self.machine, &mut self.undos, instr, leaves)?;
         self.position += 1;
         keep_shown(&mut self.shown, list);
         Ok(())

@@ -107,7 +107,8 @@ fn go_on_behind_component(byte: u8) -> Result<Before, &'static str> {
         b',' => Ok(Before::Comma),
         b']' => Ok(Before::Closing),
         b'"' | b'-' | b'0'..=b'9' => Err("a comma is missing before this component"),
-        _ => begin(byte),
+        b'.' | b'\'' | b'[' | b'{' => begin(byte),
+        _ => Err("a comma, or the bracket that closes the array, stands behind a component"),
     }
 }
 
@@ -247,6 +248,10 @@ fn word_cause(word: &[u8]) -> &'static str {
 fn number_cause(line: &[u8]) -> (usize, &'static str) {
     let start = start_of(line, 1);
     let (_, rest) = line.split_at(start);
+    let (word, _) = split_word(trimmed(line));
+    if word == b"read".as_slice() && rest.starts_with(b"server".as_slice()) {
+        return (start, "the server's document is read by `read-server`");
+    }
     let digits = rest.iter().take_while(|byte| byte.is_ascii_digit()).count();
     match rest.get(digits) {
         Some(b'[') if digits > 0 => (

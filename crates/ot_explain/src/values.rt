@@ -4,6 +4,7 @@ ghost use Rattle.std.specs.Prelude.{◌≡◌, ◌++◌, ◌<◌, length, IfOk, 
 ghost use Rattle.std.specs.Option.{option_copied, option_map};
 ghost use Rattle.ot_machine.specs.Readers.{ClientHas};
 ghost use Rattle.ot_steps.specs.Lines.{plain_operation};
+ghost use Rattle.ot_text.specs.Run.{normal_runs};
 ghost use Rattle.ot_json.specs.Writing.{text_of_operation};
 ghost use Rattle.ot_explain.specs.Words.{document_text, entry_text, is_short, list_text, made_text, operation_text, operation_words, size_text, size_words};
 
@@ -31,11 +32,12 @@ fn is_short<T: Element>(op: &TextOp<T>) -> bool
     op.components().len() <= FEW_COMPONENTS && op.inserted() <= FEW_INSERTED
 }
 
-// Whether an operation that waits is shown whole.
-fn is_held_short<T: Element>(op: &Held<T>) -> bool
+// Whether an operation of so many components that waits is shown whole.
+fn is_held_short<T: Element>(op: &Held<T>, count: usize) -> bool
+    requires { count ≡ length (normal_runs op.now) }
     ensures { result ≡ is_short op.now }
 {
-    op.components() <= FEW_COMPONENTS && op.inserted() <= FEW_INSERTED
+    count <= FEW_COMPONENTS && op.inserted() <= FEW_INSERTED
 }
 
 // So many components, which make documents of the target length of those of the base length.
@@ -57,15 +59,17 @@ fn push_size<T: Element>(alloc: Global, text: &mut String, op: &TextOp<T>) -> Re
     text.push_str(size.as_str())
 }
 
-// Adds an operation that waits by its size.
+// Adds an operation of so many components that waits by its size.
 fn push_held_size<T: Element>(
     alloc: Global,
     text: &mut String,
     op: &Held<T>,
+    count: usize,
 ) -> Result<(), AllocError>
+    requires { count ≡ length (normal_runs op.now) }
     ensures { OnOk result (string_bytes text.new ≡ string_bytes text.old ++ size_text op.now) }
 {
-    let size = size_words(alloc, op.components(), op.base_len(), op.target_len())?;
+    let size = size_words(alloc, count, op.base_len(), op.target_len())?;
     text.push_str(size.as_str())
 }
 
@@ -117,10 +121,12 @@ pub(crate) fn push_held(
 ) -> Result<(), AllocError>
     ensures { OnOk result (string_bytes text.new ≡ string_bytes text.old ++ operation_text op.now) }
 {
-    if is_held_short(op) {
+    // (They are counted once: of an operation in sections that is a look at each.)
+    let count = op.components();
+    if is_held_short(op, count) {
         push_held_array(alloc, text, op)
     } else {
-        push_held_size(alloc, text, op)
+        push_held_size(alloc, text, op, count)
     }
 }
 

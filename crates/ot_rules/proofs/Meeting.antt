@@ -1,11 +1,13 @@
 -- Two operations that insert at no place both: whose text would go first there makes no difference.
-use Rattle.std.proofs.Common.{◌≡◌, ℕ, zero, suc, ◌+◌, ◌-◌, ◌<◌, ◌≤◌, List, [], ◌∷◌, ◌++◌, length, map, Bool, refl, sym, ap, ◌∙◌, true, false, arith}
-use Rattle.ot_text.specs.Operation.{Item, Operation, Old, New, news, olds, empty}
+use Rattle.std.proofs.Common.{◌≡◌, ℕ, zero, suc, ◌+◌, ◌-◌, ◌<◌, ◌≤◌, List, [], ◌∷◌, ◌++◌, length, map, Bool, refl, sym, ap, ◌∙◌, true, false, ◌&&◌, Some, arith}
+use Rattle.ot_text.specs.Operation.{Item, Operation, Old, New, news, olds, empty, IsOperation}
 use Rattle.ot_text.specs.Components.{run_of, runs}
 use Rattle.ot_text.specs.declared.Component.{Component}
 use Rattle.ot_text.specs.Texts.{Text}
 use Rattle.ot_text.specs.declared.Component.TheVariants.{Retain, Insert, Delete}
-use Rattle.ot_text.specs.Run.{Run, Keep, Add, Skip, IsNormal, base_of, image_from, operation_of}
+use Rattle.ot_text.specs.Run.{Run, Keep, Add, Skip, IsNormal, base_of, image_from, normal_runs, operation_of}
+use Rattle.std.proofs.lemmas.Bool.{eqb-true}
+use Rattle.ot_text.proofs.Normal.{runs_normal}
 use Rattle.ot_text.proofs.Replaced.{inserted-append}
 use Rattle.ot_text.proofs.RunLemmas.{length-news-append, length-news-news, length-news-olds}
 use Rattle.ot_algebra.specs.Cursor.{appended, transformed_part}
@@ -17,6 +19,7 @@ use Rattle.ot_algebra.proofs.RunSlots.{StartsOtherwise, image-slots_of_runs, slo
 use Rattle.ot_algebra.proofs.Slots.{Slot, after, gap_of, placed, slots_image, slots_merged}
 use Rattle.ot_algebra.proofs.Slots.Slot.{Stays, Gone}
 use Rattle.ot_algebra.proofs.TransformProgress.{Progress, progress_begin, progress_insert_first, progress_insert_second}
+use Rattle.ot_rules.specs.Wrong.{first_of, may_transform, turned}
 use Rattle.ot_rules.proofs.Behind.{arm_both}
 
 -- ---- the merge, with either text first
@@ -165,6 +168,24 @@ pub second_none : (a b : Operation ℕ) (xs ys : List (Run ℕ)) → Abreast a b
 second_none a b xs ys w none =
     let parts = slots_none ys none in
     abreast_same a b xs ys w (alone_second (slots_of_runs xs).0 (slots_of_runs ys).0 parts.0) (apart_second 0 (slots_of_runs xs).1 (slots_of_runs ys).1 parts.1)
+
+-- so it is of any operation that adds none
+pub without_text : (a b : Operation ℕ) → IsOperation a → IsOperation b → a.base ≡ b.base → length (news b.image) ≡ 0 → first_after b a ≡ second_after a b
+without_text a b first second same none =
+    let (first_normal, a_is) = runs_normal a first in
+    let (second_normal, b_is) = runs_normal b second in
+    second_none a b (normal_runs a) (normal_runs b) (abreast_begin a b (normal_runs a) (normal_runs b) a_is b_is first_normal second_normal same)
+    (ap (λ (op : Operation ℕ). length (news op.image)) b_is ∙ none)
+
+-- and whichever text goes first the other one carries it alike, where transform takes the two
+left_true : (a b : Bool) → (a && b) ≡ true → a ≡ true
+left_true true b e = refl
+left_true false b e = absurd (cc)
+
+pub turned_without_text : (op other : Operation ℕ) → IsOperation op → IsOperation other → length (news op.image) ≡ 0 → may_transform other op ≡ true → Some (first_after op other) ≡ first_of (turned op other)
+turned_without_text op other own theirs none may =
+    let same : other.base ≡ op.base = eqb-true other.base op.base (left_true _ _ may) in
+    rw may (ap (λ (next : Operation ℕ). Some next) (without_text other op theirs own same none))
 
 -- ---- component by component
 

@@ -1,6 +1,7 @@
 //! What typical wrong rules make of a call.
 
-ghost use Rattle.std.specs.Prelude.{◌≡◌, IfOk, Some};
+ghost use Rattle.std.specs.Prelude.{◌≡◌, length, IfOk, Some};
+ghost use Rattle.ot_text.specs.Operation.{news, IsOperation};
 ghost use Rattle.ot_rules.specs.Call.{call_value};
 ghost use Rattle.ot_rules.specs.Wrong as wrong;
 
@@ -8,6 +9,7 @@ use crate::call::{Call, Waiting};
 use crate::carried::carried_behind;
 use crate::field::Field;
 use ot_algebra::transform;
+use ot_sections::Held;
 use ot_text::{LIMIT, TextOp};
 use std::alloc::{AllocError, Global};
 
@@ -174,14 +176,42 @@ fn turned_delivery(alloc: Global, waiting: &Waiting, op: &TextOp<char>) -> Resul
     }
 }
 
-// The first of both, for an operation that is no longer wanted.
-fn turned_first(op: TextOp<char>, other: &TextOp<char>) -> Result<Option<TextOp<char>>, AllocError>
+// Transform takes the other one and an operation that may be in sections, and inserts nothing.
+fn may_follow(op: &Held<char>, other: &TextOp<char>) -> bool
+    requires { length (news op.now.image) ≡ 0 }
+    ensures may { result ≡ wrong.may_transform other.now op.now }
+    ensures operation { IsOperation op.now }
+    ensures other { IsOperation other.now }
+{
+    other.base_len() == op.base_len()
+        && other.base_len() + (other.inserted() + op.inserted()) <= LIMIT
+}
+
+// The first of both, for an operation that is no longer wanted and inserts nothing: it makes no difference whose text goes first.
+fn followed(op: Held<char>, other: &TextOp<char>) -> Result<Option<Held<char>>, AllocError>
+    requires { length (news op.image) ≡ 0 }
     ensures { IfOk result (λ next. next ≡ wrong.first_of (wrong.turned op other.now)) }
 {
+    if !may_follow(&op, other) {
+        return Ok(None);
+    }
+    Ok(Some(op.follow(other)?))
+}
+
+// The first of both, for an operation that is no longer wanted. Where it inserts nothing it may be in sections from then on.
+fn turned_first(op: Held<char>, other: &TextOp<char>) -> Result<Option<Held<char>>, AllocError>
+    ensures { IfOk result (λ next. next ≡ wrong.first_of (wrong.turned op other.now)) }
+{
+    if op.inserted() == 0 {
+        return followed(op, other);
+    }
+    let Ok(op) = op.into_op() else {
+        return Err(AllocError);
+    };
     if !may_transform(other, &op) {
         return Ok(None);
     }
-    Ok(Some(carried_behind(op, other)?))
+    Ok(Some(Held::new(carried_behind(op, other)?)))
 }
 
 // A message over the log. It is copied once; each entry changes the copy.
@@ -191,17 +221,21 @@ fn turned_over(
 ) -> Result<Option<TextOp<char>>, AllocError>
     ensures { IfOk result (λ carried. carried ≡ wrong.turned_over op.now concurrent.now) }
 {
-    let mut carried = op.copy()?;
+    let mut carried = Held::new(op.copy()?);
     for other in concurrent {
         let Some(next) = turned_first(carried, other)? else {
             return Ok(None);
         };
         carried = next;
     }
-    Ok(Some(carried))
+    match carried.into_op() {
+        Ok(op) => Ok(Some(op)),
+        Err(_) => Err(AllocError),
+    }
 }
 
-/// The rule with a transform in which the text of the second argument goes first. A message over the log costs for each entry what `carried_behind` does.
+/// The rule with a transform in which the text of the second argument goes first. A message over the log costs for each entry what `carried_behind` does, and
+/// where it inserts nothing what `Held::follow` does.
 pub fn made_turned(alloc: Global, call: &Call) -> Result<Made, AllocError>
     ensures { IfOk result (λ made. made ≡ wrong.made_turned (call_value call.now)) }
 {
