@@ -1,7 +1,7 @@
 """Writes schedules within the limits that are hard to run or to debug, and times the program on each.
 
 `python3 bench/hostile_schedules.py [--program PATH] [SHAPE..]` times all shapes or those that are named, and prints processor time and peak memory
-of `run`, `check`, `steps`, `explain`, and `conform` on the lines of a port that prints places alone; `--write FOLDER` writes them there. Those that are debugged carry a line `%%` and
+of `run`, `check`, `steps` (but where it would write tens of gigabytes), `explain`, and `conform` on the lines of a port that prints places alone; `--write FOLDER` writes them there. Those that are debugged carry a line `%%` and
 their commands, those that are compared alone a line `%%` and a port's lines.
 """
 import sys
@@ -463,11 +463,19 @@ def words_for(lines):
     return ("conform",) if lines[lines.index("%%") + 1].startswith("{") else ("debug",)
 
 
+def is_too_much(word, lines):
+    """Whether `steps` would write some 20 GB or more: its lines have all that waits, which may be as long as the longest edit."""
+    return word == "steps" and max(map(len, lines)) * len(lines) > 20e9
+
+
 def measure(program, lines, room):
     """Of each subcommand: processor time, peak memory, and the status."""
     path = f"{room}/schedule.ots"
     told = []
     for word in words_for(lines):
+        if is_too_much(word, lines):
+            told.append("steps not measured")
+            continue
         write(ported(lines) if word == "conform" and "%%" not in lines else lines, path)
         seconds, memory, status, _ = run(program, word, path)
         told.append(f"{word} {seconds:.2f} s, {memory:.0f} MB, status {status}")

@@ -70,6 +70,13 @@ test("a page that cannot be written is named in a line", { skip: !fs.existsSync(
   fs.closeSync(full);
 });
 
+test("an input that cannot be read is named in a line", () => {
+  const input = fs.openSync(folder, "r");
+  const { status, stdout, stderr } = spawnSync(link, ["view"], { stdio: [input, "pipe", "pipe"], encoding: "utf8" });
+  assert.deepEqual([status, stdout, stderr], [1, "", "otbench: ReadFault\n"]);
+  fs.closeSync(input);
+});
+
 test("words behind `view` are answered by what it reads", () => {
   for (const words of [["view", "story.ots"], ["view", "--help"], ["help", "view"]]) {
     const { stdout, stderr, status } = call(words, example("weak-order"));

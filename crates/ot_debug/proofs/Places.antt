@@ -185,10 +185,10 @@ pub left_some : (state t : State) (undos records : Recent) (leaves : Bool) → l
 left_some state t undos records true is_left on = pushed_some on.0.undo (undos_in undos) (undos_in records) on.0.more
 left_some state t undos records false is_left on = absurd (cc)
 
--- it is so too where the records before it are kept in another way
-pub go_on_as_before : (state t : State) (undos later records : Recent) (leaves : Bool) → IsAsBefore undos later → GoOn leaves state t later records → GoOn leaves state t undos records
-go_on_as_before state t undos later records true same on = (subst (λ us. OneMore state t us (undos_in records)) same.0 on.0, on.1 ∙ same.1)
-go_on_as_before state t undos later records false same on = (on.0, on.1 ∙ same.1)
+-- it is so too where the same records are kept in another way afterwards
+pub go_on_later : (state t : State) (undos records later : Recent) (leaves : Bool) → IsAsBefore records later → GoOn leaves state t undos records → GoOn leaves state t undos later
+go_on_later state t undos records later true same on = (subst (λ us. OneMore state t (undos_in undos) us) (sym same.0) on.0, same.1 ∙ on.1)
+go_on_later state t undos records later false same on = (same.0 ∙ on.0, same.1 ∙ on.1)
 
 -- the debugger one instruction on
 kept_next :

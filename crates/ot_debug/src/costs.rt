@@ -1,41 +1,48 @@
-//! Which records cost much.
+//! What a record costs beside its instruction.
 //!
 //! An operation of many components that waits is held in sections, of which an instruction touches a few. What takes the instruction back speaks of places in one list: so where a record
-//! is left the sections become one list first, and all of it is gone over.
+//! is left the sections become one list first, and all components are gone over.
 
 ghost use Rattle.std.specs.Prelude.{◌≡◌, ◌<◌, length, true};
 ghost use Rattle.ot_machine.specs.Readers.{ClientHas};
 ghost use Rattle.ot_model.specs.Table.{is_joined};
 
 use ot_client::Client;
-use ot_isa::{Instr, Tagged};
+use ot_isa::{Instr, Schedule, Tagged};
 use ot_machine::Machine;
 use ot_sections::{Held, is_long};
 
-// Whether the operation is held in sections, or would be after its next change without a record.
-fn is_in_sections(op: &Held<Tagged>) -> bool {
+// An operation in sections had so many components when it was cut. It may have fewer by now.
+const LONG: usize = 32_768;
+
+// How many components are gone over where a change of the operation leaves a record, and are not where it leaves none. (One list that is short is gone over either way.) Where it
+// would be more than `most`, sections are not counted.
+fn gone_over(op: &Held<Tagged>, most: usize) -> usize {
     match op.whole() {
-        Some(op) => is_long(op),
-        None => true,
+        Some(whole) if !is_long(whole) => 0,
+        Some(whole) => whole.components().len(),
+        None if most < LONG => usize::MAX,
+        None => op.components(),
     }
 }
 
-// Whether a record of another's operation that comes to the client goes over all of a long one.
-fn delivery_is_costly(client: &Client<Tagged>) -> bool {
+// Where another's operation comes to the client.
+fn cost_of_delivery(client: &Client<Tagged>, most: usize) -> usize {
     match client {
-        Client::Synchronized(_) => false,
-        Client::AwaitingConfirm(client) => is_in_sections(client.outstanding()),
+        Client::Synchronized(_) => 0,
+        Client::AwaitingConfirm(client) => gone_over(client.outstanding(), most),
         Client::AwaitingWithBuffer(client) => {
-            is_in_sections(client.outstanding()) || is_in_sections(client.buffer())
+            let outstanding = gone_over(client.outstanding(), most);
+            outstanding.saturating_add(gone_over(client.buffer(), most))
         }
     }
 }
 
-// Whether a record of an edit of the client goes over all of a long operation.
-fn edit_is_costly(client: &Client<Tagged>) -> bool {
+// Where the client edits: its buffer alone changes.
+fn cost_of_edit(client: &Client<Tagged>, most: usize) -> usize {
     match client {
-        Client::Synchronized(_) | Client::AwaitingConfirm(_) => false,
-        Client::AwaitingWithBuffer(client) => is_in_sections(client.buffer()),
+        Client::Synchronized(_) | Client::AwaitingConfirm(_) => 0,
+        Client::AwaitingWithBuffer(client) => gone_over(client.buffer(), most),
     }
 }
 
@@ -47,15 +54,24 @@ fn is_present(machine: &Machine, client: u16) -> bool
     client < machine.clients() && machine.joined(client)
 }
 
-/// Whether to leave a record of the instruction, the machine's next one, costs all components of a long operation, where without one it costs those that it touches.
-pub(crate) fn is_costly(machine: &Machine, instr: &Instr) -> bool {
+/// How many components a record of the instruction, the machine's next one, goes over that the instruction itself does not: a hundred take about a microsecond. 0 where it costs little.
+/// Where an operation is in sections it takes a look at each, but none where `most` is below 32,768: then it is said to be more.
+pub(crate) fn cost(machine: &Machine, instr: &Instr, most: usize) -> usize {
     match instr {
         Instr::Edit(client, _) if is_present(machine, *client) => {
-            edit_is_costly(machine.client(*client))
+            cost_of_edit(machine.client(*client), most)
         }
         Instr::Deliver(client) if is_present(machine, *client) => {
-            delivery_is_costly(machine.client(*client))
+            cost_of_delivery(machine.client(*client), most)
         }
-        _ => false,
+        _ => 0,
+    }
+}
+
+/// So many of the schedule's instruction at a place, where the machine stands; 0 at its end.
+pub(crate) fn cost_at(place: usize, machine: &Machine, schedule: &Schedule) -> usize {
+    match schedule.get(place) {
+        Some(instr) => cost(machine, instr, usize::MAX),
+        None => 0,
     }
 }

@@ -7,15 +7,12 @@ ghost use Rattle.ot_model.specs.Table.{step, Refused};
 ghost use Rattle.ot_machine.specs.Undoing.{Undoes};
 ghost use Rattle.ot_debug.specs.Stepping.{undos_in, AreRecords, Gives, GoOn, IsAsBefore, OneMore};
 
-use crate::costs::is_costly;
+use crate::costs::cost;
 use crate::debugger::opening;
 use crate::recent::Recent;
 use ot_isa::{Instr, Schedule};
 use ot_machine::{Machine, Refusal, Shown, Undo};
 use std::alloc::{AllocError, Global};
-
-/// Where instructions are performed once more so many of the last ones leave records, however much these cost.
-const LAST: usize = 64;
 
 // Performs the instruction, and gives the list that it shows where `LISTS` is 1. Else no list is copied.
 fn perform_plain<const LISTS: u8>(
@@ -94,12 +91,14 @@ pub(crate) fn perform<const LISTS: u8>(
 }
 
 /// Performs so many of the schedule's instructions once more, from the opening on. Gives another machine, which stands after them, and the records of
-/// the last ones, of one at least where there is one. A record that is costly is left by the last [`LAST`] alone.
+/// the last ones, of one at least where there is one: an instruction leaves none where its record, and as many like it as there are up to the last one, would go over more than `reach`
+/// components.
 pub(crate) fn perform_again(
     alloc: Global,
     schedule: &Schedule,
     count: usize,
     limit: usize,
+    reach: usize,
 ) -> Result<(Machine, Recent), AllocError>
     requires { count ≤ done schedule.now }
     ensures state { IfOk result (λ given. IsStateAt schedule.now count given.0) }
@@ -112,7 +111,9 @@ pub(crate) fn perform_again(
         let Some(instr) = schedule.get(place) else {
             unreachable!()
         };
-        let leaves = count - place <= LAST || !is_costly(&machine, instr);
+        let left = count - place;
+        let most = reach / left;
+        let leaves = left == 1 || cost(&machine, instr, most) <= most;
         if let Err(refusal) = perform::<0>(&mut machine, &mut undos, instr, leaves) {
             match refusal {
                 Refusal::Memory => return Err(AllocError),

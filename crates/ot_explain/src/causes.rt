@@ -244,20 +244,24 @@ fn word_cause(word: &[u8]) -> &'static str {
     }
 }
 
+// The line says `read server`.
+fn is_read_of_server(line: &[u8]) -> bool {
+    let (word, behind) = split_word(trimmed(line));
+    let (next, _) = split_word(trimmed(behind));
+    word == b"read".as_slice() && next == b"server".as_slice()
+}
+
 // Where a number is none, and what is wrong there.
 fn number_cause(line: &[u8]) -> (usize, &'static str) {
     let start = start_of(line, 1);
     let (_, rest) = line.split_at(start);
-    let (word, _) = split_word(trimmed(line));
-    if word == b"read".as_slice() && rest.starts_with(b"server".as_slice()) {
-        return (start, "the server's document is read by `read-server`");
-    }
     let digits = rest.iter().take_while(|byte| byte.is_ascii_digit()).count();
     match rest.get(digits) {
         Some(b'[') if digits > 0 => (
             start.saturating_add(digits),
             "a blank is missing behind the number",
         ),
+        _ if is_read_of_server(line) => (start, "the server's document is read by `read-server`"),
         _ => (start, "a number of one to nine digits stands here"),
     }
 }
