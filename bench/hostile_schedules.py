@@ -226,6 +226,22 @@ def alternate(delivered, clients=64, entries=24000, text=""):
     return [*lines, *["deliver 0"] * entries] if delivered else [*lines, "take 0"]
 
 
+def just_long(entries=14900, length=33000):
+    """A client that deletes every second character of a start text of 33,000, and 14,900 operations that each change both ends: little more components than go into sections."""
+    lines = [*opening(2, length), every_second(0, length)]
+    for k in range(entries):
+        lines += [f"edit 1 {places(2, length, k % 2)}", "take 1", "ack 1"]
+    return [*lines, *["deliver 0"] * entries]
+
+
+def shrunk(entries=24000, length=40000):
+    """A client that deletes every second character of a start text of 40,000, of which another one deletes all but the last; then 24,000 letters come and go."""
+    lines = [*opening(2, length), every_second(0, length), f"edit 1 [{1 - length},1]", "take 1", "ack 1"]
+    for k in range(entries):
+        lines += ["edit 1 [-1,1]" if k % 2 else 'edit 1 ["x",1]', "take 1", "ack 1"]
+    return [*lines, *["deliver 0"] * (entries + 1)]
+
+
 def alternate_places(clients=64, entries=24000, count=20):
     """The same, delivered to it, with operations that each delete a character at 20 places all over the text."""
     lines, length = typed_by_many(clients, 40000)
@@ -436,6 +452,12 @@ SHAPES = {
     "alternate-edited-back": lambda: debugged(alternate_edited(), "run", "back 20"),
     "alternate-pending-watched": lambda: debugged(alternate(True), "watch doc 0", *["run"] * 25000),
     "alternate-pending-broken": lambda: debugged(alternate(True, entries=20000), *[f"break {place}" for place in range(60000, 80000)], *["run"] * 20000),
+    "alternate-pending-step-by-step": lambda: debugged(alternate(True), "run", *["back 1"] * 200),
+    "alternate-crowd-step-by-step": lambda: debugged(alternate_crowd(), "run", *["back 1"] * 5000),
+    "alternate-crowd-broken": lambda: debugged(alternate_crowd(), *[f"break {place}" for place in range(9000, 98000, 890)], *["run", "back 2", "step 2"] * 100),
+    "just-long-turns": lambda: debugged(just_long(), "run", *["back 17", "step 17"] * 300),
+    "just-long-step-by-step": lambda: debugged(just_long(), "run", *["back 1"] * 14900),
+    "shrunk-step-by-step": lambda: debugged(shrunk(), "run", *["back 1"] * 10000),
     "wide-deletions-back": lambda: debugged(wide_deletions(), "run", "back 20"),
     "long-message-differs": lambda: differs_last(long_message(), "appended"),
     "alternate-message-differs": lambda: differs_last(alternate(False), "appended"),
