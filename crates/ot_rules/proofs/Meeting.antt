@@ -1,12 +1,12 @@
 -- Two operations that insert at no place both: whose text would go first there makes no difference.
-use Rattle.std.proofs.Common.{◌≡◌, ℕ, zero, suc, ◌+◌, ◌-◌, ◌<◌, ◌≤◌, List, [], ◌∷◌, ◌++◌, length, map, Bool, refl, sym, ap, ◌∙◌, true, false, ◌&&◌, Some, arith}
+use Rattle.std.proofs.Common.{◌≡◌, ℕ, zero, suc, ◌+◌, ◌-◌, ◌<◌, ◌≤◌, List, [], ◌∷◌, ◌++◌, length, map, Bool, refl, sym, ap, ◌∙◌, true, false, Some, arith}
 use Rattle.ot_text.specs.Operation.{Item, Operation, Old, New, news, olds, empty, IsOperation}
 use Rattle.ot_text.specs.Components.{run_of, runs}
 use Rattle.ot_text.specs.declared.Component.{Component}
 use Rattle.ot_text.specs.Texts.{Text}
 use Rattle.ot_text.specs.declared.Component.TheVariants.{Retain, Insert, Delete}
 use Rattle.ot_text.specs.Run.{Run, Keep, Add, Skip, IsNormal, base_of, image_from, normal_runs, operation_of}
-use Rattle.std.proofs.lemmas.Bool.{eqb-true}
+use Rattle.std.proofs.lemmas.Bool.{and_parts, eqb-true}
 use Rattle.ot_text.proofs.Normal.{runs_normal}
 use Rattle.ot_text.proofs.Replaced.{inserted-append}
 use Rattle.ot_text.proofs.RunLemmas.{length-news-append, length-news-news, length-news-olds}
@@ -178,13 +178,9 @@ without_text a b first second same none =
     (ap (λ (op : Operation ℕ). length (news op.image)) b_is ∙ none)
 
 -- and whichever text goes first the other one carries it alike, where transform takes the two
-left_true : (a b : Bool) → (a && b) ≡ true → a ≡ true
-left_true true b e = refl
-left_true false b e = absurd (cc)
-
 pub turned_without_text : (op other : Operation ℕ) → IsOperation op → IsOperation other → length (news op.image) ≡ 0 → may_transform other op ≡ true → Some (first_after op other) ≡ first_of (turned op other)
 turned_without_text op other own theirs none may =
-    let same : other.base ≡ op.base = eqb-true other.base op.base (left_true _ _ may) in
+    let same : other.base ≡ op.base = eqb-true other.base op.base (and_parts _ _ may).0 in
     rw may (ap (λ (next : Operation ℕ). Some next) (without_text other op theirs own same none))
 
 -- ---- component by component
