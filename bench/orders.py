@@ -19,6 +19,8 @@ from storms import LETTERS, Sim
 
 HERE = os.path.dirname(os.path.abspath(__file__))
 TOP = os.path.dirname(HERE)
+# `./otbench` runs the proved program here, or none.
+os.environ['OTBENCH_NEEDS_PROVED'] = '1'
 PROGRAM = os.path.join(TOP, 'crates', 'otbench', 'out', 'otbench')
 
 

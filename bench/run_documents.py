@@ -5,10 +5,12 @@
 
 A command is a line `    $ ..` of a document; the lines behind it, as far as they are set in, are what it prints, on the output
 and then on standard error. A line `..` stands for lines that are left out. Commands run in a folder of their own, with copies
-of the examples, and with `./otbench` a link to the repository's. What was built is used as it is where nothing has changed.
+of the examples, and with `./otbench` a link to the repository's, which runs the proved program alone; with OTBENCH_NEEDS_PROVED=0 it
+may be another one.
 An example of a subcommand's help has to end with status 0. Where documents are named, these alone are looked at.
 The last line says how many there were and how many differed; the status is 1 where one did.
 """
+import os
 import pathlib
 import re
 import shutil
@@ -17,7 +19,7 @@ import sys
 import tempfile
 
 TOP = pathlib.Path(__file__).resolve().parent.parent
-LINKED = ["otbench", "viewer", "recorder", "conformance", "bench"]
+LINKED = ["otbench", "viewer", "recorder", "conformance", "bench", "oracle"]
 
 
 def documents():
@@ -84,6 +86,9 @@ def helps(folder):
 
 
 def main():
+    os.environ.setdefault("OTBENCH_NEEDS_PROVED", "1")
+    if subprocess.run([TOP / "otbench", "--which"], stdout=subprocess.DEVNULL).returncode:
+        return 1
     paths = [pathlib.Path(word).resolve() for word in sys.argv[1:]] or documents()
     passed = failed = 0
     with tempfile.TemporaryDirectory(prefix="documents-") as folder:

@@ -5,7 +5,7 @@
 
 Writes N (1,000) seeded schedules: one to five clients, some of them late, delayed links, reads, characters that JSON escapes, and now and then an
 instruction that is refused. For each, the lines are folded as docs/FORMATS.md says (with `apply` and nothing else), and at each place what the
-fold has of clients and server is what `otbench debug` shows there; with --documents each document of a line is the fold's. The port's driver (examples/port/driver.js)
+fold has of clients and server is what `otbench debug` shows there; with --documents each document of a line is the fold's. The port's driver (oracle/scalars.js)
 performs the same schedule, and what it prints of each key is what `steps` prints.
 
 `otbench conform` is asked of each schedule too: the lines of `steps` conform, with and without --documents, and so do the driver's; with each fault of examples/port/bugs.js planted in it they conform only where the
@@ -23,6 +23,8 @@ from storms import Sim
 
 HERE = os.path.dirname(os.path.abspath(__file__))
 TOP = os.path.dirname(HERE)
+# `./otbench` runs the proved program here, or none.
+os.environ['OTBENCH_NEEDS_PROVED'] = '1'
 LETTERS = ['a', 'b', 'c', ' ', '"', '\\', '\n', '\u0001', 'é', '\U0001d4b3']
 WAITING = ('revision', 'state', 'outstanding', 'buffer')
 FAULTS = ('tie', 'old-revision', 'buffer-kept', 'whole-log', 'order')
@@ -256,7 +258,7 @@ def main():
     words.add_argument('--seed', type=int, default=1)
     words.add_argument('--program', default=os.path.join(TOP, 'otbench'))
     words.add_argument('--debugger', default=os.path.join(TOP, 'otbench'))
-    words.add_argument('--port', default=os.path.join(TOP, 'examples', 'port', 'driver.js'))
+    words.add_argument('--port', default=os.path.join(TOP, 'oracle', 'scalars.js'))
     words = words.parse_args()
     port = Port(words.port) if shutil.which('node') and os.path.exists(words.port) else None
     states, named = 0, 0

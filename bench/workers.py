@@ -20,6 +20,8 @@ import tempfile
 import time
 
 TOP = os.path.dirname(os.path.dirname(os.path.abspath(__file__)))
+# `./otbench` runs the proved program here, or none.
+os.environ['OTBENCH_NEEDS_PROVED'] = '1'
 PROGRAM = os.path.join(TOP, 'crates', 'otbench', 'out', 'otbench')
 WORKERS = (1, 2, 4, 8)
 

@@ -7,25 +7,32 @@
 "use strict";
 const fs = require("node:fs");
 const path = require("node:path");
-const { drive } = require("../examples/port/driver.js");
-const { bugs } = require("./faults.js");
-const { ourLines, firstDifference, faultyPort } = require("./lines.js");
+const { bugs, leaks } = require("./faults.js");
+const { comparable, firstDifference, faultyPort } = require("./lines.js");
 
 const FOLDER = path.join(__dirname, "sessions");
 const SHOWN = 4;
+const TOGETHER = "several sessions in one process";
 
 function readCorpus() {
   const names = fs.readdirSync(FOLDER).filter((name) => name.endsWith(".ots")).map((name) => name.slice(0, -4)).sort();
   return names.map((name) => ({ name, text: fs.readFileSync(path.join(FOLDER, `${name}.ots`), "utf8") }));
 }
 
+/* The sessions that find a fault, each on a port of its own where the fault leaks from one to the next. */
+function findersOf(fault, corpus) {
+  const fresh = () => faultyPort(bugs[fault]);
+  const kept = fresh();
+  const finds = (session) => firstDifference(session, Object.hasOwn(leaks, fault) ? fresh() : kept) !== null;
+  const sessions = corpus.filter(finds);
+  if (sessions.length || !Object.hasOwn(leaks, fault)) return sessions;
+  return corpus.some((session) => firstDifference(session, kept) !== null) ? [{ name: TOGETHER, found: 0 }] : [];
+}
+
 /* Of each fault the sessions that find it, those first that find the fewest faults. */
 function coverage() {
-  const corpus = readCorpus().map(({ name, text }) => ({ name, text, ours: ourLines(text), found: 0 }));
-  const finders = Object.entries(bugs).map(([fault, plant]) => {
-    const port = faultyPort(plant);
-    return { fault, sessions: corpus.filter(({ text, ours }) => firstDifference(ours, drive(text, port)) !== null) };
-  });
+  const corpus = readCorpus().map(({ name, text }) => ({ name, text, ...comparable(text), found: 0 }));
+  const finders = Object.keys(bugs).map((fault) => ({ fault, sessions: findersOf(fault, corpus) }));
   for (const { sessions } of finders) for (const session of sessions) session.found++;
   for (const { sessions } of finders) sessions.sort((a, b) => a.found - b.found || (a.name < b.name ? -1 : 1));
   return { corpus, finders };
@@ -50,6 +57,6 @@ function page({ corpus, finders }) {
   ].join("\n");
 }
 
-module.exports = { coverage, page, readCorpus };
+module.exports = { TOGETHER, coverage, page, readCorpus };
 
 if (require.main === module) process.stdout.write(page(coverage()));

@@ -5,13 +5,12 @@
  */
 "use strict";
 const readline = require("node:readline");
-const { drive } = require("../examples/port/driver.js");
 const { bugs } = require("./faults.js");
-const { ourLines, firstDifference, faultyPort } = require("./lines.js");
+const { comparable, firstDifference, faultyPort } = require("./lines.js");
 
 const ports = new Map();
 readline.createInterface({ input: process.stdin }).on("line", (line) => {
   const [name, text] = JSON.parse(line);
   if (!ports.has(name)) ports.set(name, faultyPort(bugs[name]));
-  console.log(firstDifference(ourLines(text), drive(text, ports.get(name))));
+  console.log(firstDifference(comparable(text), ports.get(name)));
 });

@@ -1,6 +1,7 @@
 /*
- * Faults of ports, one for each branch of ot.js: `bugs`, in the form of examples/port/bugs.js, whose five are among them.
- * Each is an edit of a method's source: what stands there, and what the faulty port has instead.
+ * Faults of ports: `bugs`, in the form of examples/port/bugs.js, whose five are among them. There is one for each branch of
+ * ot.js, and one for each kind of text, length and log. Nearly all are an edit of a method's source: what stands there, and what
+ * the faulty port has instead. Those of `leaks` show only where one process performs several sessions.
  */
 "use strict";
 const { bugs: five, waitingStates } = require("../examples/port/bugs.js");
@@ -60,7 +61,28 @@ const EDITS = [
   ["receive-not-transformed", "Server.receiveOperation", "operation = transform(operation, concurrentOperations[i])[0];", ""],
   ["receive-newest-first", "Server.receiveOperation", "concurrentOperations[i]", "concurrentOperations[concurrentOperations.length - 1 - i]"],
   ["receive-first-goes-first", "Server.receiveOperation", "transform(operation, concurrentOperations[i])[0]", "transform(concurrentOperations[i], operation)[1]"],
+
+  ["transform-counts-code-points", "transform", "operation1prime.retain(op2.length)", "operation1prime.retain([...op2].length)"],
+  ["insert-counts-code-points", "insert", "this.targetLength += str.length;", "this.targetLength += [...str].length;"],
+  ["line-ends-changed", "insert", "this.targetLength += str.length;", "str = str.replace(/\\r\\n/g, '\\n'); this.targetLength += str.length;"],
+  ["texts-normalized", "insert", "this.targetLength += str.length;", "str = str.normalize(); this.targetLength += str.length;"],
+  ["lengths-of-8-bits", "retain", "if (n === 0) {", "n = n & 255; if (n === 0) {"],
+  ["lengths-of-15-bits", "retain", "if (n === 0) {", "n = n & 32767; if (n === 0) {"],
+  ["lengths-of-16-bits", "retain", "if (n === 0) {", "n = n & 65535; if (n === 0) {"],
+  ["log-cut-at-100", "Server.receiveOperation", "slice(revision)", "slice(Math.max(revision, this.operations.length - 100))"],
+  ["log-cut-at-1000", "Server.receiveOperation", "slice(revision)", "slice(Math.max(revision, this.operations.length - 1000))"],
 ];
+
+const leaks = {
+  /* All servers have one log. */
+  "log-shared"(port) {
+    const { Server } = port;
+    const log = [];
+    port.Server = function (document) {
+      return new Server(document, log);
+    };
+  },
+};
 
 /* Where a method stands: the object that has it and its name there. */
 function placeOf(port, method) {
@@ -79,16 +101,16 @@ function edit(port, method, from, to) {
   if (source.split(from).length !== 2) throw new Error(`${method} does not have once: ${from}`);
   const names = {
     TextOperation: port.TextOperation,
-    isRetain: (component) => component > 0,
+    isRetain: (component) => typeof component === "number" && component > 0,
     isInsert: (component) => typeof component === "string",
-    isDelete: (component) => component < 0,
+    isDelete: (component) => typeof component === "number" && component < 0,
     synchronized_: new port.Client(0).state,
     ...waitingStates(port),
   };
   owner[name] = new Function(...Object.keys(names), `return ${source.replace(from, () => to)};`)(...Object.values(names));
 }
 
-const bugs = { ...five };
+const bugs = { ...five, ...leaks };
 for (const [name, method, from, to] of EDITS) bugs[name] = (port) => edit(port, method, from, to);
 
-module.exports = { bugs };
+module.exports = { bugs, leaks };

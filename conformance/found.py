@@ -4,18 +4,21 @@
     python3 conformance/found.py [--seeds N] [--sessions N] [--clients C] [--instructions M] [FAULT ..]
 
 For each fault and each of N seeds (3): the first of --sessions (200) sessions in which ot.js with the fault parts from ot.js, and
-the instructions and clients that are left of it. Printed are the medians and the most. The status is 1 where a fault was not found.
+the instructions and clients that are left of it after at most a minute. Printed are the medians and the most. The status is 1 where a fault was not found.
 """
 import argparse
+import itertools
 import json
 import pathlib
 import statistics
 import subprocess
 import sys
+import time
 
-from generate import generated
+from generate import varied
 from reduce import reduced
 
+REDUCE_SECONDS = 60
 HERE = pathlib.Path(__file__).resolve().parent
 
 
@@ -39,12 +42,12 @@ class Differences:
         self.child.stdin.flush()
         return json.loads(self.child.stdout.readline())
 
-    def first(self, fault, schedules):
-        """The first schedule in which they part, and the place."""
-        for schedule in schedules:
-            place = self.place(fault, schedule)
+    def first(self, fault, candidates):
+        """The first of the candidates, each a schedule alone, in which they part, and the place."""
+        for sessions in candidates:
+            place = self.place(fault, *sessions)
             if place is not None:
-                return schedule, place
+                return sessions, place
         return None
 
 
@@ -52,12 +55,15 @@ def find(differences, fault, sessions):
     """How many sessions it took, and the reduced one; or None."""
     for count, schedule in enumerate(sessions, 1):
         if differences.place(fault, schedule) is not None:
-            return count, reduced(schedule, lambda candidates: differences.first(fault, candidates))
+            until = time.monotonic() + REDUCE_SECONDS
+            in_time = lambda candidates: itertools.takewhile(lambda _: time.monotonic() < until, candidates)  # noqa: E731
+            return count, *reduced((schedule,), lambda candidates: differences.first(fault, in_time(candidates)))
     return None
 
 
 def fault_names():
-    names = "console.log(JSON.stringify(Object.keys(require('./faults.js').bugs)))"
+    """The faults that one session can show."""
+    names = "const { bugs, leaks } = require('./faults.js'); console.log(JSON.stringify(Object.keys(bugs).filter((name) => !(name in leaks))))"
     return json.loads(subprocess.run(["node", "-e", names], cwd=HERE, check=True, capture_output=True).stdout)
 
 
@@ -80,7 +86,7 @@ def arguments():
 
 def main():
     words = arguments()
-    sessions = [[generated(seed * words.sessions + number, words.clients, words.instructions) for number in range(words.sessions)]
+    sessions = [[varied(seed * words.sessions + number, words.clients, words.instructions)[1] for number in range(words.sessions)]
                 for seed in range(1, words.seeds + 1)]
     print(f"""# How soon each fault is found at random
 

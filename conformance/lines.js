@@ -1,6 +1,7 @@
-/* A driver's lines as `otbench steps` prints them, and where a faulty port's lines part from ot.js' own. */
+/* The lines that `otbench steps` prints of a schedule, by ot.js itself; and where a port parts from ot.js. */
 "use strict";
-const { drive, loadPort } = require("../examples/port/driver.js");
+const sample = require("../examples/port/driver.js");
+const { drive, inUnits, loadPort } = require("../oracle/scalars.js");
 
 const KEYS = "at clients present start do client edit stopped revision state outstanding buffer sent applied appended document end".split(" ");
 const STATE = ["revision", "state", "outstanding", "buffer"];
@@ -14,11 +15,17 @@ function asStep(line) {
   return JSON.stringify(Object.fromEntries(shown.map((key) => [key, values[key]])));
 }
 
-const ourLines = (text) => drive(text, loadPort());
-const stepsOf = (text) => ourLines(text).map((line) => asStep(line) + "\n").join("");
+const stepsOf = (text) => drive(text, loadPort()).map((line) => asStep(line) + "\n").join("");
 
-/* The place of the first of our lines that a port prints otherwise, or null. */
-function firstDifference(ours, theirs) {
+/* A schedule, to be compared: its text in UTF-16 units, and the lines of ot.js. */
+function comparable(text) {
+  const given = inUnits(text);
+  return { given, ours: sample.drive(given, loadPort()) };
+}
+
+/* The place of the first line that a port prints otherwise than ot.js, or null. */
+function firstDifference({ given, ours }, port) {
+  const theirs = sample.drive(given, port);
   const index = ours.findIndex((line, number) => line !== theirs[number]);
   return index < 0 ? null : JSON.parse(ours[index]).at;
 }
@@ -30,7 +37,7 @@ function faultyPort(plant) {
   return port;
 }
 
-module.exports = { ourLines, stepsOf, firstDifference, faultyPort };
+module.exports = { comparable, firstDifference, faultyPort, stepsOf };
 
 /* On the command line: the lines of the schedule on standard input. */
 if (require.main === module) process.stdout.write(stepsOf(require("node:fs").readFileSync(0, "utf8")));

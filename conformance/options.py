@@ -5,6 +5,7 @@ import re
 import shutil
 
 MOST_SEED = 999_999_999
+MOST_START = 40_000
 MOST_SECONDS = 1_000_000  # what a wait can be given
 
 
@@ -46,22 +47,65 @@ def to_write(text):
     return text
 
 
-def arguments():
+def to_read(text):
+    """A file or a folder that is there."""
+    if not os.path.exists(text):
+        raise argparse.ArgumentTypeError(f"invalid value '{text}': it is not there")
+    return text
+
+
+def start_text(text):
+    """A start text, as `otbench generate` takes it."""
+    if len(text) > MOST_START:
+        raise argparse.ArgumentTypeError(f"it takes {MOST_START} characters")
+    return text
+
+
+def keys(text):
+    """Keys, separated by commas."""
+    return [key for key in text.split(",") if key]
+
+
+def words_of():
     words = argparse.ArgumentParser(usage="conformance/run [options] COMMAND ..")
-    words.add_argument("--sessions", type=whole(0), default=200, metavar="N", help="how many sessions are made at random (200)")
-    words.add_argument("--seed", type=seed, default=1, metavar="S", help="the seed of the first; each further one has the next (1)")
-    words.add_argument("--clients", type=whole(1, 64), default=4, metavar="C", help="how many, 1 to 64 (4)")
-    words.add_argument("--instructions", type=whole(0, 100_000), default=60, metavar="M",
-                       help="how many in a session, before the reads at its end, 0 to 100000 (60)")
-    words.add_argument("--open", action="store_true", help="sessions need not be quiet at their end")
-    words.add_argument("--jobs", type=whole(1), default=os.cpu_count(), metavar="J", help="how many sessions are tried at a time")
-    words.add_argument("--seconds", type=seconds, default=10, help="the most that the driver may take for a session (10)")
-    words.add_argument("--most-bytes", type=whole(1), default=1 << 24, help="the most that it may print (16,777,216)")
-    words.add_argument("--reduce-seconds", type=seconds, default=60, help="about how long a failing session is reduced (60)")
-    words.add_argument("--judge", help="the program that compares; without it `otbench conform`")
-    words.add_argument("--save", type=to_write, metavar="FILE", help="where the reduced schedule is written")
     words.add_argument("command", nargs=argparse.REMAINDER)
+
+    driver = words.add_argument_group("the driver")
+    driver.add_argument("--utf16", action="store_true", help="it counts UTF-16 units, as ot.js does; without the word Unicode scalar values")
+    driver.add_argument("--keep-driver", action="store_true", help="one process is given several sessions, a line %%%% behind each")
+    driver.add_argument("--seconds", type=seconds, default=10, help="the most that it may take for a session (10)")
+    driver.add_argument("--most-bytes", type=whole(1), default=1 << 24, help="the most that it may print of one (16,777,216)")
+    driver.add_argument("--jobs", type=whole(1), default=os.cpu_count(), metavar="J", help="how many sessions are tried at a time")
+
+    tried = words.add_argument_group("what is tried")
+    tried.add_argument("--session", type=to_read, action="append", metavar="FILE",
+                       help="this schedule, or those of a folder, and neither the corpus nor sessions at random; may be said again")
+    tried.add_argument("--sessions", type=whole(0), default=200, metavar="N", help="how many sessions are made at random (200)")
+    tried.add_argument("--seed", type=seed, default=1, metavar="S", help="the seed of the first; each further one has the next (1)")
+    tried.add_argument("--clients", type=whole(1, 64), default=4, metavar="C", help="how many, 1 to 64 (4)")
+    tried.add_argument("--instructions", type=whole(0, 100_000), default=60, metavar="M",
+                       help="how many in a session, before the reads at its end, 0 to 100000 (60); seeds 19, 39 and so on have more")
+    tried.add_argument("--start", type=start_text, metavar="TEXT", help="the start text, at most 40000 characters; else drawn")
+    tried.add_argument("--open", action="store_true", help="sessions need not be quiet at their end")
+
+    said = words.add_argument_group("what is said")
+    said.add_argument("--all", action="store_true", help="go on behind a failure; of each kind the shortest session is reduced")
+    said.add_argument("--known", metavar="FILE", help="kinds of failures that are tolerated, one a line, as --all names them")
+    said.add_argument("--need", type=keys, default=["document"], metavar="KEYS", help="the status is 1 where one of these was not compared (document)")
+    said.add_argument("--tap", action="store_true", help="as --all, in the Test Anything Protocol")
+    said.add_argument("--junit", type=to_write, metavar="FILE", help="as --all, and JUnit's XML is written there")
+    said.add_argument("--save", type=to_write, metavar="FILE", help="where the first reduced schedule is written")
+    said.add_argument("--reduce-seconds", type=seconds, default=60, help="about how long a failing session is reduced (60)")
+    said.add_argument("--judge", help="the program that compares; without it `otbench conform`")
+    return words
+
+
+def arguments():
+    words = words_of()
     given = words.parse_args()
+    given.all = given.all or given.tap or given.junit is not None
+    if given.command[:1] == ["--"]:
+        del given.command[0]
     if not given.command:
         words.error("which command is the driver?")
     fault = no_program(given.command[0])

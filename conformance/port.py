@@ -1,58 +1,165 @@
-"""A port's driver: run over one schedule, and ended where it hangs or prints without end."""
+"""A port's driver: run over sessions, and ended where it hangs or prints without end."""
 import os
+import re
 import selectors
 import signal
 import subprocess
 import tempfile
 import time
 
-
 ENDED = "the driver was ended: it"  # how what is said of a driver begins that took too long or printed too much
+MARK = b"%%\n"  # the line that ends a session where a process is given several
+MARKED = re.compile(rb"(?:^|(?<=\n))%%\r?\n\Z")  # and the one that ends what it prints of it
+
+
+class Limits:
+    """The seconds that a session may take, and the bytes that may be printed in it."""
+
+    def __init__(self, seconds, most_bytes):
+        self.seconds, self.most_bytes = seconds, most_bytes
+        self.until = time.monotonic() + seconds
+
+    def left(self):
+        return max(self.until - time.monotonic(), 0)
+
+    def passed(self, printed):
+        """What is said where a limit is passed, or None."""
+        if max(map(len, printed)) > self.most_bytes:
+            return f"{ENDED} printed more than {self.most_bytes:,} bytes"
+        return None if self.left() else f"{ENDED} took more than {self.seconds:g} s"
 
 
 class Driver:
-    """A command that reads a schedule on standard input and prints lines."""
+    """A command that reads a schedule on standard input and prints lines: a process for each session."""
 
     def __init__(self, command, seconds, most_bytes):
         self.command, self.seconds, self.most_bytes = command, seconds, most_bytes
+        self.performed = []  # whoever calls may note here what the process has performed
 
     def perform(self, text):
         """What the driver printed, and what there is to say of how it ended, or None."""
+        self.performed = []
         with tempfile.TemporaryFile() as given:
             given.write(text.encode())
             given.seek(0)
-            child = subprocess.Popen(self.command, stdin=given, stdout=subprocess.PIPE, stderr=subprocess.PIPE, start_new_session=True)
+            child = started(self.command, given)
         with child.stdout, child.stderr:
             try:
                 printed, trouble = self._read(child)
             finally:
                 end(child)
-        said = printed[child.stderr].decode("utf-8", "replace").strip().split("\n")[-1]
-        trouble = trouble or how_ended(child.returncode)
-        return bytes(printed[child.stdout]), trouble and (f"{trouble}: {said}" if said else trouble)
+        return bytes(printed[child.stdout]), said_of(trouble or how_ended(child.returncode), printed[child.stderr])
 
     def _read(self, child):
-        """Reads until both outputs end, or the time or the bytes are used up."""
-        until = time.monotonic() + self.seconds
+        """Reads until both outputs end, or a limit is passed."""
+        limits = Limits(self.seconds, self.most_bytes)
         printed = {child.stdout: bytearray(), child.stderr: bytearray()}
         with selectors.DefaultSelector() as streams:
             for stream in printed:
                 streams.register(stream, selectors.EVENT_READ)
             while streams.get_map():
-                for key, _ in streams.select(max(until - time.monotonic(), 0)):
-                    piece = os.read(key.fd, 65536)
-                    printed[key.fileobj] += piece
-                    if not piece:
+                for key, _ in streams.select(limits.left()):
+                    if not read_piece(key.fileobj, printed):
                         streams.unregister(key.fileobj)
-                if max(map(len, printed.values())) > self.most_bytes:
-                    return printed, f"{ENDED} printed more than {self.most_bytes:,} bytes"
-                if time.monotonic() > until:
-                    return printed, f"{ENDED} took more than {self.seconds:g} s"
-        try:
-            child.wait(max(until - time.monotonic(), 0.1))
-        except subprocess.TimeoutExpired:
-            return printed, f"{ENDED} took more than {self.seconds:g} s"
+                if trouble := limits.passed(printed.values()):
+                    return printed, trouble
+        return printed, None if ends_in_time(child, limits) else limits.passed(printed.values())
+
+
+class KeptDriver:
+    """
+    A command that is given several sessions, each ended by a line %%, and ends the lines of each by such a line. Where it ends
+    or has to be ended, the next session has a new process.
+    """
+
+    def __init__(self, command, seconds, most_bytes):
+        self.command, self.seconds, self.most_bytes = command, seconds, most_bytes
+        self.child, self.performed = None, []  # as for `Driver`, of the process that runs
+
+    def perform(self, text):
+        """What the driver printed of this session, and what there is to say of how it ended, or None."""
+        if self.child is None:
+            self.child, self.performed = started(self.command, subprocess.PIPE), []
+            os.set_blocking(self.child.stdin.fileno(), False)
+        child = self.child
+        printed, trouble = self._exchange(text.encode() + MARK)
+        if trouble:
+            self._end()
+        return MARKED.sub(b"", printed[child.stdout]), said_of(trouble, printed[child.stderr])
+
+    def _exchange(self, given):
+        """Writes a session and reads its lines, until the mark stands behind them."""
+        child, limits, given = self.child, Limits(self.seconds, self.most_bytes), memoryview(given)
+        printed = {child.stdout: bytearray(), child.stderr: bytearray()}
+        with selectors.DefaultSelector() as streams:
+            streams.register(child.stdin, selectors.EVENT_WRITE)
+            for stream in printed:
+                streams.register(stream, selectors.EVENT_READ)
+            while not MARKED.search(printed[child.stdout]):
+                for key, _ in streams.select(limits.left()):
+                    if key.fileobj is child.stdin:
+                        given = given[written(child.stdin, given):]
+                        goes_on = bool(given)
+                    else:
+                        goes_on = read_piece(key.fileobj, printed)
+                    if not goes_on:
+                        streams.unregister(key.fileobj)
+                if child.stdout not in streams.get_map():
+                    return printed, self._why_ended(limits, printed)
+                if trouble := limits.passed(printed.values()):
+                    return printed, trouble
         return printed, None
+
+    def _why_ended(self, limits, printed):
+        if ends_in_time(self.child, limits):
+            return how_ended(self.child.returncode) or "the driver ended before the line %%"
+        return limits.passed(printed.values())
+
+    def close(self):
+        """Ends the input; what there is to say of how the driver ended, or None."""
+        if self.child is None:
+            return None
+        child, limits = self.child, Limits(self.seconds, self.most_bytes)
+        child.stdin.close()
+        trouble = how_ended(child.returncode) if ends_in_time(child, limits) else f"{ENDED} took more than {self.seconds:g} s"
+        self._end()
+        return trouble and f"{trouble} behind its last session"
+
+    def _end(self):
+        end(self.child)
+        for stream in (self.child.stdin, self.child.stdout, self.child.stderr):
+            stream.close()
+        self.child = None
+
+
+def started(command, given):
+    return subprocess.Popen(command, stdin=given, stdout=subprocess.PIPE, stderr=subprocess.PIPE, start_new_session=True, bufsize=0)
+
+
+def read_piece(stream, printed):
+    """Adds what a stream has to what was printed; False at its end."""
+    piece = os.read(stream.fileno(), 65536)
+    printed[stream] += piece
+    return bool(piece)
+
+
+def written(stream, given):
+    """How much a driver took of what it is given: all where it reads no more, which its lines or its end will tell."""
+    try:
+        return os.write(stream.fileno(), given[:65536])
+    except BlockingIOError:
+        return 0
+    except BrokenPipeError:
+        return len(given)
+
+
+def ends_in_time(child, limits):
+    """Whether a process, whose outputs have ended, ends too."""
+    try:
+        child.wait(max(limits.left(), 0.1))
+    except subprocess.TimeoutExpired:
+        return False
+    return True
 
 
 def end(child):
@@ -69,3 +176,9 @@ def how_ended(status):
     if status < 0:
         return f"the driver was ended by signal {-status}"
     return f"the driver ended with status {status}" if status else None
+
+
+def said_of(trouble, errors):
+    """What is said of a driver, with the last line of its standard error."""
+    said = errors.decode("utf-8", "replace").strip().split("\n")[-1]
+    return f"{trouble}: {said}" if trouble and said else trouble

@@ -1,14 +1,19 @@
 """
-Makes a session smaller as long as it still shows what it showed: fewer instructions, fewer clients, shorter texts.
+Makes sessions smaller as long as the last of them still shows what it showed: fewer sessions before it, fewer instructions, fewer
+clients, shorter texts.
 
-Whatever is left out, the rest is fitted to it: an edit to the length that its client's document has then, and what cannot be
-performed any more (a message that is not there) goes too. So every schedule that is tried is one that otbench performs whole.
+What is reduced is a tuple of schedules, as one process of a port is given them; mostly it is one schedule. Whatever is left out,
+the rest is fitted to it: an edit to the length that its client's document has then, and what cannot be performed any more (a
+message that is not there) goes too. So every schedule that is tried is one that otbench performs whole.
 """
 import dataclasses
 import itertools
 
+from options import MOST_START
 from schedule import Instruction
 from simulator import Simulator, fitted
+
+LONG = 60  # a session of more instructions is gone through once, and without trying each component of its edits
 
 
 def repaired(schedule):
@@ -41,14 +46,20 @@ def with_instructions(schedule, instructions):
     return dataclasses.replace(schedule, instructions=tuple(instructions))
 
 
-def fewer_instructions(schedule):
-    """Without a run of instructions, long runs first; a short schedule also without two or three that stand apart."""
-    instructions = schedule.instructions
-    length = (len(instructions) + 1) // 2
+def without_runs(items):
+    """A tuple without a run of its items, long runs first; where there are not many the runs overlap."""
+    length = (len(items) + 1) // 2
     while length:
-        for at in range(0, len(instructions) - length + 1, max(length // 2, 1)):
-            yield with_instructions(schedule, instructions[:at] + instructions[at + length:])
+        for at in range(0, len(items) - length + 1, length if len(items) > LONG else max(length // 2, 1)):
+            yield items[:at] + items[at + length:]
         length //= 2
+
+
+def fewer_instructions(schedule):
+    """Without a run of instructions; a short schedule also without two or three that stand apart."""
+    instructions = schedule.instructions
+    for kept in without_runs(instructions):
+        yield with_instructions(schedule, kept)
     for count, most in ((2, 24), (3, 12)):
         if count <= len(instructions) <= most:
             for kept in itertools.combinations(instructions, len(instructions) - count):
@@ -60,7 +71,7 @@ def longer_start(schedule):
     instructions = schedule.instructions
     for at, instruction in enumerate(instructions):
         text = "".join(component for component in instruction.edit if isinstance(component, str))
-        for start in (text + schedule.start, schedule.start + text) if text else ():
+        for start in (text + schedule.start, schedule.start + text) if text and len(text + schedule.start) <= MOST_START else ():
             yield dataclasses.replace(schedule, start=start, instructions=instructions[:at] + instructions[at + 1:])
 
 
@@ -74,7 +85,8 @@ def without_client(schedule, gone, heir):
         if client is not None or instruction.word == "read-server":
             left.append(dataclasses.replace(instruction, client=client))
     present = schedule.present - (gone < schedule.present)
-    return dataclasses.replace(schedule, clients=schedule.clients - 1, present=present, instructions=tuple(left))
+    names = schedule.names[:gone] + schedule.names[gone + 1:]
+    return dataclasses.replace(schedule, clients=schedule.clients - 1, present=present, instructions=tuple(left), names=names)
 
 
 def fewer_clients(schedule):
@@ -93,9 +105,20 @@ def no_texts(schedule):
     yield from (dataclasses.replace(emptied, start=""), emptied)
 
 
+def fewer_texts(schedule):
+    """With a run of its edits empty, long runs first."""
+    edits = tuple(at for at, instruction in enumerate(schedule.instructions) if instruction.edit)
+    for kept in map(set, without_runs(edits)):
+        yield with_instructions(schedule, (it if at in kept else dataclasses.replace(it, edit=()) for at, it in enumerate(schedule.instructions)))
+
+
 def shorter(text):
     """Shorter texts, and one of plain letters."""
-    yield from (text[:len(text) // 2], text[len(text) // 2:], text[1:], text[:-1], "a" * len(text))
+    half = len(text) // 2
+    while half:
+        yield from (text[:-half], text[half:])
+        half //= 2
+    yield from ("", "a" * len(text))
 
 
 def simpler(component):
@@ -112,37 +135,92 @@ def shorter_texts(schedule):
     for start in shorter(schedule.start):
         yield dataclasses.replace(schedule, start=start)
     instructions = schedule.instructions
-    for at, instruction in enumerate(instructions):
+    for at, instruction in enumerate(instructions if len(instructions) <= LONG else ()):
         for place, component in enumerate(instruction.edit):
             for other in simpler(component):
                 edit = instruction.edit[:place] + (other,) + instruction.edit[place + 1:]
                 yield with_instructions(schedule, instructions[:at] + (dataclasses.replace(instruction, edit=edit),) + instructions[at + 1:])
 
 
-def smaller(schedule):
-    """What may stand for a schedule, each one smaller than it and none twice."""
-    seen = set()
-    for way in (fewer_instructions, longer_start, fewer_clients, no_texts, shorter_texts):
-        for candidate in way(schedule):
-            candidate = repaired(candidate)
-            if candidate not in seen and size(candidate) < size(schedule):
-                seen.add(candidate)
-                yield candidate
+def fewer_sessions(sessions):
+    """The last sessions alone, few first; then without a run of the sessions before the last."""
+    count = 1
+    while count < len(sessions):
+        yield sessions[-count:]
+        count *= 2
+    for kept in without_runs(sessions[:-1]):
+        yield kept + sessions[-1:]
 
 
-def cut(schedule, needed):
-    """The schedule up to where it shows it, if instructions stand behind that."""
-    if needed < len(schedule.instructions):
-        yield with_instructions(schedule, schedule.instructions[:needed])
+def each_session(way):
+    """A way to make a schedule smaller, as one for the last session, and then for those before it."""
+    def smaller(sessions):
+        for at in reversed(range(len(sessions))):
+            for candidate in way(sessions[at]):
+                candidate = repaired(candidate)
+                if size(candidate) < size(sessions[at]):
+                    yield sessions[:at] + (candidate,) + sessions[at + 1:]
+    return smaller
 
 
-def reduced(schedule, first_shown):
+WAYS = [fewer_sessions] + [each_session(way) for way in (fewer_instructions, longer_start, fewer_clients, no_texts, fewer_texts, shorter_texts)]
+
+
+class Reduction:
+    """The smallest sessions so far, and what was tried."""
+
+    def __init__(self, first_shown):
+        self.first_shown, self.tried, self.sessions, self.is_over = first_shown, set(), None, False
+
+    def try_first(self, candidates):
+        """
+        Goes on with the first of the candidates that shows it, cut behind where it does if that shows it too. Answers how many
+        candidates stand before it, or None where none shows it.
+        """
+        given = []
+
+        def untried():
+            for number, candidate in enumerate(candidates):
+                if hash(candidate) not in self.tried:
+                    self.tried.add(hash(candidate))
+                    given.append((candidate, number))
+                    yield candidate
+
+        shown = self.first_shown(untried())
+        if shown is None:
+            return None
+        shown, needed = shown
+        self.sessions = shown
+        if needed < len(shown[-1].instructions):
+            self.try_first([shown[:-1] + (with_instructions(shown[-1], shown[-1].instructions[:needed]),)])
+        return next((number for candidate, number in given if candidate == shown), 0)
+
+    def is_long(self):
+        return any(len(schedule.instructions) > LONG for schedule in self.sessions)
+
+    def exhaust(self, way):
+        """Goes one way until nothing on it shows it any more. Behind a success it goes on from there, and then begins anew."""
+        has_moved, passed = False, 0
+        while True:
+            number = self.try_first(itertools.islice(way(self.sessions), passed, None))
+            if number is None and (passed == 0 or self.is_long()):
+                return has_moved
+            has_moved = has_moved or number is not None
+            passed = 0 if number is None else passed + number
+
+    def run(self, sessions):
+        """The smallest sessions, or None."""
+        if self.try_first([sessions]) is None:
+            return None
+        while any([self.exhaust(way) for way in WAYS]) and not self.is_long():
+            pass
+        return self.sessions
+
+
+def reduced(sessions, first_shown):
     """
-    The smallest schedule that was found, or None where not even the given one shows it again. `first_shown` is given schedules, and
-    answers the first that still shows it and how many of its instructions it takes, or None: it is cut there if it shows it then too.
+    The smallest sessions that were found, or None where not even the given ones show it again. `first_shown` is given tuples of
+    schedules, and answers the first of which the last schedule still shows it and how many of its instructions that takes, or None.
+    It may answer fewer sessions than it was given, where one before the last shows it.
     """
-    shown, schedule = first_shown([schedule]), None
-    while shown:
-        schedule, needed = shown
-        shown = first_shown(itertools.chain(cut(schedule, needed), smaller(schedule)))
-    return schedule
+    return Reduction(first_shown).run(sessions)

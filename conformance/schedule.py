@@ -4,6 +4,7 @@ import json
 import re
 
 BLANKS = " \t"
+NAMED = re.compile(r"; client ([0-9]{1,9}) is (.+)")
 
 
 @dataclasses.dataclass(frozen=True)
@@ -19,17 +20,23 @@ class Instruction:
         operation = " " + json_of(list(self.edit)) if self.word == "edit" else ""
         return f"{self.word} {self.client}{operation}"
 
+    def mover(self):
+        """Whose document the instruction's line shows: a client's number, or the word `server`."""
+        return "server" if self.word in ("take", "read-server") else self.client
+
 
 @dataclasses.dataclass(frozen=True)
 class Schedule:
-    """Clients below `present` are there from the beginning, the others join."""
+    """Clients below `present` are there from the beginning, the others join. `names` has what a comment calls each client, or None."""
     clients: int
     present: int
     start: str
     instructions: tuple
+    names: tuple = ()
 
     def text(self):
-        lines = [f"clients {self.clients}"]
+        lines = [f"; client {client} is {name}" for client, name in enumerate(self.names) if name is not None]
+        lines.append(f"clients {self.clients}")
         if self.present != self.clients:
             lines.append(f"present {self.present}")
         if self.start:
@@ -43,10 +50,14 @@ def json_of(value):
 
 
 def read_schedule(text):
-    """The values of a text that otbench accepts."""
-    clients, present, start, instructions = 0, None, "", []
+    """The values of a text that otbench accepts, up to a line `%%` if there is one; ValueError for another text."""
+    clients, present, start, instructions, names = 0, None, "", [], {}
     for line in text.split("\n"):
         line = line.removesuffix("\r").strip(BLANKS)
+        if line == "%%":
+            break
+        if named := NAMED.fullmatch(line):
+            names.setdefault(int(named[1]), named[2])
         if line == "" or line[0] == ";":
             continue
         word, _, rest = re.sub(r"[ \t]+", " ", line, count=1).partition(" ")
@@ -58,7 +69,8 @@ def read_schedule(text):
             start = json.loads(rest)
         else:
             instructions.append(read_instruction(word, rest))
-    return Schedule(clients, clients if present is None else present, start, tuple(instructions))
+    called = tuple(names.get(client) for client in range(clients)) if names else ()
+    return Schedule(clients, clients if present is None else present, start, tuple(instructions), called)
 
 
 def read_instruction(word, rest):

@@ -5,7 +5,7 @@ which operations are under way. It holds no documents, and is no reference for a
 import pathlib
 import sys
 
-sys.path.insert(0, str(pathlib.Path(__file__).resolve().parent.parent / "bench"))
+sys.path.append(str(pathlib.Path(__file__).resolve().parent.parent / "bench"))
 from storms import add, compose, delta, transform  # noqa: E402  (the algebra that the benchmarks' sessions are made with)
 
 

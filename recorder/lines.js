@@ -3,6 +3,9 @@
 const { nameOf } = require("./logs.js");
 const { Unwritable, isWellFormed, toScalars, apply } = require("./scalars.js");
 
+/* A name as a comment has it: as it is, or as a JSON string where it would not be one line's rest. */
+const written = (name) => (/^[^\p{C}\s"](?:[^\p{C}]*[^\p{C}\s])?$/u.test(name) ? name : JSON.stringify(name));
+
 /*
  * The texts over which lengths are counted: of each client its document and the server's at its revision (`base`), and the
  * server's. They are made of what the logs say was applied.
@@ -18,7 +21,7 @@ class Writer {
     this.notes = [];
     this.fault = null;
     const present = clients.filter((log) => log[0].revision === revision).length;
-    this.schedule = clients.map((log, number) => `; client ${number} is ${JSON.stringify(log[0].who)}`);
+    this.schedule = clients.map((log, number) => `; client ${number} is ${written(log[0].who)}`);
     this.schedule.push(`clients ${clients.length}`);
     if (present < clients.length) this.schedule.push(`present ${present}`);
     if (document) this.schedule.push(`start ${JSON.stringify(document)}`);

@@ -6,8 +6,8 @@
  *     node merge.js --schedule server.log ann.log ben.log | otbench run
  *
  * Each file holds lines of one participant or of several. Status 1 where a log cannot be used, or the schedule ends before
- * the logs do: standard error says at whose event; also where the output cannot be written. Status 2 for words that are not
- * understood, and for help.
+ * the logs do: standard error says at whose event, and so does the last line; also where the output cannot be written. Status 2
+ * for words that are not understood, and for help.
  */
 "use strict";
 const fs = require("node:fs");
@@ -20,17 +20,22 @@ const USAGE = `usage: node recorder/merge.js [--schedule] LOG ..
 Prints the session of the recorder's logs, of the server and of the clients: its schedule, and behind a line '%%' what the
 participants had; with --schedule the schedule alone.`;
 
-/* { schedule, lines, notes, fault } of the recorder's events. */
+/*
+ * { schedule, lines, notes, fault } of the recorder's events. A fault is the last line of both: of the schedule a comment, of the
+ * participants' lines one without a place, which differs from any line that is due.
+ */
 function merge(events) {
   const logs = readLogs(events);
   const order = oneOrder(logs);
   const writer = new Writer(logs);
   order.events.every(({ event, client }) => writer.write(event, client));
+  const fault = writer.fault || order.fault;
+  const cut = fault ? [{ cut: fault }] : [];
   return {
-    schedule: writer.schedule,
-    lines: writer.lines.map((line) => JSON.stringify(line)),
+    schedule: [...writer.schedule, ...cut.map((line) => `; cut: ${JSON.stringify(line.cut)}`)],
+    lines: [...writer.lines, ...cut].map((line) => JSON.stringify(line)),
     notes: [...order.notes, ...writer.notes],
-    fault: writer.fault || order.fault,
+    fault,
   };
 }
 

@@ -1,40 +1,100 @@
 #!/usr/bin/env node
-/* Puts the parts of the viewer together: node viewer/build.js writes viewer.html. */
+/* Puts the parts of the page together. `node viewer/build.js` writes viewer.html, the page without the engine. */
 "use strict";
+const crypto = require("node:crypto");
 const fs = require("node:fs");
 const path = require("node:path");
 
-/* A part before those that need it while they are loaded. */
-const PARTS = [
-  "document",
-  "fold",
-  "places",
-  "input",
-  "theme",
-  "words",
-  "port",
-  "layout",
-  "lanes",
-  "messages",
-  "rows",
-  "diagram",
-  "cards",
-  "screen",
-  "page",
-];
+const source = path.join(__dirname, "src");
+const read = (name) => fs.readFileSync(path.join(source, name), "utf8");
 
-const read = (name) => fs.readFileSync(path.join(__dirname, "src", name), "utf8");
+const IMPORT = /^import \{ ([^}]*) \} from "([^"]*)";\n/gm;
+const EXPORT = /^export (?:async )?(?:const|function|class) (\w+)/gm;
 
-/* In the page all parts are one module: they have no imports and exports. */
-const joined = (source) => source.replace(/^import .*\n+/gm, "").replace(/^export /gm, "");
-
-function page() {
-  const script = PARTS.map((part) => joined(read(`${part}.mjs`))).join("\n");
-  return read("page.html")
-    .replace("/* the style */\n", () => read("style.css"))
-    .replace("/* the script */\n", () => script);
+/* The parts that a part needs, each before those that need it, and itself last. */
+function partsOf(file, found = new Map()) {
+  if (found.has(file)) return found;
+  const text = fs.readFileSync(file, "utf8");
+  for (const [, , name] of text.matchAll(IMPORT)) partsOf(path.resolve(path.dirname(file), name), found);
+  return found.set(file, text);
 }
 
-module.exports = { page };
+/* A part as a function that gives what the part exports. */
+function scoped(file, text, number) {
+  const dependencies = [...text.matchAll(IMPORT)].map(([, names, name]) => {
+    const from = [...number.keys()].indexOf(path.resolve(path.dirname(file), name));
+    return `  const { ${names.trim().replace(/,$/, "")} } = part${from};\n`;
+  });
+  const names = [...text.matchAll(EXPORT)].map(([, name]) => name);
+  const body = text.replace(IMPORT, "").replace(/^export /gm, "");
+  const own = [...number.keys()].indexOf(file);
+  return `const part${own} = (() => {\n${dependencies.join("")}${body}\n  return { ${names.join(", ")} };\n})();\n`;
+}
+
+/* A part and all that it needs as one script. */
+function bundle(file) {
+  const parts = partsOf(file);
+  return [...parts].map(([name, text]) => scoped(name, text, parts)).join("");
+}
+
+/* In a script element of data "<" is written so that no text ends the element. */
+const asData = (value) => JSON.stringify(value).replaceAll("<", "\\u003c");
+
+/* The first sentence of a schedule's comment. */
+function sentenceOf(text) {
+  const comment = /^(?:;.*\n)+/.exec(text);
+  const words = comment ? comment[0].replace(/^; ?/gm, "").replaceAll("\n", " ") : "";
+  return (/^.*?\.(?= |$)/.exec(words) || [words])[0].trim();
+}
+
+/* The sessions of a folder, with a sentence each. */
+function examplesOf(folder) {
+  return fs
+    .readdirSync(folder)
+    .filter((name) => name.endsWith(".ots"))
+    .sort()
+    .map((name) => [name, fs.readFileSync(path.join(folder, name), "utf8")])
+    .map(([name, text]) => ({ name: name.replace(/\.ots$/, ""), sentence: sentenceOf(text), text }));
+}
+
+const POLICY = (script) =>
+  [
+    "default-src 'none'",
+    `script-src 'sha256-${crypto.createHash("sha256").update(script).digest("base64")}' 'wasm-unsafe-eval'`,
+    "worker-src blob:",
+    "style-src 'unsafe-inline'",
+    "base-uri 'none'",
+    "form-action 'none'",
+  ].join("; ");
+
+/**
+ * The page; with an engine, { host, module }, the file of its host and the bytes of its module as base64 of gzip, and with examples.
+ */
+function page(engine = null, examples = []) {
+  const script = `\n${bundle(path.join(source, "page.mjs"))}`;
+  const worker = engine ? bundleWorker(engine.host) : "";
+  const put = (text, mark, value) => text.replace(mark, () => value);
+  let html = read("page.html");
+  html = put(html, "/* the policy */", POLICY(script));
+  html = put(html, "/* the style */\n", read("style.css"));
+  html = put(html, "/* the examples */", asData(examples));
+  html = put(html, "/* the worker */\n", worker);
+  html = put(html, "/* the module */", engine ? engine.module : "");
+  return put(html, "/* the script */", script);
+}
+
+/* The worker's script, over a host that lies elsewhere. */
+function bundleWorker(host) {
+  const file = path.join(source, "worker.mjs");
+  const named = path.resolve(source, "../../engine/host.mjs");
+  const parts = new Map();
+  for (const [name, text] of [[named, fs.readFileSync(host, "utf8")], ...partsOf(path.join(source, "desk.mjs"))]) parts.set(name, text);
+  parts.set(file, fs.readFileSync(file, "utf8"));
+  const script = [...parts].map(([name, text]) => scoped(name, text, parts)).join("");
+  if (/<\/script|<!--/i.test(script)) throw new Error("the worker's script ends its element");
+  return script;
+}
+
+module.exports = { page, examplesOf };
 
 if (require.main === module) fs.writeFileSync(path.join(__dirname, "viewer.html"), page());

@@ -5,9 +5,10 @@ const { spawnSync } = require("node:child_process");
 const fs = require("node:fs");
 const path = require("node:path");
 const { test } = require("node:test");
-const { drive, loadPort } = require("../../examples/port/driver.js");
-const { coverage, page, readCorpus } = require("../coverage.js");
-const { stepsOf, firstDifference } = require("../lines.js");
+const { drive, loadPort } = require("../../oracle/scalars.js");
+const { TOGETHER, coverage, page, readCorpus } = require("../coverage.js");
+const { bugs } = require("../faults.js");
+const { comparable, faultyPort, firstDifference, stepsOf } = require("../lines.js");
 
 const beside = (name) => path.join(__dirname, "..", name);
 
@@ -23,11 +24,16 @@ test("the lines of a session in the form of steps", () => {
   ]);
 });
 
-test("where two ports part", () => {
-  const lines = ['{"at":0}', '{"at":1,"do":"take"}', '{"at":1,"end":"quiet"}'];
-  assert.equal(firstDifference(lines, lines), null);
-  assert.equal(firstDifference(lines, ['{"at":0}', '{"at":1,"do":"ack"}']), 1);
-  assert.equal(firstDifference(lines, []), 0);
+test("where a port parts from ot.js", () => {
+  const session = comparable('clients 1\nedit 0 ["a"]\nedit 0 [1,"b"]\nedit 0 [1,"c",1]\n');
+  assert.equal(firstDifference(session, loadPort()), null);
+  assert.equal(firstDifference(session, faultyPort(bugs["buffer-replaced"])), 3);
+});
+
+test("a schedule in UTF-16 units", () => {
+  const text = '; 😀\nclients 2\nstart "a😀"\n\nedit 0 [2,"\\ud835\\udcb3"]\n  edit 1 [1,-1]\nread 0\nedit 0 [3,"x"]\nedit 0 [1]\nedit 0 [4]\n';
+  const given = '; 😀\nclients 2\nstart "a😀"\n\nedit 0 [3,"𝒳"]\nedit 1 [1,-2]\nread 0\nedit 0 [5,"x"]\nedit 0 [1]\nedit 0 [4]\n';
+  assert.equal(comparable(text).given, given);
 });
 
 test("each session says what it tries, is never refused, is quiet, and ends with a read of everybody", () => {
@@ -50,11 +56,35 @@ test("beside each session stand its lines", () => {
   }
 });
 
+let covered = null;
+const coverageOnce = () => (covered ??= coverage());
+
 test("every fault is found, every session finds one, and COVERAGE.md says by which", () => {
-  const found = coverage();
+  const found = coverageOnce();
   for (const { fault, sessions } of found.finders) assert.ok(sessions.length, fault);
   for (const { name, found: faults } of found.corpus) assert.ok(faults, name);
   assert.equal(fs.readFileSync(beside("COVERAGE.md"), "utf8"), page(found));
+});
+
+/* Each kind of session beside the branches of ot.js, and the faults that nothing else finds. */
+const KINDS = {
+  "characters-line-end-of-two": ["line-ends-changed"],
+  "characters-normal-forms": ["texts-normalized"],
+  "characters-past-the-plane-": ["insert-counts-code-points"],
+  "lengths-above-": ["lengths-of-8-bits", "lengths-of-15-bits", "lengths-of-16-bits"],
+  "log-above-": ["log-cut-at-100", "log-cut-at-1000"],
+  [TOGETHER]: ["log-shared"],
+};
+
+test("each kind of session has a fault that passes the rest of the corpus", () => {
+  const found = new Map(coverageOnce().finders.map(({ fault, sessions }) => [fault, sessions.map(({ name }) => name)]));
+  for (const [kind, faults] of Object.entries(KINDS))
+    for (const fault of faults) {
+      assert.ok(found.get(fault).length, fault);
+      assert.ok(found.get(fault).every((name) => name.startsWith(kind)), fault);
+    }
+  assert.deepEqual(found.get("lengths-of-16-bits"), ["lengths-above-65535"]);
+  assert.deepEqual(found.get("log-cut-at-1000"), ["log-above-1000"]);
 });
 
 test("a fault of another file on the driver's command line", () => {

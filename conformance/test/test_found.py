@@ -1,13 +1,13 @@
 """Faults of the sample port are found among sessions made at random, and reduced to a few instructions."""
-import shutil
 import unittest
 
-import paths  # noqa: F401
+from paths import needs_node, needs_program
 from found import Differences, fault_names, find
 from generate import generated
 
 
-@unittest.skipUnless(shutil.which("node"), "no node is there")
+@needs_node
+@needs_program
 class Found(unittest.TestCase):
     def test_five_faults_of_ports(self):
         sessions = [generated(seed, 4, 60) for seed in range(200)]

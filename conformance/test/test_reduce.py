@@ -1,15 +1,15 @@
 """Reducing, with a port's faults stood for by what a schedule has."""
 import unittest
 
-import paths  # noqa: F401
+from paths import needs_program
 from generate import generated
-from reduce import reduced, repaired, size, smaller
-from schedule import read_schedule
+from reduce import LONG, WAYS, reduced, repaired, size
+from schedule import Instruction, Schedule, read_schedule
 
 
 def showing(shows):
-    """What `reduced` is given: a schedule shows a fault where the test says so; all of its instructions are needed."""
-    return lambda schedules: next(((it, len(it.instructions)) for it in schedules if shows(it)), None)
+    """What `reduced` is given: a session shows a fault where the test says so; all of its instructions are needed."""
+    return lambda candidates: next(((it, len(it[-1].instructions)) for it in candidates if shows(it[-1])), None)
 
 
 def has(schedule, word, client):
@@ -23,13 +23,14 @@ class Repairing(unittest.TestCase):
                          'clients 2\nstart "ab"\nedit 0 [2,"c"]\ntake 0\ndeliver 1\nack 0\nread 1\n')
 
 
+@needs_program
 class Reducing(unittest.TestCase):
-    def test_candidates_are_smaller_and_none_comes_twice(self):
+    def test_candidates_are_smaller_and_can_be_performed(self):
         schedule = generated(1, 3, 30)
-        candidates = list(smaller(schedule))
-        self.assertTrue(all(size(it) < size(schedule) for it in candidates))
-        self.assertEqual(len(candidates), len(set(candidates)))
-        self.assertTrue(all(repaired(it) == it for it in candidates))
+        candidates = [it for way in WAYS for it in way((schedule,))]
+        self.assertGreater(len(candidates), 100)
+        self.assertTrue(all(size(it) < size(schedule) for it, in candidates))
+        self.assertTrue(all(repaired(it) == it for it, in candidates))
 
     def test_to_what_is_needed(self):
         rows = [
@@ -42,28 +43,87 @@ class Reducing(unittest.TestCase):
         ]
         for clients, shows, smallest in rows:
             sessions = (generated(seed, clients, 60) for seed in range(20))
-            self.assertEqual(reduced(next(filter(shows, sessions)), showing(shows)).text(), smallest)
+            small, = reduced((next(filter(shows, sessions)),), showing(shows))
+            self.assertEqual(small.text(), smallest)
+
+    def test_nothing_is_tried_twice(self):
+        asked = []
+
+        def first_shown(candidates):
+            for candidate in candidates:
+                asked.append(candidate)
+                if len(candidate[-1].instructions) > 5:
+                    return candidate, len(candidate[-1].instructions)
+            return None
+
+        reduced((generated(1, 3, 30),), first_shown)
+        self.assertEqual(len(asked), len(set(asked)))
 
     def test_what_stands_behind_the_difference_is_left_out(self):
         session = generated(1, 3, 40)
         asked = []
 
-        def first_shown(schedules):
-            first = next(iter(schedules))
-            asked.append(len(first.instructions))
+        def first_shown(candidates):
+            first = next(iter(candidates), None)
+            asked.append(first)
             return (first, 5) if len(asked) < 3 else None
 
-        self.assertEqual(reduced(session, first_shown).instructions, session.instructions[:5])
-        self.assertEqual(asked[:2], [len(session.instructions), 5])
+        self.assertEqual(reduced((session,), first_shown)[-1].instructions, session.instructions[:5])
+        self.assertEqual([len(it[-1].instructions) for it in asked[:2]], [len(session.instructions), 5])
 
     def test_what_stands_behind_the_difference_stays_where_it_is_needed(self):
-        def first_shown(schedules):
-            return next(((it, 1) for it in schedules if len(it.instructions) > 3), None)
+        def first_shown(candidates):
+            return next(((it, 1) for it in candidates if len(it[-1].instructions) > 3), None)
 
-        self.assertEqual(len(reduced(generated(1, 3, 40), first_shown).instructions), 4)
+        self.assertEqual(len(reduced((generated(1, 3, 40),), first_shown)[-1].instructions), 4)
 
     def test_a_session_that_shows_nothing_is_not_reduced(self):
-        self.assertIsNone(reduced(generated(1, 3, 40), lambda schedules: None))
+        self.assertIsNone(reduced((generated(1, 3, 40),), lambda candidates: None))
+
+    def test_a_long_session_is_gone_through_once(self):
+        session, asked = generated(1, 3, 400), 0
+
+        def first_shown(candidates):
+            nonlocal asked
+            for candidate in candidates:
+                asked += 1
+                if len(candidate[-1].instructions) > 2 * LONG:
+                    return candidate, len(candidate[-1].instructions)
+            return None
+
+        self.assertEqual(len(reduced((session,), first_shown)[-1].instructions), 2 * LONG + 1)
+        self.assertLess(asked, 800)
+
+
+class Several(unittest.TestCase):
+    EDIT = Instruction("edit", 0, ())
+
+    def sessions(self, *counts):
+        """Sessions of so many edits."""
+        return tuple(Schedule(1, 1, "", (self.EDIT,) * count) for count in counts)
+
+    def test_of_the_sessions_before_the_last_those_that_are_needed_stay(self):
+        def first_shown(candidates):
+            return next(((it, len(it[-1].instructions)) for it in candidates
+                         if it[-1].instructions and sum(len(before.instructions) >= 3 for before in it[:-1]) >= 2), None)
+
+        self.assertEqual(reduced(self.sessions(1, 4, 0, 5, 2, 7, 1, 1), first_shown), self.sessions(3, 3, 1))
+
+    def test_a_session_that_shows_it_alone_is_left_alone(self):
+        self.assertEqual(reduced(self.sessions(1, 4, 0, 5), showing(lambda it: len(it.instructions) > 2)), self.sessions(3))
+
+    def test_fewer_sessions_may_be_answered(self):
+        def first_shown(candidates):
+            return next(((it[:1], len(it[0].instructions)) for it in candidates if it[0].instructions), None)
+
+        self.assertEqual(reduced(self.sessions(4, 2, 5), first_shown), self.sessions(1))
+
+
+class Names(unittest.TestCase):
+    def test_they_go_with_their_clients(self):
+        session = read_schedule('; client 0 is ann\n; client 1 is ben\n; client 2 is cleo\nclients 3\nedit 1 ["x"]\nedit 2 ["y"]\ntake 2\n')
+        small, = reduced((session,), showing(lambda it: any(edit.edit == ("y",) for edit in it.instructions)))
+        self.assertEqual(small.text(), '; client 0 is cleo\nclients 1\nedit 0 ["y"]\n')
 
 
 if __name__ == "__main__":

@@ -1,14 +1,18 @@
 """The runner: drivers of every kind, and what is printed of them."""
 import os
+import pathlib
+import re
+import shutil
 import subprocess
 import tempfile
 import time
 import unittest
+import xml.etree.ElementTree as xml
 
-from paths import JUDGE, KIT
-from port import Driver
+from paths import JUDGE, KIT, PROGRAM, STUB, needs_node, needs_program
+from port import Driver, KeptDriver
 
-BUILT = KIT.parent / "crates" / "otbench" / "out" / "otbench"
+SAMPLE = ["node", str(KIT.parent / "examples" / "port" / "driver.js"), "--faults", str(KIT / "faults.js")]
 
 
 class Drivers(unittest.TestCase):
@@ -35,18 +39,70 @@ class Drivers(unittest.TestCase):
             self.assertEqual(os.path.getsize(file.name), 0)
 
 
-class Runs(unittest.TestCase):
-    def run_kit(self, driver, *words, judge=JUDGE):
-        call = [KIT / "run", "--judge", judge, "--sessions", "5", "--jobs", "2", *words, *driver]
-        ran = subprocess.run(call, capture_output=True, encoding="utf-8", check=False)
+# Answers each session with its number and the last line of its text; $1 says what it does at a line `join`.
+KEPT = """n=0; while read -r line; do case $line in
+%%) n=$((n + 1)); echo "$n $last"; echo %%;;
+*join*) eval "$1";;
+esac; last=$line; done"""
+
+
+class KeptDrivers(unittest.TestCase):
+    def kept(self, does="", seconds=60, most_bytes=1000):
+        driver = KeptDriver(["sh", "-c", KEPT, "sh", does], seconds, most_bytes)
+        self.addCleanup(driver.close)
+        return driver
+
+    def test_several_sessions_in_one_process(self):
+        driver = self.kept()
+        rows = [("clients 1\n", b"1 clients 1\n"), ("clients 1\nread 0\n", b"2 read 0\n"), ("x\n" * 100_000, b"3 x\n"), ("", b"4 %%\n")]
+        for text, lines in rows:
+            self.assertEqual(driver.perform(text), (lines, None))
+
+    def test_a_process_that_ends_is_followed_by_another_one(self):
+        rows = [
+            ("echo gone >&2; exit 7", "the driver ended with status 7: gone"),
+            ("exit 0", "the driver ended before the line %%"),
+            ("kill -SEGV $$", "the driver was ended by signal 11"),
+        ]
+        for does, trouble in rows:
+            driver = self.kept(does)
+            said = [driver.perform(text) for text in ("clients 1\n", "join 0\n", "clients 2\n")]
+            self.assertEqual(said, [(b"1 clients 1\n", None), (b"", trouble), (b"1 clients 2\n", None)], does)
+
+    def test_one_that_hangs_or_prints_without_end(self):
+        self.assertEqual(self.kept("sleep 60", seconds=2).perform("join 0\n"), (b"", "the driver was ended: it took more than 2 s"))
+        lines, trouble = self.kept("while :; do echo y; done", most_bytes=100_000).perform("join 0\n")
+        self.assertEqual((lines[:4], trouble), (b"y\ny\n", "the driver was ended: it printed more than 100,000 bytes"))
+
+    def test_how_it_ends(self):
+        for does, trouble in (("exit 0", None), ("exit 3", "the driver ended with status 3 behind its last session"), ("sleep 60", "the driver was ended: it took more than 1 s behind its last session")):
+            driver = KeptDriver(["sh", "-c", f"read -r a; read -r b; echo %%; read -r c; {does}"], 1, 1000)
+            self.assertEqual(driver.perform("clients 1\n"), (b"", None))
+            self.assertEqual(driver.close(), trouble)
+            self.assertIsNone(driver.close())
+
+
+class Kit(unittest.TestCase):
+    def run_kit(self, driver, *words, judge=JUDGE, need=("--need", "")):
+        call = [KIT / "run", "--judge", judge, "--sessions", "5", "--jobs", "2", *need, *words, *driver]
+        ran = subprocess.run(call, capture_output=True, encoding="utf-8", check=False, env={**os.environ, "OTBENCH": STUB})
         return ran.returncode, ran.stdout, ran.stderr
 
+    def own(self, *texts):
+        """A folder with files of these texts: the words for it."""
+        folder = tempfile.TemporaryDirectory()
+        self.addCleanup(folder.cleanup)
+        for number, text in enumerate(texts):
+            pathlib.Path(folder.name, f"{number}.ots").write_text(text, encoding="utf-8")
+        return "--session", folder.name
+
+
+class Runs(Kit):
     def test_a_port_that_conforms(self):
         status, printed, _ = self.run_kit(["echo", "a line"])
         sessions = len(list((KIT / "sessions").glob("*.ots")))
         said = (f"corpus: {sessions} sessions conform\nat random: 5 sessions conform\n"
-                f"compared clients 0 present 0 start 0 do {2 * (sessions + 5)} client 0 edit 0 revision 0 state 0 outstanding 0 buffer 0 sent 0 "
-                "applied 0 appended 0 document 0 end 0\n")
+                f"compared clients 0 do {2 * (sessions + 5)} sent 0 document 0 end 0\n")
         self.assertEqual((status, printed), (0, said))
 
     def test_a_port_that_differs_is_reduced(self):
@@ -136,6 +192,8 @@ class Runs(unittest.TestCase):
             ("--reduce-seconds", "-1", times),
             ("--save", "/there/is/none/x", "there is no folder /there/is/none"),
             ("--save", str(KIT), "it is a folder"),
+            ("--junit", "/there/is/none/x", "there is no folder /there/is/none"),
+            ("--session", "/there/is/none", "it is not there"),
         ]
         for word, value, takes in rows:
             self.refused(f"argument {word}: invalid value '{value}': {takes}", ["true"], word, value)
@@ -150,14 +208,200 @@ class Runs(unittest.TestCase):
         self.assertEqual(self.run_kit(driver, *words), (2, "", f"usage: conformance/run [options] COMMAND ..\nrun: error: {said}\n"))
 
 
-@unittest.skipUnless(BUILT.exists(), "the program is not built")
+    def test_a_start_text_that_is_too_long(self):
+        self.refused("argument --start: it takes 40000 characters", ["true"], "--start", 40_001 * "a")
+
+    def test_a_start_text(self):
+        driver = ["sh", "-c", "if ! grep -q 'start \"ab c\"$'; then echo wrong 0; fi"]
+        self.assertIn("at random: 5 sessions conform\n", self.run_kit(driver, "--start", "ab c", "--all", "--reduce-seconds", "1")[1])
+
+
+class Own(Kit):
+    def test_sessions_of_files_and_folders(self):
+        words = self.own("clients 1\n", "; a recording\nclients 2\nread 0\n%%\n{}\n")
+        status, printed, _ = self.run_kit(["echo", "a line"], *words, "--session", str(KIT / "sessions" / "no-operations.ots"))
+        self.assertEqual((status, printed.split("\n")[0]), (0, "of one's own: 3 sessions conform"))
+
+    def test_one_that_fails_is_reduced(self):
+        words = self.own('; client 0 is ann\n; client 1 is ben\nclients 2\nedit 0 ["a"]\nread 1\njoin 1\n')
+        status, printed, _ = self.run_kit(["sh", "-c", "if grep -q read; then echo wrong 99; fi"], *words)
+        self.assertEqual(status, 1)
+        self.assertRegex(printed, r"^fails: .*/0.ots, 3 instructions of 2 clients; here reduced to 1 of 1\n\n; client 0 is ben\nclients 1\nread 0\n\ndiffers at 99")
+
+    def test_what_is_no_session(self):
+        words = self.own("clients 1\nedit 0 what\n")
+        self.assertEqual(self.run_kit(["true"], *words), (2, "", f"run: {words[1]}/0.ots is no schedule\n"))
+        ran = subprocess.run([KIT / "run", *self.own("edit 0 []\n"), "true"], capture_output=True, encoding="utf-8", check=False, env={**os.environ, "OTBENCH": STUB})
+        self.assertEqual(ran.returncode, 2)
+        self.assertRegex(ran.stderr, r"^run: .*/0.ots: otbench: line 1: NoClients\n$")
+
+
+JOINS = "clients 1\npresent 0\njoin 0\n"
+READS = "clients 1\nread 0\n"
+DRIVER = ["sh", "-c", "text=$(cat); case $text in *join*) echo wrong 1;; *take*) exit 7;; *) echo right;; esac"]
+
+
+class All(Kit):
+    SAID = (
+        "of one's own: 1 of 4 sessions conform\n\n"
+        "deliver: line: 2 sessions\nthe shortest: {0}/1.ots, 1 instruction of 1 client; here reduced to 1 of 1\n\n"
+        "clients 1\npresent 0\njoin 0\n\ndiffers at 1: deliver 0: line\nfound \"wrong 1\"\n\n"
+        "driver: ended with status 7: 1 session\nthe shortest: {0}/3.ots, 2 instructions of 1 client; here reduced to 2 of 1\n\n"
+        "clients 1\nedit 0 []\ntake 0\n\nthe driver ended with status 7\n"
+    )
+
+    def setUp(self):
+        self.words = self.own(JOINS + "read 0\n", JOINS, READS, "clients 1\nedit 0 []\ntake 0\n")
+
+    def known(self, text):
+        file = tempfile.NamedTemporaryFile("w", suffix=".known")
+        self.addCleanup(file.close)
+        file.write(text)
+        file.flush()
+        return "--known", file.name
+
+    def test_of_each_kind_the_shortest_is_reduced(self):
+        status, printed, _ = self.run_kit(DRIVER, *self.words, "--all")
+        self.assertEqual((status, printed[:printed.index("compared")]), (1, self.SAID.format(self.words[1])))
+
+    def test_what_is_known_is_counted_and_tolerated(self):
+        known = self.known("# two of them\ndeliver: line\n\n  driver: ended with status 7 \nread: document\n")
+        status, printed, _ = self.run_kit(DRIVER, *self.words, *known)
+        self.assertEqual(status, 0)
+        self.assertTrue(printed.startswith("of one's own: 1 of 4 sessions conform\nknown: deliver: line: 2 sessions\n"
+                                           "known: driver: ended with status 7: 1 session\nknown, and no longer there: read: document\ncompared"), printed)
+
+    def test_an_unknown_one_fails_beside_a_known_one(self):
+        status, printed, _ = self.run_kit(DRIVER, *self.words, *self.known("deliver: line\n"))
+        self.assertEqual(status, 1)
+        self.assertRegex(printed, r"^fails: .*/3.ots, .*\n\nclients 1\nedit 0 \[\]\ntake 0\n\nthe driver ended with status 7\n$")
+
+    def test_a_file_of_known_ones_that_is_not_there(self):
+        self.assertEqual(self.run_kit(DRIVER, *self.words, "--known", "/there/is/none")[0], 2)
+
+    def test_anything(self):
+        status, printed, _ = self.run_kit(DRIVER, *self.words, "--tap", *self.known("deliver: line\n"))
+        lines = printed.split("\n")
+        points = [line.replace(self.words[1], "") for line in lines if re.match("ok|not ok", line)]
+        self.assertEqual(points, ["not ok 1 - /0.ots # TODO known: deliver: line", "not ok 2 - /1.ots # TODO known: deliver: line",
+                                  "ok 3 - /2.ots", "not ok 4 - /3.ots", "ok 5 - what is needed was compared, and the driver ended well"])
+        self.assertEqual((status, lines[0], lines[-2], lines[-1]), (1, "TAP version 13", "1..5", ""))
+        rest = [line for line in lines[1:-2] if line not in points and not re.match(r"(not )?ok|# |  ", line)]
+        self.assertEqual(rest, [])
+        self.assertIn("    the driver ended with status 7", lines)
+        self.assertIn("# clients 1", lines)
+
+    def test_junit(self):
+        with tempfile.NamedTemporaryFile() as file:
+            status, printed, _ = self.run_kit(DRIVER, *self.words, "--junit", file.name, *self.known("driver: ended with status 7\n"))
+            suite = xml.parse(file.name).getroot()
+        self.assertEqual((status, suite.get("tests"), suite.get("failures"), suite.get("skipped")), (1, "5", "2", "1"))
+        self.assertEqual([case.get("name")[-5:] for case in suite.findall("testcase[failure]")], ["0.ots", "1.ots"])
+        self.assertEqual(suite.find("testcase/failure").get("type"), "deliver: line")
+        self.assertIn("here reduced to 1 of 1", printed)
+        self.assertIn("here reduced to 1 of 1", suite.find("system-out").text)
+
+
+class Needed(Kit):
+    def test_documents(self):
+        status, _, said = self.run_kit(["true"], need=())
+        self.assertEqual((status, said), (1, "run: never compared: document\n"))
+
+    def test_any_keys(self):
+        status, _, said = self.run_kit(["echo", "a line"], need=("--need", "sent,do,documnet"))
+        self.assertEqual((status, said), (1, "run: never compared: sent; documnet\n"))
+
+    def test_keys_that_are_none_are_named_once(self):
+        _, _, said = self.run_kit(["printf", '{"at":1,"documnet":"a","rev":1,"why":0}\n{"at":2,"rev":2}\n'])
+        self.assertEqual(said, 'run: the key "documnet" is none of steps, and was not compared: is it document?\n'
+                         'run: the key "rev" is none of steps, and was not compared\nrun: the key "why" is none of steps, and was not compared\n')
+
+    def test_anything_says_it_in_a_test_point(self):
+        status, printed, _ = self.run_kit(["true"], "--tap", need=())
+        self.assertEqual(status, 1)
+        self.assertRegex(printed, r"\nnot ok \d+ - what is needed was compared, and the driver ended well\n# never compared: document\n")
+
+
+class Kept(Kit):
+    def test_a_driver_that_ends_otherwise_than_it_should(self):
+        driver = ["sh", "-c", 'while read -r line; do case $line in %%) echo %%;; esac; done; exit 3']
+        status, printed, said = self.run_kit(driver, *self.own("clients 1\n"), "--keep-driver", "--tap")
+        self.assertEqual((status, said), (1, "run: the driver ended with status 3 behind its last session\n"))
+        self.assertRegex(printed, r"\nnot ok 2 - what is needed .*\n# the driver ended with status 3 behind its last session\n1..2\n$")
+
+
+class WithoutBuilding(unittest.TestCase):
+    """A tree whose `./otbench`, which is asked for the program alone, leaves a mark that it was called."""
+
+    def setUp(self):
+        self.folder = tempfile.TemporaryDirectory()
+        self.addCleanup(self.folder.cleanup)
+        self.top = pathlib.Path(self.folder.name)
+        shutil.copytree(KIT, self.top / "conformance")
+        (self.top / "bench").mkdir()
+        shutil.copy(KIT.parent / "bench" / "storms.py", self.top / "bench")
+        called = self.top / "otbench"
+        called.write_text(f"#!/bin/sh\ntouch '{self.top}/called'\necho '{STUB}'\n", encoding="utf-8")
+        called.chmod(0o755)
+
+    def run_kit(self, *words):
+        env = {key: value for key, value in os.environ.items() if key != "OTBENCH"}
+        call = [self.top / "conformance" / "run", "--judge", JUDGE, "--need", "", *words, "echo", "a line"]
+        ran = subprocess.run(call, capture_output=True, encoding="utf-8", check=False, env=env)
+        return ran.returncode, (self.top / "called").exists()
+
+    def test_nothing_is_built_that_is_not_wanted(self):
+        self.assertEqual(self.run_kit("--sessions", "0"), (0, False))
+        self.assertEqual(self.run_kit("--session", str(KIT / "sessions" / "no-operations.ots")), (0, False))
+        self.assertEqual(self.run_kit("--sessions", "1"), (0, True))
+
+
+@needs_program
+@needs_node
 class Together(unittest.TestCase):
+    def run_kit(self, *words):
+        ran = subprocess.run([KIT / "run", "--jobs", "2", *words], capture_output=True, encoding="utf-8", check=False, env={**os.environ, "OTBENCH": PROGRAM})
+        return ran.returncode, ran.stdout, ran.stderr
+
     def test_a_fault_of_the_sample_port(self):
-        driver = ["node", KIT.parent / "examples/port/driver.js", "--faults", KIT / "faults.js", "--bug", "compose-insert-delete-longer"]
-        ran = subprocess.run([KIT / "run", "--jobs", "2", *driver], capture_output=True, encoding="utf-8", check=False)
-        self.assertEqual(ran.returncode, 1, ran.stderr)
-        self.assertRegex(ran.stdout, r"^fails: compose-insert-longer-than-delete, ")
-        self.assertRegex(ran.stdout, r"\ndiffers at 3: edit 0: client 0 buffer\n")
+        status, printed, said = self.run_kit("--utf16", *SAMPLE, "--bug", "compose-insert-delete-longer")
+        self.assertEqual(status, 1, said)
+        self.assertRegex(printed, r"^fails: [a-z-]+, ")
+        self.assertRegex(printed, r"\ndiffers at 3: edit 0: client 0 buffer\n")
+
+    def test_ot_js_conforms_with_real_surrogate_pairs(self):
+        status, printed, said = self.run_kit("--utf16", "--keep-driver", "--sessions", "40", *SAMPLE, "--keep")
+        self.assertEqual((status, printed.split("\n")[1], said), (0, "at random: 40 sessions conform", ""))
+
+    def test_a_port_that_counts_units_without_the_word(self):
+        status, printed, _ = self.run_kit("--session", KIT / "sessions" / "characters-past-the-plane.ots", *SAMPLE)
+        self.assertEqual(status, 1)
+        self.assertTrue(printed.endswith("\nnote a text has characters past U+FFFF: a port that counts UTF-16 units is tried with --utf16\n"), printed)
+
+    def test_state_that_leaks_from_one_session_to_the_next(self):
+        sessions = [word for name in ("join-an-empty-log", "transform-tie") for word in ("--session", KIT / "sessions" / f"{name}.ots")]
+        leaks = [*SAMPLE, "--keep", "--bug", "log-shared"]
+        status, printed, said = self.run_kit(*sessions, "--jobs", "1", "--reduce-seconds", "5", "--utf16", "--keep-driver", *leaks)
+        self.assertEqual(status, 1, said)
+        self.assertRegex(printed, r"^fails: .*/transform-tie.ots, .*; the last of 2 in one process\n\nclients \d\n(.*\n)*take \d\n(.*\n)*%%\nclients \d\n(.*\n)*differs at ")
+        status, printed, _ = self.run_kit(*sessions, "--utf16", *SAMPLE, "--bug", "log-shared")
+        self.assertEqual((status, printed.split("\n")[0]), (0, "of one's own: 2 sessions conform"))
+
+    def prints(self, script, *words):
+        sessions = [word for name in ("no-operations", "transform-tie") for word in ("--session", KIT / "sessions" / f"{name}.ots")]
+        status, printed, said = self.run_kit(*sessions, *words, "sh", "-c", f"'{PROGRAM}' steps --documents | sed '{script}'")
+        return status, printed.split("\n")[0], said
+
+    def test_what_a_port_does_not_print(self):
+        conform = "of one's own: 2 sessions conform"
+        self.assertEqual(self.prints(""), (0, conform, ""))
+        self.assertEqual(self.prints('s/,"do".*}/}/'), (1, conform, "run: never compared: document\n"))
+        self.assertEqual(self.prints('s/"document"/"documents"/')[2],
+                         'run: the key "documents" is none of steps, and was not compared: is it document?\nrun: never compared: document\n')
+        self.assertEqual(self.prints('/take\\|server/s/,"document".*}/}/'),
+                         (1, conform, "run: never compared: document of the server in 2 of 2 sessions\n"))
+        self.assertEqual(self.prints('/"client":1/s/,"document".*}/}/', "--need", "document,sent"),
+                         (1, conform, "run: never compared: document of a client in 2 of 2 sessions\n"))
 
 
 if __name__ == "__main__":

@@ -3,8 +3,8 @@ import collections
 import unicodedata
 import unittest
 
-from paths import KIT
-from generate import generated
+from paths import KIT, needs_program
+from generate import LONG_START, generated, varied
 from schedule import Instruction, Schedule, read_schedule
 from simulator import Simulator, fitted
 
@@ -16,6 +16,19 @@ class Texts(unittest.TestCase):
         schedule = Schedule(2, 1, "a b", (edit, Instruction("join", 1), Instruction("read-server")))
         self.assertEqual(read_schedule(text), schedule)
         self.assertEqual(schedule.text(), 'clients 2\npresent 1\nstart "a b"\nedit 0 [1,"c\\u0000",2]\njoin 1\nread-server\n')
+
+    def test_names_stand_in_comments(self):
+        text = "; client 1 is Ben B.\n; client 0 is \"ann \"\n; client 7 is nobody\n; a note\nclients 2\nread 1\n"
+        schedule = read_schedule(text)
+        self.assertEqual(schedule.names, ('"ann "', "Ben B."))
+        self.assertEqual(schedule.text(), '; client 0 is "ann "\n; client 1 is Ben B.\nclients 2\nread 1\n')
+
+    def test_what_stands_behind_a_mark_is_no_schedule(self):
+        self.assertEqual(read_schedule('clients 1\nread 0\n %%\t\r\n{"at":1}\n').text(), "clients 1\nread 0\n")
+
+    def test_whose_document_a_line_shows(self):
+        movers = [Instruction(word, 3).mover() for word in ("edit", "take", "deliver", "ack", "read", "join")]
+        self.assertEqual(movers + [Instruction("read-server").mover()], [3, "server", 3, 3, 3, 3, "server"])
 
     def test_the_corpus_reads_and_writes(self):
         for path in sorted((KIT / "sessions").glob("*.ots")):
@@ -71,6 +84,7 @@ def happenings(simulator, instruction):
                 yield "against a deletion"
 
 
+@needs_program
 class AtRandom(unittest.TestCase):
     def perform(self, schedule):
         simulator = Simulator(schedule)
@@ -99,6 +113,17 @@ class AtRandom(unittest.TestCase):
     def test_the_session_follows_from_the_seed(self):
         self.assertEqual(generated(5, 2, 20), generated(5, 2, 20))
         self.assertNotEqual(generated(5, 2, 20), generated(6, 2, 20))
+
+    def test_some_seeds_have_longer_texts_and_logs(self):
+        self.assertEqual(len(LONG_START), 300)
+        sessions = dict(varied(seed, 4, 60) for seed in range(100))
+        self.assertEqual(sessions["session of seed 7"], generated(7, 4, 60))
+        self.assertEqual(sessions["session of seed 9, a start of 300 characters"], generated(9, 4, 60, start=LONG_START))
+        self.assertEqual(sessions["session of seed 19, 480 instructions"], generated(19, 4, 480))
+        takes = [instruction.word for instruction in sessions["session of seed 99, 1500 instructions"].instructions].count("take")
+        self.assertGreater(takes, 100)
+        self.assertEqual(varied(9, 4, 60, start="x")[1].start, "x")
+        self.assertEqual(len(varied(19, 1, 50_000, is_open=True)[1].instructions), 100_000)
 
     def test_what_breaks_ports_is_there(self):
         sessions = [generated(seed, 4, 60) for seed in range(40)]

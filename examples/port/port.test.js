@@ -1,14 +1,14 @@
 /* The driver prints what `otbench steps` prints, and each of the five faults shows where it should. */
 "use strict";
 const assert = require("node:assert/strict");
-const { spawnSync } = require("node:child_process");
+const { spawn, spawnSync } = require("node:child_process");
+const { once } = require("node:events");
 const fs = require("node:fs");
 const os = require("node:os");
 const path = require("node:path");
 const { test } = require("node:test");
 const { bugs } = require("./bugs.js");
 const { drive, loadPort } = require("./driver.js");
-const { units } = require("./units.js");
 
 const example = (name) => fs.readFileSync(path.join(__dirname, `../${name}.ots`), "utf8");
 const values = (lines) => lines.map((line) => JSON.parse(line));
@@ -32,21 +32,9 @@ test("a late joiner, and documents where they are asked for", () => {
   assert.ok(lines.every((line) => line.document === undefined || line.do === "join"));
 });
 
-test("lengths count scalars, and texts come out as they went in", () => {
-  const lines = values(drive(example("one-client"), loadPort()));
-  assert.deepEqual([lines[0].start, lines[1].edit, lines[1].document], ["𝒳y", [1, "é", 1], "𝒳éy"]);
-  const { inward, outward } = units();
-  assert.equal(inward("a😀b😀𝒳").length, 5);
-  assert.equal(outward(inward("a😀b😀𝒳")), "a😀b😀𝒳");
-});
-
-test("a port with scalars of its own is handed the texts as they are", () => {
-  const seen = [];
-  const port = loadPort();
-  const { fromJSON } = port.TextOperation;
-  port.TextOperation.fromJSON = (operation) => fromJSON(seen.push(operation) && operation);
-  drive('clients 1\nedit 0 ["😀"]\n', port, { scalars: true });
-  assert.deepEqual(seen, [["😀"]]);
+test("lengths count UTF-16 units, and texts come out as they went in", () => {
+  const lines = values(drive('clients 1\nstart "𝒳y"\nedit 0 [2,"😀",1]\nedit 0 [4,"é",1]\n', loadPort()));
+  assert.deepEqual([lines[0].start, lines[1].edit, lines[1].document, lines[2].document], ["𝒳y", [2, "😀", 1], "𝒳😀y", "𝒳😀éy"]);
 });
 
 test("where an instruction cannot be performed the port's own words are printed", () => {
@@ -107,6 +95,22 @@ test("the command line", () => {
   assert.equal(refused.status, 1);
 });
 
+test("several sessions in one process, each ended by a line %%", async () => {
+  const child = spawn("node", [path.join(__dirname, "driver.js"), "--keep"], { stdio: ["pipe", "pipe", "inherit"] });
+  let printed = "";
+  child.stdout.setEncoding("utf8").on("data", (piece) => (printed += piece));
+  const answered = async (count) => {
+    while (printed.split("\n%%\n").length <= count) await new Promise((resolve) => child.stdout.once("data", resolve));
+  };
+  const linesOf = (name) => `${drive(example(name), loadPort()).join("\n")}\n%%\n`;
+  child.stdin.write(`${example("weak-order")}%%\n`);
+  await answered(1);
+  assert.equal(printed, linesOf("weak-order"), "its lines come before the next session is given");
+  child.stdin.end(`${example("late-join")}%%\n${example("one-client")}%%\n`);
+  const [status] = await once(child, "close");
+  assert.deepEqual([status, printed], [0, linesOf("weak-order") + linesOf("late-join") + linesOf("one-client")]);
+});
+
 /* Beside a program that takes no schedule. */
 test("`show_bugs` without a session is one line", () => {
   const tree = fs.mkdtempSync(path.join(os.tmpdir(), "otbench port "));
@@ -114,7 +118,8 @@ test("`show_bugs` without a session is one line", () => {
   fs.mkdirSync(path.dirname(shown), { recursive: true });
   fs.copyFileSync(path.join(__dirname, "show_bugs"), shown);
   fs.writeFileSync(path.join(tree, "otbench"), "#!/bin/sh\necho 'otbench: line 1: NoClients' >&2\nexit 1\n", { mode: 0o755 });
-  const call = (...words) => spawnSync(shown, words, { encoding: "utf8" });
+  const env = { ...process.env, OTBENCH: "" };
+  const call = (...words) => spawnSync(shown, words, { encoding: "utf8", env });
   for (const words of [["nosuch"], ["--help"], [tree], [""], [__filename, __filename]]) {
     const { status, stdout, stderr } = call(...words);
     const usage = `usage: examples/port/show_bugs [SESSION], and '${words.join(" ")}' is no file that can be read\n`;

@@ -1,17 +1,14 @@
 /* Reads the text of a schedule that otbench accepts. */
 "use strict";
 
-/*
- * { clients, present, start, instructions }, an instruction being { word, client, edit }. Every text in it goes through
- * `inward` (units.js). Lines from "%%" on are not the schedule's.
- */
-function readSchedule(text, inward) {
+/* { clients, present, start, instructions }, an instruction being { word, client, edit }. Lines from "%%" on are not the schedule's. */
+function readSchedule(text) {
   if (text.startsWith("\ufeff")) throw new Error("the schedule begins with a byte order mark: write it without");
   const schedule = { clients: 0, present: null, start: "", instructions: [] };
   for (const raw of text.split("\n")) {
     const line = withoutBlanks(raw.replace(/\r$/, ""));
     if (line === "%%") break;
-    if (line !== "" && line[0] !== ";") readLine(schedule, line, inward);
+    if (line !== "" && line[0] !== ";") readLine(schedule, line);
   }
   if (schedule.present === null) schedule.present = schedule.clients;
   return schedule;
@@ -25,16 +22,15 @@ function withoutBlanks(line) {
   return line.slice(from, to);
 }
 
-function readLine(schedule, line, inward) {
+function readLine(schedule, line) {
   const [, word, rest] = /^(\S+)[ \t]*([^]*)$/.exec(line);
   if (word === "clients") schedule.clients = Number(rest);
   else if (word === "present") schedule.present = Number(rest);
-  else if (word === "start") schedule.start = inward(JSON.parse(rest));
+  else if (word === "start") schedule.start = JSON.parse(rest);
   else if (word === "read-server") schedule.instructions.push({ word });
   else if (word === "edit") {
     const [, client, operation] = /^(\d+)[ \t]+([^]*)$/.exec(rest);
-    const edit = JSON.parse(operation).map((x) => (typeof x === "string" ? inward(x) : x));
-    schedule.instructions.push({ word, client: Number(client), edit });
+    schedule.instructions.push({ word, client: Number(client), edit: JSON.parse(operation) });
   } else schedule.instructions.push({ word, client: Number(rest) });
 }
 

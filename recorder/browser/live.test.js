@@ -3,7 +3,7 @@
 const assert = require("node:assert/strict");
 const path = require("node:path");
 const { after, before, test } = require("node:test");
-const { drive, loadPort } = require("../../examples/port/driver.js");
+const { drive, loadPort } = require("../../oracle/scalars.js");
 const { openChromium, wait } = require("../../viewer/browser/chromium.js");
 const { otbench, pageOf } = require("../../viewer/browser/otbench.js");
 const { readEvents } = require("../logs.js");

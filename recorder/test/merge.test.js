@@ -7,7 +7,7 @@ const os = require("node:os");
 const path = require("node:path");
 const { test } = require("node:test");
 const { bugs } = require("../../examples/port/bugs.js");
-const { drive, loadPort } = require("../../examples/port/driver.js");
+const { drive, loadPort } = require("../../oracle/scalars.js");
 const { decode, readEvents } = require("../logs.js");
 const { merge } = require("../merge.js");
 const { isWellFormed, toScalars } = require("../scalars.js");
@@ -16,11 +16,16 @@ const { LiveSession, chance, liveSession } = require("./live_session.js");
 const mergeText = (text) => merge(readEvents(text, "log"));
 const eventsOf = (log) => readEvents(log, "log");
 
+/* The schedule without its last line, which says where the logs are cut, and that line's words. */
+const instructionsOf = (schedule) => schedule.filter((line) => !line.startsWith("; cut: "));
+const cutOf = (schedule) => JSON.parse(schedule.at(-1).replace("; cut: ", ""));
+
 /* The first value that a participant logged and that ot.js has not, where the merged schedule is performed; null without. */
 function firstDifference({ schedule, lines }) {
   const ours = drive(schedule.join("\n"), loadPort()).map((line) => JSON.parse(line));
   for (const [i, text] of lines.entries()) {
     const line = JSON.parse(text);
+    if (line.cut !== undefined) continue;
     const due = ours[i];
     const differs = (key) => JSON.stringify(line[key]) !== JSON.stringify(due[key] ?? null);
     const key = (line.stopped === undefined) !== (due.stopped === undefined) ? "stopped" : Object.keys(line).find(differs);
@@ -31,7 +36,7 @@ function firstDifference({ schedule, lines }) {
 
 /* The documents to which a schedule leads, by the names in its comments. */
 function documentsAtEnd(schedule) {
-  const names = schedule.filter((line) => line[0] === ";").map((line) => JSON.parse(line.slice(line.indexOf('"'))));
+  const names = schedule.filter((line) => line[0] === ";").map((line) => /^; client \d+ is (.*)$/.exec(line)[1]);
   const reads = [...names.map((_, client) => `read ${client}`), "read-server"];
   const lines = drive([...schedule, ...reads].join("\n"), loadPort()).slice(-reads.length - 1, -1);
   return Object.fromEntries(lines.map((line, i) => [names[i] || "server", JSON.parse(line).document]));
@@ -71,7 +76,7 @@ test("a session of two, as a schedule", () => {
     { who: "ben", n: 1, time: 8, do: "edit", edit: [1, -2, 1], revision: 5, state: "awaiting-confirm", outstanding: [1, -2, 1], buffer: null, sent: { revision: 5, operation: [1, -2, 1] }, document: "ab" },
   ];
   const { schedule, lines, notes, fault } = merge(log);
-  assert.deepEqual(schedule, ['; client 0 is "ann"', '; client 1 is "ben"', "clients 2", "present 1", 'start "a😀"', 'edit 0 [2,"b"]', "take 0", "join 1", "ack 0", "edit 1 [1,-1,1]"]);
+  assert.deepEqual(schedule, ["; client 0 is ann", "; client 1 is ben", "clients 2", "present 1", 'start "a😀"', 'edit 0 [2,"b"]', "take 0", "join 1", "ack 0", "edit 1 [1,-1,1]"]);
   assert.deepEqual([notes, fault], [[], null]);
   const told = lines.map((line) => JSON.parse(line));
   assert.deepEqual(told[0], { at: 0, clients: 2, present: 1, start: "a😀" });
@@ -79,6 +84,45 @@ test("a session of two, as a schedule", () => {
   assert.deepEqual(told[3], { at: 3, do: "join", client: 1, revision: 1, state: "synchronized", document: "a😀b" });
   const state = { revision: 1, state: "awaiting-confirm", outstanding: [1, -1, 1], buffer: null, sent: { revision: 1, operation: [1, -1, 1] } };
   assert.deepEqual(told[5], { at: 5, do: "edit", client: 1, edit: [1, -1, 1], ...state, document: "ab" });
+});
+
+test("a name stands in its comment as it is, or as a JSON string where it is no rest of a line", () => {
+  const rows = [
+    ["ben", "ben"],
+    ["Ann B. (desk 2)", "Ann B. (desk 2)"],
+    ["é😀", "é😀"],
+    ["", '""'],
+    [" ben", '" ben"'],
+    ["ben\t", '"ben\\t"'],
+    ["a\nedit 0 []", '"a\\nedit 0 []"'],
+    ['"ben"', '"\\"ben\\""'],
+    ["\ud83d", '"\\ud83d"'],
+  ];
+  for (const [who, named] of rows) {
+    const { schedule } = merge([openings[0], { ...openings[1], who }]);
+    assert.deepEqual(schedule, [`; client 0 is ${named}`, "clients 1"]);
+  }
+});
+
+test("where the logs are cut the last line of the schedule and of the participants' lines says so", () => {
+  const { schedule, lines, fault } = merge([...acknowledged, { ...take, n: 2, revision: 2, appended: [1, "a"], document: "aa" }]);
+  assert.match(fault, /^server, event 2: take of /);
+  assert.equal(cutOf(schedule), fault);
+  assert.equal(lines.at(-1), JSON.stringify({ cut: fault }));
+  const thrown = { who: "ann", n: 3, time: 4, do: "edit", edit: [1], stopped: "Error: two\nlines" };
+  assert.equal(cutOf(merge([...acknowledged, thrown]).schedule), "ann, event 3: edit stopped: Error: two\nlines");
+});
+
+const program = process.env.OTBENCH || path.join(__dirname, "../../crates/otbench/out/otbench");
+
+test("otbench conform does not take a cut recording for a whole one", { skip: !fs.existsSync(program) }, () => {
+  const conform = ({ schedule, lines }) => spawnSync(program, ["conform"], { input: [...schedule, "%%", ...lines, ""].join("\n"), encoding: "utf8" });
+  const whole = conform(merge(acknowledged));
+  assert.deepEqual([whole.status, whole.stdout.split("\n")[0]], [0, "conforms"]);
+  const cut = conform(merge([...acknowledged, { ...take, n: 2, revision: 2, appended: [1, "a"], document: "aa" }]));
+  assert.equal(cut.status, 1);
+  assert.match(cut.stdout, /^differs at 3: /);
+  assert.match(cut.stdout, /take of \[/);
 });
 
 /* Where each fault shows first: at whose value of which instruction. */
@@ -123,7 +167,7 @@ test("an edit that cuts a surrogate pair in two is named, and the schedule ends 
   session.apply(seat, new TextOperation().retain(place).insert("\ude01").delete(1).retain(seat.document.length - place - 1));
   const number = JSON.parse(session.lines.at(-1)).n;
   const after = mergeText(session.lines.join("\n"));
-  assert.deepEqual(after.schedule, before.schedule);
+  assert.deepEqual(instructionsOf(after.schedule), before.schedule);
   assert.match(after.fault, new RegExp(`^client a, event ${number}: edit \\[.*\\] cuts the surrogate pair at unit ${place - 1} in two; a schedule cannot say that, and ends before it$`));
 });
 
@@ -219,7 +263,7 @@ test("who throws at an acknowledgement did not make the operation", () => {
   const thrown = { who: "ann", n: 1, time: 9, do: "ack", stopped: "Error: There is no pending operation." };
   const acknowledged = { who: "ben", n: 2, time: 3, do: "ack", revision: 1, state: "synchronized", outstanding: null, buffer: null, document: "a" };
   const { schedule, fault } = merge([...openings, take, { who: "ben", ...edit }, acknowledged, thrown]);
-  assert.deepEqual(schedule.slice(3), ['edit 1 ["a"]', "take 1", "ack 1", "ack 0"]);
+  assert.deepEqual(instructionsOf(schedule).slice(3), ['edit 1 ["a"]', "take 1", "ack 1", "ack 0"]);
   assert.equal(fault, "ann, event 1: ack stopped: Error: There is no pending operation.");
 });
 
@@ -230,8 +274,8 @@ const acknowledged = [...openings, take, { who: "ann", ...edit }, { who: "ann", 
 test("what was thrown over an operation that the server did not take ends the schedule, and is named", () => {
   const again = { who: "ann", n: 3, time: 4, do: "ack", stopped: "Error: There is no pending operation." };
   const { schedule, lines, fault } = merge([...acknowledged, again, { who: "ann", n: 4, time: 5, do: "edit", edit: [1], ...quiet }]);
-  assert.deepEqual(schedule.slice(3), ['edit 0 ["a"]', "take 0", "ack 0", "ack 0"]);
-  assert.equal(lines.at(-1), '{"at":3,"do":"ack","client":0,"stopped":"Error: There is no pending operation."}');
+  assert.deepEqual(instructionsOf(schedule).slice(3), ['edit 0 ["a"]', "take 0", "ack 0", "ack 0"]);
+  assert.equal(lines.at(-2), '{"at":3,"do":"ack","client":0,"stopped":"Error: There is no pending operation."}');
   assert.equal(fault, "ann, event 3: ack of operation 1, which the server did not take, and it stopped: Error: There is no pending operation.");
 });
 
@@ -242,7 +286,7 @@ test("of those that wait for what the server took, only who threw over it is nam
   const handed = merge([...acknowledged, taken, { who: "ann", ...waiting, ...quiet, revision: 2, applied: [1, "b"], document: "ab" }]);
   assert.equal(handed.fault, unsent);
   const threw = merge([...acknowledged, taken, { who: "ann", ...waiting, stopped: "Error: no" }]);
-  assert.deepEqual([threw.schedule, threw.fault], [handed.schedule, `${unsent}; ann, event 3: deliver of operation 1, and it stopped: Error: no`]);
+  assert.deepEqual([instructionsOf(threw.schedule), threw.fault], [instructionsOf(handed.schedule), `${unsent}; ann, event 3: deliver of operation 1, and it stopped: Error: no`]);
 });
 
 test("a message that came twice, and an acknowledgement without a message, are named", () => {
@@ -267,7 +311,7 @@ test("a take that threw appended nothing: who acknowledges the next one did not 
   const ben = { who: "ben", ...edit, edit: ["b"], outstanding: ["b"], document: "b", sent: other };
   const [server, ...clients] = acknowledged.filter((event) => event.who !== "ben" && event.do !== "take");
   const { schedule, fault } = merge([server, ...clients, openings[2], ben, thrown, { ...take, n: 2 }]);
-  assert.deepEqual(schedule.slice(3), ['edit 0 ["a"]', 'edit 1 ["b"]', "take 1"]);
+  assert.deepEqual(instructionsOf(schedule).slice(3), ['edit 0 ["a"]', 'edit 1 ["b"]', "take 1"]);
   assert.equal(fault, "server, event 1: take stopped: Error: no");
 });
 
@@ -275,7 +319,7 @@ test("what a method threw ends the schedule, and is named", () => {
   const { log } = liveSession({ seed: 1, plant: bugs["whole-log"] });
   const { fault, lines } = mergeText(log);
   assert.match(fault, /^server, event \d+: take stopped: Error: Both operations have to have the same base length$/);
-  assert.match(lines.at(-1), /^{"at":\d+,"do":"take","client":\d,"stopped":"Error: Both operations/);
+  assert.match(lines.at(-2), /^{"at":\d+,"do":"take","client":\d,"stopped":"Error: Both operations/);
 });
 
 test("lines that are no events are named", () => {

@@ -7,7 +7,15 @@ const path = require("node:path");
 
 const wait = (milliseconds) => new Promise((done) => setTimeout(done, milliseconds));
 
+/* What the protocol calls the keys that are held down with others. */
+const HELD = { Alt: 1, Control: 2, Meta: 4, Shift: 8 };
+
 const KEY_CODES = {
+  Backspace: 8,
+  Delete: 46,
+  Escape: 27,
+  Control: 17,
+  Shift: 16,
   Tab: 9,
   Enter: 13,
   PageUp: 33,
@@ -76,10 +84,15 @@ class Page {
     return result.value;
   }
 
-  /* Presses a key; the page has drawn when this is done. */
+  /* Presses a key, with others held down, as in "Control+z"; the page has drawn when this is done. */
   async key(name) {
-    const text = name.length === 1 ? name : undefined;
-    const press = { key: name, code: name, windowsVirtualKeyCode: KEY_CODES[name] || name.toUpperCase().charCodeAt(0) };
+    const parts = name.length > 1 && name.includes("+") ? name.split("+") : [name];
+    const held = parts.slice(0, -1);
+    const key = parts[parts.length - 1];
+    const modifiers = held.reduce((sum, other) => sum | HELD[other], 0);
+    const isCommand = (modifiers & ~HELD.Shift) !== 0;
+    const text = isCommand ? undefined : key === "Enter" ? "\r" : key.length === 1 ? key : undefined;
+    const press = { key, code: key, modifiers, windowsVirtualKeyCode: KEY_CODES[key] || key.toUpperCase().charCodeAt(0) };
     await this.send("Input.dispatchKeyEvent", { type: text ? "keyDown" : "rawKeyDown", ...press, text });
     await this.send("Input.dispatchKeyEvent", { type: "keyUp", ...press });
     await this.drawn();
@@ -87,6 +100,16 @@ class Page {
 
   async type(text) {
     await this.send("Input.insertText", { text });
+  }
+
+  /* Presses the keys of a text, one upon the other. */
+  async keys(text) {
+    for (const key of text) {
+      const press = { key, code: key, windowsVirtualKeyCode: key.toUpperCase().charCodeAt(0) };
+      await this.send("Input.dispatchKeyEvent", { type: "keyDown", ...press, text: key });
+      await this.send("Input.dispatchKeyEvent", { type: "keyUp", ...press });
+    }
+    await this.drawn();
   }
 
   async click(x, y) {
@@ -110,7 +133,7 @@ class Page {
 
   async close() {
     const gone = new Promise((done) => this.child.once("exit", done));
-    await this.send("Browser.close");
+    this.send("Browser.close"); // the answer may come too late to be read
     await gone;
     fs.rmSync(this.folder, { recursive: true, force: true, maxRetries: 30, retryDelay: 100 });
   }

@@ -25,4 +25,16 @@ function pageOf(name, input) {
   return `file://${file}`;
 }
 
-module.exports = { otbench, pageOf };
+/* The page with the engine: OTBENCH_PAGE, else the one that was built. */
+const enginePage = process.env.OTBENCH_PAGE || path.join(__dirname, "../../dist/otbench.html");
+const skip = fs.existsSync(enginePage) ? false : "dist/otbench.html is not built";
+
+/* Its address, or that of a copy with something else in it. */
+function addressOfPage(change = null) {
+  if (!change) return `file://${path.resolve(enginePage)}`;
+  const file = path.join(folder, "changed.html");
+  fs.writeFileSync(file, change(fs.readFileSync(enginePage, "utf8")));
+  return `file://${file}`;
+}
+
+module.exports = { addressOfPage, otbench, pageOf, skip };

@@ -1,16 +1,18 @@
 // The state at a place: a card for the server and for each client, with its document, in which each character has the
-// colour of who inserted it.
+// colour of who inserted it. Where the page can play, a client's document is an editor, and what is at the head of its links a
+// button: each button names the instruction that it puts behind the place.
 
 import { START, sameText, walk } from "./document.mjs";
 import { SERVER } from "./fold.mjs";
-import { documentAt, downAt, logLengthAt, stateAt, upAt, versionsOf } from "./places.mjs";
+import { documentAt, downAt, headsAt, logLengthAt, stateAt, upAt, versionsOf } from "./places.mjs";
 import { colourOf } from "./theme.mjs";
-import { escapeMarkup, nameOfMember, operationMarkup, valueMarkup } from "./words.mjs";
+import { escapeMarkup, nameOfMember, operationMarkup, quoted, seen, valueMarkup } from "./words.mjs";
 
 export const authorOf = (element) => (element.maker === START ? "the start" : `client ${element.maker}`);
 
-/* The characters that are shown at a place, with what it deleted: [{ element, index, change }]. */
-function shownCharacters(session, who, place) {
+/* The characters that are shown at a place, with what it deleted: [{ element, index, change }]; of a draft its own. */
+function shownCharacters(session, who, { place, draft }) {
+  if (draft && draft.client === who) return draft.elements.map((element, index) => ({ element, index, change: "" }));
   const elements = documentAt(session, who, place);
   const change = versionsOf(session, who).changeAt(place);
   if (!change) return elements.map((element, index) => ({ element, index, change: "" }));
@@ -48,28 +50,38 @@ function runsOf(shown, picked) {
   return runs;
 }
 
-const cutMark = (count) => (count > 0 ? `<span class="cut">… ${count} characters …</span>` : "");
+const cutMark = (count) => (count > 0 ? `<span class="cut" contenteditable="false">… ${count} characters …</span>` : "");
 
-/* A document at a place; of a long one, what is around the change. */
-function documentMarkup(session, who, place, picked) {
-  const shown = shownCharacters(session, who, place);
+const EDITOR = 'contenteditable="true" role="textbox" aria-multiline="true" spellcheck="false" autocapitalize="off" tabindex="0"';
+
+/* A document at a place; of a long one, what is around the change, or around where its user types. */
+function documentMarkup(session, who, view) {
+  const { picked, canPlay, carets } = view;
+  const shown = shownCharacters(session, who, view);
   const room = session.clients > 16 ? 160 : 600;
-  const centre = Math.max(0, shown.findIndex(({ change }) => change !== ""));
+  const changed = shown.findIndex(({ change }) => change !== "");
+  const centre = changed < 0 ? (carets?.get(who) ?? 0) : changed;
   const from = Math.max(0, Math.min(centre - (room >> 1), shown.length - room));
   const runs = runsOf(shown.slice(from, from + room), picked);
+  const first = shown.slice(0, from).filter(({ index }) => index >= 0).length;
   const spans = runs.map(({ maker, author, change, index, isPicked, text }) => {
     const title = `${author}${change ? `, ${change} here` : ""}`;
     const words = `class="${change}${isPicked ? " picked" : ""}" title="${title}" data-index="${index}"`;
     const colour = maker === START ? "" : ` style="--maker:${colourOf(maker)}"`;
-    return `<span ${words}${colour}>${escapeMarkup(text)}</span>`;
+    return `<span ${words}${colour}>${escapeMarkup(seen(text))}</span>`;
   });
-  const text = cutMark(from) + (spans.join("") || '<span class="cut">empty</span>') + cutMark(shown.length - from - room);
-  return `<div class="document" data-who="${who}">${text}</div>${authorsMarkup(runs)}`;
+  const isEditor = canPlay && who !== SERVER;
+  const empty = isEditor ? "" : '<span class="cut">empty</span>';
+  const last = runs[runs.length - 1];
+  const end = isEditor && last && last.text.endsWith("\n") ? "<br>" : "";
+  const text = cutMark(from) + (spans.join("") + end || empty) + cutMark(shown.length - from - room);
+  const words = isEditor ? ` ${EDITOR} aria-label="document of ${nameOfMember(who)}" data-first="${first}"` : "";
+  return `<div class="document" data-who="${who}"${words}>${text}</div>${authorsMarkup(runs)}`;
 }
 
 /* The runs in words, for those who hear the page. */
 function authorsMarkup(runs) {
-  const inWords = ({ text, author, change }) => `${JSON.stringify(text)} ${change ? `${change} here, ` : ""}by ${author}`;
+  const inWords = ({ text, author, change }) => `${quoted(text)} ${change ? `${change} here, ` : ""}by ${author}`;
   const words = runs.slice(0, 12).map(inWords);
   const more = runs.length > 12 ? `, and ${runs.length - 12} more` : "";
   return runs.length ? `<p class="heard">${escapeMarkup(words.join("; ") + more)}</p>` : "";
@@ -90,29 +102,51 @@ function portRows(port, who, place) {
   ]);
 }
 
-function card(who, isMoved, heading, body) {
+function card(who, { isMoved, names }, heading, body) {
   const colour = who === SERVER ? "var(--ink)" : colourOf(who);
   const look = `class="card${who === SERVER ? " server" : ""}${isMoved ? " moved" : ""}"`;
-  return `<section ${look} style="--who:${colour}" aria-label="${nameOfMember(who)}"><h2>${heading}</h2>${body}</section>`;
+  const name = names?.has(who) ? `${nameOfMember(who)}, ${names.get(who)}` : nameOfMember(who);
+  const words = `${look} data-card="${who}" tabindex="-1" style="--who:${colour}" aria-label="${escapeMarkup(name)}"`;
+  return `<section ${words}><h2>${heading}</h2>${body}</section>`;
 }
 
-function serverCard(session, { place, picked, port }, isMoved) {
+/* A button that puts an instruction behind the place. */
+const playButton = (instruction, title, markup = instruction, look = "") =>
+  `<button class="play ${look}" data-play="${instruction}" title="${title}">${markup}</button>`;
+
+const acts = (buttons) => (buttons ? `<span class="acts">${buttons}</span>` : "");
+
+function serverCard(session, view, isMoved) {
+  const { place, port, canPlay } = view;
   const length = logLengthAt(session, place);
   const entries = session.log.slice(Math.max(0, length - 4), length).reverse();
   const lines = entries.map(({ number, operation, maker }) => `${number}: ${operationMarkup(operation, maker)} client ${maker}`);
   if (length > 4) lines.push(`and ${length - 4} before`);
   const rows = length ? [["log, last first", lines.join("<br>")]] : [];
   rows.push(...portRows(port, SERVER, place));
-  return card(SERVER, isMoved, `server ${badge(`rev ${length}`)}`, documentMarkup(session, SERVER, place, picked) + table(rows));
+  const read = canPlay ? playButton("read-server", "shows the server’s document here", "read", "small") : "";
+  const heading = `server ${badge(`rev ${length}`)}${acts(read)}`;
+  return card(SERVER, { ...view, isMoved }, heading, documentMarkup(session, SERVER, view) + table(rows));
 }
 
-function linkRows(session, client, place) {
+function linkRows(session, client, { place, canPlay }) {
   const rows = [];
   const up = upAt(session, client, place);
-  if (up) rows.push(["to server", `${operationMarkup(up.operation, client)} at revision ${up.revision}`]);
+  const heads = canPlay ? headsAt(session, client, place) : { up: null, down: [] };
+  const asHead = (markup, instruction, title) =>
+    instruction ? playButton(instruction, title, `${markup} <b>${instruction.split(" ")[0]}</b>`, "head") : markup;
+  if (up) {
+    const message = `${operationMarkup(up.operation, client)} at revision ${up.revision}`;
+    rows.push(["to server", asHead(message, heads.up, "the server takes it (u)")]);
+  }
   const { from, to } = downAt(session, client, place);
   const messages = session.log.slice(from, Math.min(to, from + 3));
-  const words = messages.map(({ maker, operation }) => (maker === client ? "ack" : operationMarkup(operation, maker)));
+  const words = messages.map(({ maker, operation }, i) => {
+    const isOwn = maker === client;
+    if (i > 0 || !canPlay) return isOwn ? "ack" : operationMarkup(operation, maker);
+    const markup = isOwn ? "its own operation" : operationMarkup(operation, maker);
+    return asHead(markup, heads.down[0], isOwn ? "the client has its operation confirmed (n)" : "the client takes it (n)");
+  });
   if (to - from > 3) words.push(`and ${to - from - 3} more`);
   if (words.length) rows.push(["from server", words.join(", ")]);
   return rows;
@@ -120,20 +154,41 @@ function linkRows(session, client, place) {
 
 const STATE_LOOKS = { synchronized: "", "awaiting-confirm": "confirm", "awaiting-with-buffer": "buffer" };
 
-function clientCard(session, client, { place, picked, port }, isMoved) {
+function clientCard(session, client, view, isMoved) {
+  const { place, port, canPlay, names } = view;
   const { state, revision, outstanding, buffer } = stateAt(session, client, place);
-  const name = `<span class="name">client ${client}</span> ${badge(state, STATE_LOOKS[state])}`;
-  if (state === "not-joined") return card(client, isMoved, name, "");
+  const called = names?.has(client) ? ` <span class="called">${escapeMarkup(names.get(client))}</span>` : "";
+  const name = `<span class="name">client ${client}</span>${called} ${badge(state, STATE_LOOKS[state])}`;
+  const rename = canPlay ? `<button class="small" data-name="${client}" title="gives the client a name">name</button>` : "";
+  if (state === "not-joined") {
+    const join = canPlay ? playButton(`join ${client}`, "the client joins with the server’s document (+)", `join ${client}`, "head") : "";
+    return card(client, { ...view, isMoved }, name + acts(rename), join);
+  }
   const rows = [];
   if (outstanding) rows.push(["outstanding", operationMarkup(outstanding, client)]);
   if (buffer) rows.push(["buffer", operationMarkup(buffer, client)]);
-  rows.push(...linkRows(session, client, place), ...portRows(port, client, place));
+  rows.push(...linkRows(session, client, view), ...portRows(port, client, place));
   const isSame = sameText(documentAt(session, client, place), documentAt(session, SERVER, place));
   const heading = `${name} ${badge(`rev ${revision}`)} ${badge(isSame ? "= server" : "≠ server")}`;
-  return card(client, isMoved, heading, documentMarkup(session, client, place, picked) + table(rows));
+  const read = canPlay ? playButton(`read ${client}`, "shows the document here (r)", "read", "small") : "";
+  return card(client, { ...view, isMoved }, heading + acts(read + rename), documentMarkup(session, client, view) + table(rows));
 }
 
-/* A participant's card. */
+/* Of what a participant's card is made: where all of it is the same, the card is. */
+export function cardParts(session, who, view) {
+  const { place, port, picked, draft, canPlay, names, carets, answered } = view;
+  const isMoved = session.steps[place]?.moved === who;
+  const server = session.server.versionAt(place);
+  const parts = [answered, isMoved ? place : null, server, port && place, picked, draft, canPlay, names.get(who), carets.get(who)];
+  if (who === SERVER) return parts;
+  const state = stateAt(session, who, place);
+  return [...parts, state, session.members[who].versions.versionAt(place), upAt(session, who, place), logLengthAt(session, place)];
+}
+
+/*
+ * A participant's card at a place: view.place. Of the rest of a view `draft` is what a client's document is while that is not
+ * answered, `carets` where users type, `names` what clients are called, and `canPlay` says whether there is an engine.
+ */
 export function cardMarkup(session, who, view) {
   const step = session.steps[view.place];
   const isMoved = Boolean(step) && step.moved === who;

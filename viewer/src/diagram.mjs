@@ -34,13 +34,13 @@ export function diagram(session, layout, view) {
 
 /* The rows from and to as a file of its own. */
 export function picture(session, view, theme) {
-  const layout = layoutOf(session);
+  const layout = layoutOf(session, false, view.hidden);
   const { graph, texts } = diagram(session, layout, view);
   const height = (view.to - view.from + 1) * layout.rowHeight + HEAD_HEIGHT;
   const title = `<title>otbench session, places ${view.from} to ${Math.min(view.to, session.length)}</title>`;
   const rows = `<g transform="translate(0 ${HEAD_HEIGHT - view.from * layout.rowHeight})">${graph}${texts}</g>`;
   const paper = '<rect width="100%" height="100%" fill="var(--background)"/>';
-  const markup = withValues(paper + headMarkup(session, layout, view.followed) + headTexts(layout) + rows, theme);
+  const markup = withValues(paper + headMarkup(layout, view.followed, view.names) + headTexts(layout) + rows, theme);
   const box = `width="${layout.width}" height="${height}" viewBox="0 0 ${layout.width} ${height}"`;
   const font = 'font-family="DejaVu Sans Mono, Menlo, Consolas, monospace"';
   return `<svg xmlns="http://www.w3.org/2000/svg" ${box} ${font}>${title}${markup}</svg>\n`;

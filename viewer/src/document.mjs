@@ -52,6 +52,13 @@ function patch(list, operation, insertions) {
   });
 }
 
+/* The list that an operation which fits it leads to, with these insertions. */
+export function patched(list, operation, insertions) {
+  const after = list.slice();
+  patch(after, operation, insertions);
+  return after;
+}
+
 /* The last index whose value is at most x, in a rising list whose first value is. */
 export function lastUpTo(list, x) {
   let from = 0;
@@ -90,18 +97,29 @@ export class Versions {
     this.#keep();
   }
 
+  /* Takes back the changes behind a place. */
+  cutTo(place) {
+    const version = this.versionAt(place);
+    if (version === this.places.length - 1) return;
+    this.now = this.#elements(version).slice();
+    this.places.length = this.changes.length = version + 1;
+    for (const kept of this.kept.keys()) if (kept > version) this.kept.delete(kept);
+    this.lastKept = Math.max(...this.kept.keys());
+  }
+
   /* The change that was made at a place: { operation, insertions, before }, or null. */
   changeAt(place) {
-    const version = this.#versionAt(place);
+    const version = this.versionAt(place);
     if (this.places[version] !== place || !this.changes[version]) return null;
     return { ...this.changes[version], before: this.#elements(version - 1) };
   }
 
   at(place) {
-    return this.#elements(this.#versionAt(place));
+    return this.#elements(this.versionAt(place));
   }
 
-  #versionAt(place) {
+  /* The number of the version at a place. */
+  versionAt(place) {
     return lastUpTo(this.places, place);
   }
 

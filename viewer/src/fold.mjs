@@ -1,7 +1,7 @@
 // The fold: from the lines of `otbench steps` to a session that knows every document, client state and message at every
 // place. A place is a number of performed instructions. Lines that do not fit one another are refused.
 
-import { START, Versions, baseLength, insertedText, insertionsIn, makeElements, textOf } from "./document.mjs";
+import { START, Versions, baseLength, insertedText, insertionsIn, lastUpTo, makeElements, textOf } from "./document.mjs";
 
 export const SERVER = "server";
 
@@ -24,6 +24,17 @@ class ClientHistory {
     this.states.push({ at, revision, state, outstanding, buffer });
     this.statePlaces.push(at);
   }
+
+  /* Takes back what happened behind a place. */
+  cutTo(place) {
+    const count = lastUpTo(this.statePlaces, place) + 1;
+    this.states.length = this.statePlaces.length = count;
+    this.versions.cutTo(place);
+    while (this.sent.length && this.sent[this.sent.length - 1].sent > place) this.sent.pop();
+    const last = this.sent[this.sent.length - 1];
+    if (last && last.got > place) last.got = null;
+    this.up = last && last.got === null ? last : null;
+  }
 }
 
 /*
@@ -43,6 +54,18 @@ export class Session {
 
   get length() {
     return this.steps.length - 1;
+  }
+
+  /* Takes back what happened behind a place, as if the lines behind it had not been added. */
+  cutTo(place) {
+    this.stop = this.end = null;
+    if (place === this.length) return;
+    this.steps.length = place + 1;
+    this.log.length = lastUpTo(this.logPlaces, place);
+    this.logPlaces.length = this.log.length + 1;
+    this.server.cutTo(place);
+    this.messages = this.messages.filter(({ kind, sent, got }) => (kind === "up" ? sent : got) <= place);
+    for (const member of this.members) member.cutTo(place);
   }
 
   add(line) {
@@ -131,6 +154,12 @@ export class Session {
   }
 }
 
+/* A session of the opening's line, which further lines are added to. */
+export function openSession(line) {
+  if (line.at === 0 && line.clients && line.start !== undefined) return new Session(line);
+  throw new Error("the opening is missing");
+}
+
 /* The session of the lines of `steps`; a fault names the line. */
 export function fold(lines) {
   let session = null;
@@ -138,8 +167,7 @@ export function fold(lines) {
     try {
       const line = JSON.parse(text);
       if (session) session.add(line);
-      else if (line.at === 0 && line.clients && line.start !== undefined) session = new Session(line);
-      else throw new Error("the opening is missing");
+      else session = openSession(line);
     } catch (fault) {
       throw new Error(`line ${i + 1} is no line of otbench steps: ${fault.message}`);
     }

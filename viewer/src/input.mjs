@@ -2,7 +2,7 @@
 // `otbench conform` answered.
 
 /* A line without one CR at its end, and then without blanks at both ends: nothing else is dropped by `otbench conform`. */
-function trimmed(raw) {
+export function trimmed(raw) {
   const line = raw.endsWith("\r") ? raw.slice(0, -1) : raw;
   let [from, to] = [0, line.length];
   while (from < to && " \t".includes(line[from])) from++;

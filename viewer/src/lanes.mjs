@@ -4,13 +4,14 @@ import { lastUpTo } from "./document.mjs";
 import { SERVER } from "./fold.mjs";
 import { HEAD_HEIGHT, svgText } from "./layout.mjs";
 import { colourOf } from "./theme.mjs";
-import { nameOfMember } from "./words.mjs";
+import { brief, escapeMarkup, nameOfMember } from "./words.mjs";
 
-export function headMarkup(session, layout, followed) {
+export function headMarkup(layout, followed, names = new Map()) {
   const isWide = layout.laneWidth >= 60;
-  return [SERVER, ...session.members.keys()].map((who) => {
+  return [SERVER, ...[...layout.members.keys()].filter((who) => who !== SERVER)].map((who) => {
     const x = layout.x(who);
-    const name = isWide ? nameOfMember(who) : who === SERVER ? "S" : String(who);
+    const called = names.has(who) ? `${who} ${brief(names.get(who), layout.laneWidth >= 90 ? 12 : 6)}` : nameOfMember(who);
+    const name = escapeMarkup(isWide ? called : who === SERVER ? "S" : String(who));
     const fill = followed === who ? "var(--pick)" : "transparent";
     const size = `width="${layout.laneWidth - 2}" height="${HEAD_HEIGHT - 5}"`;
     const box = `<rect x="${x - layout.laneWidth / 2 + 1}" y="2" ${size} rx="5" fill="${fill}"/>`;
@@ -44,6 +45,7 @@ export function lanesMarkup(session, layout, { from, to }) {
   };
   line(x(SERVER), y(0), foot, 'stroke="var(--ink)" stroke-width="2.5"');
   for (const { number, states, statePlaces } of session.members) {
+    if (!layout.members.has(number)) continue;
     for (let i = lastUpTo(statePlaces, from - 2); i < states.length && states[i].at <= to + 2; i++) {
       const below = i + 1 < states.length ? y(states[i + 1].at) : foot;
       for (const { dx, width, opacity } of STROKES[states[i].state])

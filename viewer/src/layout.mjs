@@ -9,21 +9,25 @@ const TEXT_WIDTH = { wide: 310, narrow: 150 };
 const laneWidth = (clients) => [[2, 150], [3, 120], [5, 92], [9, 62], [17, 40]].find(([n]) => clients <= n)?.[1] || 24;
 
 /*
- * { rowHeight, laneWidth, textWidth, width, x, y }: x of a participant's lane, y of a place's row, in pixels. In a narrow
- * window the texts are the instructions alone.
+ * { rowHeight, laneWidth, textWidth, width, members, x, y }: members are the participants that have a lane, the server and the
+ * clients that are not hidden; x of a member's lane, y of a place's row, in pixels. In a narrow window the texts are the
+ * instructions alone.
  */
-export function layoutOf(session, isNarrow = false) {
+export function layoutOf(session, isNarrow = false, hidden = new Set()) {
   const textWidth = isNarrow ? TEXT_WIDTH.narrow : TEXT_WIDTH.wide;
-  const lane = laneWidth(session.clients);
-  const left = Math.ceil(session.clients / 2);
-  const column = (who) => (who === SERVER ? left : who < left ? who : who + 1);
+  const shown = [...session.members.keys()].filter((client) => !hidden.has(client));
+  const lane = laneWidth(shown.length);
+  const left = Math.ceil(shown.length / 2);
+  const columns = new Map(shown.map((client, i) => [client, i < left ? i : i + 1]));
+  columns.set(SERVER, left);
   const rowHeight = rowCount(session) <= 22 ? 34 : 26;
   return {
     rowHeight,
     laneWidth: lane,
     textWidth,
-    width: textWidth + lane * (session.clients + 1) + 16,
-    x: (who) => textWidth + lane * column(who) + lane / 2,
+    width: textWidth + lane * (shown.length + 1) + 16,
+    members: columns,
+    x: (who) => textWidth + lane * columns.get(who) + lane / 2,
     y: (place) => place * rowHeight + rowHeight / 2,
   };
 }

@@ -10,25 +10,29 @@ import { escapeMarkup, operationText } from "./words.mjs";
 /* Of a message that is under way for more rows only the ends are drawn, but where it is sent or received, or followed. */
 const LONG = 14;
 
-/* The messages of the rows from and to, those that are never received too. */
-function messagesIn(session, { from, to }) {
-  const messages = session.messages.filter((m) => m.sent <= to + 1 && (m.got === null ? m.sent + 1 : m.got) >= from - 1);
+/* Of more messages that are sent or received at one place only the ends are drawn too. */
+const MANY = 8;
+
+/* The messages of the rows from and to on the links of clients that have a lane, those that are never received too. */
+function messagesIn(session, layout, { from, to }) {
+  const isIn = (m) => m.sent <= to + 1 && (m.got === null ? m.sent + 1 : m.got) >= from - 1 && layout.members.has(m.client);
+  const messages = session.messages.filter(isIn);
   const { log, logPlaces } = session;
   for (let i = lastUpTo(logPlaces, from - 2); i < log.length && log[i].sent <= to + 1; i++)
     for (const { number: client, last, statePlaces, states } of session.members)
-      if (last.revision <= i && states[lastUpTo(statePlaces, log[i].sent)].state !== "not-joined")
+      if (layout.members.has(client) && last.revision <= i && states[lastUpTo(statePlaces, log[i].sent)].state !== "not-joined")
         messages.push({ ...log[i], kind: client === log[i].maker ? "ack" : "down", client, got: null });
   return messages;
 }
 
 /* How a message is drawn, or null where it is not. */
-function lookOf(message, session, { place, followed }) {
+function lookOf(message, session, { place, followed }, isOfMany) {
   const { sent, got, client, kind } = message;
   const isTheirs = followed === client;
   const isNow = sent === place || got === place;
   const isUnderWay = sent <= place && (got === null || got > place);
   const isOther = followed !== null && followed !== SERVER && !isTheirs;
-  const isWhole = got !== null && (isNow || isTheirs || got - sent <= LONG);
+  const isWhole = got !== null && ((isNow && !isOfMany) || isTheirs || got - sent <= LONG);
   if (isOther && !isNow && !isWhole) return null;
   if (got === null && kind !== "up" && !isNow && !isTheirs && session.clients > 8) return null;
   return {
@@ -99,18 +103,27 @@ function labelOf(message, look, layout, { from, to, place }, labels) {
   return { px, py, width, height: look.height, markup: box + svgText(round(px), round(py + 4), escapeMarkup(text), style) };
 }
 
+/* Beside the server, how many messages a place has, where they are not drawn whole. */
+function manyLabel(count, layout, place) {
+  const style = 'font-size="11" font-weight="700" fill="var(--dim)"';
+  return { height: 2, markup: svgText(layout.x(SERVER) + 10, layout.y(place) + 14, `${count} messages`, style) };
+}
+
 const raised = (parts) => parts.sort((a, b) => a.height - b.height).map((part) => part.markup).join("");
 
 /* { arrows, labels } of the rows that are drawn. */
 export function messagesMarkup(session, layout, view) {
   const arrows = [];
   const labels = [];
-  for (const message of messagesIn(session, view)) {
-    const look = lookOf(message, session, view);
+  const messages = messagesIn(session, layout, view);
+  const now = messages.filter(({ sent, got }) => sent === view.place || got === view.place).length;
+  for (const message of messages) {
+    const look = lookOf(message, session, view, now > MANY);
     if (!look) continue;
     arrows.push({ height: look.height, markup: arrowsOf(message, look, layout, view) });
     const label = labelOf(message, look, layout, view, labels);
     if (label) labels.push(label);
   }
+  if (now > MANY) labels.push(manyLabel(now, layout, view.place));
   return { arrows: raised(arrows), labels: raised(labels) };
 }

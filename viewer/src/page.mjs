@@ -1,94 +1,257 @@
 // Keys, clicks and files.
 
-import { picture } from "./diagram.mjs";
-import { SERVER } from "./fold.mjs";
-import { rowCount } from "./layout.mjs";
+import { Bench } from "./bench.mjs";
+import { askName, openDialog, paste, showLanes, showTrace, watchDialogs } from "./dialogs.mjs";
+import { element } from "./dom.mjs";
+import { Engine, wanted } from "./engine.mjs";
+import { SERVER, fold } from "./fold.mjs";
+import { splitInput, unescapeLine } from "./input.mjs";
+import { takeIn } from "./intake.mjs";
+import { linkTo, openLink } from "./linking.mjs";
+import { otherEnd, sameMember, towards } from "./moves.mjs";
 import { documentAt } from "./places.mjs";
-import { draw, element, follow, go, keepScrolled, load, resize, setSplit, setTheme, show, showLegend, themeNow, view } from "./screen.mjs";
+import { choose, played, watchCards } from "./playing.mjs";
+import { Port } from "./port.mjs";
+import { scheduleOf, textOfSchedule } from "./reader.mjs";
+import { savePicture, saveSession } from "./saving.mjs";
+import { deck, setSplit, setTheme, show, showLegend, themeNow, timeline, viewOf } from "./screen.mjs";
+import { readAddress } from "./share.mjs";
+import { Sheet } from "./sheet.mjs";
+import { shownPlace } from "./state.mjs";
 
-/* The next place in a direction at which a participant, or any, moves. */
-function towards(direction, who = view.followed) {
-  const { session, place } = view;
-  for (let p = place + direction; p > 0 && p <= session.length; p += direction) {
-    const { moved, line } = session.steps[p];
-    if (who === null || moved === who || (line.do === "take" && line.client === who)) return p;
-  }
-  if (direction < 0) return 0;
-  return who === null ? session.length : place;
+const frame = () => new Promise((done) => setTimeout(done));
+const bench = new Bench(changed, frame);
+const sheet = new Sheet({
+  write: (text, line, tag) => act("write", { text, line, tag }),
+  go: (place) => go(place),
+});
+let canPlay = false;
+let shown = -1; // the place that was shown last
+let naming = null; // the timer that will put the place into the address
+let linked = null; // the text whose link is in the address, and what stands there behind #
+
+const act = (name, more = {}) => bench.dispatch({ do: name, ...more });
+
+function changed(action) {
+  const { state } = bench;
+  const place = shownPlace(state);
+  const isOther = place !== shown || ["go", "answer", "resize"].includes(action.do);
+  shown = place;
+  show(state, { canPlay, isOther, isTyped: action.do === "type", sheet });
+  if (!isOther || action.do !== "go") return;
+  clearTimeout(naming);
+  naming = setTimeout(showAddress, 200); // browsers allow it now and then
 }
 
-/* The other end of the message that was received or sent at the place. */
-function otherEnd() {
-  const { received, sent } = view.session.steps[view.place] || {};
-  if (received) return received.sent;
-  return sent && sent.got !== null ? sent.got : view.place;
+/* Puts the place into the address; a link to the session stays there while that is the same. */
+function showAddress() {
+  const { text } = bench.state;
+  const at = `at=${shownPlace(bench.state)}`;
+  history.replaceState(null, "", linked?.text === text ? linked.hash.replace(/at=\d+/, at) : `#${at}`);
 }
 
-const sameMember = (direction) => {
-  const step = view.session.steps[view.place];
-  return step ? towards(direction, step.line.client === undefined ? SERVER : step.line.client) : view.place;
-};
+const say = (notice) => act("notice", { notice });
+
+/* Goes to a place, or the nearest one that there is. */
+const go = (place) => act("go", { place });
 
 const memberOf = (word) => (word === "" ? null : word === SERVER ? SERVER : Number(word));
 
-/* Saves the rows around the place as a picture, all of them where they are at most 2,000. */
-function save() {
-  const last = rowCount(view.session) - 1;
-  const isWhole = last <= 2000;
-  const from = isWhole ? 0 : Math.max(0, view.place - 1000);
-  const to = isWhole ? last : Math.min(last, view.place + 1000);
-  const link = document.createElement("a");
-  const drawn = picture(view.session, { ...view, from, to }, themeNow());
-  link.href = URL.createObjectURL(new Blob([drawn], { type: "image/svg+xml" }));
-  link.download = "session.svg";
-  link.click();
-  setTimeout(() => URL.revokeObjectURL(link.href), 1000);
+/* Playing. */
+
+const play = (...instructions) => act("play", { instructions });
+
+function playKey(name) {
+  const { instruction, reason } = played(bench.state, name);
+  return instruction ? play(instruction) : say(reason);
 }
+
+function writeInDocument() {
+  const { chosen } = bench.state;
+  const editor = chosen === null ? null : deck.editorOf(chosen);
+  if (editor) editor.focus();
+  else say("Choose a client that has joined: by its number’s key, or by a click on its card.");
+}
+
+/* Files. */
+
+async function takeFile(file) {
+  if (file) await takeBytes(new Uint8Array(await file.arrayBuffer()), file.name);
+}
+
+async function takeBytes(bytes, name) {
+  if (!canPlay) return load(new TextDecoder().decode(bytes), { name });
+  const judged = await takeIn(bench, bytes, name);
+  if (judged) showTrace(judged);
+  return undefined;
+}
+
+const takeText = (text, name = "") => takeBytes(new TextEncoder().encode(text), name);
+
+/* Shows the session of lines of steps, as they are: those that are given with the page, and any where it has no engine. */
+function load(input, { name = "", place = null, isGiven = false }) {
+  const { steps, port, answer } = splitInput(input);
+  let session;
+  try {
+    session = fold(steps);
+  } catch (fault) {
+    element("refused").textContent = fault.message;
+    if (bench.state.session) alert(fault.message);
+    return;
+  }
+  const told = scheduleOf(steps);
+  const text = (isGiven && element("schedule").textContent) || (told ? textOfSchedule(told) : "");
+  const beside = port && new Port(session, port, answer.map(unescapeLine));
+  act("open", { text, port: port && port.map(unescapeLine), title: name, place: place ?? beside?.first ?? 0 });
+  act("answer", { text, session, refusal: null, took: 0 });
+  if (beside) act("beside", { text, beside });
+  go(bench.state.place);
+}
+
+async function copyLink() {
+  await bench.settled();
+  let link;
+  try {
+    const { text } = bench.state;
+    linked = { text, hash: await linkTo(bench) };
+    link = location.href.replace(/#.*$/, "") + linked.hash;
+  } catch (fault) {
+    return say(`No link: ${fault.message}.`);
+  }
+  clearTimeout(naming);
+  history.replaceState(null, "", link);
+  try {
+    await navigator.clipboard.writeText(link);
+    say(`The link is copied: ${link.length} characters. The address has it too.`);
+  } catch {
+    say(`The address of this page is the link now: ${link.length} characters. The browser did not let the page copy it.`);
+  }
+  return undefined;
+}
+
+/* Dialogs. */
+
+const choices = JSON.parse(element("choices-given").textContent);
+const openChoice = (number, place) => choices[number] && act("open", { text: choices[number].text, title: choices[number].name, place });
+const save = (what) => (what === "svg" ? savePicture(viewOf(bench.state, canPlay)) : saveSession(bench, what));
+const askToSave = () => (canPlay ? openDialog("saving") : save("svg"));
+
+/* Keys. */
 
 const openFile = () => element("file").click();
 const turnTheme = () => setTheme(themeNow() === "dark" ? "light" : "dark");
-const goToDifference = () => view.port && view.port.first !== null && go(view.port.first);
+const goToDifference = () => bench.state.beside && bench.state.beside.first !== null && go(bench.state.beside.first);
 
-const KEYS_OF_STEPS = {
-  ArrowLeft: () => go(towards(-1)),
-  ArrowUp: () => go(towards(-1)),
-  k: () => go(towards(-1)),
-  ArrowRight: () => go(towards(1)),
-  ArrowDown: () => go(towards(1)),
-  j: () => go(towards(1)),
-  PageUp: () => go(view.place - 10),
-  PageDown: () => go(view.place + 10),
+function turnText(isShown = element("writing").hidden) {
+  element("writing").hidden = !isShown;
+  element("text-shown").setAttribute("aria-pressed", String(isShown));
+  document.body.classList.toggle("with-text", isShown);
+  if (!bench.state.session) return;
+  timeline.measure();
+  changed({ do: "go" });
+  setSplit();
+  sheet.measure();
+}
+
+const KEYS = {
+  ArrowLeft: () => go(towards(bench.state, -1)),
+  ArrowUp: () => go(towards(bench.state, -1)),
+  k: () => go(towards(bench.state, -1)),
+  ArrowRight: () => go(towards(bench.state, 1)),
+  ArrowDown: () => go(towards(bench.state, 1)),
+  j: () => go(towards(bench.state, 1)),
+  PageUp: () => go(shownPlace(bench.state) - 10),
+  PageDown: () => go(shownPlace(bench.state) + 10),
   Home: () => go(0),
-  End: () => go(view.session.length),
-  "[": () => go(sameMember(-1)),
-  "]": () => go(sameMember(1)),
-  m: () => go(otherEnd()),
+  End: () => go(bench.state.session.length),
+  "[": () => go(sameMember(bench.state, -1)),
+  "]": () => go(sameMember(bench.state, 1)),
+  m: () => go(otherEnd(bench.state)),
   d: goToDifference,
+  e: () => turnText(),
+  v: () => showLanes(bench.state),
   o: openFile,
-  s: save,
+  s: askToSave,
   t: turnTheme,
   "?": () => element("keys").showModal(),
 };
 
+const KEYS_OF_PLAY = {
+  u: () => playKey("take"),
+  n: () => playKey("next"),
+  "+": () => playKey("join"),
+  r: () => playKey("read"),
+  q: () => bench.quiet(),
+  l: () => openDialog("choosing"),
+  c: copyLink,
+  Enter: writeInDocument,
+  Delete: () => act("takeOut"),
+};
+for (let client = 0; client < 10; client++) KEYS_OF_PLAY[client] = () => choose(bench, client);
+
+/* Undo and redo are the page's own, wherever the focus is, but in the fields of dialogs. */
+function undoKey(event) {
+  if (!(event.ctrlKey || event.metaKey) || event.altKey || !canPlay || document.querySelector("dialog[open]")) return false;
+  const key = event.key.toLowerCase();
+  if (key === "z") act(event.shiftKey ? "redo" : "undo");
+  else if (key === "y") act("redo");
+  return key === "z" || key === "y";
+}
+
 addEventListener("keydown", (event) => {
-  const isWriting = /^(SELECT|TEXTAREA)$/.test(event.target.tagName) || event.target.id === "place";
-  const isOther = event.ctrlKey || event.metaKey || event.altKey || document.querySelector("dialog[open]");
-  if (!view.session || isWriting || isOther || !Object.hasOwn(KEYS_OF_STEPS, event.key)) return;
-  if (document.activeElement.matches("#state, #grip") && /^(Arrow|Page|Home|End)/.test(event.key)) return;
-  KEYS_OF_STEPS[event.key]();
+  if (undoKey(event)) return event.preventDefault();
+  const { target, key } = event;
+  if (key === "Escape" && target.matches?.(".document, #text")) {
+    const card = target.closest("[data-card]");
+    if (card) card.focus();
+    else target.blur();
+    return undefined;
+  }
+  const isWriting = /^(SELECT|TEXTAREA)$/.test(target.tagName) || target.isContentEditable || target.id === "place";
+  const isOther = event.ctrlKey || event.metaKey || event.altKey || event.isComposing || document.querySelector("dialog[open]");
+  if (!bench.state.session || isWriting || isOther) return undefined;
+  if (key === "Enter" && target.matches("button, summary")) return undefined;
+  if (document.activeElement.matches("#state, #grip") && /^(Arrow|Page|Home|End)/.test(key)) return undefined;
+  const keys = canPlay && Object.hasOwn(KEYS_OF_PLAY, key) ? KEYS_OF_PLAY : KEYS;
+  if (!Object.hasOwn(keys, key)) return undefined;
   event.preventDefault();
+  return keys[key]();
 });
 
-element("first").onclick = () => go(0);
-element("back").onclick = () => go(towards(-1));
-element("next").onclick = () => go(towards(1));
-element("last").onclick = () => go(view.session.length);
+const CLICKS = {
+  first: () => go(0),
+  back: () => go(towards(bench.state, -1)),
+  next: () => go(towards(bench.state, 1)),
+  last: () => go(bench.state.session.length),
+  answer: goToDifference,
+  undo: () => act("undo"),
+  redo: () => act("redo"),
+  new: () => act("open", { text: "clients 2\n" }),
+  examples: () => openDialog("choosing"),
+  open: openFile,
+  "open-first": openFile,
+  paste,
+  link: copyLink,
+  save: askToSave,
+  theme: turnTheme,
+  help: () => element("keys").showModal(),
+  lanes: () => showLanes(bench.state),
+  "text-shown": () => turnText(),
+  quiet: () => bench.quiet(),
+  "leave-out": () => act("leaveOut"),
+  "to-fault": () => {
+    const { fault, refusal } = bench.state;
+    sheet.select((fault ?? refusal).line - 1, fault ? Math.max(0, fault.column - 1) : 0);
+  },
+};
+for (const [id, click] of Object.entries(CLICKS)) element(id).onclick = click;
 element("place").onchange = (event) => go(Number(event.target.value));
 element("followed").onchange = (event) => follow(memberOf(event.target.value));
-element("answer").onclick = goToDifference;
-element("save").onclick = save;
-element("theme").onclick = turnTheme;
-element("help").onclick = () => element("keys").showModal();
+
+function follow(who) {
+  if (who !== null && who !== SERVER) act("choose", { client: who });
+  act("follow", { who });
+}
 
 /* One drawing a frame, however fast the slider moves. */
 let isSliding = false;
@@ -101,16 +264,18 @@ element("slider").oninput = () => {
   });
 };
 
-element("time").onscroll = () => requestAnimationFrame(draw);
-addEventListener("scroll", ({ target }) => target.matches?.(".document") && keepScrolled(target), true);
-onresize = () => requestAnimationFrame(resize);
-element("rows").onclick = (event) => {
-  const { top } = element("rows").getBoundingClientRect();
-  go(Math.floor((event.clientY - top) / view.layout.rowHeight));
-};
+element("time").onscroll = () => requestAnimationFrame(() => timeline.measure());
+addEventListener("scroll", ({ target }) => target.matches?.(".document") && deck.keepScrolled(target), true);
+onresize = () =>
+  requestAnimationFrame(() => {
+    timeline.measure();
+    if (bench.state.session) changed({ do: "resize" });
+    sheet.measure();
+  });
+element("rows").onclick = (event) => go(timeline.placeAt(event.clientY));
 element("heads").onclick = (event) => {
   const lane = event.target.closest(".lane");
-  if (lane) follow(view.followed === memberOf(lane.dataset.who) ? null : memberOf(lane.dataset.who));
+  if (lane) follow(bench.state.followed === memberOf(lane.dataset.who) ? null : memberOf(lane.dataset.who));
 };
 
 /* The character of a document that was clicked on, as its index in the list; null beside all characters. */
@@ -132,11 +297,15 @@ function indexAt(event) {
 }
 
 element("cards").onclick = (event) => {
-  const index = indexAt(event);
+  const button = event.target.closest("button");
+  if (button?.dataset.play) return play(button.dataset.play);
+  if (button?.dataset.name) return askName(bench.state, Number(button.dataset.name));
   const text = event.target.closest(".document");
-  const found = index === null ? null : documentAt(view.session, memberOf(text.dataset.who), view.place)[index];
-  view.picked = found === view.picked ? null : found;
-  show();
+  if (!text) return undefined;
+  const index = indexAt(event);
+  const found = index === null ? null : documentAt(bench.state.session, memberOf(text.dataset.who), shownPlace(bench.state))[index];
+  if (found || bench.state.picked) act("pick", { element: found ?? bench.state.picked });
+  return undefined;
 };
 
 /* Arrow keys scroll the state where it was reached by keys; a click leaves them with the diagram. */
@@ -145,9 +314,7 @@ element("state").onclick = () => element("state").blur();
 /* The bar between the diagram and the state. */
 element("grip").onpointerdown = (event) => {
   element("grip").setPointerCapture(event.pointerId);
-  element("grip").onpointermove = (move) => {
-    setSplit(move.clientX);
-  };
+  element("grip").onpointermove = (move) => setSplit(move.clientX - element("time").getBoundingClientRect().left);
   element("grip").onpointerup = () => {
     element("grip").onpointermove = null;
     element("grip").blur();
@@ -158,23 +325,17 @@ element("grip").onkeydown = (event) => {
   if (change) setSplit(element("time").offsetWidth + change);
 };
 
-element("open").onclick = element("open-first").onclick = openFile;
-element("file").onchange = async (event) => {
-  const [file] = event.target.files;
-  if (file) load(await file.text(), file.name);
+element("file").onchange = (event) => {
+  takeFile(event.target.files[0]);
   event.target.value = "";
-};
-element("paste").onclick = () => {
-  element("pasted").value = "";
-  element("pasting").showModal();
-};
-element("pasting").onclose = () => {
-  if (element("pasting").returnValue === "show") load(element("pasted").value);
 };
 addEventListener("paste", (event) => {
   const text = event.clipboardData.getData("text");
-  if (/^(TEXTAREA|INPUT)$/.test(event.target.tagName) || text.trim()[0] !== "{") return;
-  load(text);
+  const isField = /^(TEXTAREA|INPUT)$/.test(event.target.tagName) || event.target.isContentEditable;
+  const areLines = event.target.id === "text" && text.trim()[0] === "{"; // no line of a schedule begins so
+  if ((isField && !areLines) || text.trim() === "") return;
+  if (!canPlay && text.trim()[0] !== "{") return;
+  takeText(text);
   event.preventDefault();
 });
 addEventListener("dragover", (event) => {
@@ -184,23 +345,68 @@ addEventListener("dragover", (event) => {
 addEventListener("dragleave", (event) => {
   if (!event.relatedTarget) document.body.classList.remove("dragging");
 });
-addEventListener("drop", async (event) => {
+addEventListener("drop", (event) => {
   event.preventDefault();
   document.body.classList.remove("dragging");
   const [file] = event.dataTransfer.files;
-  if (file) load(await file.text(), file.name);
+  if (file) takeFile(file);
+  else if (event.dataTransfer.getData("text")) takeText(event.dataTransfer.getData("text"));
 });
 
-/* The address can name a place and a theme: session.html#at=7;theme=dark. */
-function placeAsked() {
-  const asked = /at=(\d+)/.exec(location.hash);
-  return asked ? Number(asked[1]) : null;
+/* The address can name a place, a theme and a session: session.html#at=7;theme=dark. */
+addEventListener("hashchange", async () => {
+  const { place, image } = readAddress(location.hash);
+  if (image !== null && canPlay) await followLink(location.hash);
+  else if (bench.state.session && place !== null && place !== shownPlace(bench.state)) go(place);
+});
+
+async function followLink(hash) {
+  const isOpen = await openLink(bench, hash);
+  if (isOpen) linked = { text: bench.state.text, hash };
+  return isOpen;
 }
-addEventListener("hashchange", () => {
-  if (view.session && placeAsked() !== null && placeAsked() !== view.place) go(placeAsked());
-});
 
-const theme = /theme=(dark|light)/.exec(location.hash);
-setTheme(theme ? theme[1] : matchMedia("(prefers-color-scheme: dark)").matches ? "dark" : "light");
-showLegend();
-if (element("lines").textContent.trim() !== "") load(element("lines").textContent, "", placeAsked());
+/* What stands in the page's elements of data. */
+const given = (id) => element(id).textContent.replace(/^\n/, "");
+
+/* The engine, if the page has one and the browser can run it; else the viewer stays, and says what is wanted. */
+async function startEngine() {
+  const module = given("module").trim();
+  if (module === "" || module.startsWith("/*")) return;
+  const missing = wanted(globalThis);
+  const engine = missing ? null : new Engine(given("worker"), module);
+  try {
+    if (missing) throw new Error(`this browser has no ${missing}`);
+    await engine.load();
+  } catch (fault) {
+    const notice = `The engine does not run: ${fault.message}. The page shows lines of otbench steps all the same; a browser of 2023 or later runs the engine.`;
+    if (bench.state.session) say(notice);
+    element("refused").textContent = notice;
+    return;
+  }
+  canPlay = true;
+  document.body.classList.add("with-engine");
+  element("text").readOnly = false;
+  bench.use(engine);
+}
+
+async function start() {
+  const { theme, place } = readAddress(location.hash);
+  const hash = location.hash;
+  setTheme(theme ?? (matchMedia("(prefers-color-scheme: dark)").matches ? "dark" : "light"));
+  showLegend();
+  element("text").readOnly = true;
+  const lines = given("lines");
+  if (lines.trim() !== "") load(lines, { place, isGiven: true });
+  await startEngine();
+  if (!canPlay) return undefined;
+  turnText(innerWidth > 1100);
+  if (await followLink(hash)) return undefined;
+  if (bench.state.session) return changed({ do: "go" });
+  openChoice(choices.findIndex(({ name }) => name === "two-clients"), 2);
+  return say("Two people have typed at one place, and their messages are under way. Step on with → or click a message to let it through; type into a document to change what happens.");
+}
+
+watchCards(bench);
+watchDialogs(bench, { choices, openChoice, take: takeText, save });
+start();

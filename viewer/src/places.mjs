@@ -28,6 +28,13 @@ export function downAt(session, client, place) {
   return state === "not-joined" ? { from: to, to } : { from: revision, to };
 }
 
+/* What can be received at a place: of a client's links the instructions, in order, as { up, down }; up null where there is none. */
+export function headsAt(session, client, place) {
+  const { from, to } = downAt(session, client, place);
+  const down = session.log.slice(from, to).map(({ maker }) => `${maker === client ? "ack" : "deliver"} ${client}`);
+  return { up: upAt(session, client, place) ? `take ${client}` : null, down };
+}
+
 /* "quiet", or the first thing that is under way. A client whose message is under way to the server awaits a confirmation. */
 export function quietAt(session, place) {
   for (let client = 0; client < session.clients; client++) {

@@ -3,7 +3,7 @@
 import { SERVER } from "./fold.mjs";
 import { svgText } from "./layout.mjs";
 import { colourOf } from "./theme.mjs";
-import { brief, escapeMarkup, instructionOf, operationText } from "./words.mjs";
+import { brief, escapeMarkup, instructionOf, operationText, quoted } from "./words.mjs";
 
 /* The mark of an instruction at a point; k is the client's colour, m that of the operation's maker. */
 const MARKS = {
@@ -26,6 +26,7 @@ export const markOf = (word, x, y, colour) => MARKS[word](x, y, colour, colour);
 const makerOf = ({ line, received }) => (line.do === "deliver" ? received.maker : line.client);
 
 function stepMark({ line, moved, received }, layout, place) {
+  if (!layout.members.has(moved)) return "";
   const [x, y] = [layout.x(moved), layout.y(place)];
   const colour = line.client === undefined ? "var(--ink)" : colourOf(line.client);
   const mark = MARKS[line.do](x, y, colour, colourOf(makerOf({ line, received })));
@@ -40,21 +41,26 @@ function stepText(step, y, strong) {
   const head = svgText(56, y, escapeMarkup(instructionOf(line)), `font-size="12" fill="${colour}"${strong}`);
   let rest = "";
   if (operation) rest = operationText(operation, 20);
-  else if (/^read/.test(line.do)) rest = brief(JSON.stringify(line.document), 20);
+  else if (/^read/.test(line.do)) rest = brief(quoted(line.document), 20);
   else if (line.do === "ack" && line.sent) rest = `sends ${operationText(line.sent.operation, 14)}`;
   const fill = operation ? colourOf(makerOf(step)) : "var(--dim)";
   return head + (rest && svgText(144, y, escapeMarkup(rest), `font-size="12" fill="${fill}"${strong}`));
 }
+
+/* In a narrow column the text beside the diagram, or the line above it, says what was refused and why. */
+const refusedText = (stop, { textWidth }) => (textWidth < 200 ? "refused" : `${instructionOf(stop)} refused: ${stop.stopped}`);
 
 /* The rows behind the last place: a refused instruction, and the end. */
 function closingRow(session, layout, row) {
   const y = layout.y(row);
   const isStop = session.stop && row === session.length + 1;
   const colour = isStop ? "var(--bad)" : session.end === "quiet" ? "var(--good)" : "var(--dim)";
-  const words = isStop ? `${instructionOf(session.stop)} refused: ${session.stop.stopped}` : session.end;
+  const words = isStop ? refusedText(session.stop, layout) : session.end;
   const text = svgText(56, y + 4, escapeMarkup(words), `font-size="12" font-weight="700" fill="${colour}"`);
   if (!isStop) return { text, mark: "" };
-  const x = layout.x(session.stop.client === undefined || session.stop.do === "take" ? SERVER : session.stop.client);
+  const who = session.stop.client === undefined || session.stop.do === "take" ? SERVER : session.stop.client;
+  if (!layout.members.has(who)) return { text, mark: "" };
+  const x = layout.x(who);
   return { text, mark: `<path d="M${x - 6} ${y - 6}l12 12m0 -12l-12 12" stroke="${colour}" stroke-width="3"/>` };
 }
 

@@ -8,6 +8,23 @@ const ENTITIES = { "&": "&amp;", "<": "&lt;", ">": "&gt;", '"': "&quot;" };
 
 export const escapeMarkup = (text) => String(text).replace(/[&<>"]/g, (character) => ENTITIES[character]);
 
+/* Characters that are not seen, or that move others: controls, line and paragraph separators, and format characters but the joiner. */
+const UNSEEN = /(?!\u200d)[\p{Cc}\p{Cf}\p{Zl}\p{Zp}]/gu;
+
+/* A text as a JSON string in which each character is seen. */
+export const quoted = (text) =>
+  JSON.stringify(text).replace(UNSEEN, (character) =>
+    [...Array(character.length).keys()].map((i) => `\\u${character.charCodeAt(i).toString(16).padStart(4, "0")}`).join(""),
+  );
+
+/* A text with a sign for each character that is not seen, but line breaks, and of the same length. */
+export const seen = (text) =>
+  text.replace(UNSEEN, (character) => {
+    const code = character.codePointAt(0);
+    if (code === 10 || code > 0xffff) return character;
+    return code < 32 ? String.fromCharCode(0x2400 + code) : code === 127 ? "\u2421" : "\u2426";
+  });
+
 /* At most n characters of a text. */
 export function brief(text, n) {
   const characters = [...text];
@@ -24,13 +41,13 @@ export function operationText(operation, n) {
 }
 
 const shortened = (operation, kept) =>
-  `[${operation.map((x) => (typeof x === "string" ? JSON.stringify(brief(x, kept)) : x)).join(",")}]`;
+  `[${operation.map((x) => (typeof x === "string" ? quoted(brief(x, kept)) : x)).join(",")}]`;
 
 /* An operation, of a long one the first components. */
 export function operationMarkup(operation, maker) {
   const component = (x) => {
     if (typeof x === "number") return `<span class="${x < 0 ? "delete" : "retain"}">${x}</span>`;
-    return `<span class="insert">${escapeMarkup(JSON.stringify(brief(x, 60)))}</span>`;
+    return `<span class="insert">${escapeMarkup(quoted(brief(x, 60)))}</span>`;
   };
   const shown = operation.slice(0, 60).map(component);
   if (operation.length > 60) shown.push(`… ${operation.length - 60} more`);
@@ -42,7 +59,7 @@ export const instructionOf = (line) => (line.client === undefined ? line.do : `$
 /* A value as it is printed. */
 export const valueMarkup = (value) => `<code>${escapeMarkup(brief(value, 200))}</code>`;
 
-const textMarkup = (text) => `<code>${escapeMarkup(JSON.stringify(brief(text, 80)))}</code>`;
+const textMarkup = (text) => `<code>${escapeMarkup(quoted(brief(text, 80)))}</code>`;
 
 /* One sentence on what led to a place. */
 export function sentence(session, place) {

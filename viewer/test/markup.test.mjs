@@ -4,12 +4,12 @@ import assert from "node:assert/strict";
 import fs from "node:fs";
 import { test } from "node:test";
 import { bugs } from "../../examples/port/bugs.js";
-import { cardMarkup } from "../src/cards.mjs";
+import { cardMarkup, cardParts } from "../src/cards.mjs";
 import { picture } from "../src/diagram.mjs";
 import { SERVER, fold } from "../src/fold.mjs";
 import { rowCount } from "../src/layout.mjs";
 import { Port } from "../src/port.mjs";
-import { operationText, sentence } from "../src/words.mjs";
+import { operationText, quoted, seen, sentence } from "../src/words.mjs";
 import { example, linesOf, portLinesOf, seededSchedule } from "./sessions.mjs";
 
 const ENTITIES = { "&lt;": "<", "&gt;": ">", "&quot;": '"', "&amp;": "&" };
@@ -107,4 +107,56 @@ test("docs/session.svg is the picture of examples/weak-order.ots", () => {
   const session = weakOrder();
   const view = { from: 0, to: rowCount(session) - 1, place: 7, followed: null, port: null };
   assert.equal(fs.readFileSync(new URL("../../docs/session.svg", import.meta.url), "utf8"), picture(session, view, "light"));
+});
+
+test("where of a card nothing is another, its markup is the same", () => {
+  const base = { picked: null, port: null, draft: null, canPlay: true, names: new Map(), carets: new Map(), answered: "" };
+  for (const seed of [1, 2, 3]) {
+    const session = fold(linesOf(seededSchedule({ seed, clients: 4, late: 1, edits: 60 })));
+    for (const who of [SERVER, ...session.members.keys()]) {
+      let last = null;
+      for (let place = 0; place <= session.length; place++) {
+        const view = { ...base, place };
+        const now = { parts: cardParts(session, who, view), markup: cardMarkup(session, who, view) };
+        if (last && now.parts.every((part, i) => part === last.parts[i])) assert.equal(now.markup, last.markup, `${who} at ${place}`);
+        last = now;
+      }
+    }
+  }
+});
+
+test("where the page can play, a document is an editor and the heads of links are buttons", () => {
+  const view = { place: 7, picked: null, port: null, draft: null, canPlay: true, names: new Map([[0, "<i>"]]), carets: new Map() };
+  const card = cardMarkup(weakOrder(), 0, view);
+  assert.match(card, /contenteditable="true" role="textbox" aria-multiline="true"[^>]* aria-label="document of client 0" data-first="0"/);
+  assert.match(card, /data-play="ack 0"/);
+  assert.match(card, /client 0, &lt;i&gt;/);
+  assert.doesNotMatch(card, /<i>|data-play="take 0"/);
+  assert.match(cardMarkup(weakOrder(), 1, { ...view, place: 4 }), /data-play="take 1"/);
+  assert.doesNotMatch(cardMarkup(weakOrder(), SERVER, view), /contenteditable/);
+  const late = fold(linesOf(example("late-join")));
+  assert.match(cardMarkup(late, 1, { ...view, place: 1 }), /data-play="join 1"/);
+});
+
+test("characters that are not seen have a sign, one for one", () => {
+  const text = "a\u0000\t\n\u007f\u202e\u2028\u{e0041}👩‍👦";
+  assert.equal(seen(text), "a␀␉\n␡␦␦\u{e0041}👩‍👦");
+  assert.equal(quoted("\u202e\u007f\n<"), '"\\u202e\\u007f\\n<"');
+  assert.equal(JSON.parse(quoted(text)), text);
+});
+
+test("a lane that is hidden is not drawn, and many messages of one place are no wedge", () => {
+  const clients = 64;
+  const session = fold(linesOf(`clients ${clients}\nedit 0 ["a"]\ntake 0\nack 0\n${Array.from({ length: 63 }, (_, i) => `deliver ${i + 1}`).join("\n")}\n`));
+  const view = { from: 0, to: rowCount(session) - 1, place: 2, followed: null, port: null };
+  const whole = (markup) => (markup.match(/stroke-width="2.6" fill="none"/g) || []).filter(Boolean).length;
+  const drawn = picture(session, view, "light");
+  assert.match(drawn, />65 messages</);
+  assert.ok(whole(drawn) <= 70);
+  const longest = Math.max(...[...drawn.matchAll(/d="M[\d.]+ ([\d.]+)L[\d.]+ ([\d.]+)" stroke="[^"]*" stroke-width="2.6"/g)].map(([, a, b]) => b - a));
+  assert.ok(longest < 26 * 16, `an arrow over ${longest} pixels`);
+  const hidden = new Set(Array.from({ length: 60 }, (_, i) => i + 4));
+  const few = picture(session, { ...view, hidden }, "light");
+  assert.equal(few.match(/class="lane"/g).length, 5);
+  assert.doesNotMatch(few, /NaN|undefined/);
 });

@@ -1,7 +1,7 @@
 // Sessions for the tests: the examples' lines and seeded ones, as ot.js gives them through the driver of examples/port.
 
 import fs from "node:fs";
-import { drive, loadPort } from "../../examples/port/driver.js";
+import { drive, loadPort } from "../../oracle/scalars.js";
 import { merge } from "../../recorder/merge.js";
 import { readEvents } from "../../recorder/logs.js";
 import { liveSession } from "../../recorder/test/live_session.js";

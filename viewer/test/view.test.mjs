@@ -29,28 +29,36 @@ import("${new URL("sessions.mjs", import.meta.url)}").then(({ linesOf }) => {
 });
 `;
 
-/* A repository with a program that is younger than its sources, and a link to its wrapper from elsewhere. */
+/* A repository with a program that is of its sources, and a link to its wrapper from elsewhere. */
 function repository() {
   const tree = path.join(folder, "tree");
-  const out = path.join(tree, "crates/otbench/out");
-  fs.mkdirSync(out, { recursive: true });
-  fs.writeFileSync(path.join(tree, "crates.txt"), "");
-  fs.copyFileSync(path.join(top, "otbench"), path.join(tree, "otbench"));
-  fs.symlinkSync(path.join(top, "viewer"), path.join(tree, "viewer"));
-  const youngest = new Date(Date.now() + 5000);
-  fs.writeFileSync(path.join(out, "otbench"), PROGRAM, { mode: 0o755 });
-  fs.utimesSync(path.join(out, "otbench"), youngest, youngest);
+  const program = path.join(tree, "crates/otbench/out/otbench");
+  fs.mkdirSync(path.dirname(program), { recursive: true });
+  for (const name of ["crates.txt", "HANDLES"]) fs.writeFileSync(path.join(tree, name), "");
+  for (const name of ["otbench", "scripts"]) fs.cpSync(path.join(top, name), path.join(tree, name), { recursive: true });
+  fs.mkdirSync(path.join(tree, "viewer"));
+  for (const name of ["view", "viewer.html"]) fs.copyFileSync(path.join(top, "viewer", name), path.join(tree, "viewer", name));
+  fs.writeFileSync(program, PROGRAM, { mode: 0o755 });
+  const sources = execFileSync(path.join(tree, "scripts/sources"), { encoding: "utf8" }).trim();
+  execFileSync(path.join(tree, "scripts/stamp"), ["write", program, sources]);
   fs.symlinkSync(path.join(tree, "otbench"), path.join(folder, "link"));
   return path.join(folder, "link");
 }
 
 const link = repository();
+const plain = fs.readFileSync(path.join(top, "viewer/viewer.html"), "utf8");
 const call = (words, input) => spawnSync(link, words, { input, cwd: os.tmpdir(), encoding: "utf8" });
 
 /* The lines in a page. */
 function linesIn(page) {
   const [, lines] = /<script type="application\/jsonl" id="lines">\n([^]*?)<\/script>\n<\/body>\n<\/html>\n$/.exec(page);
   return splitInput(lines);
+}
+
+/* The schedule in a page. */
+function scheduleIn(page) {
+  const [, text] = /<pre hidden id="schedule">\n([^]*?)<\/pre>\n<script/.exec(page);
+  return text.replaceAll("&lt;", "<").replaceAll("&amp;", "&");
 }
 
 test("the wrapper hands words and streams on, through a link and from another folder", () => {
@@ -61,6 +69,7 @@ test("a page with a session in it", () => {
   const { stdout, status } = call(["view"], example("weak-order"));
   assert.equal(status, 0);
   assert.deepEqual(linesIn(stdout), { steps: linesOf(example("weak-order")), port: null, answer: [] });
+  assert.equal(scheduleIn(stdout), example("weak-order"));
 });
 
 test("a page that cannot be written is named in a line", { skip: !fs.existsSync("/dev/full") }, () => {
@@ -77,20 +86,21 @@ test("an input that cannot be read is named in a line", () => {
   fs.closeSync(input);
 });
 
-test("words behind `view` are answered by what it reads", () => {
-  for (const words of [["view", "story.ots"], ["view", "--help"], ["help", "view"]]) {
+test("words behind `view` that it does not take are answered by what it reads", () => {
+  for (const words of [["view", "--help"], ["view", "--image"], ["view", "a", "b", "c"]]) {
     const { stdout, stderr, status } = call(words, example("weak-order"));
     assert.deepEqual([stdout, status], ["", 2], words.join(" "));
-    assert.match(stderr, /^usage: \.\/otbench view < SCHEDULE > PAGE\n/);
+    assert.match(stderr, /^usage: \.\/otbench view \[FILE \[PORT-LINES\]\] > PAGE\n/);
   }
-  assert.equal(call(["run", "view"], "input").stdout, "run view\ninput");
 });
 
 test("no text breaks out of its place", () => {
-  const { stdout } = call(["view"], 'clients 1\nstart "</script><!--<script>"\n');
+  const schedule = '; </pre></script><img src=x onerror=alert(1)> &lt;\nclients 1\nstart "</script><!--<script>"\n';
+  const { stdout } = call(["view"], schedule);
   const { steps } = linesIn(stdout);
-  assert.equal(stdout.match(/<\/script>/g).length, 2);
+  for (const end of ["</script>", "</pre>", "<script", "<img"]) assert.equal(stdout.split(end).length, plain.split(end).length, end);
   assert.equal(fold(steps).start, "</script><!--<script>");
+  assert.equal(scheduleIn(stdout), schedule);
 });
 
 test("a port's lines and what conform answers stand behind", () => {
@@ -108,10 +118,18 @@ test("a schedule that is refused gives its fault and no page", () => {
 });
 
 test("the page of a session is the page and nothing else", () => {
-  const plain = fs.readFileSync(path.join(top, "viewer/viewer.html"), "utf8");
   const { stdout } = call(["view"], example("late-join"));
   const lines = linesOf(example("late-join")).map((line) => `${line.replaceAll("<", "\\u003c")}\n`).join("");
-  assert.equal(stdout.replace(lines, ""), plain);
+  assert.equal(stdout.replace(lines, "").replace(example("late-join").replaceAll("&", "&amp;"), ""), plain);
+});
+
+test("where the page with the engine was built, that is taken", () => {
+  const dist = path.join(folder, "tree/dist");
+  fs.mkdirSync(dist);
+  fs.writeFileSync(path.join(dist, "otbench.html"), '<pre hidden id="schedule">\n</pre>\n<script id="lines">\n</script>\n');
+  const { stdout } = call(["view"], "clients 1\n");
+  fs.rmSync(dist, { recursive: true });
+  assert.match(stdout, /^<pre hidden id="schedule">\nclients 1\n<\/pre>\n<script id="lines">\n\{"at":0/);
 });
 
 test("the shell finds no fault in the scripts", () => {

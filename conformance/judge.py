@@ -1,0 +1,142 @@
+"""A port's driver and the command that judges what it prints, over several sessions at a time."""
+import collections
+import concurrent.futures
+import contextlib
+import itertools
+import queue
+import re
+import subprocess
+import time
+
+from compared import Compared
+from port import ENDED, Driver, KeptDriver
+from reduce import reduced
+from utf16 import Translation
+
+TROUBLE = re.compile(r"the driver (ended with status \d+|was ended by signal \d+|was ended: it (?:took|printed) more than [\d.,]+ \w+|ended before the line %%)")
+
+
+class Refused(Exception):
+    """The program does not say what `otbench conform` says."""
+
+
+class Verdict:
+    """What is said of the last of the sessions that a process was given, and what there is to say of how the driver ended."""
+
+    def __init__(self, sessions, said, trouble, printed):
+        self.sessions, self.said, self.trouble = sessions, said, trouble
+        self.conforms = said.startswith("conforms\n") and trouble is None
+        at = re.match(r"differs at ([0-9]+): ", said)
+        self.place = int(at[1]) if at else None
+        self.ended = trouble is not None and trouble.startswith(ENDED)
+        self.is_limit = said.startswith("stopped at ")
+        self.compared = Compared.of(sessions[-1], printed, said) if self.conforms else Compared()
+
+    def kind(self):
+        """The method of ot.js and the key in which the port differs, or else what was wrong: the same for failures of one cause, mostly."""
+        first = self.said.split("\n", 1)[0]
+        differs = re.fullmatch(r"differs at \d+: (after the end|[a-z-]+)\b.*?(sent revision|sent operation|\w+)", first)
+        if differs:
+            rule = re.search(r"^rule (.*)$", self.said, re.MULTILINE)
+            return f"{rule[1] if rule else differs[1]}: {differs[2]}"
+        if self.trouble:
+            return f"driver: {TROUBLE.match(self.trouble)[1]}"
+        return re.sub(r" at \d+", "", first)
+
+    def needed(self):
+        """How many instructions of the last session it takes, as far as one knows."""
+        is_whole = self.trouble or self.place is None
+        return len(self.sessions[-1].instructions) if is_whole else min(self.place, len(self.sessions[-1].instructions))
+
+    def text(self):
+        """How the driver ended, if otherwise than it should, and the answer; that the lines so far conform is none of a driver that failed."""
+        if self.trouble is None:
+            return self.said
+        return f"{self.trouble}\n" + ("" if self.said.startswith("conforms\n") else self.said)
+
+
+def fails_likewise(first):
+    """
+    Whether a verdict fails as a first one did: by the driver's limits or otherwise, since on a busy machine it may be too slow for
+    once; and not by a limit of otbench, which a smaller session may come to.
+    """
+    return lambda verdict: not verdict.conforms and verdict.ended == first.ended and verdict.is_limit == first.is_limit
+
+
+class Judge:
+    """Judges sessions, `jobs` at a time. With `keeps` each job has one process for all of its sessions."""
+
+    def __init__(self, compare, command, words):
+        self.compare, self.words, self.jobs, self.keeps = compare, words, words.jobs, words.keep_driver
+        limits = command, words.seconds, words.most_bytes
+        self.new = lambda: KeptDriver(*limits) if self.keeps else Driver(*limits)
+        self.pool = concurrent.futures.ThreadPoolExecutor(self.jobs)
+        self.drivers = queue.SimpleQueue()
+        for _ in range(self.jobs):
+            self.drivers.put(self.new())
+
+    @contextlib.contextmanager
+    def driver(self, is_new):
+        """A driver for a while: one that has performed nothing yet, or one of those that are kept."""
+        driver = self.new() if is_new else self.drivers.get()
+        try:
+            yield driver
+        finally:
+            if not is_new:
+                self.drivers.put(driver)
+            elif self.keeps:
+                driver.close()
+
+    def judge(self, sessions, is_new=False):
+        """The verdict of the first of the sessions that fails, performed one after the other by one process, or of the last one."""
+        with self.driver(is_new) as driver:
+            for session in sessions:
+                verdict = self._judge(driver, session)
+                if not verdict.conforms:
+                    break
+            return verdict
+
+    def _judge(self, driver, session):
+        text = session.text()
+        translation = Translation(text) if self.words.utf16 else None
+        printed, trouble = driver.perform(translation.given if translation else text)
+        printed = translation.back(printed) if translation else printed
+        driver.performed.append(session)
+        ran = subprocess.run(self.compare, input=text.encode() + b"%%\n" + printed, capture_output=True, check=False)
+        said = ran.stdout.decode()
+        if not said:
+            raise Refused(f"{' '.join(map(str, self.compare))}: {ran.stderr.decode().strip()}")
+        return Verdict(tuple(driver.performed), said, trouble, printed)
+
+    def verdicts(self, candidates, is_new=False):
+        """The verdicts in the order of what is to be judged, `jobs` of which are under way at a time."""
+        candidates, waiting = iter(candidates), collections.deque()
+        while True:
+            for sessions in itertools.islice(candidates, self.jobs - len(waiting)):
+                waiting.append(self.pool.submit(self.judge, sessions, is_new))
+            if not waiting:
+                return
+            yield waiting.popleft().result()
+
+    def reduced(self, sessions, shows, seconds, progress, is_new):
+        """The smallest sessions found in that time of which the last one shows it, or None where it does not do so again."""
+        until = time.monotonic() + seconds
+
+        def first_shown(candidates):
+            for verdict in self.verdicts(candidates, is_new):
+                if shows(verdict):
+                    progress(f"reduced to {verdict.needed()} instructions")
+                    return verdict.sessions if is_new or not self.keeps else verdict.sessions[-1:], verdict.needed()
+                if time.monotonic() > until:
+                    return None
+            return None
+
+        return reduced(sessions, first_shown)
+
+    def close(self):
+        """Ends the drivers that were kept; what there is to say of the first that ends otherwise than it should, or None."""
+        self.pool.shutdown()
+        troubles = []
+        while self.keeps and not self.drivers.empty():
+            troubles.append(self.drivers.get().close())
+        return next(filter(None, troubles), None)

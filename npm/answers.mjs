@@ -1,0 +1,94 @@
+/* The lines that the program prints, as values. docs/FORMATS.md has each line. A text in them may hold U+2028, which `.` leaves out without `s`. */
+
+/* A text's lines, each ended by LF. */
+const linesOf = (text) => text.split("\n").slice(0, -1);
+
+const STOP = /^stopped at (\d+): (\w+)$/;
+
+/* A refused instruction's place and the refusal, or null. */
+function stopIn(line) {
+  const stop = STOP.exec(line);
+  return stop && { at: Number(stop[1]), refusal: stop[2] };
+}
+
+const READ = /^read (\d+) (".*)$/s;
+const READ_SERVER = /^read-server (".*)$/s;
+const CLIENT = /^client (\d+) rev (\d+) (\S+) (".*)$/s;
+const SERVER = /^server rev (\d+) (".*)$/s;
+
+/** What `run` prints. */
+export function readRun(text) {
+  const run = { reads: [], stopped: null, clients: [], server: null, quiet: false };
+  for (const line of linesOf(text)) {
+    let found;
+    if ((found = READ.exec(line))) run.reads.push({ client: Number(found[1]), document: JSON.parse(found[2]) });
+    else if ((found = READ_SERVER.exec(line))) run.reads.push({ client: null, document: JSON.parse(found[1]) });
+    else if ((found = CLIENT.exec(line)))
+      run.clients.push({ revision: Number(found[2]), state: found[3], document: JSON.parse(found[4]) });
+    else if ((found = SERVER.exec(line))) run.server = { revision: Number(found[1]), document: JSON.parse(found[2]) };
+    else if ((found = stopIn(line))) run.stopped = found;
+    else run.quiet = line === "quiet";
+  }
+  return run;
+}
+
+/** What `steps` prints. */
+export const readSteps = (text) => linesOf(text).map((line) => JSON.parse(line));
+
+const WAITS = /^not quiet: (client|up|down) (\d+)$/;
+
+/** What `check` prints. */
+export function readCheck(text) {
+  const lines = linesOf(text);
+  const stopped = stopIn(lines[0]);
+  const [first, property] = lines.slice(-2);
+  const waits = WAITS.exec(first);
+  return { stopped, quiet: first === "quiet", waits: waits && { what: waits[1], client: Number(waits[2]) }, property };
+}
+
+/** What `judge` prints. */
+export function readJudge(text) {
+  const [kind, ...words] = text.trimEnd().split(" ");
+  if (kind === "holds") return { holds: true, violation: null };
+  const isTag = (word) => word.includes(":");
+  const events = words.filter((word) => !isTag(word)).map(Number);
+  const tags = words.filter(isTag).map((word) => word.split(":").map(Number));
+  return { holds: false, violation: { kind, events, tags } };
+}
+
+const DIFFERENCE = /^differs at (\d+): ([^:]*): (.*)$/s;
+
+/** What `conform` prints. */
+export function readConform(text) {
+  const [first, ...lines] = linesOf(text);
+  if (first === "conforms") return { verdict: "conforms", conforms: true, compared: countsIn(lines[0]), text };
+  const stopped = stopIn(first);
+  if (stopped) return { verdict: "stopped", conforms: false, ...stopped, text };
+  const [, at, what, field] = DIFFERENCE.exec(first);
+  return { verdict: "differs", conforms: false, at: Number(at), what, field, ...detailsIn(lines), text };
+}
+
+/* "compared clients 1 present 1 .." */
+function countsIn(line) {
+  const words = line.split(" ").slice(1);
+  return Object.fromEntries(words.flatMap((word, i) => (i % 2 ? [] : [[word, Number(words[i + 1])]])));
+}
+
+/* The lines under a difference. */
+function detailsIn(lines) {
+  const details = { found: "", otjs: "", place: null, rule: null, given: [], note: null };
+  for (const line of lines) {
+    const [, word, rest] = /^(\S+) (.*)$/s.exec(line);
+    if (word === "found") details.found = rest;
+    else if (word === "ot.js") details.otjs = rest;
+    else if (word === "place") details.place = Number(rest);
+    else if (word === "given") details.given.push(givenIn(rest));
+    else details[word] = rest;
+  }
+  return details;
+}
+
+function givenIn(text) {
+  const [, name, value] = /^(\S+) (.*)$/s.exec(text);
+  return { name, value };
+}

@@ -1,0 +1,103 @@
+/*
+ * The functions of the package over any way to serve words and an input:
+ *
+ *     arguments ── call ──▶ words, input ── serve ──▶ status, output, errors ── read ──▶ a value, or an OtbenchError
+ */
+
+import { readCheck, readConform, readJudge, readRun, readSteps } from "./answers.mjs";
+import { check, OtbenchError } from "./errors.mjs";
+import { bytesOf, joined, markIn, textOf, withRest } from "./text.mjs";
+
+const NOTHING = new Uint8Array(0);
+
+/* A call that gives a value of what was printed. */
+const reading = (words, input, read, signal) => ({ words, input, read: (answer) => read(textOf(check(answer).output)), signal });
+
+const schedule = (given) => bytesOf(given, "the schedule");
+
+/* The calls of all functions but `serve`. Each takes `signal` among its options; only the functions of a worker look at it. */
+const calls = {
+  run: (text, { image = false, signal } = {}) => reading(image ? ["run", "--image"] : ["run"], schedule(text), readRun, signal),
+
+  steps: (text, { documents = false, signal } = {}) =>
+    reading(documents ? ["steps", "--documents"] : ["steps"], schedule(text), readSteps, signal),
+
+  explain: (text, { signal } = {}) => reading(["explain"], schedule(text), String, signal),
+
+  /* A line `%%` would end the schedule: one that has such a line is refused as `run` refuses it. */
+  conform(text, lines, { signal } = {}) {
+    const bytes = schedule(text);
+    if (markIn(bytes)) return reading(["run"], bytes, readRun, signal);
+    return reading(["conform"], withRest(bytes, linesOf(lines)), readConform, signal);
+  },
+
+  check: (text, { signal } = {}) => reading(["check"], schedule(text), readCheck, signal),
+
+  judge: (trace, { signal } = {}) => reading(["judge"], traceOf(trace), readJudge, signal),
+
+  assemble: (text, { signal } = {}) => ({ words: ["asm"], input: schedule(text), read: (answer) => check(answer).output, signal }),
+
+  disassemble: (image, { signal } = {}) => reading(["dis"], schedule(image), String, signal),
+
+  generate: ({ signal, ...options } = {}) => reading(["generate", ...wordsOf(options)], NOTHING, String, signal),
+};
+
+/* A port's lines: a text, bytes, or an array of texts and of values. */
+function linesOf(lines) {
+  if (!Array.isArray(lines)) return bytesOf(lines, "what the port printed");
+  const texts = lines.map((line) => (typeof line === "string" ? line : JSON.stringify(line)));
+  return joined(texts.map((line) => bytesOf(`${line}\n`, "a line of the port")));
+}
+
+const isText = (given) => typeof given === "string" || given instanceof Uint8Array;
+
+const traceOf = (trace) => bytesOf(isText(trace) ? trace : JSON.stringify(trace), "the trace");
+
+/* The options of `generate` as its words. A name that the program does not know is refused by it. */
+function wordsOf(options) {
+  const given = Object.entries(options).filter(([, value]) => value !== undefined && value !== false);
+  return given.map(([name, value]) => (value === true ? `--${name}` : `--${name}=${value}`));
+}
+
+/* No word of a program holds a NUL or half of a surrogate pair. */
+function checkWords(words) {
+  for (const word of words)
+    if (word.includes("\0") || !word.isWellFormed())
+      throw new OtbenchError("Usage", `${JSON.stringify(word)} holds a NUL or half of a surrogate pair`);
+}
+
+/**
+ * All functions over one that serves.
+ * @param {(words: string[], input: Uint8Array) => import("./otbench.mjs").Answer} serveBytes
+ * @returns {import("./otbench.mjs").Bench}
+ */
+export function benchOver(serveBytes) {
+  const serve = (words, input = NOTHING) => {
+    checkWords(words);
+    return serveBytes(words, bytesOf(input, "the input"));
+  };
+  const called = (make) => (...given) => {
+    const { words, input, read } = make(...given);
+    return read(serve(words, input));
+  };
+  return { serve, ...mapped(called) };
+}
+
+/**
+ * The same over one that serves later, and may be cancelled.
+ * @param {(words: string[], input: Uint8Array, signal?: AbortSignal) => Promise<import("./otbench.mjs").Answer>} serveBytes
+ * @returns {Omit<import("./worker.mjs").WorkerBench, "close">}
+ */
+export function laterBenchOver(serveBytes) {
+  const serve = async (words, input = NOTHING, { signal } = {}) => {
+    checkWords(words);
+    return serveBytes(words, bytesOf(input, "the input"), signal);
+  };
+  const called = (make) => async (...given) => {
+    const { words, input, read, signal } = make(...given);
+    return read(await serve(words, input, { signal }));
+  };
+  return { serve, ...mapped(called) };
+}
+
+const mapped = (called) => Object.fromEntries(Object.entries(calls).map(([name, make]) => [name, called(make)]));

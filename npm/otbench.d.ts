@@ -1,0 +1,263 @@
+/** The text of a schedule, as a string or as UTF-8. The form: docs/FORMATS.md, "The text of a schedule". */
+export type Text = string | Uint8Array;
+
+/** An operation as ot.js' `toJSON` has it: a positive number retains, a negative one deletes, a string is inserted. Lengths count Unicode scalar values. */
+export type Operation = (number | string)[];
+
+export type State = "not-joined" | "synchronized" | "awaiting-confirm" | "awaiting-with-buffer";
+
+/** Why an instruction cannot be performed. */
+export type Refusal =
+  | "NoSuchClient"
+  | "StepsFull"
+  | "NotJoined"
+  | "AlreadyJoined"
+  | "BadBase"
+  | "ClientFull"
+  | "LinkEmpty"
+  | "WrongHead"
+  | "Memory";
+
+/** A fault's name, as the program prints it; "Usage" where words or options are refused. */
+export type FaultKind =
+  | "BadClient"
+  | "BadMagic"
+  | "BadNumber"
+  | "BadOpcode"
+  | "BadOperation"
+  | "BadScalar"
+  | "BadShape"
+  | "BadText"
+  | "Cut"
+  | "Extra"
+  | "Memory"
+  | "NoClients"
+  | "NotJson"
+  | "NotNormal"
+  | "ReadFault"
+  | "TagTwice"
+  | "TooLong"
+  | "TooMany"
+  | "TraceFull"
+  | "Trailing"
+  | "UnknownWord"
+  | "Usage";
+
+/** A refused input, refused words, or a fault of memory. A verdict against and a refused instruction are results, and no errors. */
+export class OtbenchError extends Error {
+  readonly name: "OtbenchError";
+  readonly kind: FaultKind;
+  /** The line of a refused text, from 1. */
+  readonly line: number | null;
+  /** The byte of a refused image, from 0. */
+  readonly byte: number | null;
+}
+
+/** The engine did not come to its end: there was no memory for it, or its stack ran out. The message says which. */
+export class EngineFault extends Error {
+  name: "EngineFault";
+}
+
+/** A refused instruction: its number, from 0, and why. */
+export interface Stop {
+  at: number;
+  refusal: Refusal;
+}
+
+export interface Run {
+  /** The documents that reads showed, in order; `client` is null for the server's. */
+  reads: { client: number | null; document: string }[];
+  /** The instruction that was refused, or null where all were performed. */
+  stopped: Stop | null;
+  /** Where each client ends, by its number. */
+  clients: { revision: number; state: State; document: string }[];
+  server: { revision: number; document: string };
+  /** Whether no message is under way and every joined client is synchronized. Then all documents of joined clients are the server's. */
+  quiet: boolean;
+}
+
+export interface Message {
+  revision: number;
+  operation: Operation;
+}
+
+/** The opening of a run. */
+export interface Opening {
+  at: 0;
+  clients: number;
+  present: number;
+  start: string;
+}
+
+/** An instruction that was performed, with what it changed. `at` is the place after it. */
+export interface Performed {
+  at: number;
+  do: "edit" | "take" | "deliver" | "ack" | "join" | "read" | "read-server";
+  client?: number;
+  edit?: Operation;
+  revision?: number;
+  state?: Exclude<State, "not-joined">;
+  outstanding?: Operation;
+  buffer?: Operation;
+  sent?: Message;
+  applied?: Operation;
+  appended?: Operation;
+  document?: string;
+}
+
+/** An instruction that was refused: `at` is the place where the run stands. */
+export interface Stopped {
+  at: number;
+  do: Performed["do"];
+  client?: number;
+  edit?: Operation;
+  stopped: Refusal;
+}
+
+export interface End {
+  at: number;
+  end: "quiet" | "not quiet";
+}
+
+/** A line of `steps`. */
+export type Step = Opening | Performed | Stopped | End;
+
+/** What a port printed: lines of text, or an array of lines, each a text or the value that it says. */
+export type PortLines = Text | readonly (string | object)[];
+
+/** A value that can be compared. */
+export type ComparedKey =
+  | "clients"
+  | "present"
+  | "start"
+  | "do"
+  | "client"
+  | "edit"
+  | "revision"
+  | "state"
+  | "outstanding"
+  | "buffer"
+  | "sent"
+  | "applied"
+  | "appended"
+  | "document"
+  | "end";
+
+/** The port conforms: how often each value was printed and equal. */
+export interface Conforms {
+  verdict: "conforms";
+  conforms: true;
+  compared: Record<ComparedKey, number>;
+  /** The answer as it is printed. */
+  text: string;
+}
+
+/** The first value in which the port left ot.js. Values are as they are printed: compact JSON, `none`, `nothing`, `performed` or a refusal. */
+export interface Differs {
+  verdict: "differs";
+  conforms: false;
+  at: number;
+  /** `opening`, the instruction (`deliver 0`), `end` or `after the end`. */
+  what: string;
+  /** `line`, or the value, with whose it is: `client 0 buffer`. */
+  field: string;
+  found: string;
+  otjs: string;
+  /** How many characters at the front of two texts are equal. */
+  place: number | null;
+  /** The method of ot.js that makes the value, and what it was given. */
+  rule: string | null;
+  given: { name: string; value: string }[];
+  /** A true sentence about what was found. */
+  note: string | null;
+  text: string;
+}
+
+/** Nothing can be compared from there on, for a limit of otbench. */
+export interface NotCompared extends Stop {
+  verdict: "stopped";
+  conforms: false;
+  text: string;
+}
+
+export type Conformance = Conforms | Differs | NotCompared;
+
+export interface Check {
+  stopped: Stop | null;
+  quiet: boolean;
+  /** What keeps the session from being quiet: a client that is not synchronized, its message to the server, or messages to it. */
+  waits: { what: "client" | "up" | "down"; client: number } | null;
+  /** Whether the trace of the run has the weak list property: `holds`, or `trace full` where it is too long to be judged. */
+  property: string;
+}
+
+/** Who inserted an element, and its number. */
+export type Tag = [origin: number, serial: number];
+
+export interface Judgement {
+  holds: boolean;
+  violation: {
+    kind: "bad-visibility" | "doubled" | "missing" | "extra" | "wrong-place" | "reversed";
+    events: number[];
+    tags: Tag[];
+  } | null;
+}
+
+export interface GenerateOptions {
+  /** Which session it is: one to nine digits; 1 where it is left out. */
+  seed?: number;
+  /** 1 to 64; 4 where it is left out. */
+  clients?: number;
+  /** How many of them are there from the start, 0 to `clients`. */
+  present?: number;
+  /** How many, before the reads at the end: 0 to 100,000; 60 where it is left out. */
+  instructions?: number;
+  /** The start text, at most 40,000 characters. */
+  start?: string;
+  /** Whether the session ends there, whatever is under way. */
+  open?: boolean;
+}
+
+/** What the program gave: its status, and the bytes of standard output and standard error. */
+export interface Answer {
+  status: number;
+  output: Uint8Array;
+  errors: Uint8Array;
+}
+
+export interface Bench {
+  /** Runs the program on its words (`["steps", "--documents"]`) and on what it reads. Never throws for what it answers. */
+  serve(words: string[], input?: Text): Answer;
+  /** Runs a schedule; with `image` its image. */
+  run(schedule: Text, options?: { image?: boolean }): Run;
+  /** The run as values: the opening, each instruction with what it changed, a stop, the end. */
+  steps(schedule: Text, options?: { documents?: boolean }): Step[];
+  /** The run in words. The error of a refused text says its column and cause too. */
+  explain(schedule: Text): string;
+  /** Compares what a port of ot.js printed with the run of the schedule. */
+  conform(schedule: Text, lines: PortLines): Conformance;
+  /** Whether all is quiet and one, and whether the trace has the weak list property. */
+  check(schedule: Text): Check;
+  /** Judges a recorded trace: a value, or its JSON. */
+  judge(trace: object | Text): Judgement;
+  /** A schedule's image. */
+  assemble(schedule: Text): Uint8Array;
+  /** The canonical text of an image. */
+  disassemble(image: Uint8Array): string;
+  /** A session made at random, of which no instruction is refused. */
+  generate(options?: GenerateOptions): string;
+}
+
+/** The functions over an engine that the caller has compiled. */
+export function benchOf(module: WebAssembly.Module): Bench;
+
+export const serve: Bench["serve"];
+export const run: Bench["run"];
+export const steps: Bench["steps"];
+export const explain: Bench["explain"];
+export const conform: Bench["conform"];
+export const check: Bench["check"];
+export const judge: Bench["judge"];
+export const assemble: Bench["assemble"];
+export const disassemble: Bench["disassemble"];
+export const generate: Bench["generate"];

@@ -1,0 +1,82 @@
+/* Puts the package together in a folder. Paths in it are the repository's, so what stands in it finds its parts in both. */
+
+import { spawnSync } from "node:child_process";
+import fs from "node:fs";
+import { createRequire } from "node:module";
+import path from "node:path";
+import { fileURLToPath } from "node:url";
+
+export const TOP = fileURLToPath(new URL("../..", import.meta.url));
+
+/* Files, and folders with all that is in them. */
+const HELD = [
+  "LICENSE",
+  "CHANGELOG.md",
+  "bench/storms.py",
+  "conformance",
+  "docs/FORMATS.md",
+  "docs/GUIDE.md",
+  "docs/session.svg",
+  "engine/host.mjs",
+  "examples",
+  "npm",
+  "oracle",
+  "recorder",
+  "terminal",
+  "viewer/src/document.mjs",
+  "viewer/src/fold.mjs",
+  "viewer/src/places.mjs",
+];
+
+const LEFT_OUT = new Set([
+  "conformance/test",
+  "examples/port/port.test.js",
+  "npm/package.json",
+  "npm/README.md",
+  "npm/release",
+  "npm/test",
+  "recorder/browser",
+  "recorder/test",
+  "terminal/test",
+]);
+
+/* Folders whose .js files are CommonJS, while the package is of modules. */
+const COMMONJS = ["conformance", "examples", "oracle", "recorder"];
+
+/* The viewer's page with a place for the engine, which `otbench view` fills. */
+export function viewerPage() {
+  const { page, examplesOf = () => [] } = createRequire(import.meta.url)(path.join(TOP, "viewer/build.js"));
+  return page({ host: path.join(TOP, "engine/host.mjs"), module: "/* the module */" }, examplesOf(path.join(TOP, "examples")));
+}
+
+const isHeld = (file) => !LEFT_OUT.has(path.relative(TOP, file)) && path.basename(file) !== "__pycache__";
+
+/**
+ * Puts the package together.
+ * @param {string} folder an empty one, or none yet
+ * @param {Uint8Array} engine
+ * @param {{ version: string, commit: string | null, proved: boolean }} release
+ */
+export function stage(folder, engine, release) {
+  const to = (file) => path.join(folder, file);
+  for (const held of HELD) fs.cpSync(path.join(TOP, held), to(held), { recursive: true, filter: isHeld });
+  for (const name of ["package.json", "README.md"]) fs.copyFileSync(path.join(TOP, "npm", name), to(name));
+  for (const commonjs of COMMONJS) fs.writeFileSync(to(`${commonjs}/package.json`), '{ "type": "commonjs" }\n');
+  fs.writeFileSync(to("viewer/viewer.html"), viewerPage());
+  fs.mkdirSync(to("engine/out"));
+  fs.writeFileSync(to("engine/out/otbench.wasm"), engine);
+  fs.writeFileSync(to("VERSION.json"), `${JSON.stringify(release, null, 2)}\n`);
+}
+
+/**
+ * The archive of a staged folder, which `npm pack` makes.
+ * @param {string} folder
+ * @param {string} to where it is put
+ * @returns {string} its path
+ */
+export function pack(folder, to) {
+  const words = ["pack", "--json", "--offline", "--pack-destination", path.resolve(to), path.resolve(folder)];
+  const ran = spawnSync("npm", words, { encoding: "utf8", shell: process.platform === "win32" });
+  if (ran.status !== 0) throw new Error(`npm pack: ${ran.error?.message ?? ran.stderr}`);
+  return path.join(path.resolve(to), JSON.parse(ran.stdout)[0].filename);
+}

@@ -1,0 +1,64 @@
+/* The program on the streams of this process: what it prints goes out at once, and what it reads is waited for. */
+
+import fs from "node:fs";
+import { serveStreams } from "../engine/host.mjs";
+
+/* Whoever shares a stream with this process may have made it non-blocking: then it is tried again. */
+const RETRY_MS = 5;
+const pause = () => Atomics.wait(new Int32Array(new SharedArrayBuffer(4)), 0, 0, RETRY_MS);
+
+function retried(call) {
+  for (;;) {
+    try {
+      return call();
+    } catch (error) {
+      if (error.code === "EOF") return 0; // the end of a terminal or a pipe under Windows
+      if (error.code !== "EAGAIN" && error.code !== "EINTR") throw error;
+      pause();
+    }
+  }
+}
+
+/**
+ * Writes bytes, all of them.
+ * @param {number} stream
+ * @param {Uint8Array} bytes
+ */
+export function writeAll(stream, bytes) {
+  for (let at = 0; at < bytes.length; ) at += retried(() => fs.writeSync(stream, bytes, at));
+}
+
+/* Reads parts one behind the other: bytes, or a stream by its number. */
+function readerOf(parts) {
+  let [part, at] = [0, 0];
+  return (room) => {
+    for (; part < parts.length; part++, at = 0) {
+      const count = readPart(parts[part], at, room);
+      at += count;
+      if (count > 0) return count;
+    }
+    return 0;
+  };
+}
+
+function readPart(part, at, room) {
+  if (typeof part === "number") return retried(() => fs.readSync(part, room, 0, room.length, null));
+  const piece = part.subarray(at, at + room.length);
+  room.set(piece);
+  return piece.length;
+}
+
+/**
+ * Runs the program.
+ * @param {WebAssembly.Module} module
+ * @param {string[]} words behind the program's name
+ * @param {(Uint8Array | number)[]} input parts of what it reads, one behind the other: bytes, or a stream by its number
+ * @returns {number} the status
+ */
+export function runOnStreams(module, words, input) {
+  return serveStreams(module, words, {
+    read: readerOf(input),
+    write: (bytes) => writeAll(1, bytes),
+    error: (bytes) => writeAll(2, bytes),
+  });
+}

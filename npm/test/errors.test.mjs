@@ -1,0 +1,90 @@
+// What is refused: the kind, and the line or byte.
+
+import assert from "node:assert/strict";
+import { test } from "node:test";
+import { assemble, conform, disassemble, explain, generate, judge, OtbenchError, run, serve, steps } from "../otbench.mjs";
+
+const many = (count, line) => `${line}\n`.repeat(count);
+
+function refused(call, kind, { line = null, byte = null } = {}, message = /./) {
+  assert.throws(call, (error) => {
+    assert.ok(error instanceof OtbenchError && error instanceof Error);
+    assert.deepEqual([error.name, error.kind, error.line, error.byte], ["OtbenchError", kind, line, byte]);
+    assert.match(error.message, message);
+    return true;
+  });
+}
+
+/* Of each kind of fault of a text one, and its line. */
+const TEXTS = [
+  ["BadText", 2, "clients 1\n; \ud800\n"],
+  ["NoClients", 1, ""],
+  ["NoClients", 1, "edit 0 []\n"],
+  ["UnknownWord", 2, "clients 1\nbogus\n"],
+  ["BadNumber", 1, "clients one\n"],
+  ["BadClient", 3, "clients 1\n\nread 1\n"],
+  ["BadText", 2, "clients 1\nstart a\n"],
+  ["BadOperation", 2, "clients 1\nedit 0 [0]\n"],
+  ["Extra", 2, "clients 1\nread 0 0\n"],
+  ["TooLong", 2, `clients 1\nstart "${"a".repeat(40_001)}"\n`],
+  ["TooMany", 100_002, `clients 1\n${many(100_001, "read 0")}`],
+];
+
+for (const [kind, line, text] of TEXTS)
+  test(`a text: ${kind} at line ${line}`, () => {
+    for (const call of [run, steps, assemble, explain]) refused(() => call(text), kind, { line }, new RegExp(`^line ${line}: ${kind}`));
+  });
+
+const hex = (digits) => Buffer.from(digits.replaceAll(" ", ""), "hex");
+
+/* Of each kind of fault of an image one, and its byte. */
+const IMAGES = [
+  ["Cut", 3, "4f5453"],
+  ["BadMagic", 0, "4f545331 0001".replace("31", "39")],
+  ["BadNumber", 4, "4f545332 0041 0000 00000000 00000000"],
+  ["TooLong", 8, "4f545332 0001 0001 00009c41"],
+  ["TooMany", 12, "4f545332 0001 0001 00000000 000186a1"],
+  ["BadScalar", 12, "4f545332 0001 0001 00000001 0000d800 00000000"],
+  ["BadOpcode", 16, "4f545332 0001 0001 00000000 00000001 09"],
+  ["BadClient", 17, "4f545332 0001 0001 00000000 00000001 05 0001"],
+  ["NotNormal", 32, "4f545332 0001 0001 00000001 00000061 00000001 01 0000 00000002 10 00000001 10 00000001"],
+  ["Trailing", 16, "4f545332 0001 0001 00000000 00000000 00"],
+];
+
+for (const [kind, byte, digits] of IMAGES)
+  test(`an image: ${kind} at byte ${byte}`, () => {
+    refused(() => disassemble(hex(digits)), kind, { byte }, new RegExp(`^byte ${byte}: ${kind}$`));
+    refused(() => run(hex(digits), { image: true }), kind, { byte });
+  });
+
+test("a trace: neither line nor byte", () => {
+  refused(() => judge("x"), "NotJson");
+  refused(() => judge({}), "BadShape");
+  refused(() => judge({ replicas: 1, start: [[0, 0], [0, 0]], events: [] }), "TagTwice");
+  refused(() => judge({ replicas: 1, start: [], events: Array(4001).fill({ replica: 0, kind: "read", seen: [0], list: [] }) }), "TraceFull");
+});
+
+test("explain says the column and the cause too", () => {
+  const call = () => explain('clients 1\nedit 0 ["a"] ; Ann\n');
+  refused(call, "BadOperation", { line: 2 }, /^line 2: BadOperation\n {2}column 14: a comment stands on a line of its own$/);
+});
+
+test("a schedule with a line %% is refused by conform as by run, and takes no line of the port's", () => {
+  refused(() => conform("clients 1\n \t%% \r\nread 0\n", []), "UnknownWord", { line: 2 });
+  refused(() => conform("bogus\n%%\n", []), "NoClients", { line: 1 });
+  assert.equal(conform('clients 1\nstart "%%"\n; %%\nread 0\n', [{ at: 1 }]).verdict, "conforms");
+});
+
+test("options that are refused, by the program's words", () => {
+  refused(() => generate({ clients: 99 }), "Usage", {}, /^invalid value '99' for '--clients <C>': it takes 1 to 64/);
+  refused(() => generate({ seed: -1 }), "Usage");
+  refused(() => generate({ instruction: 3 }), "Usage", {}, /^unexpected argument '--instruction' found/);
+  refused(() => generate({ start: "a\0b" }), "Usage");
+  refused(() => serve(["generate", "\ud800"]), "Usage");
+});
+
+test("what is no text and no bytes is a TypeError", () => {
+  for (const given of [undefined, null, 7, ["clients 1"], {}]) assert.throws(() => run(given), TypeError);
+  assert.throws(() => conform("clients 1\n", undefined), TypeError);
+  assert.throws(() => judge(undefined), TypeError);
+});

@@ -1,0 +1,196 @@
+// The functions of the package, on values from the documents and worked by hand.
+
+import assert from "node:assert/strict";
+import fs from "node:fs";
+import { test } from "node:test";
+import * as otbench from "../otbench.mjs";
+import { TOP, example } from "./files.mjs";
+
+const { assemble, benchOf, check, conform, disassemble, explain, generate, judge, run, serve, steps } = otbench;
+
+const TWO_CLIENTS = {
+  reads: [],
+  stopped: null,
+  clients: [
+    { revision: 2, state: "synchronized", document: "ba" },
+    { revision: 2, state: "synchronized", document: "ba" },
+  ],
+  server: { revision: 2, document: "ba" },
+  quiet: true,
+};
+
+test("run: where a session ends", () => {
+  assert.deepEqual(run(example("two-clients.ots")), TWO_CLIENTS);
+});
+
+test("run: reads, a refused instruction, a client that has not joined, texts with what lines and JSON have of their own", () => {
+  const text = 'clients 3\npresent 2\nstart "a\\n\\"\u2028é😀"\nedit 0 ["x",6]\nread 0\nread-server\nedit 0 [1]\n';
+  assert.deepEqual(run(text), {
+    reads: [
+      { client: 0, document: 'xa\n"\u2028é😀' },
+      { client: null, document: 'a\n"\u2028é😀' },
+    ],
+    stopped: { at: 3, refusal: "BadBase" },
+    clients: [
+      { revision: 0, state: "awaiting-confirm", document: 'xa\n"\u2028é😀' },
+      { revision: 0, state: "synchronized", document: 'a\n"\u2028é😀' },
+      { revision: 0, state: "not-joined", document: "" },
+    ],
+    server: { revision: 0, document: 'a\n"\u2028é😀' },
+    quiet: false,
+  });
+});
+
+test("run: bytes of UTF-8, and an image", () => {
+  assert.deepEqual(run(Buffer.from(example("two-clients.ots"))), TWO_CLIENTS);
+  assert.deepEqual(run(assemble(example("two-clients.ots")), { image: true }), TWO_CLIENTS);
+});
+
+test("steps: the lines as values", () => {
+  assert.deepEqual(steps('clients 1\nedit 0 ["a"]\ntake 0\nack 1\n'.replace("ack 1", "ack 0")), [
+    { at: 0, clients: 1, present: 1, start: "" },
+    {
+      at: 1,
+      do: "edit",
+      client: 0,
+      edit: ["a"],
+      revision: 0,
+      state: "awaiting-confirm",
+      outstanding: ["a"],
+      sent: { revision: 0, operation: ["a"] },
+    },
+    { at: 2, do: "take", client: 0, revision: 1, appended: ["a"] },
+    { at: 3, do: "ack", client: 0, revision: 1, state: "synchronized" },
+    { at: 3, end: "quiet" },
+  ]);
+});
+
+test("steps: with documents, and a stop", () => {
+  const lines = steps('clients 1\nedit 0 ["a"]\ndeliver 0\n', { documents: true });
+  assert.equal(lines[1].document, "a");
+  assert.deepEqual(lines.slice(2), [
+    { at: 1, do: "deliver", client: 0, stopped: "LinkEmpty" },
+    { at: 1, end: "not quiet" },
+  ]);
+});
+
+test("explain: words, of a refused instruction too", () => {
+  const said = explain("clients 2\njoin 1\n");
+  assert.equal(
+    said,
+    'the opening: 2 of 2 clients joined, every document is ""\nline 2, instruction 0: join 1\n' +
+      "  refused: AlreadyJoined: the client is there already: it joined before, or was there at the opening, as all clients are without a line `present P`\n" +
+      "the end: all is quiet\n",
+  );
+});
+
+/* A port that keeps its buffer as it was, as the guide shows it. */
+const withBufferKept = () => steps(example("weak-order.ots")).map((it) => (it.at === 7 ? { ...it, buffer: ["a", -1, 1] } : it));
+
+test("conform: the first difference", () => {
+  const answer = conform(example("weak-order.ots"), withBufferKept());
+  assert.deepEqual(answer, {
+    verdict: "differs",
+    conforms: false,
+    at: 7,
+    what: "deliver 0",
+    field: "client 0 buffer",
+    found: '["a",-1,1]',
+    otjs: '["a",1,-1,1]',
+    place: null,
+    rule: "AwaitingWithBuffer.applyServer",
+    given: [
+      { name: "outstanding", value: '[1,"z"]' },
+      { name: "buffer", value: '["a",-1,1]' },
+      { name: "operation", value: '["c",1]' },
+    ],
+    note: "that is the buffer as it was, not transformed",
+    text:
+      'differs at 7: deliver 0: client 0 buffer\nfound ["a",-1,1]\not.js ["a",1,-1,1]\nrule AwaitingWithBuffer.applyServer\n' +
+      'given outstanding [1,"z"]\ngiven buffer ["a",-1,1]\ngiven operation ["c",1]\n' +
+      "note that is the buffer as it was, not transformed\n",
+  });
+});
+
+test("conform: a text that differs, with its place and a character that ends lines elsewhere", () => {
+  const { field, found, otjs, place } = conform('clients 1\nedit 0 ["ab"]\n', [{ at: 1, document: "a\u2028" }]);
+  assert.deepEqual({ field, found, otjs, place }, { field: "client 0 document", found: '"a\u2028"', otjs: '"ab"', place: 1 });
+});
+
+test("conform: how much was compared; lines as texts, one text, bytes and values", () => {
+  const schedule = 'clients 1\nedit 0 ["a"]'; // its last line without an end
+  const line = '{"at":1,"document":"a","revision":0}';
+  for (const lines of [[line], line, `${line}\n`, Buffer.from(line), [{ at: 1, document: "a", revision: 0 }]]) {
+    const answer = conform(schedule, lines);
+    assert.equal(answer.verdict, "conforms");
+    assert.ok(answer.conforms);
+    const compared = Object.entries(answer.compared).filter(([, count]) => count > 0);
+    assert.deepEqual(compared, [["revision", 1], ["document", 1]]);
+  }
+});
+
+test("conform: a port that printed nothing", () => {
+  const { verdict, field, found } = conform("clients 1\nread 0\n", []);
+  assert.deepEqual({ verdict, field, found }, { verdict: "differs", field: "line", found: "nothing" });
+});
+
+test("conform: where a limit of otbench ends the schedule", () => {
+  const text = `clients 1\nedit 0 [${JSON.stringify("a".repeat(15_000))}]\nedit 0 [15000,"b"]\n`;
+  const lines = [{ at: 1 }, { at: 2 }];
+  const { verdict, conforms, at, refusal } = conform(text, lines);
+  assert.deepEqual({ verdict, conforms, at, refusal }, { verdict: "stopped", conforms: false, at: 1, refusal: "ClientFull" });
+});
+
+test("check: quiet, and what is waited for", () => {
+  assert.deepEqual(check(example("weak-order.ots")), { stopped: null, quiet: true, waits: null, property: "holds" });
+  const edited = 'clients 2\nedit 0 ["a"]\n';
+  assert.deepEqual(check(edited).waits, { what: "client", client: 0 });
+  assert.deepEqual(check(`${edited}take 0\nack 0\n`).waits, { what: "down", client: 1 });
+  assert.deepEqual(check(`${edited}join 1\n`).stopped, { at: 1, refusal: "AlreadyJoined" });
+});
+
+test("judge: each verdict, from a value and from a text", () => {
+  const verdict = (name) => judge(example(name)).violation;
+  assert.deepEqual(judge(JSON.parse(example("weak-order.json"))), { holds: true, violation: null });
+  assert.deepEqual(verdict("reversed.json"), { kind: "reversed", events: [2, 4], tags: [[0, 0], [1, 0]] });
+  assert.deepEqual(verdict("bad-visibility.json"), { kind: "bad-visibility", events: [0], tags: [] });
+  assert.deepEqual(verdict("missing.json"), { kind: "missing", events: [1], tags: [[0, 0]] });
+  assert.deepEqual(verdict("extra.json"), { kind: "extra", events: [1], tags: [[0, 0]] });
+  assert.deepEqual(verdict("wrong-place.json"), { kind: "wrong-place", events: [0], tags: [[0, 0]] });
+});
+
+test("assemble, disassemble: the image of the documents, and the canonical text", () => {
+  const text = 'clients 1\nstart "a"\nedit 0 [1,"b"]\nread-server\n';
+  const image = assemble(`; a comment\n${text}`);
+  const bytes = "4f545332 0001 0001 00000001 00000061 00000002 01 0000 00000002 10 00000001 11 00000001 00000062 06";
+  assert.ok(image instanceof Uint8Array);
+  assert.equal(Buffer.from(image).toString("hex"), bytes.replaceAll(" ", ""));
+  assert.equal(disassemble(image), text);
+  assert.deepEqual(Buffer.from(assemble(example("late-join.ots"))), fs.readFileSync(`${TOP}examples/late-join.img`));
+});
+
+test("generate: a session of the seed, as it is asked for", () => {
+  const text = generate({ seed: 7, clients: 3, present: 2, instructions: 40, start: '-é"\n' });
+  assert.match(text, /^clients 3\npresent 2\nstart "-é\\"\\n"\n/);
+  assert.equal(text, generate({ seed: 7, clients: 3, present: 2, instructions: 40, start: '-é"\n' }));
+  assert.equal(run(text).quiet, true);
+  assert.equal(text.trimEnd().split("\n").filter((line) => line.startsWith("read")).at(-1), "read-server");
+  const open = generate({ instructions: 2, open: true });
+  assert.equal(open.trimEnd().split("\n").filter((line) => !/^(clients|present|start)/.test(line)).length, 2);
+  assert.equal(generate(), generate({ seed: 1, clients: 4, instructions: 60, open: false, start: undefined }));
+});
+
+test("serve: words, bytes and the status, whatever it is", () => {
+  const text = (bytes) => Buffer.from(bytes).toString();
+  const { status, output, errors } = serve(["run"], "clients 1\nbogus\n");
+  assert.deepEqual([status, text(output), text(errors)], [1, "", "otbench: line 2: UnknownWord\n"]);
+  assert.equal(serve(["bogus"]).status, 2);
+  assert.match(text(serve(["--help"]).errors), /^A proved test bench/);
+});
+
+test("an engine that the caller has compiled; calls share nothing", () => {
+  const bench = benchOf(new WebAssembly.Module(fs.readFileSync(`${TOP}engine/out/otbench.wasm`)));
+  assert.deepEqual(Object.keys(bench).sort(), Object.keys(otbench).filter((it) => !/^(benchOf|[A-Z].*)$/.test(it)).sort());
+  assert.deepEqual(bench.run(example("two-clients.ots")), TWO_CLIENTS);
+  assert.deepEqual(bench.run("clients 1\n").clients, [{ revision: 0, state: "synchronized", document: "" }]);
+});

@@ -1,0 +1,136 @@
+// otbench/testing: a port that conforms, ports with faults, drivers of their own, and ports that count otherwise.
+
+import assert from "node:assert/strict";
+import { test } from "node:test";
+import { loadPort } from "../../examples/port/driver.js";
+import { bugs } from "../../conformance/faults.js";
+import { OtbenchError, run, steps } from "../otbench.mjs";
+import { compare, conforms, corpus, drive, random } from "../testing.mjs";
+
+/** ot.js with a fault planted in it. */
+function faulty(name) {
+  const port = loadPort();
+  bugs[name](port);
+  return port;
+}
+
+const failing = (subject, options) =>
+  conforms(subject, options).then(
+    () => assert.fail("it conforms"),
+    (error) => error,
+  );
+
+test("a port that is ot.js conforms, and what was compared is counted", async () => {
+  const { sessions, compared } = await conforms(loadPort(), { sessions: 10 });
+  assert.equal(sessions, [...corpus()].length + 10);
+  assert.equal(compared.start, sessions);
+  assert.ok(Object.values(compared).every((count) => count >= sessions), JSON.stringify(compared));
+});
+
+test("a fault is an AssertionError with a schedule of a few instructions, and conform's words", async () => {
+  const error = await failing(faulty("tie"), { sessions: 5 });
+  assert.equal(error.code, "ERR_ASSERTION");
+  assert.equal(error.name, "AssertionError");
+  assert.equal(error.answer.verdict, "differs");
+  assert.ok(steps(error.schedule).length <= 8, error.schedule);
+  assert.match(error.message, /^[a-z-]+: \d+ instructions, here reduced to [3-6]\n\nclients 2\n/);
+  assert.ok(error.message.includes(`${error.schedule}\ndiffers at `));
+  assert.match(error.message, /\nnote that is what transform gives if the text of its second argument goes first\n$/);
+  assert.deepEqual([error.actual, error.expected], [error.answer.found, error.answer.otjs]);
+  assert.deepEqual(await compare(faulty("tie"), error.schedule), error.answer);
+});
+
+test("a fault that a session made at random finds, without the corpus", async () => {
+  const error = await failing(faulty("whole-log"), { corpus: false, sessions: 20, seed: 999_999_990 });
+  assert.match(error.session, /^session of seed \d+$/);
+  assert.equal(run(error.schedule).stopped, null);
+});
+
+test("without time to reduce, the session is as it was found, up to the difference at most", async () => {
+  const error = await failing(faulty("buffer-kept"), { reduceSeconds: 0 });
+  const whole = [...corpus()].find(({ name }) => name === error.session).schedule;
+  assert.equal(steps(error.schedule).length, steps(whole).length);
+});
+
+test("a driver, of lines, of one text, and of values, now or later", async () => {
+  const drivers = [
+    (schedule) => steps(schedule),
+    (schedule) => steps(schedule).map((line) => JSON.stringify(line)),
+    async (schedule) => steps(schedule).map((line) => JSON.stringify(line)).join("\n"),
+  ];
+  for (const driver of drivers) assert.equal((await conforms(driver, { sessions: 2 })).sessions, [...corpus()].length + 2);
+  const error = await failing((schedule) => steps(schedule).map(({ buffer, ...line }) => ({ ...line, buffer: null })));
+  assert.match(error.answer.field, /buffer$/);
+});
+
+test("a driver that throws fails, and the error is the cause", async () => {
+  const driver = (schedule) => {
+    if (schedule.includes("deliver")) throw new RangeError("no deliveries yet");
+    return steps(schedule);
+  };
+  const error = await failing(driver, { sessions: 1 });
+  assert.match(error.message, /reduced to 3\n[^]*deliver [^]*\n\nthe driver threw RangeError: no deliveries yet\n$/);
+  assert.ok(error.cause instanceof RangeError);
+  assert.equal(error.answer, null);
+});
+
+test("a driver that fails but once is told as one", async () => {
+  let calls = 0;
+  const driver = (schedule) => (calls++ === 3 ? [] : steps(schedule));
+  assert.match((await failing(driver)).message, /\nthe driver did not do this each time\n$/);
+});
+
+test("a driver by which nothing can be compared does not conform", async () => {
+  const error = await failing((schedule) => steps(schedule).filter((it) => it.do).map(({ at }) => ({ at, rev: 7 })));
+  assert.match(error.message, /^nothing was compared/);
+});
+
+test("no port, no such option", async () => {
+  await assert.rejects(conforms({ TextOperation() {}, Client() {} }), { name: "TypeError", message: /Server is not there$/ });
+  await assert.rejects(conforms(undefined), TypeError);
+  await assert.rejects(conforms(loadPort(), { corpus: false, session: 5 }), (error) => error instanceof OtbenchError && error.kind === "Usage");
+});
+
+const PAIRS = 'clients 2\nstart "😀x"\nedit 0 [1,"é",1]\nedit 1 [-1,"𝒳",1]\ntake 0\ntake 1\nack 0\ndeliver 1\ndeliver 0\nack 1\nread 0\n';
+
+test("a port that counts UTF-16 units sees pairs, and conforms", async () => {
+  const seen = [];
+  const watched = loadPort();
+  const { receiveOperation } = watched.Server.prototype;
+  watched.Server.prototype.receiveOperation = function (revision, operation) {
+    seen.push(operation.toJSON());
+    return receiveOperation.call(this, revision, operation);
+  };
+  assert.equal((await compare(watched, PAIRS)).verdict, "conforms");
+  assert.deepEqual(seen, [[2, "é", 1], ["𝒳", -2, 1]]);
+  const lines = await drive(loadPort(), PAIRS);
+  assert.deepEqual(lines.find((line) => line.appended).appended, [1, "é", 1]);
+});
+
+test("a driver that counts UTF-16 units may give operations as they are", async () => {
+  const { TextOperation } = loadPort();
+  const edit = new TextOperation().retain(2).insert("é").retain(1);
+  const answer = await compare(() => [{ at: 0 }, { at: 1, edit, sent: { revision: 0, operation: edit } }], PAIRS, { utf16: true });
+  assert.match(answer.field, /^line$/); // only that the second edit has no line
+  assert.equal(answer.at, 2);
+});
+
+test("a port that counts scalars and is said to count units, and the other way", async () => {
+  assert.match((await compare(loadPort(), PAIRS, { utf16: false })).field, /stopped/);
+  const scalars = (schedule) => steps(schedule);
+  assert.equal((await compare(scalars, PAIRS)).verdict, "conforms");
+  assert.equal((await compare(scalars, PAIRS, { utf16: true })).conforms, false);
+});
+
+test("an operation that cuts a pair, passes the end, or inserts half of a pair, is told so", async () => {
+  const told = async (edit) => (await compare(() => [{ at: 0 }, { at: 1, edit }], 'clients 1\nstart "😀"\nedit 0 [1,"a"]\n', { utf16: true })).found;
+  assert.equal(await told([1, "a", 1]), JSON.stringify('[1,"a",1] in UTF-16 units cuts a surrogate pair of "😀"'));
+  assert.equal(await told([3, "a"]), JSON.stringify('[3,"a"] in UTF-16 units passes the end of "😀", which has 2'));
+  assert.equal(await told([2, "\ud83d"]), JSON.stringify('[2,"\\ud83d"] inserts half of a surrogate pair'));
+  assert.equal(await told([2, "a"]), undefined);
+});
+
+test("sessions made at random: their seeds, round the end of the seeds", () => {
+  const names = [...random({ sessions: 3, seed: 999_999_998, instructions: 1 })].map(({ name }) => name);
+  assert.deepEqual(names, ["session of seed 999999998", "session of seed 999999999", "session of seed 0"]);
+});

@@ -1,0 +1,80 @@
+// The debugger at a terminal: its words, and the session that is held there.
+
+import { readFileSync } from "node:fs";
+import { createInterface } from "node:readline";
+import { Debugger } from "./debugger.mjs";
+import { nativeProgram } from "./program.mjs";
+import { Recording, RefusedText } from "./recording.mjs";
+
+const USAGE = "usage: otbench debug FILE [--port PORT-LINES]\nSteps through the run of a schedule's text, forth and back. With the lines that a port printed it stops where the port differs.\n";
+
+/**
+ * A session: prompts where the input is a terminal, and answers each line.
+ * @param {Debugger} session @param {NodeJS.ReadableStream & { isTTY?: boolean }} input @param {NodeJS.WritableStream} output
+ */
+export async function converse(session, input, output) {
+  const say = (lines) => lines.forEach((line) => output.write(`${line}\n`));
+  say(session.greeting());
+  const isTerminal = Boolean(input.isTTY);
+  const reader = createInterface({ input, output: isTerminal ? output : undefined, terminal: isTerminal, completer: (line) => session.complete(line) });
+  const prompt = () => {
+    reader.setPrompt(session.prompt);
+    if (isTerminal) reader.prompt();
+  };
+  reader.on("SIGINT", () => {
+    output.write("\n");
+    prompt();
+  });
+  prompt();
+  for await (const line of reader) {
+    say(session.perform(line));
+    if (session.isOver) break;
+    prompt();
+  }
+  reader.close();
+}
+
+/** The words as { file, port, program }, or null where they are not understood. */
+function wordsOf(words) {
+  const asked = { file: null, port: null, program: process.env.OTBENCH ?? null };
+  for (let i = 0; i < words.length; i++) {
+    if (words[i] === "--port" && asked.port === null && i + 1 < words.length) asked.port = words[++i];
+    else if (words[i] === "--program" && i + 1 < words.length) asked.program = words[++i];
+    else if (!words[i].startsWith("-") && asked.file === null) asked.file = words[i];
+    else return null;
+  }
+  return asked.file === null ? null : asked;
+}
+
+/** The file's text, or null, with a line on standard error. */
+function textOf(path) {
+  try {
+    return readFileSync(path, "utf8");
+  } catch (fault) {
+    process.stderr.write(`otbench debug: ${path}: ${fault.code === "ENOENT" ? "there is no such file" : fault.message}\n`);
+    return null;
+  }
+}
+
+/**
+ * The whole command. Answers its status: 0; 1 where a file cannot be read or is refused; 2 where words are not understood.
+ * @param {string[]} words @param {import("./program.mjs").Ask | null} ask null: the program that the words or OTBENCH name
+ */
+export async function debug(words, ask = null) {
+  const asked = wordsOf(words);
+  if (!asked || (ask === null && asked.program === null)) {
+    process.stderr.write(USAGE);
+    return 2;
+  }
+  const schedule = textOf(asked.file);
+  const port = asked.port === null ? null : textOf(asked.port);
+  if (schedule === null || (asked.port !== null && port === null)) return 1;
+  try {
+    await converse(new Debugger(new Recording(ask ?? nativeProgram(asked.program), schedule, port)), process.stdin, process.stdout);
+    return 0;
+  } catch (fault) {
+    if (!(fault instanceof RefusedText)) throw fault;
+    process.stderr.write(fault.message);
+    return 1;
+  }
+}

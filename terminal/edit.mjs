@@ -1,0 +1,6 @@
+#!/usr/bin/env node
+// Writes an edit, over a program of the system: edit.mjs [--program PROGRAM] FILE C AT DELETED INSERTED
+
+import { edit } from "./editing.mjs";
+
+process.exitCode = edit(process.argv.slice(2));

@@ -1,0 +1,73 @@
+// Writes an edit by the texts that a report names.
+
+import { appendFileSync, readFileSync } from "node:fs";
+import { nativeProgram } from "./program.mjs";
+import { Recording, RefusedText } from "./recording.mjs";
+
+const USAGE = `usage: otbench edit FILE C AT DELETED INSERTED
+Appends to the schedule FILE the edit with which client C deletes the text DELETED at place AT of its document, and inserts INSERTED there.
+AT counts characters (Unicode scalars) from 0. Either text may be empty: ''.
+`;
+
+/** An edit that does not fit the document, and why. */
+export class Misfit extends Error {}
+
+/**
+ * The operation that deletes and inserts at a place of a document, its lengths counted in Unicode scalars.
+ * @param {string} document @param {number} at @param {string} deleted @param {string} inserted
+ */
+export function operationAt(document, at, deleted, inserted) {
+  const all = [...document];
+  const gone = [...deleted].length;
+  if (at > all.length) throw new Misfit(`place ${at} is behind the end of ${JSON.stringify(document)}, which is ${all.length} characters long`);
+  const there = all.slice(at, at + gone).join("");
+  if (there !== deleted) {
+    const found = all.join("").indexOf(deleted);
+    const hint = found < 0 ? "it does not stand in the document" : `it stands at place ${[...document.slice(0, found)].length}`;
+    throw new Misfit(`at place ${at} of ${JSON.stringify(document)} stands ${JSON.stringify(there)}, not ${JSON.stringify(deleted)}: ${hint}`);
+  }
+  const rest = all.length - at - gone;
+  return [...(at ? [at] : []), ...(inserted ? [inserted] : []), ...(gone ? [-gone] : []), ...(rest ? [rest] : [])];
+}
+
+/**
+ * The line to append, and what it does in words.
+ * @param {Recording} recording @param {number} client
+ */
+export function editOf(recording, client, at, deleted, inserted) {
+  const { refused, end } = recording;
+  if (refused) throw new Misfit(`line ${refused.line}, ${refused.words}, is refused: nothing can follow it`);
+  if (client >= recording.clients) throw new Misfit(`client ${client} is not there: clients are 0 to ${recording.clients - 1}`);
+  if (recording.value({ what: "state", client }, end) === "not-joined") throw new Misfit(`client ${client} has not joined`);
+  const before = JSON.parse(recording.document(client, end));
+  const operation = operationAt(before, at, deleted, inserted);
+  const all = [...before];
+  const after = [...all.slice(0, at), inserted, ...all.slice(at + [...deleted].length)].join("");
+  return { line: `edit ${client} ${JSON.stringify(operation)}`, told: `client ${client}'s document ${JSON.stringify(before)} becomes ${JSON.stringify(after)}` };
+}
+
+/**
+ * The whole command. Answers its status: 0; 1 where the file cannot be read or written, is refused, or the edit does not fit; 2 where words are not understood.
+ * @param {string[]} words @param {import("./program.mjs").Ask | null} ask null: the program that the words or OTBENCH name
+ */
+export function edit(words, ask = null) {
+  const named = words[0] === "--program";
+  const program = named ? words[1] : process.env.OTBENCH;
+  const [file, client, at, deleted, inserted, ...more] = named ? words.slice(2) : words;
+  if (inserted === undefined || more.length || ![client, at].every((word) => /^\d{1,9}$/.test(word)) || (ask === null && !program)) {
+    process.stderr.write(USAGE);
+    return 2;
+  }
+  try {
+    const text = readFileSync(file, "utf8");
+    const { line, told } = editOf(new Recording(ask ?? nativeProgram(program), text), Number(client), Number(at), deleted, inserted);
+    appendFileSync(file, `${text === "" || text.endsWith("\n") ? "" : "\n"}${line}\n`);
+    process.stdout.write(`${line}\n${told}\n`);
+    return 0;
+  } catch (fault) {
+    if (fault instanceof RefusedText) process.stderr.write(fault.message);
+    else if (fault instanceof Misfit || fault.code) process.stderr.write(`otbench edit: ${fault.code === "ENOENT" ? `${file}: there is no such file` : fault.message}\n`);
+    else throw fault;
+    return 1;
+  }
+}

@@ -1,0 +1,134 @@
+// The debugger's answers, over the native program that OTBENCH names, or the repository's. The values are worked by hand from examples/weak-order.ots.
+
+import assert from "node:assert/strict";
+import { existsSync, readFileSync } from "node:fs";
+import test from "node:test";
+import { commandOf, nearest } from "../commands.mjs";
+import { Debugger } from "../debugger.mjs";
+import { nativeProgram } from "../program.mjs";
+import { Recording, RefusedText } from "../recording.mjs";
+
+const PROGRAM = process.env.OTBENCH ?? new URL("../../crates/otbench/out/otbench", import.meta.url).pathname;
+const options = { skip: existsSync(PROGRAM) ? false : "the program is not built" };
+const ask = nativeProgram(PROGRAM);
+const WEAK = readFileSync(new URL("../../examples/weak-order.ots", import.meta.url), "utf8");
+
+/** The answers to these lines, of a new session. */
+function answers(lines, schedule = WEAK, port = null) {
+  const session = new Debugger(new Recording(ask, schedule, port));
+  return lines.map((line) => session.perform(line).join("\n"));
+}
+
+test("first letters name a command, and an unknown word is answered with the nearest ones", () => {
+  assert.deepEqual(["s", "st", "n", "b", "ba", "r", "rr", "u", "l", "sh", "e", "g", "w", "q"].map((word) => commandOf(word).name), ["step", "step", "next", "back", "back", "run", "rrun", "until", "list", "show", "explain", "goto", "watch", "quit"]);
+  assert.equal(commandOf("stpe").fault, "there is no stpe; nearest: step");
+  assert.equal(commandOf("wach").fault, "there is no wach; nearest: watch, back");
+  assert.equal(commandOf("continue").fault, "there is no continue; help lists all words");
+  assert.deepEqual(nearest("x"), []);
+});
+
+test("step and back say where they led, and stop at the ends", options, () => {
+  const [one, back, further, end] = answers(["step", "back", "b 5", "step 99"]);
+  assert.equal(one, 'behind line 5, instruction 0: edit 0\n  client 0 at revision 0 awaits the confirmation of [1,"z"]; its document is "xz"');
+  assert.equal(back, "before line 5, instruction 0: edit 0");
+  assert.equal(further, "before line 5, instruction 0: edit 0");
+  assert.equal(end, 'behind line 20, instruction 15: read-server\n  the server\'s document is "acz"\nthe end: quiet');
+});
+
+test("an empty line repeats the last command", options, () => {
+  const session = new Debugger(new Recording(ask, WEAK));
+  session.perform("step");
+  session.perform("");
+  assert.equal(session.prompt, "(2/16) ");
+});
+
+test("next goes to the same client's next instruction", options, () => {
+  const [, , next] = answers(["step 3", "step", "next"]);
+  assert.equal(next.split("\n")[0], "behind line 9, instruction 4: take 1");
+});
+
+test("a watch stops forth behind the change, and back before it, with both values", options, () => {
+  const [, there, , back] = answers(["watch doc 1", "run", "goto end", "rrun"]);
+  assert.equal(there.split("\n").at(-1), 'client 1 doc: "x" -> "cx"');
+  assert.equal(there.split("\n")[0], "behind line 8, instruction 3: edit 1");
+  assert.deepEqual(back.split("\n"), ["before line 16, instruction 11: deliver 1", 'client 1 doc: "cxz" -> "acz"']);
+});
+
+test("each thing that can be watched", options, () => {
+  const change = (...lines) => answers(lines).at(-1).split("\n").at(-1);
+  assert.equal(change("watch state 0", "run"), "client 0 state: synchronized -> awaiting-confirm");
+  assert.equal(change("watch outstanding 0", "goto 1", "run"), 'client 0 outstanding: [1,"z"] -> [2,"z"]');
+  assert.equal(change("watch buffer 0", "run"), 'client 0 buffer: none -> [1,"a",1]');
+  assert.equal(change("watch server", "run"), "the server's revision: 0 -> 1");
+});
+
+test("breaks at a place and at a line", options, () => {
+  const [place, line, first, second, listed, cleared] = answers(["break 7", "break line 9", "run", "run", "break", "clear 7"]);
+  assert.equal(place, "break at place 7");
+  assert.equal(line, "break at place 5");
+  assert.equal(first.split("\n").at(-1), "break at place 5");
+  assert.equal(second.split("\n").at(-1), "break at place 7");
+  assert.equal(listed, "break 5\nbreak 7");
+  assert.equal(cleared, "no break at place 7 any more");
+});
+
+test("until goes behind the next instruction with these words", options, () => {
+  const [found, none] = answers(["until ack 1", "until join"]);
+  assert.equal(found.split("\n")[0], "behind line 14, instruction 9: ack 1");
+  assert.equal(none, "no further instruction begins with join");
+});
+
+test("show has documents, states, pending operations and links", options, () => {
+  const [, shown, one, server] = answers(["goto 6", "show", "show 1", "show server"]);
+  assert.deepEqual(shown.split("\n"), [
+    'client 0 rev 0 awaiting-with-buffer "az"',
+    '  outstanding [1,"z"]',
+    '  buffer ["a",-1,1]',
+    '  from the server: ["c",1], ack',
+    'client 1 rev 0 awaiting-confirm "cx"',
+    '  outstanding ["c",1]',
+    '  from the server: ack, [2,"z"]',
+    'server rev 2 "cxz"',
+    "not quiet: client 0 is awaiting-with-buffer",
+  ]);
+  assert.equal(one.split("\n")[0], 'client 1 rev 0 awaiting-confirm "cx"');
+  assert.equal(server.split("\n")[0], 'server rev 2 "cxz"');
+});
+
+test("list marks the last instruction and the next one", options, () => {
+  const [, listed] = answers(["goto 7", "list"]);
+  assert.deepEqual(listed.split("\n").slice(3, 5), ["->  6  line 11: deliver 0", " >  7  line 12: ack 0"]);
+});
+
+test("the place where a port differs is a break, with conform's answer", options, () => {
+  const port = ask(["steps"], WEAK).output.replace('"buffer":["a",1,-1,1],"applied"', '"buffer":["a",-1,1],"applied"');
+  const [stopped] = answers(["run"], WEAK, port);
+  assert.equal(stopped.split("\n")[0], "behind line 11, instruction 6: deliver 0");
+  assert.equal(stopped.split("\n")[2], "differs at 7: deliver 0: client 0 buffer");
+});
+
+test("a refused instruction ends the run with its reason", options, () => {
+  const [ended] = answers(["run"], "clients 1\nedit 0 [\"a\"]\ntake 0\ntake 0\n");
+  assert.equal(ended.split("\n").at(-2), "the end: line 4, instruction 2: take 0 is refused");
+  assert.match(ended.split("\n").at(-1), /^ {2}refused: LinkEmpty: /);
+});
+
+test("a refused text is answered as explain answers it", options, () => {
+  assert.throws(() => new Recording(ask, "clients 1\nedti 0 []\n"), (fault) => fault instanceof RefusedText && fault.message.startsWith("otbench: line 2: UnknownWord\n  column 1: "));
+});
+
+test("words that do not fit are complained of, and the session goes on", options, () => {
+  const [place, client, watch, number, more] = answers(["goto 17", "watch doc 2", "watch link 0", "step x", "goto 1 2"]);
+  assert.match(place, /^17 is no place: they are 0 to 16; /);
+  assert.match(client, /^2 is no client: they are 0 to 1; /);
+  assert.match(watch, /^link cannot be watched; /);
+  assert.match(number, /^x is no number; /);
+  assert.match(more, /^goto takes a place; /);
+});
+
+test("completion knows commands, what is watched, and clients", options, () => {
+  const session = new Debugger(new Recording(ask, WEAK));
+  assert.deepEqual(session.complete("w"), [["watch"], "w"]);
+  assert.deepEqual(session.complete("watch o"), [["outstanding"], "o"]);
+  assert.deepEqual(session.complete("watch doc "), [["0", "1"], ""]);
+});

@@ -1,0 +1,56 @@
+// Edits that are written by the texts of a report.
+
+import assert from "node:assert/strict";
+import { spawnSync } from "node:child_process";
+import { existsSync, mkdtempSync, readFileSync, rmSync, writeFileSync } from "node:fs";
+import { tmpdir } from "node:os";
+import path from "node:path";
+import test from "node:test";
+import { fileURLToPath } from "node:url";
+import { Misfit, operationAt } from "../editing.mjs";
+
+const PROGRAM = process.env.OTBENCH ?? new URL("../../crates/otbench/out/otbench", import.meta.url).pathname;
+const options = { skip: existsSync(PROGRAM) ? false : "the program is not built" };
+const SCRIPT = fileURLToPath(new URL("../edit.mjs", import.meta.url));
+
+test("the operation spans the document, in Unicode scalars, the insertion before the deletion", () => {
+  assert.deepEqual(operationAt("abc", 1, "b", "xy"), [1, "xy", -1, 1]);
+  assert.deepEqual(operationAt("😀b", 1, "b", ""), [1, -1]);
+  assert.deepEqual(operationAt("", 0, "", "a"), ["a"]);
+  assert.deepEqual(operationAt("ab", 2, "", "c"), [2, "c"]);
+});
+
+test("a text that does not stand there is a misfit, which says where it stands", () => {
+  assert.throws(() => operationAt("abc", 0, "b", ""), (fault) => fault instanceof Misfit && fault.message === 'at place 0 of "abc" stands "a", not "b": it stands at place 1');
+  assert.throws(() => operationAt("abc", 4, "", "x"), Misfit);
+});
+
+/** Runs the script on a file of this text; answers what it printed and the file behind it. */
+function edited(text, ...words) {
+  const folder = mkdtempSync(path.join(tmpdir(), "edit-"));
+  const file = path.join(folder, "session.ots");
+  writeFileSync(file, text);
+  const ran = spawnSync(process.execPath, [SCRIPT, "--program", PROGRAM, file, ...words], { encoding: "utf8" });
+  const now = readFileSync(file, "utf8");
+  rmSync(folder, { recursive: true });
+  return { status: ran.status, output: ran.stdout, errors: ran.stderr, now };
+}
+
+test("the edit is appended, on a line of its own", options, () => {
+  const { status, output, now } = edited('clients 2\nstart "milk"', "1", "0", "mi", "si");
+  assert.equal(status, 0);
+  assert.equal(output, 'edit 1 ["si",-2,2]\nclient 1\'s document "milk" becomes "silk"\n');
+  assert.equal(now, 'clients 2\nstart "milk"\nedit 1 ["si",-2,2]\n');
+});
+
+test("where it does not fit the file stays as it is", options, () => {
+  const text = 'clients 1\nstart "milk"\n';
+  const { status, errors, now } = edited(text, "0", "0", "x", "");
+  assert.equal(status, 1);
+  assert.equal(errors, 'otbench edit: at place 0 of "milk" stands "m", not "x": it does not stand in the document\n');
+  assert.equal(now, text);
+  assert.equal(edited(text, "3", "0", "", "a").status, 1);
+  assert.equal(edited("clients 1\npresent 0\n", "0", "0", "", "a").status, 1);
+  assert.equal(edited("clients 1\nedti\n", "0", "0", "", "a").status, 1);
+  assert.equal(edited(text, "0", "zero", "", "a").status, 2);
+});

@@ -1,0 +1,253 @@
+"""Files as words, `view`, help, what is said on a terminal, and node in place of the toolchain."""
+import os
+import pty
+import shutil
+import subprocess
+import tempfile
+import unittest
+
+from tree import HELP, TOP, Tree
+
+UNPROVED = "otbench: this program is not proved; ./test or ./otbench --proved proves it\n"
+
+
+class Words(unittest.TestCase):
+    """Over a proved program that prints its words and then its input."""
+
+    @classmethod
+    def setUpClass(cls):
+        cls.tree = Tree()
+        cls.addClassCleanup(cls.tree.remove)
+        cls.tree.has_proved()
+        cls.tree.put("a.ots", "clients 1\n")
+        cls.tree.put("no end", "clients 2")
+        cls.tree.put("bytes", b"\xff\x00\\n\n")
+        cls.tree.put("port", '{"at":0}\n')
+        (cls.tree.room / "folder").mkdir()
+
+    def table(self, rows):
+        for words, given, wanted in rows:
+            with self.subTest(words=words):
+                self.assertEqual(self.tree.run(*words, given=given), wanted)
+
+    def test_files(self):
+        rows = [([word, "a.ots"], "", (0, f"proved one: {word}\nclients 1\n", "")) for word in "run check explain judge threads asm dis conform".split()]
+        rows += [
+            (["run"], "input", (0, "proved one: run\ninput", "")),
+            (["run", "-"], "input", (0, "proved one: run\ninput", "")),
+            (["run", "--image", "a.ots"], "", (0, "proved one: run --image\nclients 1\n", "")),
+            (["run", "a.ots", "--image"], "", (0, "proved one: run --image\nclients 1\n", "")),
+            (["run", "no end"], "", (0, "proved one: run\nclients 2", "")),
+            (["run", str(self.tree.room / "a.ots")], "", (0, "proved one: run\nclients 1\n", "")),
+            (["steps", "a.ots"], "", (0, '{"end":"quiet"}\n', "")),
+            (["conform", "a.ots", "port"], "", (0, 'proved one: conform\nclients 1\n%%\n{"at":0}\n', "")),
+            (["conform", "no end", "port"], "", (0, 'proved one: conform\nclients 2\n%%\n{"at":0}\n', "")),
+            (["conform", "a.ots", "-"], "lines", (0, "proved one: conform\nclients 1\n%%\nlines", "")),
+            (["conform", "-", "port"], "clients 3", (0, 'proved one: conform\nclients 3\n%%\n{"at":0}\n', "")),
+        ]
+        self.table(rows)
+
+    def test_bytes_are_handed_on_as_they_are(self):
+        ran = subprocess.run([self.tree.top / "otbench", "conform", "bytes", "bytes"], cwd=self.tree.room, env=self.tree.environment, capture_output=True, check=True)
+        self.assertEqual(ran.stdout, b"proved one: conform\n\xff\x00\\n\n%%\n\xff\x00\\n\n")
+
+    def test_files_that_are_not_there(self):
+        missing = (1, "", "otbench: nosuch.ots: there is no such file\n")
+        rows = [([word, "nosuch.ots"], "", missing) for word in "run check explain steps conform judge threads asm dis view".split()]
+        rows += [
+            (["conform", "a.ots", "nosuch.ots"], "", missing),
+            (["conform", "nosuch.ots", "port"], "", missing),
+            (["view", "a.ots", "nosuch.ots"], "", missing),
+            (["run", ""], "", (1, "", "otbench: : there is no such file\n")),
+            (["conform", "a.ots", ""], "", (1, "", "otbench: : there is no such file\n")),
+            (["run", "folder"], "", (1, "", "otbench: folder: is a folder\n")),
+        ]
+        self.table(rows)
+
+    def test_words_that_are_the_programs(self):
+        rows = [
+            (["generate", "--seed", "7"], "", (0, "", "")),
+            (["run", "a", "b"], "", (2, "", "error: unexpected argument\n")),
+            (["debug"], "input", (0, "proved one: debug\ninput", "")),
+            (["nosuch", "x"], "input", (0, "proved one: nosuch x\ninput", "")),
+            ([], "input", (0, "proved one: \ninput", "")),
+        ]
+        self.table(rows)
+
+    def test_a_page(self):
+        status, page, faults = self.tree.run("view", "a.ots")
+        self.assertEqual((status, faults, page), (0, "", self.tree.run("view", given="clients 1\n")[1]))
+        self.assertIn('{"end":"quiet"}\n</script>', page)
+        status, page, _ = self.tree.run("view", "no end", "port")
+        self.assertEqual((status, page), (0, self.tree.run("view", given='clients 2\n%%\n{"at":0}\n')[1]))
+        self.assertIn('{"end":"quiet"}\n%%\n{"at":0}\n\n%%\nproved one: conform\n', page)
+        self.assertEqual(self.tree.run("view", "port"), (1, "", "otbench: line 1: NoClients\n"))
+
+    def test_what_view_reads(self):
+        usage = self.tree.run("help", "view")[1]
+        self.assertRegex(usage, r"^usage: \./otbench view \[FILE \[PORT-LINES\]\] > PAGE\n")
+        rows = [(words, "", (2, "", usage)) for words in (["view", "--help"], ["view", "a.ots", "--image"], ["view", "a.ots", "port", "port"])]
+        self.table([(["help", "view"], "", (0, usage, "")), *rows])
+
+    def test_help(self):
+        status, printed, faults = self.tree.run("help")
+        self.assertEqual((status, faults), (0, ""))
+        own, added = printed.split("\n\n./otbench adds to the program:\n")
+        view = "  view      Write a page for a browser with the session of a schedule in it\n"
+        self.assertEqual(f"{own}\n", HELP.replace("  help", f"{view}  help"))
+        for word in ("--proved", "--which", "view", "conform"):
+            self.assertIn(word, added)
+        self.table([
+            (["help", "run"], "", (0, "Usage: otbench run\n", "")),
+            (["help", "nosuch"], "", (2, "", "error: unrecognized subcommand 'nosuch'\n")),
+        ])
+
+
+class Terminal(unittest.TestCase):
+    """What is said where the streams are a terminal, over a proved program and over one that is not."""
+
+    def setUp(self):
+        self.tree = Tree()
+        self.addCleanup(self.tree.remove)
+        self.file = self.tree.put("a.ots", "clients 1\n")
+
+    def run_on_terminal(self, *words, terminal=(0, 1, 2), keys="", **environment):
+        """Status, what the terminal shows, and what the streams that are no terminal (the others of 0, 1, 2) were given."""
+        master, slave = pty.openpty()
+        with open(master, "r+b", buffering=0) as screen, tempfile.TemporaryFile() as other:
+            streams = [slave if it in terminal else other for it in range(3)]
+            call = [self.tree.top / "otbench", *words]
+            ran = subprocess.Popen(call, cwd=self.tree.room, env={**self.tree.environment, **environment}, stdin=streams[0], stdout=streams[1], stderr=streams[2])
+            os.close(slave)
+            screen.write(keys.encode())
+            shown = b""
+            while True:
+                try:
+                    more = screen.read(4096)
+                except OSError:
+                    break
+                shown += more
+            status = ran.wait(30)
+            other.seek(0)
+            return status, shown.decode().replace("\r\n", "\n"), other.read().decode()
+
+    def test_the_unproved_program_says_so(self):
+        self.tree.run("run")
+        self.assertEqual(self.run_on_terminal("run", "a.ots"), (0, f"{UNPROVED}quick one: run\nclients 1\n", ""))
+        self.assertEqual(self.run_on_terminal("run", "a.ots", terminal=(0, 1)), (0, "quick one: run\nclients 1\n", ""))
+        self.tree.has_proved()
+        self.assertEqual(self.run_on_terminal("run", "a.ots"), (0, "proved one: run\nclients 1\n", ""))
+
+    def test_where_to_ask(self):
+        self.tree.has_proved()
+        program = self.tree.top / "otbench"
+        happened, there = "otbench: what happened, in words: ", "otbench: what ot.js does there, in words: "
+        rows = [
+            (["run", "a.ots"], f"{happened}{program} explain a.ots\n"),
+            (["check", "a.ots"], f"{happened}{program} explain a.ots\n"),
+            (["run", "--image", "a.ots"], f"{happened}{program} dis a.ots | {program} explain\n"),
+            (["conform", "a.ots"], f"{there}give the schedule to {program} explain\n"),
+            (["conform", "a.ots", "a.ots"], f"{there}{program} explain a.ots\n"),
+            (["explain", "a.ots"], ""),
+            (["judge", "a.ots"], ""),
+        ]
+        for words, said in rows:
+            with self.subTest(words=words):
+                status, shown, _ = self.run_on_terminal(*words, FAKE_STATUS="1")
+                self.assertEqual((status, "".join(line for line in shown.splitlines(True) if line.startswith("otbench:"))), (1, said))
+                for streams in ((0, 1), (0, 2), (0,)):
+                    status, shown, others = self.run_on_terminal(*words, terminal=streams, FAKE_STATUS="1")
+                    self.assertNotIn("otbench:", shown + others)
+        self.assertEqual(self.run_on_terminal("steps", "/dev/null")[1], f"otbench: line 1: NoClients\n{happened}{program} explain /dev/null\n")
+        for status in (0, 2):
+            self.assertNotIn("otbench:", self.run_on_terminal("run", "a.ots", FAKE_STATUS=str(status))[1])
+
+    def test_what_it_waits_for(self):
+        self.tree.has_proved()
+        schedule = "a schedule's text"
+        rows = {"run": schedule, "check": schedule, "explain": schedule, "steps": schedule, "asm": schedule, "view": schedule, "run --image": "a schedule's image", "dis": "a schedule's image",
+                "judge": "a trace (JSON)", "threads": "a plan (JSON)", "conform": f"{schedule}, a line '%%' and the lines of a port", "debug": f"{schedule}, a line '%%' and commands"}
+        for words, awaited in rows.items():
+            with self.subTest(words=words):
+                shown = self.run_on_terminal(*words.split(), keys="clients 1\n\x04")[1]
+                self.assertIn(f"otbench: reading {awaited} from the terminal; Ctrl-D ends it\n", shown)
+        for words in (["run", "a.ots"], ["conform", "a.ots", "a.ots"], ["run", "--help"], ["generate"]):
+            self.assertNotIn("otbench: reading", self.run_on_terminal(*words, keys="\x04")[1])
+        self.assertNotIn("otbench: reading", "".join(self.run_on_terminal("run", terminal=(0, 1), keys="\x04")[1:]))
+
+
+class WithoutToolchain(unittest.TestCase):
+    """No `rt` is on the path."""
+
+    def setUp(self):
+        if shutil.which("rt", path="/usr/bin:/bin"):
+            self.skipTest("a toolchain is in /usr/bin")
+        self.tree = Tree(has_rt=False)
+        self.addCleanup(self.tree.remove)
+
+    def release(self, sources):
+        (self.tree.top / "dist").mkdir()
+        (self.tree.top / "dist/otbench.mjs").write_text('process.stdin.on("data", (it) => process.stdout.write(it));\nconsole.log(process.argv.slice(2).join(" "));\n', encoding="utf-8")
+        (self.tree.top / "dist/VERSION.json").write_text(f'{{\n  "version": "0.1.0",\n  "commit": "abc",\n  "proved": true,\n  "sources": "{sources}"\n}}\n', encoding="utf-8")
+
+    def sources(self):
+        return subprocess.run([self.tree.top / "scripts/sources"], capture_output=True, text=True, check=True).stdout.strip()
+
+    def has_node(self, version):
+        node = self.tree.room / "tools/node"
+        node.write_text(f'#!/bin/sh\n[ "$1" != --version ] || echo {version}\n', encoding="utf-8")
+        node.chmod(0o755)
+
+    @unittest.skipUnless(shutil.which("node"), "no node is there")
+    def test_node_runs_the_release(self):
+        (self.tree.room / "tools/node").symlink_to(shutil.which("node"))
+        self.release(self.sources())
+        self.tree.put("a.ots", "clients 1\n")
+        self.assertEqual(self.tree.run("run", "a.ots", "--image", given="input"), (0, "run a.ots --image\ninput", ""))
+        self.assertEqual(self.tree.run("help"), (0, "help\n", ""))
+        self.assertEqual(self.tree.run("--which"), (0, f"{self.tree.top}/otbench\n", ""))
+
+    @unittest.skipUnless(shutil.which("node"), "no node is there")
+    def test_a_release_of_other_sources_says_so(self):
+        (self.tree.room / "tools/node").symlink_to(shutil.which("node"))
+        self.release(self.sources())
+        self.tree.proof.write_text("proof two", encoding="utf-8")
+        said = "otbench: dist/ is a release of other sources than these: version 0.1.0, commit abc\n"
+        self.assertEqual(self.tree.run("run", given="input"), (0, "run\ninput", said))
+
+    def test_nothing_to_run(self):
+        none = "otbench: nothing to run: no toolchain (rt) is on the path, and no release is in dist/\n"
+        self.assertEqual(self.tree.run("run"), (1, "", none))
+        self.release("")
+        old = "otbench: nothing to run: neither the toolchain (rt) nor node of version 20 or later is on the path\n"
+        for version in ("v18.20.1", "v8.0.0", ""):
+            self.has_node(version)
+            self.assertEqual(self.tree.run("run"), (1, "", old))
+
+    def test_building_says_that_there_is_no_toolchain(self):
+        for words in (["--proved"],):
+            self.assertEqual(self.tree.run(*words), (1, "", "rt is not on the path: the toolchain is not there\n"))
+        ran = subprocess.run([self.tree.top / "scripts/quick_build"], env=self.tree.environment, capture_output=True, text=True, check=False)
+        self.assertEqual((ran.returncode, ran.stderr), (1, "rt is not on the path: the toolchain is not there\n"))
+
+    def test_release_is_no_proved_program_where_one_is_needed(self):
+        self.release(self.sources())
+        status, printed, faults = self.tree.run("run", environment={"OTBENCH_NEEDS_PROVED": "1"})
+        self.assertEqual((status, printed), (1, ""))
+        self.assertIn("the proved program of these sources is not built", faults)
+
+
+class Scripts(unittest.TestCase):
+    def test_the_shell_finds_no_fault(self):
+        for name in ("otbench", "test", "scripts/sources", "scripts/stamp"):
+            subprocess.run(["sh", "-n", TOP / name], check=True)
+
+    def test_words_that_are_not_understood(self):
+        for words in (["scripts/sources", "other"], ["scripts/stamp"], ["scripts/stamp", "check", "x"], ["scripts/quick_build", "--to", "x"], ["scripts/quick_build", "a", "b"]):
+            ran = subprocess.run([TOP / words[0], *words[1:]], capture_output=True, text=True, check=False)
+            self.assertEqual((ran.returncode, ran.stdout), (2, ""), words)
+            self.assertRegex(ran.stderr, f"^usage: {words[0]} ")
+
+
+if __name__ == "__main__":
+    unittest.main()

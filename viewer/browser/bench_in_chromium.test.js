@@ -1,0 +1,35 @@
+/* The page with the engine in Chromium; and an input method, which its protocol alone can play. */
+"use strict";
+const assert = require("node:assert/strict");
+const { test } = require("node:test");
+const { User, testIn } = require("./bench_tests.js");
+const { openChromium } = require("./chromium.js");
+const { skip } = require("./otbench.js");
+
+testIn("Chromium", openChromium);
+
+test("what an input method composes is one edit, at its end", { skip }, async () => {
+  const page = await openChromium();
+  const user = new User(page);
+  const shown = () => user.run('document.querySelector(\'.document[data-who="0"]\').textContent');
+  await user.open();
+  await user.click("#new");
+  await user.shown("/^clients 2\\n$/");
+  await user.click('.document[data-who="0"]');
+  await page.keys("ab");
+  await user.settled(2);
+  await user.press("ArrowLeft");
+  for (const text of ["n", "に", "にほ"]) {
+    await page.send("Input.imeSetComposition", { text, selectionStart: text.length, selectionEnd: text.length });
+    assert.equal(await shown(), `a${text}b`);
+  }
+  assert.equal(await user.schedule(), 'clients 2\nedit 0 ["a"]\nedit 0 [1,"b"]\n');
+  await page.send("Input.insertText", { text: "日本" });
+  await user.settled(3);
+  await page.keys("c");
+  await user.settled(4);
+  assert.equal(await user.schedule(), 'clients 2\nedit 0 ["a"]\nedit 0 [1,"b"]\nedit 0 [1,"日本",1]\nedit 0 [3,"c",1]\n');
+  assert.equal(await shown(), "a日本cb");
+  assert.deepEqual(page.exceptions, []);
+  await page.close();
+});

@@ -1,0 +1,153 @@
+/* Firefox, headless, over WebDriver BiDi, without packages: node --experimental-websocket. The same page as that of chromium.js. */
+"use strict";
+const { spawn } = require("node:child_process");
+const fs = require("node:fs");
+const os = require("node:os");
+const path = require("node:path");
+
+const wait = (milliseconds) => new Promise((done) => setTimeout(done, milliseconds));
+
+/* What WebDriver calls the keys that write nothing. */
+const KEYS = {
+  Backspace: "\ue003",
+  Tab: "\ue004",
+  Enter: "\ue007",
+  Shift: "\ue008",
+  Control: "\ue009",
+  Escape: "\ue00c",
+  PageUp: "\ue00e",
+  PageDown: "\ue00f",
+  End: "\ue010",
+  Home: "\ue011",
+  ArrowLeft: "\ue012",
+  ArrowUp: "\ue013",
+  ArrowRight: "\ue014",
+  ArrowDown: "\ue015",
+  Delete: "\ue017",
+};
+
+/* The socket of a browser that has begun to listen. */
+async function connect(child) {
+  let said = "";
+  child.stderr.on("data", (data) => (said += data));
+  for (let turn = 0; ; turn++) {
+    const found = /WebDriver BiDi listening on (ws:\S+)/.exec(said);
+    if (found) {
+      const socket = new WebSocket(`${found[1]}/session`);
+      await new Promise((done, failed) => {
+        socket.addEventListener("open", done);
+        socket.addEventListener("error", () => failed(new Error("firefox did not answer")));
+      });
+      return socket;
+    }
+    if (turn > 1200 || child.exitCode !== null) throw new Error(`firefox did not start: ${said}`);
+    await wait(50);
+  }
+}
+
+class Page {
+  constructor(child, folder, socket) {
+    Object.assign(this, { child, folder, socket, calls: new Map(), count: 0, exceptions: [], context: null });
+    socket.addEventListener("message", ({ data }) => this.#receive(JSON.parse(data)));
+  }
+
+  #receive({ id, result, error, message, method, params }) {
+    if (method === "log.entryAdded" && params.type === "javascript" && params.level === "error") this.exceptions.push(params.text);
+    if (!this.calls.has(id)) return;
+    const { done, failed } = this.calls.get(id);
+    this.calls.delete(id);
+    if (error) failed(new Error(`${error}: ${message}`));
+    else done(result);
+  }
+
+  send(method, params = {}) {
+    const id = ++this.count;
+    this.socket.send(JSON.stringify({ id, method, params }));
+    return new Promise((done, failed) => this.calls.set(id, { done, failed }));
+  }
+
+  async open() {
+    await this.send("session.new", { capabilities: {} });
+    await this.send("session.subscribe", { events: ["log.entryAdded"] });
+    const { context } = await this.send("browsingContext.create", { type: "window" }); // headless, the first window has no focus
+    this.context = context;
+  }
+
+  /* Opens a page anew, and waits until it has drawn. */
+  async goto(url) {
+    for (const next of ["about:blank", url]) await this.send("browsingContext.navigate", { context: this.context, url: next, wait: "complete" });
+    await this.drawn();
+  }
+
+  /* The value of an expression in the page, which is one of JSON. */
+  async run(expression) {
+    const wrapped = `(async () => JSON.stringify((await (${expression})) ?? null))()`;
+    const answer = await this.send("script.evaluate", { expression: wrapped, target: { context: this.context }, awaitPromise: true });
+    if (answer.type === "exception") throw new Error(answer.exceptionDetails.text);
+    return JSON.parse(answer.result.value);
+  }
+
+  async #press(actions) {
+    await this.send("input.performActions", { context: this.context, actions });
+  }
+
+  /* Presses a key, with others held down, as in "Control+z"; the page has drawn when this is done. */
+  async key(name) {
+    const parts = name.length > 1 && name.includes("+") ? name.split("+") : [name];
+    const values = parts.map((part) => KEYS[part] ?? part);
+    const downs = values.map((value) => ({ type: "keyDown", value }));
+    const ups = values.toReversed().map((value) => ({ type: "keyUp", value }));
+    await this.#press([{ type: "key", id: "keys", actions: [...downs, ...ups] }]);
+    await this.drawn();
+  }
+
+  async type(text) {
+    const actions = [...text].flatMap((value) => ["keyDown", "keyUp"].map((type) => ({ type, value: value === "\n" ? KEYS.Enter : value })));
+    await this.#press([{ type: "key", id: "keys", actions }]);
+    await this.drawn();
+  }
+
+  /* Presses the keys of a text, one upon the other. */
+  keys(text) {
+    return this.type(text);
+  }
+
+  async click(x, y) {
+    const move = { type: "pointerMove", x: Math.round(x), y: Math.round(y) };
+    await this.#press([{ type: "pointer", id: "mouse", actions: [move, { type: "pointerDown", button: 0 }, { type: "pointerUp", button: 0 }] }]);
+    await this.drawn();
+  }
+
+  drawn() {
+    return this.run("new Promise((done) => requestAnimationFrame(() => requestAnimationFrame(() => done(1))))");
+  }
+
+  async size(width, height) {
+    await this.send("browsingContext.setViewport", { context: this.context, viewport: { width, height } });
+  }
+
+  async screenshot(file) {
+    const { data } = await this.send("browsingContext.captureScreenshot", { context: this.context });
+    fs.writeFileSync(file, Buffer.from(data, "base64"));
+  }
+
+  async close() {
+    const gone = new Promise((done) => this.child.once("exit", done));
+    this.send("browser.close"); // the answer may come too late to be read
+    await gone;
+    fs.rmSync(this.folder, { recursive: true, force: true, maxRetries: 30, retryDelay: 100 });
+  }
+}
+
+async function openFirefox({ width = 1440, height = 900 } = {}) {
+  const folder = fs.mkdtempSync(path.join(os.tmpdir(), "otbench-firefox-"));
+  const words = ["--headless", "--no-remote", "--profile", folder, "--remote-debugging-port=0"];
+  const child = spawn("firefox-esr", words, { stdio: ["ignore", "ignore", "pipe"] });
+  child.on("error", (fault) => console.error(`firefox: ${fault.message}`));
+  const page = new Page(child, folder, await connect(child));
+  await page.open();
+  await page.size(width, height);
+  return page;
+}
+
+module.exports = { openFirefox };

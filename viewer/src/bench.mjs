@@ -1,0 +1,220 @@
+// The page's one state, and what follows from a change of it: the engine is asked for the steps of the text, once for a burst of
+// changes, and for the verdicts when nothing has changed for a while.
+
+import { followLines } from "./follow.mjs";
+import { headsAt } from "./places.mjs";
+import { Port } from "./port.mjs";
+import { documentNow, emptyState, isAnswered, reduce, shownPlace } from "./state.mjs";
+
+/** After how many milliseconds without a change the verdicts are asked for, and how often the time of a run is added to that. */
+const STILL = 250;
+const RUNS = 4;
+
+/** After how many milliseconds an answer that is of an old text is not waited for any longer. */
+const PATIENCE = 1500;
+
+const linesIn = (bytes) => {
+  const lines = new TextDecoder().decode(bytes).split("\n");
+  lines.pop();
+  return lines;
+};
+
+/** The fault that explain tells: { line, column, kind, cause }, line 0 where it is of none, column 0 where none is told. */
+export function readFault(errors) {
+  const [first, second = ""] = errors.trim().split("\n");
+  const [, line = "0", kind = first] = /^otbench: (?:line (\d+): )?(\w+)$/.exec(first) || [];
+  const [, column = "0", cause = ""] = /^ {2}column (\d+): (.*)$/.exec(second) || [];
+  return { line: Number(line), column: Number(column), kind, cause };
+}
+
+/** The refusal that explain's last paragraph tells: { line, reason }; null where it tells none. */
+export function readRefusal(told) {
+  const line = /^line (\d+), /.exec(told);
+  const reason = /^ {2}refused: (.*)$/m.exec(told);
+  return line && reason ? { line: Number(line[1]), reason: reason[1] } : null;
+}
+
+/**
+ * @typedef {object} Asked an engine: see `Engine`
+ * @property {() => Promise<void>} load
+ * @property {(text: string) => Promise<object>} steps
+ * @property {(words: string[], input: Uint8Array) => Promise<{ status: number, output: Uint8Array, errors: string }>} ask
+ * @property {() => Asked} beside
+ * @property {() => void} giveUp
+ */
+
+export class Bench {
+  /** @type {import("./state.mjs").State} */
+  state = emptyState();
+  /** @type {Asked | null} */
+  engine = null;
+  #session = null; // what the lines that the engine told last have led to
+  #asked = null; // the text that was asked for last
+  #isAsking = false;
+  #askedAt = null; // since when the engine works on it
+  #waiting = []; // what was typed into a document that is not known yet
+  #settlers = [];
+  #quiets = 0;
+  #judge = null;
+  #judging = null; // what the verdicts are asked for: { text, port }
+  #timer = null;
+
+  /**
+   * @param {(action: import("./state.mjs").Action) => void} onChange called after each change
+   * @param {() => Promise<void>} pause lets the page do other things
+   */
+  constructor(onChange, pause) {
+    this.onChange = onChange;
+    this.pause = pause;
+  }
+
+  /** @param {Asked} engine one that is loaded */
+  use(engine) {
+    this.engine = engine;
+    this.#judge = engine.beside();
+    this.#follow();
+  }
+
+  /** @param {import("./state.mjs").Action} action */
+  dispatch(action) {
+    if (action.do === "type" && !documentNow(this.state, action.client)) {
+      this.#waiting.push(action);
+      if (!this.isBusy) this.#typeWaiting();
+      return;
+    }
+    this.state = reduce(this.state, action);
+    this.onChange(action);
+    this.#giveUpOld();
+    this.#follow();
+    this.#judgeSoon();
+  }
+
+  get isBusy() {
+    return this.#isAsking || this.#isToAsk();
+  }
+
+  #isToAsk() {
+    const { text, session } = this.state;
+    return this.engine !== null && this.#asked !== text && (text !== "" || session !== null);
+  }
+
+  /** When the engine has answered all changes. */
+  async settled() {
+    if (this.isBusy) await new Promise((done) => this.#settlers.push(done));
+  }
+
+  /** What the program answers to words and an input, off the state. */
+  ask(words, input) {
+    return this.engine.ask(words, typeof input === "string" ? new TextEncoder().encode(input) : input);
+  }
+
+  /** Lets everything through that is under way at the place, until all is quiet there. It is undone as one. */
+  async quiet() {
+    const tag = `quiet ${this.#quiets++}`;
+    for (let round = 0; round < 16; round++) {
+      await this.settled();
+      const { session, fault } = this.state;
+      if (!session || fault) return;
+      const place = shownPlace(this.state);
+      const heads = session.members.map(({ number }) => headsAt(session, number, place));
+      const takes = heads.flatMap(({ up }) => up ?? []);
+      const instructions = takes.length ? takes : heads.flatMap(({ down }) => down);
+      if (instructions.length === 0) return;
+      this.dispatch({ do: "play", instructions, tag });
+    }
+  }
+
+  /* One question for a burst of changes: what is typed while the engine answers is asked for when it has. */
+  async #follow() {
+    if (this.#isAsking || !this.#isToAsk()) return;
+    this.#isAsking = true;
+    try {
+      while (this.#isToAsk()) {
+        this.#asked = this.state.text;
+        await this.#answer(this.#asked);
+        this.#typeWaiting();
+      }
+    } catch (fault) {
+      this.#asked = this.state.text;
+      this.dispatch({ do: "fault", fault: { line: 0, column: 0, kind: "the engine failed", cause: fault.message }, took: 0 });
+    } finally {
+      this.#isAsking = false;
+    }
+    for (const done of this.#settlers.splice(0)) done();
+    this.#judgeSoon();
+  }
+
+  #typeWaiting() {
+    for (const action of this.#waiting.splice(0)) {
+      if (documentNow(this.state, action.client) || this.#isToAsk()) this.dispatch(action);
+      else this.dispatch({ do: "notice", notice: this.state.fault ? "The text has a fault: mend it before you type into a document." : "There is no such document here." });
+    }
+  }
+
+  /* A text that the engine works on for long is given up when it has become another one. */
+  #giveUpOld() {
+    const isOld = this.#askedAt !== null && this.#asked !== this.state.text;
+    if (isOld && performance.now() - this.#askedAt > PATIENCE) this.engine.giveUp();
+  }
+
+  async #steps(text) {
+    await this.engine.load();
+    this.#askedAt = performance.now();
+    try {
+      return await this.engine.steps(text);
+    } catch (fault) {
+      if (text === this.state.text) throw fault;
+      return null;
+    } finally {
+      this.#askedAt = null;
+    }
+  }
+
+  async #answer(text) {
+    const told = await this.#steps(text);
+    if (told === null) return;
+    const { keep, rest, errors, refusal, took } = told;
+    if (rest === null) {
+      this.dispatch({ do: "fault", fault: readFault(errors), took });
+      return;
+    }
+    this.#session = await followLines(this.#session, { keep, rest }, this.pause);
+    this.dispatch({ do: "answer", text, session: this.#session, refusal: readRefusal(refusal), took });
+  }
+
+  #isToJudge() {
+    const { text, port, beside, verdicts } = this.state;
+    if (!this.engine || this.isBusy || !isAnswered(this.state)) return false;
+    if (this.#judging?.text === text && this.#judging.port === port) return false;
+    return verdicts.length === 0 || (port !== null && beside === null);
+  }
+
+  #judgeSoon() {
+    clearTimeout(this.#timer);
+    if (this.#isToJudge()) this.#timer = setTimeout(() => this.#judgeNow(), STILL + RUNS * this.state.took);
+  }
+
+  /* The verdicts have a worker of their own, which is ended where they are of an old text. */
+  async #judgeNow() {
+    if (!this.#isToJudge()) return;
+    if (this.#judging) this.#judge.giveUp();
+    const { text, port, session } = this.state;
+    const asked = { text, port };
+    this.#judging = asked;
+    const answer = async (words, input) => linesIn((await this.#judge.ask(words, new TextEncoder().encode(input))).output);
+    const isOld = () => this.#judging !== asked || this.state.text !== text || this.state.port !== port || !isAnswered(this.state);
+    const tell = (verdicts) => isOld() || this.dispatch({ do: "verdicts", text, verdicts });
+    try {
+      await this.#judge.load();
+      const told = port && (await answer(["conform"], `${text}\n%%\n${port.join("\n")}\n`));
+      if (told && !isOld()) this.dispatch({ do: "beside", text, beside: new Port(session, port, told) });
+      const verdicts = await answer(["check"], text);
+      tell(verdicts.length ? verdicts : ["not judged"]);
+    } catch (fault) {
+      tell([`not judged: ${fault.message}`]);
+    }
+    if (this.#judging !== asked) return;
+    this.#judging = null;
+    this.#judgeSoon();
+  }
+}

@@ -1,0 +1,31 @@
+// A session that follows the lines of steps as they change: what is equal at the front stays, the rest is folded anew, a slice at a
+// time, so that a page that shows it stays in use.
+
+import { openSession } from "./fold.mjs";
+
+/** How long a slice lasts, in milliseconds, and after how many lines the clock is asked. */
+const SLICE = 12;
+const LINES = 50;
+
+/**
+ * @param {import("./fold.mjs").Session | null} session what the last lines gave
+ * @param {{ keep: number, rest: string }} change how many lines at the front stay, and those behind them
+ * @param {() => Promise<void>} pause between two slices
+ * @returns {Promise<import("./fold.mjs").Session>} the session; the old one where lines stayed
+ */
+export async function followLines(session, { keep, rest }, pause) {
+  const lines = rest.split("\n");
+  lines.pop();
+  if (lines.length === 0) return session;
+  let next = 0;
+  if (keep === 0 || !session) session = openSession(JSON.parse(lines[next++]));
+  else session.cutTo(Math.min(keep - 1, session.length));
+  let began = performance.now();
+  for (; next < lines.length; next++) {
+    session.add(JSON.parse(lines[next]));
+    if (next % LINES || performance.now() - began < SLICE) continue;
+    await pause();
+    began = performance.now();
+  }
+  return session;
+}

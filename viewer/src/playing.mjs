@@ -1,0 +1,52 @@
+// Playing by keys, and typing into documents.
+
+import { element } from "./dom.mjs";
+import { SERVER } from "./fold.mjs";
+import { headsAt, stateAt } from "./places.mjs";
+import { deck } from "./screen.mjs";
+import { documentNow, shownPlace } from "./state.mjs";
+import { watchTyping } from "./typing.mjs";
+
+/** What a key plays for the chosen client: { instruction }, or { reason } where there is nothing to play. */
+export function played(state, name) {
+  const { session, chosen } = state;
+  if (chosen === null || !session.members[chosen]) return { reason: "Choose a client first: by its number’s key, or by a click on its card." };
+  const place = shownPlace(state);
+  const { up, down } = headsAt(session, chosen, place);
+  const isThere = stateAt(session, chosen, place).state !== "not-joined";
+  const [instruction, reason] = {
+    take: [up, `No message of client ${chosen} is under way to the server.`],
+    next: [down[0], `Nothing is under way to client ${chosen}.`],
+    join: [isThere ? null : `join ${chosen}`, `Client ${chosen} has joined.`],
+    read: [isThere ? `read ${chosen}` : null, `Client ${chosen} has not joined.`],
+  }[name];
+  return instruction ? { instruction } : { reason };
+}
+
+/** Listens to the cards: their documents are editors, and the client whose card is in use is the one that keys play. */
+export function watchCards(bench) {
+  const act = (name, more) => bench.dispatch({ do: name, ...more });
+  watchTyping(element("cards"), {
+    type: (change) => act("type", change),
+    textAt: (client, from, to) => (documentNow(bench.state, client) ?? []).slice(from, to).map(({ character }) => character).join(""),
+    undo: () => act("undo"),
+    redo: () => act("redo"),
+    compose: (client) => {
+      if (client === null) deck.forget(deck.composing);
+      deck.composing = client;
+    },
+  });
+  for (const name of ["focusin", "click"])
+    element("cards").addEventListener(name, (event) => {
+      const word = event.target.closest("[data-card]")?.dataset.card ?? SERVER;
+      const client = word === SERVER ? null : Number(word);
+      if (client !== null && client !== bench.state.chosen) act("choose", { client });
+    });
+}
+
+/** Chooses a client, and puts the focus on its card. */
+export function choose(bench, client) {
+  if (!bench.state.session.members[client]) return;
+  bench.dispatch({ do: "choose", client });
+  element("cards").querySelector(`[data-card="${client}"]`)?.focus();
+}

@@ -1,0 +1,164 @@
+// What the page knows, and how each action changes it. The text of the schedule is the session: who plays puts instructions into
+// it. What the engine answers stands beside it until the text is another one.
+
+import { insertedText, makeElements, patched } from "./document.mjs";
+import { editOf, wellFormed } from "./edits.mjs";
+import { documentAt } from "./places.mjs";
+import { outlineOf, placeOfLine, withInstructions, withName, withoutInstruction } from "./schedule.mjs";
+
+/**
+ * @typedef {object} State
+ * @property {string} text the schedule's text
+ * @property {import("./schedule.mjs").Outline} outline its lines
+ * @property {string[] | null} port the lines that a port printed
+ * @property {string} title
+ * @property {number} place the place that is looked at
+ * @property {object[]} past what undo leads back to: { text, port, place, title, tag }
+ * @property {object[]} future what redo leads on to
+ * @property {string | null} answered the text that the session is of
+ * @property {import("./fold.mjs").Session | null} session
+ * @property {import("./port.mjs").Port | null} beside the port's lines beside the session
+ * @property {{ line: number, column: number, kind: string, cause: string } | null} fault of the text; line and column from 1
+ * @property {{ line: number, reason: string } | null} refusal of an instruction; line from 1
+ * @property {string[]} verdicts what check answered
+ * @property {{ client: number, place: number, elements: object[] } | null} draft a client's document while its edits are not answered
+ * @property {number} took how long the engine took for the last text, in milliseconds
+ * @property {number | string | null} followed the participant that is stepped through
+ * @property {object | null} picked the element that is marked
+ * @property {number | null} chosen the client that keys play
+ * @property {{ client: number, index: number } | null} caret where a user typed last
+ * @property {Set<number>} hidden the clients whose lanes are not shown
+ * @property {string} notice what the page has to say
+ */
+
+/** @typedef {{ do: string, [key: string]: any }} Action the name of what is done, as below, and what it is done with */
+
+/** @returns {State} */
+export const emptyState = () => ({
+  text: "",
+  outline: outlineOf(""),
+  port: null,
+  title: "",
+  place: 0,
+  past: [],
+  future: [],
+  answered: null,
+  session: null,
+  beside: null,
+  fault: null,
+  refusal: null,
+  verdicts: [],
+  draft: null,
+  took: 0,
+  followed: null,
+  picked: null,
+  chosen: null,
+  caret: null,
+  hidden: new Set(),
+  notice: "",
+});
+
+/** How many steps back are kept. */
+const DEPTH = 1000;
+
+const snapshot = ({ text, port, place, title }, tag) => ({ text, port, place, title, tag });
+
+/* The state with another text; an action with the tag of the one before is undone together with it. */
+function changed(state, { text, port = state.port, place = state.place, title = state.title, tag = null }) {
+  if (text === state.text && port === state.port) return { ...state, place, title };
+  const last = state.past[state.past.length - 1];
+  const joins = tag !== null && last !== undefined && last.tag === tag;
+  const past = joins ? state.past : [...state.past.slice(-DEPTH), snapshot(state, tag)];
+  return { ...state, text, outline: outlineOf(text), port, place, title, past, future: [], draft: null, beside: null, notice: "" };
+}
+
+/* Undo and redo: the last of one list takes the state's place, which goes to the other list. */
+function restored(state, from, to) {
+  const list = state[from];
+  if (list.length === 0) return state;
+  const { text, port, place, title, tag } = list[list.length - 1];
+  const lists = { [from]: list.slice(0, -1), [to]: [...state[to], snapshot(state, tag)] };
+  return { ...state, ...lists, text, port, place, title, outline: outlineOf(text), draft: null, beside: null, notice: "" };
+}
+
+/** Whether the session is that of the text. */
+export const isAnswered = (state) => state.answered === state.text;
+
+/** The place that can be shown of the session there is. */
+export const shownPlace = ({ session, place }) => (session ? Math.max(0, Math.min(place, session.length)) : 0);
+
+/** The elements of a client's document as the page shows it now; null while that is not known. */
+export function documentNow(state, client) {
+  if (state.draft) return state.draft.client === client && state.draft.place === state.place ? state.draft.elements : null;
+  if (!isAnswered(state) || !state.session?.members[client]) return null;
+  return documentAt(state.session, client, shownPlace(state));
+}
+
+function typed(state, { client, from, to, text }) {
+  const elements = documentNow(state, client);
+  const edit = elements && editOf(elements.map(({ character }) => character), from, to, text);
+  if (!edit) return state;
+  const place = state.draft ? state.place : shownPlace(state);
+  const next = played({ ...state, place }, { instructions: [`edit ${client} ${JSON.stringify(edit)}`] });
+  const after = patched(elements, edit, makeElements(insertedText(edit), client, place + 1));
+  return { ...next, draft: { client, place: next.place, elements: after }, caret: { client, index: from + [...wellFormed(text)].length }, chosen: client };
+}
+
+function played(state, { instructions, tag }) {
+  if (instructions.length === 0) return state;
+  const place = Math.min(state.place, state.outline.lines.length);
+  const text = withInstructions(state.text, place, instructions);
+  return changed(state, { text, place: place + instructions.length, tag });
+}
+
+const REDUCERS = {
+  /* Another session in the place of this one: { text, title, port, place }. */
+  open: (state, { text, title = "", port = null, place = 0 }) => {
+    const next = changed(state, { text, title, port, place });
+    const past = state.text === "" ? [] : next.past;
+    return { ...next, past, followed: null, picked: null, chosen: null, caret: null, hidden: new Set(), notice: "" };
+  },
+  /* The text as it was typed: { text, line, tag }, line being where the caret stands. */
+  write: (state, { text, line, tag }) => {
+    const next = changed(state, { text, tag });
+    return { ...next, place: placeOfLine(next.outline, line) };
+  },
+  /* Instructions behind the place: { instructions, tag }. */
+  play: played,
+  /* A change in a client's document at the place: { client, from, to, text }. */
+  type: typed,
+  /* The instruction that led to the place goes. */
+  takeOut: (state) => {
+    const place = Math.min(state.place, state.outline.lines.length);
+    return place === 0 ? state : changed(state, { text: withoutInstruction(state.text, place), place: place - 1 });
+  },
+  /* The instruction that is refused goes. */
+  leaveOut: (state) => {
+    const { session } = state;
+    if (!isAnswered(state) || !session?.stop) return state;
+    return changed(state, { text: withoutInstruction(state.text, session.length + 1), place: state.place });
+  },
+  name: (state, { client, name }) => changed(state, { text: withName(state.text, client, name) }),
+  /* A port's lines beside the session; null takes them away. */
+  compare: (state, { port }) => changed(state, { text: state.text, port }),
+  undo: (state) => restored(state, "past", "future"),
+  redo: (state) => restored(state, "future", "past"),
+  go: (state, { place }) => ({ ...state, place: Math.max(0, Math.min(place, state.session ? state.session.length : 0)) }),
+  follow: (state, { who }) => ({ ...state, followed: who }),
+  choose: (state, { client }) => ({ ...state, chosen: client }),
+  pick: (state, { element }) => ({ ...state, picked: element === state.picked ? null : element }),
+  hide: (state, { hidden }) => ({ ...state, hidden: new Set(hidden) }),
+  notice: (state, { notice }) => ({ ...state, notice }),
+  /* What the engine said of a text: a session, or a fault. */
+  answer: (state, { text, session, refusal, took }) => {
+    const isNow = text === state.text;
+    const place = isNow ? Math.max(0, Math.min(state.place, session.length)) : state.place;
+    return { ...state, answered: text, session, refusal, took, place, fault: null, beside: null, verdicts: [], draft: isNow ? null : state.draft };
+  },
+  fault: (state, { fault, took }) => ({ ...state, fault, took, refusal: null, draft: null }),
+  verdicts: (state, { text, verdicts }) => (text === state.answered && isAnswered(state) ? { ...state, verdicts } : state),
+  beside: (state, { text, beside }) => (text === state.answered && isAnswered(state) ? { ...state, beside } : state),
+};
+
+/** The state after an action. @param {State} state @param {Action} action @returns {State} */
+export const reduce = (state, action) => REDUCERS[action.do](state, action);

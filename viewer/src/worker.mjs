@@ -1,0 +1,30 @@
+// The worker: the engine's module is unpacked once, and each message is a job for the desk.
+
+import { serve } from "../../engine/host.mjs";
+import { Desk } from "./desk.mjs";
+
+/* The module: a compiled one, or the base64 of its gzip. */
+async function unpack(module) {
+  if (typeof module !== "string") return module;
+  const packed = Uint8Array.from(atob(module), (character) => character.charCodeAt(0));
+  const stream = new Blob([packed]).stream().pipeThrough(new DecompressionStream("gzip"));
+  return WebAssembly.compile(await new Response(stream).arrayBuffer());
+}
+
+let desk = null;
+
+onmessage = async ({ data: { id, call, given } }) => {
+  try {
+    if (call === "load") {
+      const module = await unpack(given[0]);
+      desk = new Desk((words, input) => serve(module, words, input));
+      postMessage({ id, answer: module });
+    } else {
+      const began = performance.now();
+      const answer = desk[call](...given);
+      postMessage({ id, answer: { ...answer, took: performance.now() - began } });
+    }
+  } catch (fault) {
+    postMessage({ id, fault: String(fault) });
+  }
+};
