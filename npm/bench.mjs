@@ -39,6 +39,8 @@ const calls = {
 
   disassemble: (image, { signal } = {}) => reading(["dis"], schedule(image), String, signal),
 
+  complete: (text, { signal } = {}) => reading(["complete"], schedule(text), String, signal),
+
   generate: ({ signal, ...options } = {}) => reading(["generate", ...wordsOf(options)], NOTHING, String, signal),
 };
 

@@ -20,10 +20,15 @@ export class OtbenchError extends Error {
 
 const FAULT = /^otbench: (?:line (?<line>\d+): |byte (?<byte>\d+): )?(?<kind>\w+)/;
 
+/* What stands in the way of a completion: an instruction that is refused. */
+const STOP = /^stopped at \d+: (?<kind>\w+)$/;
+
 /* The error of what the program printed on standard error. */
 function errorOf({ status, errors }) {
   const said = textOf(errors).trimEnd();
   if (status === 2) return new OtbenchError("Usage", said.replace(/^error: /, ""));
+  const stop = STOP.exec(said);
+  if (stop) return new OtbenchError(stop.groups.kind, said);
   const { line, byte, kind } = FAULT.exec(said).groups;
   return new OtbenchError(kind, said.slice("otbench: ".length), { line: line && Number(line), byte: byte && Number(byte) });
 }

@@ -18,6 +18,7 @@ export const FILES = {
   dis: ["IMAGE"],
   judge: ["TRACE"],
   steps: ["SCHEDULE"],
+  complete: ["SCHEDULE"],
   explain: ["SCHEDULE"],
   conform: ["SCHEDULE", "LINES"],
   threads: ["PLAN"],

@@ -244,6 +244,11 @@ export interface Bench {
   assemble(schedule: Text): Uint8Array;
   /** The canonical text of an image. */
   disassemble(image: Uint8Array): string;
+  /**
+   * A schedule's canonical text, and behind it the takes and receipts that bring it to quiet. Throws where an instruction is refused, its kind the
+   * refusal's name, and where there would be more than 100,000 instructions, `TooMany`.
+   */
+  complete(schedule: Text): string;
   /** A session made at random, of which no instruction is refused. */
   generate(options?: GenerateOptions): string;
 }
@@ -260,4 +265,5 @@ export const check: Bench["check"];
 export const judge: Bench["judge"];
 export const assemble: Bench["assemble"];
 export const disassemble: Bench["disassemble"];
+export const complete: Bench["complete"];
 export const generate: Bench["generate"];

@@ -18,6 +18,7 @@ export interface WorkerBench {
   judge(trace: object | Text, options?: Cancelled): Promise<ReturnType<Bench["judge"]>>;
   assemble(schedule: Text, options?: Cancelled): Promise<Uint8Array>;
   disassemble(image: Uint8Array, options?: Cancelled): Promise<string>;
+  complete(schedule: Text, options?: Cancelled): Promise<string>;
   generate(options?: GenerateOptions & Cancelled): Promise<string>;
   /** Ends the worker. Calls that wait or run are rejected; a later call starts another worker. */
   close(): void;
@@ -35,5 +36,6 @@ export const check: WorkerBench["check"];
 export const judge: WorkerBench["judge"];
 export const assemble: WorkerBench["assemble"];
 export const disassemble: WorkerBench["disassemble"];
+export const complete: WorkerBench["complete"];
 export const generate: WorkerBench["generate"];
 export const close: WorkerBench["close"];

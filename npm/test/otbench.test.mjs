@@ -6,7 +6,7 @@ import { test } from "node:test";
 import * as otbench from "../otbench.mjs";
 import { TOP, example } from "./files.mjs";
 
-const { assemble, benchOf, check, conform, disassemble, explain, generate, judge, run, serve, steps } = otbench;
+const { assemble, benchOf, check, complete, conform, disassemble, explain, generate, judge, run, serve, steps } = otbench;
 
 const TWO_CLIENTS = {
   reads: [],
@@ -157,6 +157,12 @@ test("judge: each verdict, from a value and from a text", () => {
   assert.deepEqual(verdict("missing.json"), { kind: "missing", events: [1], tags: [[0, 0]] });
   assert.deepEqual(verdict("extra.json"), { kind: "extra", events: [1], tags: [[0, 0]] });
   assert.deepEqual(verdict("wrong-place.json"), { kind: "wrong-place", events: [0], tags: [[0, 0]] });
+});
+
+test("complete: what brings a session to quiet behind it, or the refusal that stands in the way", () => {
+  const text = 'clients 2\nedit 0 ["a"]\n';
+  assert.equal(complete(text), `${text}take 0\nack 0\ndeliver 1\n`);
+  assert.throws(() => complete("clients 1\ntake 0\n"), (error) => error.kind === "LinkEmpty" && error.message === "stopped at 0: LinkEmpty");
 });
 
 test("assemble, disassemble: the image of the documents, and the canonical text", () => {

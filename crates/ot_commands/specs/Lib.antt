@@ -4,3 +4,4 @@ pub mod Generated
 pub mod Judged
 pub mod Checked
 pub mod Debugged
+pub mod Completes

@@ -7,13 +7,15 @@
 //!    converting   asm, dis: between a schedule's text and its image
 //!    judging      judge: whether a recorded trace has the weak list property
 //!    generating   generate: a session made at random
+//!    completing   complete: a schedule, and behind it what brings its run to quiet
 //! ```
 //!
 //! Each call answers the program's status, and says by its clause what it writes: `specs/` has a file for each module (`Ran`, `Checked`,
-//! `Debugged`, `Converted`, `Judged`, `Generated`), over the streams of `outcomes`. Begin with [`run_text`].
+//! `Debugged`, `Converted`, `Judged`, `Generated`, `Completes`), over the streams of `outcomes`. Begin with [`run_text`].
 #![tactic(auto)]
 
 mod checking;
+mod completing;
 mod converting;
 mod debugging;
 mod generating;
@@ -21,6 +23,7 @@ mod judging;
 mod running;
 
 pub use checking::check_text;
+pub use completing::complete_text;
 pub use converting::{assemble, disassemble_image};
 pub use debugging::debug_text;
 pub use generating::generate_session;

@@ -3,3 +3,4 @@ pub mod Moving
 pub mod Resting
 pub mod Walking
 pub mod Reading
+pub mod Draining

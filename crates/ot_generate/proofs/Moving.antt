@@ -1,7 +1,7 @@
 -- Which instructions are performed.
-use Rattle.std.proofs.Common.{◌≡◌, ◌≢◌, ℕ, zero, suc, ◌+◌, ◌-◌, ◌<◌, ◌≤◌, List, [], ◌∷◌, length, drop, refl, sym, ap, ◌∙◌, subst, arith, Bool, true, false, Option, Some, None}
+use Rattle.std.proofs.Common.{◌≡◌, ℕ, zero, suc, ◌+◌, ◌-◌, ◌<◌, ◌≤◌, List, [], ◌∷◌, length, drop, refl, sym, ap, ◌∙◌, arith, Bool, true, false, Option, Some, None}
 use Rattle.std.proofs.lemmas.List.{drop_all}
-use Rattle.std.proofs.lemmas.Option.{slice_get_within, slice_get_cases}
+use Rattle.std.proofs.lemmas.Option.{slice_get_within}
 use Rattle.std.specs.Prelude.{slice_get, if◌then◌else◌, ◌==◌}
 use Rattle.std.specs.Option.{option_map}
 use Rattle.std.proofs.lemmas.Bool.{eqb-true}
@@ -20,12 +20,12 @@ use Rattle.ot_machine.specs.declared.state.Head.{Head}
 use Rattle.ot_machine.specs.declared.state.Head.TheVariants.{Ack, Op}
 use Rattle.ot_isa.specs.declared.elements.Tagged.{Tagged}
 use Rattle.ot_machine.proofs.RowLaws.{edit_is, not_full, performs}
-use Rattle.ot_generate.specs.Left.{edit_due, drain_due, owed, due}
+use Rattle.ot_generate.specs.Left.{drain_due, owed}
 use Rattle.ot_generate.specs.Walks.{WalkView, IsWalk, HasReceived, HasSpare, MayMake, MayEdit}
 use Rattle.ot_generate.proofs.Owing.{has, owes, same_client, within}
 
 -- there is an entry for the client at the head of its link
-head_entry : (c k : ℕ) (log : List Entry) (head : Head) → option_map (head_of c k) (slice_get log k) ≡ Some head → (h : Entry) × (slice_get log k ≡ Some h) × (head_of c k h ≡ head)
+pub head_entry : (c k : ℕ) (log : List Entry) (head : Head) → option_map (head_of c k) (slice_get log k) ≡ Some head → (h : Entry) × (slice_get log k ≡ Some h) × (head_of c k h ≡ head)
 head_entry c k log head e = go (slice_get log k) refl e
   where
     go : (o : Option Entry) → slice_get log k ≡ o → option_map (head_of c k) o ≡ Some head → (h : Entry) × (slice_get log k ≡ Some h) × (head_of c k h ≡ head)
@@ -36,7 +36,7 @@ is_own : (own : Bool) (k : ℕ) → ◌≡◌ {A = Head} (if own then Ack else O
 is_own true k e = refl
 is_own false k e = absurd (cc)
 
-head_on : (s : State) (c : ℕ) (x : Client) (head : Head) → is_joined x.phase ≡ true → head_at s c 0 x ≡ Some head
+pub head_on : (s : State) (c : ℕ) (x : Client) (head : Head) → is_joined x.phase ≡ true → head_at s c 0 x ≡ Some head
     → option_map (head_of c (x.revision + 0)) (slice_get s.log (x.revision + 0)) ≡ Some head
 head_on s c x head on e = rw on at e
 
@@ -45,10 +45,10 @@ slice_get_none [] i e = omega arith
 slice_get_none (x ∷ xs) zero e = absurd (cc)
 slice_get_none (x ∷ xs) (suc i) e = let f = slice_get_none xs i e in omega arith
 
-at_zero : (r : ℕ) → r + 0 ≡ r
+pub at_zero : (r : ℕ) → r + 0 ≡ r
 at_zero r = omega arith
 
-performs_acknowledge : (s : State) (c : ℕ) → IsSound s → s.steps < 1000000 → ClientHas s c (λ x. is_joined x.phase) true → ClientHas s c (head_at s c 0) (Some Ack) → IsPerformed (step s (Acknowledge c))
+pub performs_acknowledge : (s : State) (c : ℕ) → IsSound s → s.steps < 1000000 → ClientHas s c (λ x. is_joined x.phase) true → ClientHas s c (head_at s c 0) (Some Ack) → IsPerformed (step s (Acknowledge c))
 performs_acknowledge s c (start, text, sound) below joined head =
     let j = has s c (λ x. is_joined x.phase) true joined in
     let x = j.0 in
@@ -61,7 +61,7 @@ performs_acknowledge s c (start, text, sound) below joined head =
     rw (j.1, not_full s.steps below, j.2, at, own, kept.1) tt
 
 -- the walk's count of steps leaves room for one more
-below_limit : (w : WalkView) → IsWalk w → w.state.steps < 1000000
+pub below_limit : (w : WalkView) → IsWalk w → w.state.steps < 1000000
 below_limit w kept =
     let a = kept.counted in
     let b = kept.fits in

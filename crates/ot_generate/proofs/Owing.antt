@@ -1,5 +1,5 @@
 -- What an instruction that is performed takes of what is left to do.
-use Rattle.std.proofs.Common.{◌≡◌, ◌≢◌, ℕ, zero, suc, ◌+◌, ◌-◌, ◌*◌, ◌<◌, ◌≤◌, List, [], ◌∷◌, ◌++◌, length, take, drop, set, get_or, refl, sym, ap, ◌∙◌, subst, arith, Bool, true, false, Option, Some, None, replicate, length-set}
+use Rattle.std.proofs.Common.{◌≡◌, ℕ, suc, ◌+◌, ◌-◌, ◌*◌, ◌<◌, ◌≤◌, List, [], ◌∷◌, ◌++◌, length, take, set, get_or, refl, sym, ap, ◌∙◌, subst, arith, Bool, true, false, Option, Some, None, replicate, length-set}
 use Rattle.std.specs.Prelude.{slice_get, sum_by, if◌then◌else◌}
 use Rattle.std.specs.Option.{option_map}
 use Rattle.std.proofs.lemmas.List.{length_push}
@@ -11,7 +11,7 @@ use Rattle.ot_isa.specs.declared.instruction.Instr.TheVariants.{Edit, Take, Deli
 use Rattle.ot_isa.specs.declared.elements.Tagged.{Tagged}
 use Rattle.ot_model.specs.declared.shown.Shown.{Shown}
 use Rattle.ot_model.specs.Operation.{Operation}
-use Rattle.ot_model.specs.Table.{Phase, NotJoined, Synchronized, AwaitingConfirm, AwaitingWithBuffer, is_joined, Client, absent, present_with, start_list, State, Entry, Message, Outcome, Performed, Refused, NoRow, acknowledged, delivered, edited, joined, message_edited, phase_delivered, phase_edited, tag_operation, taken, with_client, with_row, opening, step}
+use Rattle.ot_model.specs.Table.{Phase, NotJoined, Synchronized, AwaitingConfirm, AwaitingWithBuffer, is_joined, Client, absent, present_with, start_list, State, Message, Outcome, Performed, Refused, NoRow, acknowledged, delivered, edited, joined, message_edited, phase_delivered, phase_edited, tag_operation, taken, with_client, with_row, opening, step}
 use Rattle.ot_model.proofs.Outcomes.{by_edit, by_take, by_deliver, by_acknowledge, by_join, by_read, by_read_server}
 use Rattle.ot_machine.specs.Readers.{ClientHas}
 use Rattle.ot_generate.specs.Left.{in_transit, in_buffer, ahead, work, left, owed, due}
@@ -187,7 +187,7 @@ pub paid : (s t : State) (i : Instr) (shown : Option Shown) → step s i ≡ Per
 paid s t i shown row = subst (Pays s (due false (length s.clients) i)) row (pays s i)
 
 -- whether the end is open or not
-due_open : (n : ℕ) (i : Instr) → due true n i ≡ 1
+pub due_open : (n : ℕ) (i : Instr) → due true n i ≡ 1
 due_open n (Edit c op) = refl
 due_open n (Take c) = refl
 due_open n (Deliver c) = refl

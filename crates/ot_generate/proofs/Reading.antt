@@ -1,14 +1,13 @@
 -- The reads at the end, and the whole session.
-use Rattle.std.proofs.Common.{◌≡◌, ℕ, zero, suc, ◌+◌, ◌<◌, ◌≤◌, List, [], ◌∷◌, ◌++◌, length, take, drop, refl, sym, ap, ◌∙◌, subst, arith, Bool, true, false, Option, Some, None, append_assoc}
+use Rattle.std.proofs.Common.{◌≡◌, ℕ, zero, suc, ◌+◌, ◌<◌, ◌≤◌, List, [], ◌∷◌, ◌++◌, length, drop, refl, sym, ap, ◌∙◌, subst, arith, Bool, true, false, Some, append_assoc}
 use Rattle.std.specs.Prelude.{slice_get, if◌then◌else◌}
 use Rattle.std.proofs.lemmas.List.{append-nil, drop_all, length-append, take_all}
 use Rattle.ot_isa.specs.declared.instruction.Instr.{Instr}
 use Rattle.ot_isa.specs.declared.instruction.Instr.TheVariants.{Read, ReadServer}
-use Rattle.ot_isa.specs.Program.{Program, with_instr}
+use Rattle.ot_isa.specs.Program.{Program}
 use Rattle.ot_model.specs.declared.shown.Shown.{Shown}
-use Rattle.ot_model.specs.Table.{Client, Place, State, Outcome, Performed, Refused, NoRow, begin, is_joined, run, step, IsQuiet, IsQuietClient}
-use Rattle.ot_model.specs.Runs.{done, opening_of, place_at}
-use Rattle.ot_model.specs.Session.{RunsTo}
+use Rattle.ot_model.specs.Table.{Client, State, Outcome, Performed, Refused, NoRow, begin, is_joined, run, step, IsQuiet, IsQuietClient}
+use Rattle.ot_model.specs.Runs.{place_at}
 use Rattle.ot_model.proofs.Outcomes.{by_read, by_read_server}
 use Rattle.ot_model.proofs.States.{drop_entry}
 use Rattle.ot_machine.specs.Orders.{IsWhole}

@@ -1,11 +1,11 @@
 -- Where nothing is on its way all is quiet, and nothing is left to do.
-use Rattle.std.proofs.Common.{◌≡◌, ℕ, zero, suc, ◌+◌, ◌-◌, ◌<◌, ◌≤◌, List, [], ◌∷◌, length, take, drop, refl, sym, ap, ◌∙◌, subst, arith, Bool, true, false, Option, Some, None, length-drop, inl, inr}
+use Rattle.std.proofs.Common.{◌≡◌, ℕ, zero, suc, ◌-◌, ◌<◌, List, [], ◌∷◌, length, take, drop, refl, sym, ap, ◌∙◌, subst, arith, Bool, true, false, Option, Some, None, length-drop, inl, inr}
 use Rattle.std.specs.Prelude.{slice_get, sum_by, if◌then◌else◌, IfSome, IsSome}
 use Rattle.std.proofs.lemmas.List.Sums.{sum_by-cons}
 use Rattle.std.proofs.lemmas.Option.{slice_get_within}
 use Rattle.ot_isa.specs.declared.elements.Tagged.{Tagged}
 use Rattle.ot_model.specs.Sound.{IsSound, IsPhaseSound}
-use Rattle.ot_model.specs.Table.{Phase, NotJoined, Synchronized, AwaitingConfirm, AwaitingWithBuffer, is_joined, absent, Client, Entry, Message, State, IsQuiet, IsQuietClient}
+use Rattle.ot_model.specs.Table.{Phase, NotJoined, Synchronized, AwaitingConfirm, AwaitingWithBuffer, is_joined, Client, Entry, State, IsQuiet}
 use Rattle.ot_model.proofs.States.{not_joined}
 use Rattle.ot_generate.specs.Left.{in_transit, in_buffer, work, left, owed}
 use Rattle.ot_generate.specs.declared.choice.Move.{Move}

@@ -1,16 +1,15 @@
 -- A session keeps what its type says.
-use Rattle.std.proofs.Common.{◌≡◌, ℕ, zero, suc, ◌+◌, ◌<◌, ◌≤◌, List, [], ◌∷◌, ◌++◌, length, replicate, ◌-◌, refl, sym, ap, ◌∙◌, subst, arith, Bool, true, false, Option, Some, None}
+use Rattle.std.proofs.Common.{◌≡◌, ℕ, suc, ◌≤◌, List, [], ◌∷◌, ◌++◌, length, replicate, ◌-◌, refl, sym, ap, ◌∙◌, subst, arith, Bool}
 use Rattle.std.proofs.lemmas.List.{length_push, length-append, length-replicate}
 use Rattle.ot_isa.specs.declared.instruction.Instr.{Instr}
-use Rattle.ot_isa.specs.Program.{Program, with_instr}
-use Rattle.ot_model.specs.declared.shown.Shown.{Shown}
+use Rattle.ot_isa.specs.Program.{Program}
 use Rattle.ot_model.specs.Sound.{IsSound}
-use Rattle.ot_model.specs.Table.{State, present_with, absent, start_list, with_shown, opening, step, Performed}
+use Rattle.ot_model.specs.Table.{State, present_with, absent, start_list, with_shown, opening}
 use Rattle.ot_model.specs.Runs.{opening_of}
 use Rattle.ot_model.specs.Session.{RunsTo}
 use Rattle.ot_model.proofs.Runs.{run_performed}
 use Rattle.ot_model.proofs.Sessions.{runs_on}
-use Rattle.ot_generate.specs.Left.{owed, due}
+use Rattle.ot_generate.specs.Left.{owed}
 use Rattle.ot_generate.specs.Walks.{WalkView, IsAlong, IsMade, IsWalk, MayMake, begun}
 use Rattle.ot_generate.proofs.Owing.{owes, owes_nothing, paid}
 

@@ -2,3 +2,5 @@ pub mod Left
 pub mod Shapes
 pub mod Walks
 pub mod Generated
+pub mod Completed
+pub mod Completing

@@ -1,5 +1,5 @@
 -- What is asked of a session that is made at random.
-use Rattle.std.specs.Prelude.{ℕ, suc, ◌-◌, min, Bool, ◌&&◌, nat_le, List, [], length, Option, Some, None, if◌then◌else◌, unwrap_or, vec_items, option_map, Vec}
+use Rattle.std.specs.Prelude.{ℕ, ◌-◌, min, Bool, ◌&&◌, nat_le, List, [], length, Option, Some, None, if◌then◌else◌, unwrap_or, vec_items, option_map, Vec}
 use Rattle.std.specs.declared.alloc.Global.{Global}
 use Rattle.ot_isa.specs.declared.builder.TheConstants.{CLIENT_LIMIT, INSTR_LIMIT, START_LIMIT}
 

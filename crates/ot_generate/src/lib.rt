@@ -26,11 +26,13 @@
 
 mod chance;
 mod choice;
+mod completing;
 mod edits;
 mod generating;
 mod habits;
 mod shape;
 mod walk;
 
+pub use completing::{Incomplete, complete};
 pub use generating::generate;
 pub use shape::Shape;

@@ -1,10 +1,12 @@
 //! A session that grows.
 
-ghost use Rattle.std.specs.Prelude.{◌≡◌, ◌+◌, ◌<◌, ◌≤◌, ◌∷◌, [], suc, false, true, length, IfOk, IfSome, None, OnOk};
+ghost use Rattle.std.specs.Prelude.{◌≡◌, ◌≢◌, ◌+◌, ◌<◌, ◌≤◌, ◌↔◌, ◌∷◌, [], suc, false, true, length, IfErr, IfOk, IfSome, IsTrue, None, OnOk, Some};
 ghost use Rattle.ot_isa.specs.Program.{with_instr, AreClients, IsForClients, IsProgram};
 ghost use Rattle.ot_isa.specs.declared.instruction.Instr.TheVariants as instr;
-ghost use Rattle.ot_model.specs.Table.{is_joined, IsQuiet};
+ghost use Rattle.ot_model.specs.Table.{is_joined, step, IsQuiet, Refused};
+ghost use Rattle.ot_model.specs.declared.shown.Refusal.TheVariants as refusal;
 ghost use Rattle.ot_machine.specs.Readers.{ClientHas};
+ghost use Rattle.ot_generate.specs.Completed.{next_of, receipt_next, take_next};
 ghost use Rattle.ot_generate.specs.Left.{due, drain_due, edit_due, left, owed, work};
 ghost use Rattle.ot_generate.specs.Walks.{begun, HasNoMessage, HasReceived, HasSpare, IsAlong, IsAtRest, IsMade, IsPossible, IsRead, IsReadAt, IsWalk, MayEdit, MayMake, opened_up};
 ghost use Rattle.ot_isa.specs.declared.builder.TheConstants.{INSTR_LIMIT, START_LIMIT};
@@ -14,6 +16,7 @@ use crate::edits::draw_edit;
 use crate::habits::Habits;
 use ot_isa::{Builder, Instr, PushFault, Schedule};
 use ot_machine::{Head, INSERTED_LIMIT, Machine, Phase};
+use ot_model::Refusal;
 use ot_text::TextOp;
 use rand_pcg::Pcg32;
 use std::alloc::{AllocError, Global};
@@ -121,8 +124,8 @@ impl Walk {
         })
     }
 
-    // Tells the caller what the type keeps.
-    fn keeps(&self)
+    /// Tells the caller what the type keeps.
+    pub fn keeps(&self)
         ensures { IsWalk self.now }
     {
         // For the proof: what every walk keeps.
@@ -358,6 +361,83 @@ impl Walk {
     {
         self.keeps();
         self.push(Instr::ReadServer)?;
+        Ok(())
+    }
+
+    /// Whether no further instruction has room, where the session may end anyhow.
+    pub fn is_full(&self) -> bool
+        requires { self.now.is_open ≡ true }
+        ensures { IsTrue result ↔ (length self.now.recorded.instrs ≡ self.now.room) }
+    {
+        self.spare() == 0
+    }
+
+    // The take of the client's message, where one is on its way to the server.
+    fn take_next(&self, client: u16) -> Option<Instr>
+        requires client { client < length self.now.state.clients }
+        ensures { ClientHas self.now.state client (take_next client) result }
+    {
+        if !self.machine.joined(client) || self.machine.up(client).is_none() {
+            return None;
+        }
+        Some(Instr::Take(client))
+    }
+
+    // The receipt of what is at the head of the client's link, where something is.
+    fn receipt_next(&self, client: u16) -> Option<Instr>
+        requires client { client < length self.now.state.clients }
+        ensures { ClientHas self.now.state client (receipt_next self.now.state client) result }
+    {
+        match self.machine.down(client, 0) {
+            Some(Head::Ack) => Some(Instr::Acknowledge(client)),
+            Some(Head::Op(_)) => Some(Instr::Deliver(client)),
+            None => None,
+        }
+    }
+
+    /// What comes next on the way to quiet: the take of the first client, by number, whose message is on its way; where there is none, the receipt
+    /// of the first client to whom something is on its way.
+    pub fn next(&self) -> Option<Instr>
+        ensures { result ≡ next_of self.now.state }
+    {
+        for client in 0..self.machine.clients() {
+            if let Some(instr) = self.take_next(client) {
+                return Some(instr);
+            }
+        }
+        for client in 0..self.machine.clients() {
+            if let Some(instr) = self.receipt_next(client) {
+                return Some(instr);
+            }
+        }
+        None
+    }
+
+    /// Makes what comes next.
+    pub fn make_next(&mut self, instr: Instr) -> Result<(), AllocError>
+        requires next { next_of self.old.state ≡ Some instr }
+        requires is_open { self.old.is_open ≡ true }
+        requires room { length self.old.recorded.instrs < self.old.room }
+        ensures { OnOk result (IsMade self.old instr self.new) }
+    {
+        self.keeps();
+        self.push(instr)
+    }
+
+    /// Performs an instruction that was given, and records it. It is refused where the table refuses it; `Memory` may come besides.
+    pub fn follow(&mut self, instr: &Instr) -> Result<(), Refusal>
+        requires client { IsForClients self.old.recorded.clients instr.now }
+        requires is_open { self.old.is_open ≡ true }
+        requires room { length self.old.recorded.instrs < self.old.room }
+        ensures ok { OnOk result (IsMade self.old instr.now self.new) }
+        ensures refused { IfErr result (λ r. r ≢ refusal.Memory → step self.old.state instr.now ≡ Refused r) }
+    {
+        self.recorded.reserve(1)?;
+        let copy = instr.copy()?;
+        let _reader = self.machine.perform(instr)?;
+        // For the proof: what every machine keeps.
+        let _sound = self.machine.clients();
+        append(&mut self.recorded, copy);
         Ok(())
     }
 

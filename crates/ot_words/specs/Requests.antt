@@ -8,7 +8,7 @@ use Rattle.ot_generate.specs.Shapes.{shape_if}
 use Rattle.ot_words.specs.declared.words.Form.{Form}
 use Rattle.ot_words.specs.declared.words.Form.TheVariants as form
 use Rattle.ot_words.specs.declared.words.Request.{Request}
-use Rattle.ot_words.specs.declared.words.Request.TheVariants.{Run, Check, Debug, Assemble, Disassemble, Judge, Steps, Explain, Conform, Generate}
+use Rattle.ot_words.specs.declared.words.Request.TheVariants.{Run, Check, Debug, Assemble, Disassemble, Judge, Steps, Explain, Conform, Complete, Generate}
 use Rattle.ot_words.specs.declared.words.Asked.{Asked}
 use Rattle.ot_words.specs.declared.words.Asked.TheVariants.{Plainly, Threads}
 
@@ -66,6 +66,7 @@ otbench_app =
     +> plain_app (codes "explain")
     +> plain_app (codes "conform")
     +> plain_app (codes "threads")
+    +> plain_app (codes "complete")
     +> generate_app
 
 -- a flag among the rows
@@ -128,7 +129,8 @@ request_in_rows p =
     (if bytes_eq p.0 (codes "explain") then Some (Plainly Explain) else
     (if bytes_eq p.0 (codes "conform") then Some (Plainly Conform) else
     (if bytes_eq p.0 (codes "threads") then Some Threads else
-    (if bytes_eq p.0 (codes "generate") then generate_among p.1 else None))))))))))
+    (if bytes_eq p.0 (codes "complete") then Some (Plainly Complete) else
+    (if bytes_eq p.0 (codes "generate") then generate_among p.1 else None)))))))))))
 
 abbrev pub request_of : List Text → Option Asked
 request_of words = option_and_then request_in_rows (subcommand_of otbench_app words)

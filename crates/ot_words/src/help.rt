@@ -93,6 +93,14 @@ Example:  printf '{\"clients\":2,\"workers\":2,\"typing\":[[{\"at\":0,\"insert\"
 Status 0: it was printed. 1: the plan is refused or could not be carried out, or a fault of reading, writing or memory.
 The form: docs/FORMATS.md, 'Plans'.";
 
+/// Of `complete`.
+pub const COMPLETE: &str = "\
+Reads a schedule's text on standard input. Prints its canonical text, and behind it the instructions that bring its run to quiet:
+the takes of the clients' messages, by number, and where none is on its way, what is next for the first client that has to receive.
+Example:  printf 'clients 2\\nedit 0 [\"a\"]\\n' | otbench complete | otbench check
+Status 0: it was printed. 1: an instruction is refused, the whole would pass 100000 instructions, the input was refused, or a fault of
+reading, writing or memory. The order: docs/FORMATS.md, 'Complete'.";
+
 /// Of `generate`.
 pub const GENERATE: &str = "\
 Reads nothing. Prints the canonical text of a session made at random: M instructions, each performed, and unless --open reads

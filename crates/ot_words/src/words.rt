@@ -41,6 +41,8 @@ pub enum Request {
     Explain,
     /// Compares the lines that a port printed with the run of its schedule.
     Conform,
+    /// Prints a schedule, and behind it what brings its run to quiet.
+    Complete,
     /// Prints a session made at random: its seed, and what is asked of it.
     Generate(u32, Shape),
 }
@@ -249,6 +251,13 @@ fn command<'a>(alloc: Global) -> Result<Command<'a>, AllocError>
         help::THREADS,
     );
     let program = joined(program, threads)?;
+    let complete = plain(
+        alloc,
+        "complete",
+        "Print a schedule with the instructions behind it that bring it to quiet",
+        help::COMPLETE,
+    );
+    let program = joined(program, complete)?;
     let generate = generate_command(alloc)?;
     joined(program, generate)
 }
@@ -365,6 +374,7 @@ fn request_in(alloc: Global, matches: &ArgMatches<'_>) -> Result<Option<Asked>, 
         "explain" => Ok(Some(Asked::Plainly(Request::Explain))),
         "conform" => Ok(Some(Asked::Plainly(Request::Conform))),
         "threads" => Ok(Some(Asked::Threads)),
+        "complete" => Ok(Some(Asked::Plainly(Request::Complete))),
         "generate" => generate_in(alloc, found),
         _ => Ok(None),
     }

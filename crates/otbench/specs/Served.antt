@@ -7,6 +7,7 @@ use Rattle.ot_input.specs.Inputs.{OfText, OfImage}
 use Rattle.outcomes.specs.Outcomes.{Streams, WantsMemory}
 use Rattle.ot_words.specs.Requests.{otbench_app, request_of}
 use Rattle.ot_commands.specs.Ran.{MayReport}
+use Rattle.ot_commands.specs.Completes.{MayComplete}
 use Rattle.ot_commands.specs.Converted.{MayGiveImage, MayGiveText}
 use Rattle.ot_commands.specs.Generated.{Generates}
 use Rattle.ot_commands.specs.Judged.{Judges}
@@ -18,7 +19,7 @@ use Rattle.ot_conform_command.specs.Conformed.{Compares}
 use Rattle.ot_threads.specs.Threaded.{Threads as DoesThreads}
 use Rattle.ot_words.specs.declared.words.Form.TheVariants as form
 use Rattle.ot_words.specs.declared.words.Request.{Request}
-use Rattle.ot_words.specs.declared.words.Request.TheVariants.{Run, Check, Debug, Assemble, Disassemble, Judge, Steps, Explain, Conform, Generate}
+use Rattle.ot_words.specs.declared.words.Request.TheVariants.{Run, Check, Debug, Assemble, Disassemble, Judge, Steps, Explain, Conform, Complete, Generate}
 use Rattle.ot_words.specs.declared.words.Asked.{Asked}
 use Rattle.ot_words.specs.declared.words.Asked.TheVariants.{Plainly, Threads}
 
@@ -38,6 +39,7 @@ Serves Judge = Judges
 Serves (Steps documents) = DoesSteps documents
 Serves Explain = Explains
 Serves Conform = Compares
+Serves Complete = OfText MayComplete
 Serves (Generate seed shape) = WithoutInput (Generates shape)
 
 -- what a subcommand does with its input

@@ -1,7 +1,7 @@
 //! A proved test bench for ot.js sessions: the program.
 //!
 //! ```text
-//!    words ── ot_words ──▶ Asked ── serving ──▶ ot_commands         run, check, debug, asm, dis, judge, generate
+//!    words ── ot_words ──▶ Asked ── serving ──▶ ot_commands         run, check, debug, asm, dis, judge, generate, complete
 //!                                    ├──▶ ot_steps_command    steps: a run as lines of JSON
 //!                                    ├──▶ ot_explain_command  explain: a run in words
 //!                                    ├──▶ ot_conform_command  conform: a port's lines against the run

@@ -10,8 +10,8 @@ ghost use Rattle.otbench.specs.Served.{Serves, ServesAsked, ServesWords};
 use clap::Error;
 use clap::error::ErrorKind;
 use ot_commands::{
-    assemble, check_text, debug_text, disassemble_image, generate_session, judge_input, run_image,
-    run_text,
+    assemble, check_text, complete_text, debug_text, disassemble_image, generate_session,
+    judge_input, run_image, run_text,
 };
 use ot_conform_command::run_conform;
 use ot_explain_command::run_explain;
@@ -68,6 +68,7 @@ fn carry_out<I: Read, O: Write, F: Write>(
         Request::Steps(documents) => run_steps(alloc, documents, input, output, faults),
         Request::Explain => run_explain(alloc, input, output, faults),
         Request::Conform => run_conform(alloc, input, output, faults),
+        Request::Complete => complete_text(alloc, input, output, faults),
         Request::Generate(seed, shape) => generate_session(alloc, seed, &shape, output, faults),
     }
 }

@@ -22,8 +22,9 @@ returns c =
     let eight = c.in_ok-program-8.ensures (ap plain_of c.plain-explain.ensures) ∙ ap₂ (◌+>◌) seven c.plain-explain.ensures in
     let nine = c.in_ok-program-9.ensures (ap plain_of c.plain-conform.ensures) ∙ ap₂ (◌+>◌) eight c.plain-conform.ensures in
     let ten = c.in_ok-program-10.ensures (ap plain_of c.plain-threads.ensures) ∙ ap₂ (◌+>◌) nine c.plain-threads.ensures in
+    let eleven = c.in_ok-program-11.ensures (ap plain_of c.plain-complete.ensures) ∙ ap₂ (◌+>◌) ten c.plain-complete.ensures in
     let generate = c.in_ok-generate.ensures in
-    IfOk-weaker c.joined-11.result _ _ (λ r h. h (ap plain_of generate) ∙ ap₂ (◌+>◌) ten generate) c.joined-11.ensures
+    IfOk-weaker c.joined-12.result _ _ (λ r h. h (ap plain_of generate) ∙ ap₂ (◌+>◌) eleven generate) c.joined-12.ensures
 
 pub returns-in_err-program : goal.returns-in_err-program
 returns-in_err-program c = let r = c.from_residual-in_err-program.ensures in search rules

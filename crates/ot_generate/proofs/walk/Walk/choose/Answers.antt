@@ -1,6 +1,5 @@
-use Rattle.std.proofs.Common.{◌≡◌, ◌<◌, ℕ, ap, arith, length, subst}
+use Rattle.std.proofs.Common.{ap, arith, length, subst}
 use borrow.Author.Count.{below_more}
-use Rattle.ot_model.specs.Sound.{IsSound}
 use Rattle.ot_generate.specs.Walks.{IsAtRest, IsWalk, WalkView}
 use Rattle.ot_generate.proofs.Resting.{none_before, none_next, rests, used_up}
 use Rattle.ot_generate.proofs.walk.Walk.choose.Goals as goal

@@ -1,6 +1,6 @@
-use Rattle.std.proofs.Common.{◌≡◌, sym, subst}
+use Rattle.std.proofs.Common.{sym, subst}
 use Rattle.ot_model.proofs.Steps.{opening_sound}
-use Rattle.ot_generate.specs.Walks.{IsWalk, WalkView}
+use Rattle.ot_generate.specs.Walks.{IsWalk}
 use Rattle.ot_generate.proofs.Walking.{begins, same_walk}
 use Rattle.ot_generate.proofs.walk.Walk.new.Goals as goal
 

@@ -1,4 +1,3 @@
-use Rattle.std.proofs.Common.{◌≡◌, None}
 use Rattle.ot_generate.proofs.Resting.{none_before, none_next, still_possible}
 use Rattle.ot_generate.proofs.walk.Walk.offer.Goals as goal
 

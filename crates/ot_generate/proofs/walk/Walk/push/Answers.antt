@@ -1,4 +1,4 @@
-use Rattle.std.proofs.Common.{ap, arith, length, refl, sym, ◌∙◌, subst, ◌≡◌}
+use Rattle.std.proofs.Common.{ap, arith, length, refl, sym, ◌∙◌, subst}
 use Rattle.std.specs.Option.{option_map}
 use Rattle.ot_machine.specs.Reads.{shown_by}
 use Rattle.ot_isa.specs.Program.{Program, with_instr}

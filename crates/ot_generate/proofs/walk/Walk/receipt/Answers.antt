@@ -1,4 +1,4 @@
-use Rattle.std.proofs.Common.{ap, arith, rules, sym, subst, true, ◌≡◌, ◌∙◌, ◌≤◌, Some, None}
+use Rattle.std.proofs.Common.{ap, arith, rules, sym, subst, true, ◌≡◌, ◌≤◌, Some}
 use Rattle.ot_isa.specs.declared.instruction.Instr.TheVariants.{Acknowledge}
 use Rattle.ot_model.specs.Table.{Client, is_joined}
 use Rattle.ot_machine.specs.Readers.{ClientHas, head_at}

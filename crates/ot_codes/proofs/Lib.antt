@@ -1,0 +1,14 @@
+pub mod Mapped
+pub mod Filled
+pub mod Put
+pub mod Read
+pub mod Steps
+pub mod Sound
+pub mod Cutting
+pub mod Carrying
+pub mod Marked
+pub mod Gone
+pub mod Composing
+pub mod CutLaws
+pub mod Splicing
+pub mod Examples

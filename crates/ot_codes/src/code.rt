@@ -1,0 +1,103 @@
+//! One code, and what codes come to.
+
+ghost use Rattle.std.specs.Prelude.{◌≡◌, ◌+◌, ◌<◌, ◌≤◌, ◌^◌, ◌↔◌, IsTrue};
+ghost use Rattle.ot_codes.specs.Codes.{counted, joined, keeps, length_of, stands_before, with_length};
+
+/// A component without its elements: what it does, and with how many of them (1 to 1,000,000 in an operation).
+#[derive(Clone, Copy)]
+pub enum Code {
+    /// The next elements stay.
+    Retain(u32),
+    /// Elements come in.
+    Insert(u32),
+    /// The next elements go.
+    Delete(u32),
+}
+
+impl Code {
+    /// How many elements the code retains, inserts or deletes.
+    pub fn len(self) -> u32
+        ensures { result ≡ length_of self }
+    {
+        match self {
+            Code::Retain(count) | Code::Insert(count) | Code::Delete(count) => count,
+        }
+    }
+
+    /// A code of the same kind of another length.
+    pub fn with_len(self, count: u32) -> Code
+        ensures { result ≡ with_length self count }
+    {
+        match self {
+            Code::Retain(_) => Code::Retain(count),
+            Code::Insert(_) => Code::Insert(count),
+            Code::Delete(_) => Code::Delete(count),
+        }
+    }
+
+    /// The code is a retain.
+    pub fn keeps(self) -> bool
+        ensures { result ≡ keeps self }
+    {
+        matches!(self, Code::Retain(_))
+    }
+
+    /// The code is an insertion, and the last one is a deletion: then it stands before it.
+    pub(crate) fn stands_before(self, last: Code) -> bool
+        ensures { result ≡ stands_before self last }
+    {
+        matches!((self, last), (Code::Insert(_), Code::Delete(_)))
+    }
+
+    /// Two codes of one kind as one; none where they are of two kinds.
+    pub(crate) fn joined(self, next: Code) -> Option<Code>
+        requires { length_of self + length_of next < 2 ^ 32 }
+        ensures { result ≡ joined self next }
+    {
+        match (self, next) {
+            (Code::Retain(first), Code::Retain(second)) => Some(Code::Retain(first + second)),
+            (Code::Insert(first), Code::Insert(second)) => Some(Code::Insert(first + second)),
+            (Code::Delete(first), Code::Delete(second)) => Some(Code::Delete(first + second)),
+            _ => None,
+        }
+    }
+}
+
+/// How many elements codes retain, delete and insert.
+#[derive(Clone, Copy)]
+pub struct Sum {
+    pub kept: u32,
+    pub deleted: u32,
+    pub inserted: u32,
+}
+
+impl Sum {
+    pub const ZERO: Sum = Sum {
+        kept: 0,
+        deleted: 0,
+        inserted: 0,
+    };
+
+    /// The sum with one more code.
+    pub(crate) fn with(self, code: Code) -> Sum
+        requires kept { self.kept + length_of code < 2 ^ 32 }
+        requires deleted { self.deleted + length_of code < 2 ^ 32 }
+        requires inserted { self.inserted + length_of code < 2 ^ 32 }
+        ensures { result ≡ counted self code }
+    {
+        match code {
+            Code::Retain(count) => Sum {
+                kept: self.kept + count,
+                ..self
+            },
+            Code::Insert(count) => Sum {
+                inserted: self.inserted + count,
+                ..self
+            },
+            Code::Delete(count) => Sum {
+                deleted: self.deleted + count,
+                ..self
+            },
+        }
+    }
+}

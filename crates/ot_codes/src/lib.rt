@@ -1,0 +1,48 @@
+//! Operations without their text: `transform` and `compose` on codes.
+//!
+//! An operation is its codes and, apart from them, its text: all that it inserts, in order. A code is a component without its elements, a kind and a length.
+//!
+//! ```text
+//!     operation   [2,"xy",-3,1,"z"]   on documents of 6 elements
+//!     codes       Retain 2 | Insert 2 | Delete 3 | Retain 1 | Insert 1
+//!     text        x y z
+//!     shape       Old 0, Old 1, New _, New _, Old 5, New _      on base 6
+//! ```
+//!
+//! A contract sees codes as the operation that they spell over the unit type: the *shape* of every operation with these codes. So `transform` and `compose` of codes
+//! have the contracts of `ot_algebra`, at that type, and the laws of that crate hold of them. Three laws lead from codes back to operations ([`laws`]):
+//!
+//! - An operation is its shape, filled with its text. Two operations of one shape with one text are equal.
+//! - `transform` changes no text. What `a` becomes after `b` has the text of `a`, and what `b` becomes after `a` has the text of `b`.
+//! - `compose` cuts the text of `a`: elements that `b` deletes go, and elements that `b` inserts come.
+//!
+//! ```text
+//!     a           retain 1 | insert "xyz" | retain 1        text  x y z
+//!     b           retain 2 | insert "uv" | delete 1 | retain 2    text  u v
+//!     a then b    Retain 1 | Insert 4 | Retain 1
+//!     cuts        at 1: 1 goes, 2 come, from 0              text  x u v z
+//! ```
+//!
+//! Codes are read through a [`Cursor`] and written by a [`Pen`] alone, each of which a contract sees as a value: what is left, and what is written. Each turn of a
+//! loop ends a code of one operation, so `transform` and `compose` cost the codes of both, whatever is inserted.
+//!
+//! Contracts: `specs/Shape.antt` (shapes, and how they are filled), `specs/Codes.antt` (codes as runs of `ot_text` over the unit type), `specs/Cuts.antt` (the text of a
+//! composition, and what carrying out its cuts gives), `specs/Laws.antt` (the laws, each the contract of a function in [`laws`]). `specs/Splice.antt` serves the loop of `compose` alone. To read: `code.rt`,
+//! `build.rt` (normal form), `codes.rt`, `cursor.rt`, then `transformation.rt`, `cut.rt` and `composition.rt`.
+#![tactic(auto)]
+
+mod build;
+mod code;
+mod codes;
+mod composition;
+mod cursor;
+mod cut;
+pub mod laws;
+mod transformation;
+
+pub use code::{Code, Sum};
+pub use codes::{Codes, Pen};
+pub use composition::{Composed, compose};
+pub use cursor::Cursor;
+pub use cut::{Cut, carry};
+pub use transformation::transform;
