@@ -25,7 +25,10 @@ test("the command in one file answers by itself, and has the engine in it", () =
   };
   assert.deepEqual(call(command, ["--version"]), [2, "", "otbench 1.2.3 (commit 0123456789abcdef, proved)\n"]);
   const input = `${example("weak-order.ots")}%%\n{"at":1}\n`;
-  for (const words of [["view"], ["conform"], ["help"], ["run"]]) assert.deepEqual(call(command, words, input), call(`${TOP}npm/cli.mjs`, words, input));
+  for (const words of [["conform"], ["help"], ["run"]]) assert.deepEqual(call(command, words, input), call(`${TOP}npm/cli.mjs`, words, input));
+  const [status, page] = call(command, ["view"], input);
+  assert.equal(status, 0);
+  assert.match(page, /<pre hidden id="schedule">\n; /);
   assert.ok(engineIn(fs.readFileSync(command, "utf8")).equals(ENGINE));
 });
 

@@ -1,0 +1,36 @@
+-- Examples that the checker evaluates: the list and the patch of the crate's picture.
+use Rattle.std.proofs.Common.{◌≡◌, ℕ, List, [], ◌∷◌, map, refl}
+use Rattle.ot_list.specs.declared.span.Span.{Span}
+use Rattle.ot_list.specs.Leaves.{concatenated}
+use Rattle.ot_list.specs.Spans.{reach, merged, taken, turned}
+
+abbrev old : List (List ℕ)
+old = (1 ∷ 2 ∷ []) ∷ (3 ∷ []) ∷ (4 ∷ 5 ∷ []) ∷ (6 ∷ []) ∷ []
+
+-- the second leaf makes way for two, and the last one goes
+abbrev spans : List Span
+spans = record { kept = 1; gone = 1; put = 2 } ∷ record { kept = 1; gone = 1; put = 0 } ∷ []
+
+abbrev new : List (List ℕ)
+new = (7 ∷ []) ∷ (8 ∷ 9 ∷ []) ∷ []
+
+abbrev made : List (List ℕ)
+made = (1 ∷ 2 ∷ []) ∷ (7 ∷ []) ∷ (8 ∷ 9 ∷ []) ∷ (4 ∷ 5 ∷ []) ∷ []
+
+pub items_together : concatenated old ≡ 1 ∷ 2 ∷ 3 ∷ 4 ∷ 5 ∷ 6 ∷ []
+items_together = refl
+
+pub spans_reach : reach spans ≡ 4
+spans_reach = refl
+
+pub list_made : merged spans old new ≡ made
+list_made = refl
+
+pub leaves_gone : taken spans old ≡ (3 ∷ []) ∷ (6 ∷ []) ∷ []
+leaves_gone = refl
+
+pub back : merged (map turned spans) made ((3 ∷ []) ∷ (6 ∷ []) ∷ []) ≡ old
+back = refl
+
+pub new_gone : taken (map turned spans) made ≡ new
+new_gone = refl

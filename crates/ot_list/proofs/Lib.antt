@@ -1,0 +1,8 @@
+-- Lemmas that several proofs share, and that the crates above may cite.
+pub mod Drafted
+pub mod Examples
+pub mod Keeping
+pub mod Leaved
+pub mod Merging
+pub mod Through
+pub mod Turned

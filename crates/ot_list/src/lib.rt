@@ -1,0 +1,42 @@
+//! A list in leaves, drafts that write one over another, and patches that lead from the one to the other and back. It knows nothing of what the items mean.
+//!
+//! ```text
+//!   List     sums    [     5     |    4    |      6      ]    what each leaf comes to, side by side
+//!            leaves  [ a b c d e | f g h i | j k l m n o ]    each 1 to CAP items, two neighbours more than CAP
+//!
+//!   Draft    keep leaf 0, push x, extend f g y z, keep leaf 2: what is written is  a b c d e x f g y z j k l m n o
+//!
+//!   Patch    spans   [ 1 kept, 1 gone, 1 put ]
+//!            leaves  [ x f g y z ]                            the new leaves of all spans, with their sums
+//!
+//!   swap     List    [ a b c d e | x f g y z | j k l m n o ]
+//!            Patch   [ 1 kept, 1 gone, 1 put ]  [ f g h i ]   swapped once more it brings the list back
+//! ```
+//!
+//! A contract sees a `List` as the list of its leaves; `concatenated` is the list that these make together. It sees a `Patch` as a `Change`: its spans, its
+//! new leaves, and how much room it has. A span says how many leaves of the old list are kept from where the span before ends, how many go then, and how many
+//! new ones come in their place: so spans need no other numbers when they are taken back. Of a `Draft` it says what is `written` over the old leaves, and
+//! up to which `place_of` it they are done with.
+//!
+//! - `Draft::begin`, then `keep`, `push`, `extend`, `pop`, and `finish`, which makes the patch; or `list`, where there is no old list. The old list is only
+//!   read. After an error the draft is abandoned: `begin` makes it one in which nothing is written. Its room is kept from one use to the next.
+//! - `List::prepare` makes room in the patch; that may fail, and changes no value.
+//! - `List::swap` exchanges leaves: it takes no memory, cannot fail, and moves only the headers of leaves. Where as many go as come at each place, it touches
+//!   these alone; else it goes over all headers once.
+//! - `taken_back` says that a patch carried out and taken back is nothing; `leaves_are_few` bounds the number of leaves by that of items.
+#![tactic(auto)]
+
+mod draft;
+mod item;
+mod laws;
+mod list;
+mod moves;
+mod patch;
+mod span;
+
+pub use draft::Draft;
+pub use item::Item;
+pub use laws::{leaves_are_few, taken_back};
+pub use list::List;
+pub use patch::Patch;
+pub use span::Span;
