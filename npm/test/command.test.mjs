@@ -99,8 +99,12 @@ test("help on the output with status 0, --help as the program has it, and the ve
 
 test("view: the viewer's page with the lines, as viewer/view writes it", { skip: NATIVE === null && "no native program" }, () => {
   const inputs = [WEAK, `${WEAK}%%\n{"at":1,"document":"<b>\u2028"}\n`, `${WEAK} %%\t\r\n{"at":1}`, "clients 1\nedit 0 [7]\n"];
+  // (beside no dist/, whose page has the engine in it)
+  const viewer = path.join(folder, "viewer");
+  fs.mkdirSync(viewer);
+  for (const name of ["view", "viewer.html"]) fs.copyFileSync(`${TOP}viewer/${name}`, path.join(viewer, name));
   for (const input of inputs) {
-    const { status, stdout } = spawnSync(`${TOP}viewer/view`, [NATIVE], { input, encoding: "utf8" });
+    const { status, stdout } = spawnSync(path.join(viewer, "view"), [NATIVE], { input, encoding: "utf8" });
     assert.deepEqual(call(["view"], input), [status, stdout, ""]);
   }
   const [whole] = call(["view", file("s.ots", WEAK), file("l", '{"at":1}\n')]).slice(1);
