@@ -5,10 +5,14 @@
 
 A wrong body is an edit of a crate's source: a mistake that someone could make, which the prover has to refuse. Each is a check of its crate, so `./test` tries those of
 `crates/*/must-fail` alone, and this script the others, `wrong-bodies/CRATE/*.edit`: of all crates, or of those that are named. Run it for a crate whose code, contracts or
-definitions have changed: in a copy of the repository each edit is put beside those of the gate, and `rt ci` tries all edits of the named crates, which it proves with those below, or takes
-from what this machine keeps of earlier runs. What is printed, and the status, are those of `rt ci`.
+definitions have changed: in a copy of the repository each edit is put beside those of the gate, and `rt must-fail` tries all edits of the named crates, over what this machine keeps of earlier checks.
+
+A body that is refused can still say nothing: because the only errors are in a proof file, which names a call, a loop or a variable that the edit took away, and none is of a contract. Those are listed at
+the end, with the edits that could not be applied, read or tried, and with the bodies that are proved. The status is 1 where there is one of them, or where the run itself fails: such an edit is
+written anew, so that it keeps the names and changes a value, or it goes.
 """
 import pathlib
+import re
 import shutil
 import subprocess
 import sys
@@ -16,6 +20,16 @@ import tempfile
 
 HERE = pathlib.Path(__file__).resolve().parent
 TOP = HERE.parent
+
+# What `rt must-fail` says of one edit, after `must-fail CRATE/NAME.edit: `, and what that comes to.
+TOLD = re.compile(r"must-fail (\S+\.edit): (.*)")
+FINDINGS = {
+    "refused, as it must be (only because a proof file": "refused, but only because a proof file names what the edit took away",
+    "refused, as it must be (only by a limit": "refused, but only by a limit of the prover",
+    "NOT REFUSED": "proved",
+    "BAD EDIT": "not applied or not read",
+    "NOT TRIED": "not tried",
+}
 
 
 def crates():
@@ -38,6 +52,21 @@ def lay_out(room, names):
     (room / ".git").mkdir()
 
 
+def try_all(room, names):
+    """Tries the edits of these crates and prints what is said of each. The status, how many were told of, and by finding the edits that count for nothing."""
+    found, told = {}, 0
+    ran = subprocess.Popen(["rt", "must-fail", *names], cwd=room, stdout=subprocess.PIPE, stderr=subprocess.STDOUT, text=True, errors="replace")
+    for line in ran.stdout:
+        print(line, end="", flush=True)
+        edit = TOLD.search(line)
+        if edit:
+            told += 1
+            for begin, finding in FINDINGS.items():
+                if edit[2].startswith(begin):
+                    found.setdefault(finding, []).append(edit[1])
+    return ran.wait(), told, found
+
+
 def main():
     names = sys.argv[1:] or crates()
     absent = [name for name in names if name not in crates()]
@@ -47,7 +76,14 @@ def main():
     with tempfile.TemporaryDirectory(prefix="wrong-bodies-") as place:
         room = pathlib.Path(place)
         lay_out(room, names)
-        return subprocess.run(["rt", "ci", *names], cwd=room).returncode
+        status, told, found = try_all(room, names)
+    for finding, edits in found.items():
+        print(f"{finding}: {len(edits)}")
+        for edit in edits:
+            print(f"    {edit}")
+    idle = sum(map(len, found.values()))
+    print(f"{told} wrong bodies, {told - idle} refused by what is proved")
+    return 1 if status or idle else 0
 
 
 if __name__ == "__main__":
