@@ -66,6 +66,11 @@ def keys(text):
     return [key for key in text.split(",") if key]
 
 
+def cores():
+    """How many cores this process may use, which may be fewer than there are."""
+    return len(os.sched_getaffinity(0)) if hasattr(os, "sched_getaffinity") else os.cpu_count()
+
+
 def words_of():
     words = argparse.ArgumentParser(usage="conformance/run [options] COMMAND ..")
     words.add_argument("command", nargs=argparse.REMAINDER)
@@ -75,7 +80,7 @@ def words_of():
     driver.add_argument("--keep-driver", action="store_true", help="one process is given several sessions, a line %%%% behind each")
     driver.add_argument("--seconds", type=seconds, default=10, help="the most that it may take for a session (10)")
     driver.add_argument("--most-bytes", type=whole(1), default=1 << 24, help="the most that it may print of one (16,777,216)")
-    driver.add_argument("--jobs", type=whole(1), default=os.cpu_count(), metavar="J", help="how many sessions are tried at a time")
+    driver.add_argument("--jobs", type=whole(1), default=cores(), metavar="J", help="how many sessions are tried at a time (one for each core)")
 
     tried = words.add_argument_group("what is tried")
     tried.add_argument("--session", type=to_read, action="append", metavar="FILE",

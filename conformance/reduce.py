@@ -14,6 +14,7 @@ from schedule import Instruction
 from simulator import Simulator, fitted
 
 LONG = 60  # a session of more instructions is gone through once, and without trying each component of its edits
+PATIENCE = 32  # there a way ends behind so many candidates in a row of which none shows it: a fault of long logs needs most of them
 
 
 def repaired(schedule):
@@ -37,7 +38,7 @@ def size(schedule):
     components = [component for instruction in schedule.instructions for component in instruction.edit]
     texts = [schedule.start] + [component for component in components if isinstance(component, str)]
     lengths = sum(abs(component) for component in components if not isinstance(component, str))
-    rare = sum(character != "a" for text in texts for character in text)
+    rare = sum(len(text) - text.count("a") for text in texts)
     late = schedule.clients - schedule.present
     return len(schedule.instructions), schedule.clients, late, len(components), sum(map(len, texts)), lengths, rare
 
@@ -114,11 +115,11 @@ def fewer_texts(schedule):
 
 def shorter(text):
     """Shorter texts, and one of plain letters."""
+    yield from ("", "a" * len(text))
     half = len(text) // 2
     while half:
         yield from (text[:-half], text[half:])
         half //= 2
-    yield from ("", "a" * len(text))
 
 
 def simpler(component):
@@ -202,7 +203,7 @@ class Reduction:
         """Goes one way until nothing on it shows it any more. Behind a success it goes on from there, and then begins anew."""
         has_moved, passed = False, 0
         while True:
-            number = self.try_first(itertools.islice(way(self.sessions), passed, None))
+            number = self.try_first(itertools.islice(way(self.sessions), passed, passed + PATIENCE if self.is_long() else None))
             if number is None and (passed == 0 or self.is_long()):
                 return has_moved
             has_moved = has_moved or number is not None

@@ -80,7 +80,7 @@ class Reducing(unittest.TestCase):
     def test_a_session_that_shows_nothing_is_not_reduced(self):
         self.assertIsNone(reduced((generated(1, 3, 40),), lambda candidates: None))
 
-    def test_a_long_session_is_gone_through_once(self):
+    def test_a_long_session_is_gone_through_once_and_not_to_its_end(self):
         session, asked = generated(1, 3, 400), 0
 
         def first_shown(candidates):
@@ -92,7 +92,12 @@ class Reducing(unittest.TestCase):
             return None
 
         self.assertEqual(len(reduced((session,), first_shown)[-1].instructions), 2 * LONG + 1)
-        self.assertLess(asked, 800)
+        self.assertLess(asked, 200)
+
+    def test_long_texts(self):
+        start = "the quick brown fox " * 2000
+        small, = reduced((Schedule(1, 1, start, ()),), showing(lambda it: len(it.start) > 32_767))
+        self.assertEqual(small.start, "a" * 32_768)
 
 
 class Several(unittest.TestCase):

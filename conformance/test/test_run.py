@@ -10,6 +10,7 @@ import unittest
 import xml.etree.ElementTree as xml
 
 from paths import JUDGE, KIT, PROGRAM, STUB, needs_node, needs_program
+from options import cores
 from port import Driver, KeptDriver
 
 SAMPLE = ["node", str(KIT.parent / "examples" / "port" / "driver.js"), "--faults", str(KIT / "faults.js")]
@@ -197,6 +198,14 @@ class Runs(Kit):
         ]
         for word, value, takes in rows:
             self.refused(f"argument {word}: invalid value '{value}': {takes}", ["true"], word, value)
+
+    @unittest.skipUnless(hasattr(os, "sched_setaffinity"), "which cores a process may use cannot be told here")
+    def test_as_many_at_a_time_as_cores_may_be_used(self):
+        before = os.sched_getaffinity(0)
+        self.addCleanup(os.sched_setaffinity, 0, before)
+        self.assertEqual(cores(), len(before))
+        os.sched_setaffinity(0, {min(before)})
+        self.assertEqual(cores(), 1)
 
     def test_drivers_that_are_no_programs(self):
         self.refused("which command is the driver?", [])
