@@ -11,7 +11,7 @@ use Rattle.ot_algebra.proofs.ComposeProgress.{ComposeProgress, ComposeBounds, co
 use Rattle.ot_codes.specs.declared.code.Code.{Code}
 use Rattle.ot_codes.specs.declared.code.Code.TheVariants.{Retain, Insert, Delete}
 use Rattle.ot_codes.specs.declared.cut.Cut.{Cut}
-use Rattle.ot_codes.specs.Codes.{blanks, run_of, runs_of, spelled, length_of, others_of, insertion_of, deletion_of, keeps, without}
+use Rattle.ot_codes.specs.Codes.{blanks, run_of, runs_of, spelled, length_of, others_of, insertion_of, deletion_of, keeps, without, inserted_in}
 use Rattle.ot_codes.specs.Shape.{mapped_item, blank, shape}
 use Rattle.ot_codes.specs.Cuts.{Source, carried, AreWithin, with_cut, places, size, placed, GiveText}
 use Rattle.ot_codes.specs.Cuts.Source.{OfFirst, OfSecond}
@@ -20,7 +20,7 @@ use Rattle.ot_codes.proofs.Mapped.{insert-mapped, retain-mapped, compose-mapped}
 use Rattle.ot_codes.proofs.Filled.{filled_fits, news_append, news_texts, news_olds}
 use Rattle.ot_codes.proofs.Cutting.{within_more, within_cut, carried_more, carried_cut}
 use Rattle.ot_codes.proofs.Gone.{retain_gone, insert_gone, none_made}
-use Rattle.ot_codes.proofs.Marked.{length-places, places-add, take-places, drop-places, blanks-places, marked, inserted_in, marked-base, marked-target, marked-normal, size-spelled, placed-spelled, marked-otherwise, marked-without_keep, marked-without_skip, marked-without_add}
+use Rattle.ot_codes.proofs.Marked.{length-places, places-add, take-places, drop-places, blanks-places, marked, marked-base, marked-target, marked-normal, size-spelled, placed-spelled, marked-otherwise, marked-without_keep, marked-without_skip, marked-without_add}
 
 -- the operations of these codes, with the places of their own texts
 abbrev pub first_of_codes : List Code → Operation Source

@@ -12,3 +12,7 @@ pub mod Composing
 pub mod CutLaws
 pub mod Splicing
 pub mod Examples
+pub mod TransformSkips
+pub mod ComposeSkips
+pub mod Skipping
+pub mod ComposeSkipping

@@ -8,7 +8,7 @@ use Rattle.ot_algebra.specs.Cursor.{skipped, skipped_made, target_of}
 use Rattle.ot_algebra.proofs.RunSlots.{StartsOtherwise}
 use Rattle.ot_codes.specs.declared.code.Code.{Code}
 use Rattle.ot_codes.specs.declared.code.Code.TheVariants.{Retain, Insert, Delete}
-use Rattle.ot_codes.specs.Codes.{blanks, runs_of, spelled, length_of, insertion_of, without}
+use Rattle.ot_codes.specs.Codes.{blanks, runs_of, spelled, length_of, insertion_of, inserted_in, without}
 use Rattle.ot_codes.specs.Shape.{blank, filled_image}
 use Rattle.ot_codes.specs.Cuts.{Source, places, placed}
 use Rattle.ot_codes.proofs.Put.{length-blanks}
@@ -54,12 +54,6 @@ marked mark at [] = []
 marked mark at (Retain n ∷ codes) = Keep n ∷ marked mark at codes
 marked mark at (Insert n ∷ codes) = Add (places mark at n) ∷ marked mark (at + n) codes
 marked mark at (Delete n ∷ codes) = Skip n ∷ marked mark at codes
-
-abbrev pub inserted_in : List Code → ℕ
-inserted_in [] = 0
-inserted_in (Retain n ∷ codes) = inserted_in codes
-inserted_in (Insert n ∷ codes) = n + inserted_in codes
-inserted_in (Delete n ∷ codes) = inserted_in codes
 
 pub marked-base : (mark : ℕ → Source) (at : ℕ) (codes : List Code) → base_of (marked mark at codes) ≡ base_of (runs_of codes)
 marked-base mark at [] = refl

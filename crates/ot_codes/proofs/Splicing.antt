@@ -9,11 +9,11 @@ use Rattle.ot_algebra.proofs.ComposeProgress.{ComposeBounds}
 use Rattle.ot_codes.specs.declared.code.Code.{Code}
 use Rattle.ot_codes.specs.declared.code.Code.TheVariants.{Retain, Insert, Delete}
 use Rattle.ot_codes.specs.declared.cut.Splice.{Splice}
-use Rattle.ot_codes.specs.Codes.{run_of, runs_of, spelled, length_of, others_of, first_of, insertion_of, deletion_of, keeps, without, total_of}
+use Rattle.ot_codes.specs.Codes.{run_of, runs_of, spelled, length_of, others_of, first_of, insertion_of, deletion_of, keeps, without, total_of, inserted_in}
 use Rattle.ot_codes.specs.Cuts.{with_cut, GiveText}
 use Rattle.ot_codes.specs.Cuts.Source.{OfFirst, OfSecond}
 use Rattle.ot_codes.specs.Splice.{HasInserted, composed_code, SplicesCode, inserts}
-use Rattle.ot_codes.proofs.Marked.{inserted_in, size-spelled, filled_marked}
+use Rattle.ot_codes.proofs.Marked.{size-spelled, filled_marked}
 use Rattle.ot_codes.proofs.Composing.{first_of_codes, second_of_codes, Composing, state_moved, composing_insert, composing_retain, composing_keep, composing_cut, composing_bounds, composing_small, composing_end, composing_none}
 
 -- what is known of both operations

@@ -114,3 +114,29 @@ counted sum (Delete count) = record sum { deleted = sum.deleted + count }
 -- codes in normal form and within the limits, and their sum
 abbrev pub AreSound : List Code → Sum → Type 0
 AreSound codes sum = IsSound (runs_of codes) (sum.kept + sum.deleted) (sum.kept + sum.inserted) sum.inserted
+
+-- how many elements codes retain, delete and insert
+abbrev pub kept_in : List Code → ℕ
+kept_in [] = 0
+kept_in (Retain count ∷ codes) = count + kept_in codes
+kept_in (Insert count ∷ codes) = kept_in codes
+kept_in (Delete count ∷ codes) = kept_in codes
+
+abbrev pub deleted_in : List Code → ℕ
+deleted_in [] = 0
+deleted_in (Retain count ∷ codes) = deleted_in codes
+deleted_in (Insert count ∷ codes) = deleted_in codes
+deleted_in (Delete count ∷ codes) = count + deleted_in codes
+
+abbrev pub inserted_in : List Code → ℕ
+inserted_in [] = 0
+inserted_in (Retain count ∷ codes) = inserted_in codes
+inserted_in (Insert count ∷ codes) = count + inserted_in codes
+inserted_in (Delete count ∷ codes) = inserted_in codes
+
+abbrev pub sum_of : List Code → Sum
+sum_of codes = record { kept = kept_in codes; deleted = deleted_in codes; inserted = inserted_in codes }
+
+-- the codes without the first `count` elements of their first code, or all of them
+abbrev pub past : ℕ → List Code → List Code
+past count codes = if nat_eq count 0 then codes else without count codes
