@@ -9,7 +9,7 @@ use Rattle.ot_list.specs.declared.draft.Draft.{Draft}
 use Rattle.ot_list.specs.Leaves.{concatenated, AreLeaves, MayEnd, last_leaf}
 use Rattle.ot_list.specs.Spans.{reach, all_put, through}
 use Rattle.ot_list.specs.Written.{last_span, spans_of, made_by, place_of, front_of, written, AreApart, IsDraft, Continues, IsWithoutLast, IsWithLeaf, HasClosed, HasHalved, HasFlushed}
-use Rattle.ot_list.proofs.Leaved.{concatenated-append, leaves_push, leaves_front, leaves_end, may_end_more, may_end_by_last, last-push, last_small}
+use Rattle.ot_list.proofs.Leaved.{concatenated-append, leaves_push, leaves_front, leaves_end, leaves_last, may_end_more, may_end_by_last, last-push, last_small}
 use Rattle.ot_list.proofs.Through.{span, reach-push, all_put-push, through_add, through_kept, through_reopened, apart_other, apart_same, apart_front, apart_none}
 
 pub item_at : {T : Type 0} (vs : List (Vec T Global)) (k : ℕ) (v : Vec T Global) → k < length vs → v ≡ get_or vs k v → get_or (map (λ w. w.items) vs) k [] ≡ v.items
@@ -30,6 +30,10 @@ split_last {A} xs d h =
 
 pub popped : {X Y : Type 0} (f : X → Y) (vs vs' : List X) (n : ℕ) → n ≡ length vs → vs' ≡ take (n - 1) vs → map f vs' ≡ take (length (map f vs) - 1) (map f vs)
 popped f vs vs' n e p = rw (p, e, length-map) (sym (take-map f (length vs - 1) vs))
+
+-- the last leaf has items
+pub last_filled : {A : Type 0} (cap : ℕ) (cs front : List (List A)) (c : List A) → AreLeaves cap cs → cs ≡ front ++ c ∷ [] → 0 < length (last_leaf cs)
+last_filled cap cs front c p e = rw (e, last-push front c) (leaves_last cap front c (rw e at p))
 
 module _ {T S : Type 0} (cap : ℕ) (total : List T → S) (old : List (List T)) where
   -- a draft's numbers

@@ -1,7 +1,7 @@
 -- Examples that the checker evaluates: the list and the patch of the crate's picture.
 use Rattle.std.proofs.Common.{◌≡◌, ℕ, List, [], ◌∷◌, map, refl}
 use Rattle.ot_list.specs.declared.span.Span.{Span}
-use Rattle.ot_list.specs.Leaves.{concatenated}
+use Rattle.ot_list.specs.Leaves.{concatenated, with_run, replaced}
 use Rattle.ot_list.specs.Spans.{reach, merged, taken, turned}
 
 abbrev old : List (List ℕ)
@@ -34,3 +34,9 @@ back = refl
 
 pub new_gone : taken (map turned spans) made ≡ new
 new_gone = refl
+
+pub run_replaced : with_run {A = ℕ} (1 ∷ 2 ∷ 3 ∷ 4 ∷ []) 1 2 (7 ∷ 8 ∷ 9 ∷ []) ≡ 1 ∷ 7 ∷ 8 ∷ 9 ∷ 4 ∷ []
+run_replaced = refl
+
+pub leaf_replaced : replaced old 2 1 1 (7 ∷ 8 ∷ []) ≡ (1 ∷ 2 ∷ []) ∷ (3 ∷ []) ∷ (4 ∷ 7 ∷ 8 ∷ []) ∷ (6 ∷ []) ∷ []
+leaf_replaced = refl

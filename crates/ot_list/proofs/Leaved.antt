@@ -39,6 +39,11 @@ leaves_end cap [] d ds p = tt
 leaves_end cap (b ∷ []) d ds p = p.2
 leaves_end cap (b ∷ c ∷ cs) d ds p = leaves_end cap (c ∷ cs) d ds p.3
 
+pub leaves_last : {A : Type 0} (cap : ℕ) (cs : List (List A)) (d : List A) → AreLeaves cap (cs ++ d ∷ []) → 0 < length d
+leaves_last cap [] d p = p.0
+leaves_last cap (b ∷ []) d p = p.3.0
+leaves_last cap (b ∷ c ∷ cs) d p = leaves_last cap (c ∷ cs) d p.3
+
 pub leaves_drop : {A : Type 0} (cap k : ℕ) (cs : List (List A)) → AreLeaves cap cs → AreLeaves cap (drop k cs)
 leaves_drop cap zero cs p = p
 leaves_drop cap (suc k) [] p = tt

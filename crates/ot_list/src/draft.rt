@@ -3,7 +3,7 @@
 ghost use Rattle.std.specs.Prelude.{◌≡◌, ◌↔◌, ◌+◌, ◌-◌, ◌*◌, ◌<◌, ◌≤◌, ◌++◌, ◌∷◌, List as ListOf, [], length, get_or, slice_get, take, drop, false, IsTrue, OnOk, IfOk};
 ghost use Rattle.ot_list.specs.Leaves.{concatenated, AreLeaves, MayEnd, last_leaf};
 ghost use Rattle.ot_list.specs.Change.{patched, IsOf};
-ghost use Rattle.ot_list.specs.Written.{written, front_of, place_of, IsDraft, Continues, IsWithoutLast, IsWithLeaf, HasClosed, HasHalved, HasFlushed, MayFollow, IsAt};
+ghost use Rattle.ot_list.specs.Written.{written, front_of, place_of, IsDraft, Continues, IsWithoutLast, IsWithLeaf, HasClosed, HasHalved, HasFlushed, MayFollow, IsAt, IsLastSum};
 
 use crate::{Item, List, Patch, Span};
 use std::alloc::{AllocError, Global};
@@ -85,19 +85,37 @@ impl<E: Item> Draft<E> {
         &[]
     }
 
-    // How many they are: the leaf itself is not read.
+    /// What the last whole leaf that is written comes to, or `None` where there is none: the leaf itself is not read. The `unfinished` items stand behind it.
+    pub fn last_sum(&self, old: &List<E>) -> Option<E::Sum>
+        requires { IsDraft E.CAP E.total old.now self.now }
+        ensures { IsLastSum E.total (front_of old.now self.now) result }
+    {
+        let count = self.sums.len();
+        if count > self.first {
+            return Some(self.sums[count - 1]);
+        }
+        if self.kept > 0 {
+            return Some(old.sums()[self.place - 1]);
+        }
+        None
+    }
+
+    /// The items that are written behind the last whole leaf: at most `2 * CAP`.
+    pub fn unfinished(&self) -> &[E]
+        ensures { result.now ≡ self.now.pending.items }
+    {
+        &self.pending[..]
+    }
+
+    // How many items the last whole leaf has: 0, where there is none.
     fn last_count(&self, old: &List<E>) -> usize
         requires { IsDraft E.CAP E.total old.now self.now }
         ensures { result ≡ length (last_leaf (front_of old.now self.now)) }
     {
-        let count = self.sums.len();
-        if count > self.first {
-            return E::count(self.sums[count - 1]);
+        match self.last_sum(old) {
+            Some(sum) => E::count(sum),
+            None => 0,
         }
-        if self.kept > 0 {
-            return E::count(old.sums()[self.place - 1]);
-        }
-        0
     }
 
     // The last whole leaf is written no more.

@@ -34,3 +34,34 @@ pub trait Item: Copy {
 
     ghost counts: { (items : ListOf Self) → length items ≤ CAP → count_of (total items) ≡ length items };
 }
+
+/// Characters, in leaves of up to 512, whose sums are their counts.
+impl Item for char {
+    type Sum = u32;
+
+    const CAP: usize = 512;
+
+    const FILL: usize = 384;
+
+    ghost CAP = { 512 };
+
+    ghost FILL = { 384 };
+
+    ghost total = { λ items. length items };
+
+    ghost count_of = { λ sum. sum };
+
+    fn sum(items: &[char]) -> u32 {
+        items.len() as u32
+    }
+
+    fn count(sum: u32) -> usize {
+        sum as usize
+    }
+
+    ghost use Rattle.std.proofs.Common.{rules};
+
+    ghost bounds = { Prim.search rules };
+
+    ghost counts = { Prim.search rules };
+}

@@ -20,6 +20,9 @@
 //!
 //! - `Draft::begin`, then `keep`, `push`, `extend`, `pop`, and `finish`, which makes the patch; or `list`, where there is no old list. The old list is only
 //!   read. After an error the draft is abandoned: `begin` makes it one in which nothing is written. Its room is kept from one use to the next.
+//! - `Draft::last_sum` and `Draft::unfinished` say how what is written ends, by the sum of the last whole leaf and the items behind it.
+//! - `List::find` goes over leaves by their sums; `List::copy` copies a list. `List::replace_in_leaf` changes one leaf where it lies, if the rule on leaves still holds
+//!   then.
 //! - `List::prepare` makes room in the patch; that may fail, and changes no value.
 //! - `List::swap` exchanges leaves: it takes no memory, cannot fail, and moves only the headers of leaves. Where as many go as come at each place, it touches
 //!   these alone; else it goes over all headers once.
@@ -32,6 +35,7 @@ mod laws;
 mod list;
 mod moves;
 mod patch;
+mod replace;
 mod span;
 
 pub use draft::Draft;

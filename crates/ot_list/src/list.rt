@@ -1,10 +1,11 @@
 //! The list.
 
-ghost use Rattle.std.specs.Prelude.{◌≡◌, ◌<◌, ◌≤◌, ◌+◌, List as ListOf, map, length, get_or, []};
-ghost use Rattle.ot_list.specs.Leaves.{AreLeaves};
+ghost use Rattle.std.specs.Prelude.{◌≡◌, ◌↔◌, ◌<◌, ◌≤◌, ◌+◌, ◌-◌, ◌^◌, List as ListOf, map, length, take, drop, set, get_or, [], false, IsTrue, IfOk, OnErr};
+ghost use Rattle.ot_list.specs.Leaves.{concatenated, AreLeaves, MayHave, replaced};
 
 use crate::Item;
-use std::alloc::Global;
+use crate::replace::replace;
+use std::alloc::{AllocError, Global};
 use std::marker::Model;
 
 /// A list in leaves.
@@ -33,6 +34,11 @@ impl<E: Item> List<E> {
         }
     }
 
+    /// Where the list's memory comes from.
+    pub fn allocator(&self) -> Global {
+        *self.leaves.allocator()
+    }
+
     /// How many leaves there are.
     pub fn leaf_count(&self) -> usize
         ensures count { result ≡ length self.now }
@@ -55,4 +61,108 @@ impl<E: Item> List<E> {
     {
         self.leaves[place].as_slice()
     }
+
+    /// The leaves, in order.
+    pub fn leaves(&self) -> &[Vec<E>]
+        ensures { map (λ v. v.items) result.now ≡ self.now }
+    {
+        self.leaves.as_slice()
+    }
+
+    /// A list of the same leaves. `AllocError` where a growth was refused.
+    pub fn copy(&self) -> Result<List<E>, AllocError>
+        ensures { IfOk result (λ list. list ≡ self.now) }
+    {
+        let alloc = *self.leaves.allocator();
+        let leaves = copy_leaves(alloc, self.leaves.as_slice())?;
+        let sums = Vec::from_slice(alloc, self.sums.as_slice())?;
+        Ok(List { leaves, sums })
+    }
+
+    // How many items a leaf has, by its sum.
+    fn size(&self, place: usize) -> usize
+        requires { place < length self.now }
+        ensures value { result ≡ length (get_or self.now place []) }
+        ensures small { result ≤ E.CAP }
+        ensures cap { E.CAP < 2 ^ 32 }
+    {
+        E::count(self.sums[place])
+    }
+
+    /// Goes over whole leaves, from one on, as long as they have at most `count` items together. Says before which leaf it stops, and how many items of the
+    /// count are left: fewer than that leaf has, if there is one. It reads sums alone.
+    pub fn find(&self, from: usize, count: usize) -> (usize, usize)
+        requires { from ≤ length self.now }
+        ensures order { from ≤ result.0 }
+        ensures within { result.0 ≤ length self.now }
+        ensures count { length (concatenated (take (result.0 - from) (drop from self.now))) + result.1 ≡ count }
+        ensures next { result.0 < length self.now → result.1 < length (get_or self.now result.0 []) }
+    {
+        let mut left = count;
+        for place in from..self.leaf_count() {
+            let items = self.size(place);
+            if items > left {
+                return (place, left);
+            }
+            left -= items;
+        }
+        (self.leaf_count(), left)
+    }
+
+    // May the leaf at that place have so many items, beside its neighbours?
+    fn may_have(&self, place: usize, count: usize) -> bool
+        requires place { place < length self.now }
+        requires small { count ≤ E.CAP }
+        ensures { IsTrue result ↔ MayHave E.CAP self.now place count }
+    {
+        let leaves = self.leaf_count();
+        if count == 0 {
+            return false;
+        }
+        if place > 0 && self.size(place - 1) + count <= E::CAP {
+            return false;
+        }
+        place + 1 >= leaves || self.size(place + 1) + count > E::CAP
+    }
+
+    /// In a leaf, where it lies, `gone` items go from the place `at` of the leaf on, and others come there. Answers false, and changes nothing, exactly where
+    /// the leaves would not be as they have to be then: 1 to `CAP` items each, two neighbours more than `CAP`. `AllocError` where the leaf's growth was
+    /// refused: nothing has changed then.
+    pub fn replace_in_leaf(
+        &mut self,
+        leaf: usize,
+        at: usize,
+        gone: usize,
+        items: &[E],
+    ) -> Result<bool, AllocError>
+        requires leaf { leaf < length self.old }
+        requires within { at + gone ≤ length (get_or self.old leaf []) }
+        ensures made { IfOk result (λ made. IsTrue made → self.new ≡ replaced self.old leaf at gone items.now) }
+        ensures not { IfOk result (λ made. made ≡ false → self.new ≡ self.old) }
+        ensures only { IfOk result (λ made. made ≡ false → AreLeaves E.CAP (replaced self.old leaf at gone items.now) → ⊥) }
+        ensures err { OnErr result (self.new ≡ self.old) }
+    {
+        let left = self.size(leaf) - gone;
+        if items.len() > E::CAP - left {
+            return Ok(false);
+        }
+        if !self.may_have(leaf, left + items.len()) {
+            return Ok(false);
+        }
+        replace(&mut self.leaves[leaf], at, gone, items)?;
+        self.sums[leaf] = E::sum(self.leaves[leaf].as_slice());
+        Ok(true)
+    }
+}
+
+// Copies of leaves.
+fn copy_leaves<T: Copy>(alloc: Global, leaves: &[Vec<T>]) -> Result<Vec<Vec<T>>, AllocError>
+    ensures { IfOk result (λ copies. map (λ v. v.items) copies.items ≡ map (λ v. v.items) leaves.now) }
+{
+    let mut copies = Vec::with_capacity(alloc, leaves.len())?;
+    for leaf in leaves {
+        let copy = Vec::from_slice(alloc, leaf.as_slice())?;
+        copies.push(copy)?;
+    }
+    Ok(copies)
 }

@@ -1,0 +1,48 @@
+//! Items of a list in the place of others, where the list lies.
+
+ghost use Rattle.std.specs.Prelude.{◌≡◌, ◌+◌, ◌≤◌, ◌++◌, length, take, drop, OnOk, OnErr, vec_capacity};
+ghost use Rattle.ot_list.specs.Leaves.{with_run};
+
+use std::alloc::AllocError;
+
+// Takes items out.
+fn remove<T: Copy>(items: &mut Vec<T>, at: usize, count: usize)
+    requires { at + count ≤ length items.old.items }
+    ensures items { items.new.items ≡ take at items.old.items ++ drop (at + count) items.old.items }
+    ensures capacity { vec_capacity items.new ≡ vec_capacity items.old }
+{
+    items.copy_within(at + count.., at);
+    items.truncate(items.len() - count);
+}
+
+// Puts items in, for which there is room.
+fn insert<T: Copy>(items: &mut Vec<T>, at: usize, come: &[T])
+    requires inside { at ≤ length items.old.items }
+    requires room { length items.old.items + length come.now ≤ vec_capacity items.old }
+    ensures { items.new.items ≡ take at items.old.items ++ come.now ++ drop at items.old.items }
+{
+    let length = items.len();
+    if items.extend_from_slice(come).is_err() {
+        unreachable!();
+    }
+    let end = at + come.len();
+    items.copy_within(at..length, end);
+    items.slice_mut(at..end).copy_from_slice(come);
+}
+
+/// From a place on `gone` items go, and others come there. `AllocError` where the growth was refused: the list is as it was then.
+pub fn replace<T: Copy>(
+    items: &mut Vec<T>,
+    at: usize,
+    gone: usize,
+    come: &[T],
+) -> Result<(), AllocError>
+    requires { at + gone ≤ length items.old.items }
+    ensures ok { OnOk result (items.new.items ≡ with_run items.old.items at gone come.now) }
+    ensures err { OnErr result (items.new.items ≡ items.old.items) }
+{
+    items.reserve(come.len())?;
+    remove(items, at, gone);
+    insert(items, at, come);
+    Ok(())
+}
