@@ -35,7 +35,7 @@ impl Model for Codes {
 
 impl Codes {
     /// No codes: the operation on the empty document that does nothing. Takes no memory; later calls take theirs from `alloc`.
-    fn new(alloc: Global) -> Codes
+    pub fn new(alloc: Global) -> Codes
         ensures { result ≡ empty }
     {
         Codes {
@@ -45,7 +45,7 @@ impl Codes {
     }
 
     // One more code at the end, as ot.js' builder adds it. `AllocError` where a growth was refused; nothing has changed then.
-    fn put(&mut self, code: Code) -> Result<(), AllocError>
+    pub fn put(&mut self, code: Code) -> Result<(), AllocError>
         requires { IsTooLong (appended self.old (run_of code)) → ⊥ }
         ensures ok { OnOk result (self.new ≡ appended self.old (run_of code)) }
         ensures err { OnErr result (self.new ≡ self.old) }
