@@ -1,6 +1,6 @@
 /*
  * Faults of ports: `bugs`, in the form of examples/port/bugs.js, whose five are among them. There is one for each branch of
- * ot.js, and one for each kind of text, length and log. Nearly all are an edit of a method's source: what stands there, and what
+ * ot.js, and one for each kind of text, length, operation and log. Nearly all are an edit of a method's source: what stands there, and what
  * the faulty port has instead. Those of `leaks` show only where one process performs several sessions.
  */
 "use strict";
@@ -66,9 +66,14 @@ const EDITS = [
   ["insert-counts-code-points", "insert", "this.targetLength += str.length;", "this.targetLength += [...str].length;"],
   ["line-ends-changed", "insert", "this.targetLength += str.length;", "str = str.replace(/\\r\\n/g, '\\n'); this.targetLength += str.length;"],
   ["texts-normalized", "insert", "this.targetLength += str.length;", "str = str.normalize(); this.targetLength += str.length;"],
+  ["texts-escaped", "insert", "this.targetLength += str.length;", "str = str.replace(/</g, '&lt;'); this.targetLength += str.length;"],
+  ["texts-with-other-blanks", "insert", "this.targetLength += str.length;", "str = str.replace(/\\u00a0/g, ' '); this.targetLength += str.length;"],
+  ["texts-end-at-nul", "insert", "this.targetLength += str.length;", "str = str.replace(/\\0.*/s, ''); this.targetLength += str.length;"],
+  ["texts-without-noncharacters", "insert", "this.targetLength += str.length;", "str = str.replace(/[\\ufffe\\uffff]/g, '\\ufffd'); this.targetLength += str.length;"],
   ["lengths-of-8-bits", "retain", "if (n === 0) {", "n = n & 255; if (n === 0) {"],
   ["lengths-of-15-bits", "retain", "if (n === 0) {", "n = n & 32767; if (n === 0) {"],
   ["lengths-of-16-bits", "retain", "if (n === 0) {", "n = n & 65535; if (n === 0) {"],
+  ["components-up-to-1000", "retain", "this.ops.push(n);", "if (this.ops.length === 1000) { throw new Error('too many components'); } this.ops.push(n);"],
   ["log-cut-at-100", "Server.receiveOperation", "slice(revision)", "slice(Math.max(revision, this.operations.length - 100))"],
   ["log-cut-at-1000", "Server.receiveOperation", "slice(revision)", "slice(Math.max(revision, this.operations.length - 1000))"],
 ];

@@ -13,8 +13,13 @@ from options import MOST_START
 from schedule import Instruction
 from simulator import Simulator, fitted
 
-LONG = 60  # a session of more instructions is gone through once, and without trying each component of its edits
+LONG = 60  # a session of more instructions, or with more components in an edit, is gone through once, and without trying each component
+MANY = 8  # of an edit of more components runs of them are left out
 PATIENCE = 32  # there a way ends behind so many candidates in a row of which none shows it: a fault of long logs needs most of them
+
+
+def is_long(schedule):
+    return max((len(schedule.instructions), *(len(instruction.edit) for instruction in schedule.instructions))) > LONG
 
 
 def repaired(schedule):
@@ -113,6 +118,18 @@ def fewer_texts(schedule):
         yield with_instructions(schedule, (it if at in kept else dataclasses.replace(it, edit=()) for at, it in enumerate(schedule.instructions)))
 
 
+def with_edit(schedule, at, edit):
+    instructions = schedule.instructions
+    return with_instructions(schedule, instructions[:at] + (dataclasses.replace(instructions[at], edit=edit),) + instructions[at + 1:])
+
+
+def fewer_components(schedule):
+    """Without a run of the components of an edit that has many, long runs first."""
+    for at, instruction in enumerate(schedule.instructions):
+        for edit in without_runs(instruction.edit) if len(instruction.edit) > MANY else ():
+            yield with_edit(schedule, at, edit)
+
+
 def shorter(text):
     """Shorter texts, and one of plain letters."""
     yield from ("", "a" * len(text))
@@ -135,12 +152,10 @@ def shorter_texts(schedule):
     """With a shorter start, or one component of one edit simpler."""
     for start in shorter(schedule.start):
         yield dataclasses.replace(schedule, start=start)
-    instructions = schedule.instructions
-    for at, instruction in enumerate(instructions if len(instructions) <= LONG else ()):
+    for at, instruction in enumerate(() if is_long(schedule) else schedule.instructions):
         for place, component in enumerate(instruction.edit):
             for other in simpler(component):
-                edit = instruction.edit[:place] + (other,) + instruction.edit[place + 1:]
-                yield with_instructions(schedule, instructions[:at] + (dataclasses.replace(instruction, edit=edit),) + instructions[at + 1:])
+                yield with_edit(schedule, at, instruction.edit[:place] + (other,) + instruction.edit[place + 1:])
 
 
 def fewer_sessions(sessions):
@@ -164,7 +179,7 @@ def each_session(way):
     return smaller
 
 
-WAYS = [fewer_sessions] + [each_session(way) for way in (fewer_instructions, longer_start, fewer_clients, no_texts, fewer_texts, shorter_texts)]
+WAYS = [fewer_sessions] + [each_session(way) for way in (fewer_instructions, longer_start, fewer_clients, no_texts, fewer_texts, fewer_components, shorter_texts)]
 
 
 class Reduction:
@@ -197,7 +212,7 @@ class Reduction:
         return next((number for candidate, number in given if candidate == shown), 0)
 
     def is_long(self):
-        return any(len(schedule.instructions) > LONG for schedule in self.sessions)
+        return any(map(is_long, self.sessions))
 
     def exhaust(self, way):
         """Goes one way until nothing on it shows it any more. Behind a success it goes on from there, and then begins anew."""

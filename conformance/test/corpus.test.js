@@ -70,9 +70,12 @@ test("every fault is found, every session finds one, and COVERAGE.md says by whi
 const KINDS = {
   "characters-line-end-of-two": ["line-ends-changed"],
   "characters-normal-forms": ["texts-normalized"],
+  "characters-of-markup": ["texts-escaped", "texts-with-other-blanks"],
+  "characters-rarely-used": ["texts-end-at-nul", "texts-without-noncharacters"],
   "characters-past-the-plane-": ["insert-counts-code-points"],
   "lengths-above-": ["lengths-of-8-bits", "lengths-of-15-bits", "lengths-of-16-bits"],
   "log-above-": ["log-cut-at-100", "log-cut-at-1000"],
+  "operations-of-many-components": ["components-up-to-1000"],
   [TOGETHER]: ["log-shared"],
 };
 

@@ -16,6 +16,10 @@ class Shown(unittest.TestCase):
     def test_the_readme_shows_the_job(self):
         self.assertIn(textwrap.indent(JOB, "    "), (KIT / "README.md").read_text(encoding="utf-8"))
 
+    def test_the_program_that_it_names_is_one_of_the_repository(self):
+        named, = re.findall(r"^ +OTBENCH: otbench/(.*)$", JOB, re.MULTILINE)
+        self.assertTrue(os.access(KIT.parent / named, os.X_OK))
+
 
 @needs_program
 @needs_node

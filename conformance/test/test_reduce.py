@@ -94,6 +94,21 @@ class Reducing(unittest.TestCase):
         self.assertEqual(len(reduced((session,), first_shown)[-1].instructions), 2 * LONG + 1)
         self.assertLess(asked, 200)
 
+    def test_an_edit_of_many_components(self):
+        session, asked = Schedule(1, 1, "ab" * 520, (Instruction("edit", 0, (1, -1) * 520),)), 0
+
+        def first_shown(candidates):
+            nonlocal asked
+            for candidate in candidates:
+                asked += 1
+                if any(len(instruction.edit) > 1000 for instruction in candidate[-1].instructions):
+                    return candidate, len(candidate[-1].instructions)
+            return None
+
+        small, = reduced((session,), first_shown)
+        self.assertLess(len(small.instructions[0].edit), 1010)
+        self.assertLess(asked, 100)
+
     def test_long_texts(self):
         start = "the quick brown fox " * 2000
         small, = reduced((Schedule(1, 1, start, ()),), showing(lambda it: len(it.start) > 32_767))
