@@ -9,16 +9,16 @@ use Rattle.ot_asm.specs.Parts.{lines_before, lines_behind, TakesPart}
 use Rattle.ot_asm.specs.Stepping.{outcome_of_lines}
 use Rattle.ot_debug.specs.Session.{Session, started}
 use Rattle.ot_console.specs.declared.talking.TalkStop.{TalkStop}
-use Rattle.ot_console.specs.Talking.{TalksAll, TalksPart}
+use Rattle.ot_console.specs.Talking.{IsCaused, TalksAll, TalksPart}
 use Rattle.outcomes.specs.Outcomes.{Streams}
 use Rattle.ot_commands.specs.Debugged.{talk_status, Debugs, MayConverse, TellsStop}
 
 -- each line was answered
-pub converses : (schedule : Program) (before after : Session) (faulted : Bool) (input : Option (List ℕ)) (earlier : ℕ) (old new faults : Option (List ℕ))
+pub converses : (schedule : Program) (before after : Session) (faulted : Bool) (input : Option (List ℕ)) (earlier : ℕ) (old new faults : Option (List ℕ)) (broken : Bool)
     → before ≡ started schedule → TalksAll before after faulted input old new
-    → IfSome input (λ rest. MayConverse schedule (lines_of rest) earlier (talk_status faulted) (record { output = old; output' = new; faults = faults; faults' = faults }))
-converses schedule before after faulted None earlier old new faults begun said = tt
-converses schedule before after faulted (Some rest) earlier old new faults begun said =
+    → IfSome input (λ rest. MayConverse schedule (lines_of rest) earlier (talk_status faulted) (record { output = old; output' = new; broken = broken; faults = faults; faults' = faults }))
+converses schedule before after faulted None earlier old new faults broken begun said = tt
+converses schedule before after faulted (Some rest) earlier old new faults broken begun said =
     inl (record {
       after = after;
       text = said.text;
@@ -28,12 +28,12 @@ converses schedule before after faulted (Some rest) earlier old new faults begun
     })
 
 -- the talk broke off
-pub breaks_off : (schedule : Program) (before after : Session) (stop : TalkStop) (input left : Option (List ℕ)) (earlier : ℕ) (old new faults faults' : Option (List ℕ))
-    → before ≡ started schedule → TalksPart stop earlier before after input left old new → TellsStop stop faults faults'
-    → IfSome input (λ rest. MayConverse schedule (lines_of rest) earlier 1 (record { output = old; output' = new; faults = faults; faults' = faults' }))
-breaks_off schedule before after stop None left earlier old new faults faults' begun said tells = tt
-breaks_off schedule before after stop (Some rest) None earlier old new faults faults' begun said tells = absurd said.taken
-breaks_off schedule before after stop (Some rest) (Some behind) earlier old new faults faults' begun said tells =
+pub breaks_off : (schedule : Program) (before after : Session) (stop : TalkStop) (input left : Option (List ℕ)) (earlier : ℕ) (old new faults faults' : Option (List ℕ)) (broken : Bool)
+    → before ≡ started schedule → TalksPart stop earlier before after input left old new → IsCaused stop broken → TellsStop stop faults faults'
+    → IfSome input (λ rest. MayConverse schedule (lines_of rest) earlier 1 (record { output = old; output' = new; broken = broken; faults = faults; faults' = faults' }))
+breaks_off schedule before after stop None left earlier old new faults faults' broken begun said cause tells = tt
+breaks_off schedule before after stop (Some rest) None earlier old new faults faults' broken begun said cause tells = absurd said.taken
+breaks_off schedule before after stop (Some rest) (Some behind) earlier old new faults faults' broken begun said cause tells =
     inr (inl (record {
       stop = stop;
       answered = said.lines;
@@ -44,6 +44,7 @@ breaks_off schedule before after stop (Some rest) (Some behind) earlier old new 
       faulted = said.faulted;
       talks = rw (← begun) said.talks;
       written = said.written;
+      cause = cause;
       number = said.number;
       tells = tells;
       status_is = refl;

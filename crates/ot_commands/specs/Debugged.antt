@@ -9,7 +9,7 @@ use Rattle.ot_asm.specs.Stepping.{outcome_of_lines}
 use Rattle.ot_debug.specs.Session.{Session, started}
 use Rattle.ot_console.specs.declared.talking.TalkStop.{TalkStop}
 use Rattle.ot_console.specs.declared.talking.TalkStop.TheVariants as stop
-use Rattle.ot_console.specs.Talking.{Talks, IsWritten, IsNumber}
+use Rattle.ot_console.specs.Talking.{Talks, IsCaused, IsWritten, IsNumber}
 use Rattle.outcomes.specs.Outcomes.{Streams, Complains, Gives, WantsMemory}
 use Rattle.ot_input.specs.Faults.{RefusesLines, line_fault}
 
@@ -31,7 +31,7 @@ TellsStop (stop.ReadFault number) old new = Complains (line_fault (record { line
 TellsStop (stop.Memory number) old new = Complains (line_fault (record { line = number; kind = line.Memory })) old new
 TellsStop stop.WriteFault old new = Keeps old new
 
--- a talk that breaks off: the first lines are answered, and the next one could not be read, or a reply could not be written whole.
+-- a talk that breaks off: the first lines are answered, and the next one could not be read, or, only where a write failed, a reply is not written whole.
 -- The fault's line counts the lines before the talk too
 pub record BreaksOff (schedule : Program) (lines : List (List ℕ)) (earlier : ℕ) (status : ℕ) (streams : Streams) : Type 0 where
   pub stop : TalkStop
@@ -43,6 +43,7 @@ pub record BreaksOff (schedule : Program) (lines : List (List ℕ)) (earlier : �
   pub faulted : Bool
   pub talks : Talks (started schedule) answered after text faulted
   pub written : IsWritten stop streams.output streams.output' text
+  pub cause : IsCaused stop streams.broken
   pub number : IsNumber stop (earlier + length answered)
   pub tells : TellsStop stop streams.faults streams.faults'
   pub status_is : status ≡ 1

@@ -1,5 +1,5 @@
 -- What `judge` writes and answers.
-use Rattle.std.specs.Prelude.{◌≡◌, ◌≢◌, ◌⊎◌, ℕ, List, [], ◌∷◌, ◌++◌, Result, Ok, Err, codes, if◌then◌else◌}
+use Rattle.std.specs.Prelude.{◌≡◌, ◌≢◌, ◌⊎◌, ℕ, List, [], ◌∷◌, ◌++◌, Bool, Result, Ok, Err, codes, if◌then◌else◌}
 use Rattle.std.specs.Str.{is_utf8}
 use Rattle.ot_judge.specs.declared.verdict.Verdict.{Verdict}
 use Rattle.ot_judge.specs.declared.verdict.Verdict.TheVariants.{Holds}
@@ -44,7 +44,7 @@ pub record GivesVerdict (trace : TraceView) (status : ℕ) (streams : Streams) :
 abbrev pub MayGiveVerdict : TraceView → ℕ → Streams → Type 0
 MayGiveVerdict trace status streams = GivesVerdict trace status streams ⊎ WantsMemory status streams
 
--- the bytes were not read whole, or they are refused, or they are a trace, which is judged
-abbrev pub Judges : List ℕ → ℕ → Streams → Type 0
-Judges bytes status streams =
-    GivesUp status streams ⊎ RefusesTrace bytes status streams ⊎ ((trace : TraceView) × (trace_of_bytes bytes ≡ Ok trace) × MayGiveVerdict trace status streams)
+-- the bytes were not read whole (`unread`: the input has failed), or they are refused, or they are a trace, which is judged
+abbrev pub Judges : Bool → List ℕ → ℕ → Streams → Type 0
+Judges unread bytes status streams =
+    GivesUp unread status streams ⊎ RefusesTrace bytes status streams ⊎ ((trace : TraceView) × (trace_of_bytes bytes ≡ Ok trace) × MayGiveVerdict trace status streams)

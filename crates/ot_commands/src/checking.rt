@@ -12,6 +12,7 @@ use ot_report::{Findings, find};
 use outcomes::{complain_of_memory, give};
 use std::alloc::Global;
 use std::io::{Read, Write};
+use streams::Sink;
 
 // The status of what is found of a run.
 fn check_status(found: &Findings) -> u8
@@ -25,13 +26,13 @@ fn check_status(found: &Findings) -> u8
 }
 
 // Runs the schedule and prints what is found.
-fn report_findings<O: Write, F: Write>(
+fn report_findings<O: Sink, F: Write>(
     alloc: Global,
     schedule: &Schedule,
     output: &mut O,
     faults: &mut F,
 ) -> u8
-    ensures { MayFind schedule.now result (record { output = O.contents output.old; output' = O.contents output.new; faults = F.contents faults.old; faults' = F.contents faults.new }) }
+    ensures { MayFind schedule.now result (record { output = O.contents output.old; output' = O.contents output.new; broken = O.failed output.new; faults = F.contents faults.old; faults' = F.contents faults.new }) }
 {
     let Ok(found) = find(alloc, schedule) else {
         complain_of_memory(faults);
@@ -41,13 +42,13 @@ fn report_findings<O: Write, F: Write>(
 }
 
 /// Runs the schedule whose text is the input, and prints what is found of it.
-pub fn check_text<I: Read, O: Write, F: Write>(
+pub fn check_text<I: Read, O: Sink, F: Write>(
     alloc: Global,
     input: &mut I,
     output: &mut O,
     faults: &mut F,
 ) -> u8
-    ensures { IfSome (I.remaining input.old) (λ text. OfText MayFind text result (record { output = O.contents output.old; output' = O.contents output.new; faults = F.contents faults.old; faults' = F.contents faults.new })) }
+    ensures { IfSome (I.remaining input.old) (λ text. OfText MayFind text result (record { output = O.contents output.old; output' = O.contents output.new; broken = O.failed output.new; faults = F.contents faults.old; faults' = F.contents faults.new })) }
 {
     match assemble_from(alloc, input) {
         Ok(schedule) => report_findings(alloc, &schedule, output, faults),

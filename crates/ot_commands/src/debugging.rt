@@ -14,6 +14,7 @@ use ot_isa::Schedule;
 use outcomes::complain_of_memory;
 use std::alloc::Global;
 use std::io::{Read, Write};
+use streams::Sink;
 
 // Writes why a talk broke off.
 fn complain_of_stop<F: Write>(alloc: Global, stop: TalkStop, faults: &mut F)
@@ -48,7 +49,7 @@ fn talk_status(faulted: bool) -> u8
 }
 
 // Answers the commands that are left, from the schedule's opening on. So many lines stand before them.
-fn converse<I: Read, O: Write, F: Write>(
+fn converse<I: Read, O: Sink, F: Write>(
     alloc: Global,
     schedule: Schedule,
     earlier: u64,
@@ -57,7 +58,7 @@ fn converse<I: Read, O: Write, F: Write>(
     output: &mut O,
     faults: &mut F,
 ) -> u8
-    ensures { IfSome (before ahead.old (I.remaining input.old)) (λ rest. MayConverse schedule (lines_of rest) earlier result (record { output = O.contents output.old; output' = O.contents output.new; faults = F.contents faults.old; faults' = F.contents faults.new })) }
+    ensures { IfSome (before ahead.old (I.remaining input.old)) (λ rest. MayConverse schedule (lines_of rest) earlier result (record { output = O.contents output.old; output' = O.contents output.new; broken = O.failed output.new; faults = F.contents faults.old; faults' = F.contents faults.new })) }
 {
     let Ok(mut debugger) = Stepper::new(alloc, schedule) else {
         complain_of_memory(faults);
@@ -73,13 +74,13 @@ fn converse<I: Read, O: Write, F: Write>(
 }
 
 /// Reads a schedule's lines as far as the first line `%%`, and answers each command behind it as it is read.
-pub fn debug_text<I: Read, O: Write, F: Write>(
+pub fn debug_text<I: Read, O: Sink, F: Write>(
     alloc: Global,
     input: &mut I,
     output: &mut O,
     faults: &mut F,
 ) -> u8
-    ensures { IfSome (I.remaining input.old) (λ text. Debugs text result (record { output = O.contents output.old; output' = O.contents output.new; faults = F.contents faults.old; faults' = F.contents faults.new })) }
+    ensures { IfSome (I.remaining input.old) (λ text. Debugs text result (record { output = O.contents output.old; output' = O.contents output.new; broken = O.failed output.new; faults = F.contents faults.old; faults' = F.contents faults.new })) }
 {
     let mut ahead = ReadAhead::new();
     match assemble_until_mark(alloc, &mut ahead, input) {

@@ -8,16 +8,17 @@ use ot_generate::{Shape, generate};
 use outcomes::complain_of_memory;
 use std::alloc::Global;
 use std::io::Write;
+use streams::Sink;
 
 /// Writes the canonical text of the session of this seed.
-pub fn generate_session<O: Write, F: Write>(
+pub fn generate_session<O: Sink, F: Write>(
     alloc: Global,
     seed: u32,
     shape: &Shape,
     output: &mut O,
     faults: &mut F,
 ) -> u8
-    ensures { Generates shape.now result (record { output = O.contents output.old; output' = O.contents output.new; faults = F.contents faults.old; faults' = F.contents faults.new }) }
+    ensures { Generates shape.now result (record { output = O.contents output.old; output' = O.contents output.new; broken = O.failed output.new; faults = F.contents faults.old; faults' = F.contents faults.new }) }
 {
     match generate(alloc, seed as u64, shape) {
         Ok(schedule) => {

@@ -9,8 +9,8 @@ use ot_judge::{Trace, TraceFault, Verdict, judge, read_trace};
 use ot_report::print_verdict;
 use outcomes::{complain, complain_of_input, complain_of_memory, give};
 use std::alloc::Global;
-use std::io::{Read, Write};
-use streams::read_whole;
+use std::io::Write;
+use streams::{Sink, Source};
 
 fn status_of(verdict: Verdict) -> u8
     ensures { result ≡ verdict_status verdict }
@@ -48,13 +48,13 @@ fn trace_in(alloc: Global, bytes: &[u8]) -> Result<Trace, TraceFault>
 }
 
 // Judges the trace and prints the verdict.
-fn give_verdict<O: Write, F: Write>(
+fn give_verdict<O: Sink, F: Write>(
     alloc: Global,
     trace: &Trace,
     output: &mut O,
     faults: &mut F,
 ) -> u8
-    ensures { MayGiveVerdict trace.now result (record { output = O.contents output.old; output' = O.contents output.new; faults = F.contents faults.old; faults' = F.contents faults.new }) }
+    ensures { MayGiveVerdict trace.now result (record { output = O.contents output.old; output' = O.contents output.new; broken = O.failed output.new; faults = F.contents faults.old; faults' = F.contents faults.new }) }
 {
     let Ok(verdict) = judge(alloc, trace) else {
         complain_of_memory(faults);
@@ -68,15 +68,15 @@ fn give_verdict<O: Write, F: Write>(
 }
 
 /// Judges the trace that is the input.
-pub fn judge_input<I: Read, O: Write, F: Write>(
+pub fn judge_input<I: Source, O: Sink, F: Write>(
     alloc: Global,
     input: &mut I,
     output: &mut O,
     faults: &mut F,
 ) -> u8
-    ensures { IfSome (I.remaining input.old) (λ bytes. Judges bytes result (record { output = O.contents output.old; output' = O.contents output.new; faults = F.contents faults.old; faults' = F.contents faults.new })) }
+    ensures { IfSome (I.remaining input.old) (λ bytes. Judges (I.failed input.new) bytes result (record { output = O.contents output.old; output' = O.contents output.new; broken = O.failed output.new; faults = F.contents faults.old; faults' = F.contents faults.new })) }
 {
-    let bytes = match read_whole(alloc, input) {
+    let bytes = match input.read_whole(alloc) {
         Ok(bytes) => bytes,
         Err(fault) => {
             complain_of_input(fault, faults);

@@ -13,7 +13,7 @@ use ot_report::{ReportFault, write_report};
 use outcomes::{complain_of_input, complain_of_memory};
 use std::alloc::Global;
 use std::io::{Read, Write};
-use streams::read_whole;
+use streams::{Sink, Source};
 
 /// The status of a run that stopped in this way: 0 where all instructions were performed, else 1.
 pub fn status_of(stopped: Option<(usize, Refusal)>) -> u8
@@ -26,13 +26,13 @@ pub fn status_of(stopped: Option<(usize, Refusal)>) -> u8
 }
 
 // Runs the schedule and writes its report.
-fn report<O: Write, F: Write>(
+fn report<O: Sink, F: Write>(
     alloc: Global,
     schedule: &Schedule,
     output: &mut O,
     faults: &mut F,
 ) -> u8
-    ensures { MayReport schedule.now result (record { output = O.contents output.old; output' = O.contents output.new; faults = F.contents faults.old; faults' = F.contents faults.new }) }
+    ensures { MayReport schedule.now result (record { output = O.contents output.old; output' = O.contents output.new; broken = O.failed output.new; faults = F.contents faults.old; faults' = F.contents faults.new }) }
 {
     match write_report(alloc, schedule, output) {
         Ok(stopped) => status_of(stopped),
@@ -45,13 +45,13 @@ fn report<O: Write, F: Write>(
 }
 
 /// Runs the schedule whose text is the input.
-pub fn run_text<I: Read, O: Write, F: Write>(
+pub fn run_text<I: Read, O: Sink, F: Write>(
     alloc: Global,
     input: &mut I,
     output: &mut O,
     faults: &mut F,
 ) -> u8
-    ensures { IfSome (I.remaining input.old) (λ text. OfText MayReport text result (record { output = O.contents output.old; output' = O.contents output.new; faults = F.contents faults.old; faults' = F.contents faults.new })) }
+    ensures { IfSome (I.remaining input.old) (λ text. OfText MayReport text result (record { output = O.contents output.old; output' = O.contents output.new; broken = O.failed output.new; faults = F.contents faults.old; faults' = F.contents faults.new })) }
 {
     match assemble_from(alloc, input) {
         Ok(schedule) => report(alloc, &schedule, output, faults),
@@ -63,15 +63,15 @@ pub fn run_text<I: Read, O: Write, F: Write>(
 }
 
 /// Runs the schedule whose image is the input.
-pub fn run_image<I: Read, O: Write, F: Write>(
+pub fn run_image<I: Source, O: Sink, F: Write>(
     alloc: Global,
     input: &mut I,
     output: &mut O,
     faults: &mut F,
 ) -> u8
-    ensures { IfSome (I.remaining input.old) (λ bytes. OfImage MayReport bytes result (record { output = O.contents output.old; output' = O.contents output.new; faults = F.contents faults.old; faults' = F.contents faults.new })) }
+    ensures { IfSome (I.remaining input.old) (λ bytes. OfImage MayReport (I.failed input.new) bytes result (record { output = O.contents output.old; output' = O.contents output.new; broken = O.failed output.new; faults = F.contents faults.old; faults' = F.contents faults.new })) }
 {
-    match read_whole(alloc, input) {
+    match input.read_whole(alloc) {
         Ok(bytes) => match load(alloc, bytes.as_slice()) {
             Ok(schedule) => report(alloc, &schedule, output, faults),
             Err(fault) => {

@@ -26,6 +26,7 @@ use ot_isa::Schedule;
 use outcomes::{complain_of_memory, give};
 use std::alloc::Global;
 use std::io::{Read, Write};
+use streams::Sink;
 
 // Writes why a comparison broke off.
 fn complain_of_stop<F: Write>(alloc: Global, stop: CompareStop, faults: &mut F)
@@ -63,14 +64,14 @@ fn verdict_status(verdict: &Verdict) -> u8
 }
 
 // Writes a verdict on lines for the schedule.
-fn write_verdict<O: Write, F: Write>(
+fn write_verdict<O: Sink, F: Write>(
     alloc: Global,
     schedule: &Schedule,
     verdict: &Verdict,
     output: &mut O,
     faults: &mut F,
 ) -> u8
-    ensures { MayWrite schedule.now verdict.now result (record { output = O.contents output.old; output' = O.contents output.new; faults = F.contents faults.old; faults' = F.contents faults.new }) }
+    ensures { MayWrite schedule.now verdict.now result (record { output = O.contents output.old; output' = O.contents output.new; broken = O.failed output.new; faults = F.contents faults.old; faults' = F.contents faults.new }) }
 {
     match print_verdict(alloc, schedule, verdict) {
         Ok(text) => give(text.as_bytes(), verdict_status(verdict), output),
@@ -82,7 +83,7 @@ fn write_verdict<O: Write, F: Write>(
 }
 
 // Compares the lines that are left with the schedule's run. So many lines stand before them.
-fn judge<I: Read, O: Write, F: Write>(
+fn judge<I: Read, O: Sink, F: Write>(
     alloc: Global,
     schedule: &Schedule,
     earlier: u64,
@@ -91,7 +92,7 @@ fn judge<I: Read, O: Write, F: Write>(
     output: &mut O,
     faults: &mut F,
 ) -> u8
-    ensures { IfSome (before ahead.old (I.remaining input.old)) (λ rest. MayJudge schedule.now (lines_of rest) earlier result (record { output = O.contents output.old; output' = O.contents output.new; faults = F.contents faults.old; faults' = F.contents faults.new })) }
+    ensures { IfSome (before ahead.old (I.remaining input.old)) (λ rest. MayJudge schedule.now (lines_of rest) earlier result (record { output = O.contents output.old; output' = O.contents output.new; broken = O.failed output.new; faults = F.contents faults.old; faults' = F.contents faults.new })) }
 {
     match compare_lines(alloc, schedule, ahead, input, earlier) {
         Ok(verdict) => write_verdict(alloc, schedule, &verdict, output, faults),
@@ -105,13 +106,13 @@ fn judge<I: Read, O: Write, F: Write>(
 /// Reads a schedule's lines as far as the first line `%%`, compares the port's lines behind it with the schedule's run as they come, writes
 /// the answer, and gives the status: 0 where the port conforms; 1 where it differs, where nothing can be compared for a limit of the
 /// bench, for a refused schedule, and for a fault of reading, writing or memory.
-pub fn run_conform<I: Read, O: Write, F: Write>(
+pub fn run_conform<I: Read, O: Sink, F: Write>(
     alloc: Global,
     input: &mut I,
     output: &mut O,
     faults: &mut F,
 ) -> u8
-    ensures { IfSome (I.remaining input.old) (λ text. Compares text result (record { output = O.contents output.old; output' = O.contents output.new; faults = F.contents faults.old; faults' = F.contents faults.new })) }
+    ensures { IfSome (I.remaining input.old) (λ text. Compares text result (record { output = O.contents output.old; output' = O.contents output.new; broken = O.failed output.new; faults = F.contents faults.old; faults' = F.contents faults.new })) }
 {
     let mut ahead = ReadAhead::new();
     match assemble_until_mark(alloc, &mut ahead, input) {

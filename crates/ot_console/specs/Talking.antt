@@ -70,6 +70,12 @@ IsWritten (stop.ReadFault number) old new text = Appends old new text
 IsWritten (stop.Memory number) old new text = Appends old new text
 IsWritten stop.WriteFault old new text = WritesPart old new text
 
+-- WriteFault is said only where a write has failed, as the writer says itself
+abbrev pub IsCaused : TalkStop → Bool → Type 0
+IsCaused (stop.ReadFault number) failed = ⊤
+IsCaused (stop.Memory number) failed = ⊤
+IsCaused stop.WriteFault failed = failed ≡ true
+
 abbrev pub IsReadFault : TalkStop → Type 0
 IsReadFault (stop.ReadFault number) = Unit {0}
 IsReadFault (stop.Memory number) = ⊥

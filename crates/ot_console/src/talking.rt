@@ -1,16 +1,16 @@
 //! The talk with a debugger, line by line.
 
-ghost use Rattle.std.specs.Prelude.{◌≡◌, [], IfErr, IfOk, OnErr, OnOk};
+ghost use Rattle.std.specs.Prelude.{◌≡◌, true, [], IfErr, IfOk, OnErr, OnOk};
 ghost use Rattle.std.specs.Io.KnownBytes.{IsAtEnd};
 ghost use Rattle.line_reader.specs.Taken.{before};
-ghost use Rattle.ot_console.specs.Talking.{IsReadFault, TalksAll, TalksPart, WritesPartOfTurn, WritesTurn};
+ghost use Rattle.ot_console.specs.Talking.{IsCaused, IsReadFault, TalksAll, TalksPart, WritesPartOfTurn, WritesTurn};
 
 use crate::turns::respond;
 use line_reader::{LineFault, ReadAhead};
 use ot_debug::Stepper;
 use std::alloc::Global;
-use std::io::{Read, Write};
-use streams::{WriteFault, put};
+use std::io::Read;
+use streams::{Sink, WriteFault};
 
 /// Why a talk stopped before the end of its lines.
 #[derive(Clone, Copy, Debug, PartialEq, Eq)]
@@ -24,7 +24,7 @@ pub enum TalkStop {
 }
 
 // Answers one line and writes what it is answered with. Says whether that is a fault.
-fn answer<W: Write>(
+fn answer<W: Sink>(
     alloc: Global,
     debugger: &mut Stepper,
     line: &[u8],
@@ -32,9 +32,10 @@ fn answer<W: Write>(
 ) -> Result<bool, WriteFault>
     ensures ok { IfOk result (λ faulted. WritesTurn debugger.old line.now debugger.new faulted (W.contents writer.old) (W.contents writer.new)) }
     ensures err { OnErr result (WritesPartOfTurn debugger.old line.now debugger.new (W.contents writer.old) (W.contents writer.new)) }
+    ensures cause { OnErr result (W.failed writer.new ≡ true) }
 {
     let response = respond(alloc, debugger, line);
-    match put(writer, response.text.as_bytes()) {
+    match writer.put(response.text.as_bytes()) {
         Ok(()) => Ok(response.faulted),
         Err(fault) => Err(fault),
     }
@@ -45,9 +46,9 @@ fn answer<W: Write>(
 ///
 /// `earlier` lines stand before these; the number of a line where the talk stops counts them too, and is at most
 /// `u64::MAX`. The lines before that one were answered, and what they were answered with is written. Where writing
-/// failed, a first part is written of what the lines, the last one that was taken included, were answered with. In each
+/// failed (and only there, as the writer says itself), a first part is written of what the lines, the last one that was taken included, were answered with. In each
 /// case the debugger is as the answered lines leave it.
-pub fn talk<R: Read, W: Write>(
+pub fn talk<R: Read, W: Sink>(
     alloc: Global,
     debugger: &mut Stepper,
     ahead: &mut ReadAhead,
@@ -58,6 +59,7 @@ pub fn talk<R: Read, W: Write>(
     ensures ok { IfOk result (λ faulted. TalksAll debugger.old debugger.new faulted (before ahead.old (R.remaining reader.old)) (W.contents writer.old) (W.contents writer.new)) }
     ensures end { OnOk result (IsAtEnd (before ahead.new (R.remaining reader.new))) }
     ensures err { IfErr result (λ stop. TalksPart stop earlier debugger.old debugger.new (before ahead.old (R.remaining reader.old)) (before ahead.new (R.remaining reader.new)) (W.contents writer.old) (W.contents writer.new)) }
+    ensures cause { IfErr result (λ stop. IsCaused stop (W.failed writer.new)) }
     ensures read_fault { IfErr result (λ stop. IsReadFault stop → ahead.new.held ≡ []) }
 {
     // For the proof: what every reader keeps.

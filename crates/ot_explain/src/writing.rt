@@ -2,6 +2,7 @@
 
 ghost use Rattle.std.specs.Prelude.{◌≡◌, IfErr, IfOk};
 ghost use Rattle.ot_model.specs.Runs.{opening_of};
+ghost use Rattle.ot_steps.specs.Written.{IsCaused};
 ghost use Rattle.ot_explain.specs.Explained.{MovesUpTo, WritesMoves, WritesRun, WritesUpTo};
 
 use crate::paragraphs::{last_words, opening_words, perform};
@@ -9,11 +10,10 @@ use ot_isa::Schedule;
 use ot_machine::{Machine, Refusal};
 use ot_steps::StepsFault;
 use std::alloc::Global;
-use std::io::Write;
-use streams::put;
+use streams::Sink;
 
 // Performs the instructions up to the first that is not performed, and writes the paragraph of each.
-fn write_moves<W: Write>(
+fn write_moves<W: Sink>(
     alloc: Global,
     machine: &mut Machine,
     lines: &[u64],
@@ -23,6 +23,7 @@ fn write_moves<W: Write>(
     requires { machine.old ≡ opening_of schedule.now }
     ensures ok { IfOk result (λ stopped. WritesMoves lines.now schedule.now stopped machine.new (W.contents output.old) (W.contents output.new)) }
     ensures err { IfErr result (λ f. MovesUpTo f lines.now schedule.now (W.contents output.old) (W.contents output.new)) }
+    ensures cause { IfErr result (λ f. IsCaused f (W.failed output.new)) }
 {
     let mut paragraph = String::new(alloc);
     for number in 0..schedule.len() {
@@ -30,7 +31,7 @@ fn write_moves<W: Write>(
             unreachable!()
         };
         match perform(alloc, &mut paragraph, machine, lines, number, instr)? {
-            Ok(()) => put(output, paragraph.as_bytes())?,
+            Ok(()) => output.put(paragraph.as_bytes())?,
             Err(refusal) => return Ok(Some((number, refusal))),
         }
     }
@@ -41,9 +42,10 @@ fn write_moves<W: Write>(
 /// instruction was not performed (refused, or for want of memory), and the end. Says whether one was not performed. `lines` are the lines
 /// of the instructions, as [`places`](crate::places) of the schedule's text; an instruction without one has line 0.
 ///
-/// After a fault a first part of the text is written; for want of memory whole paragraphs. Memory does not grow with the text: each
+/// After a fault a first part of the text is written; for want of memory whole paragraphs. `WriteFault` is said only where a write has
+/// failed, as the output says itself. Memory does not grow with the text: each
 /// paragraph is written before the next instruction is performed, and no more is kept than one paragraph.
-pub fn explain<W: Write>(
+pub fn explain<W: Sink>(
     alloc: Global,
     schedule: &Schedule,
     lines: &[u64],
@@ -51,13 +53,14 @@ pub fn explain<W: Write>(
 ) -> Result<bool, StepsFault>
     ensures ok { IfOk result (λ refused. WritesRun lines.now schedule.now refused (W.contents output.old) (W.contents output.new)) }
     ensures err { IfErr result (λ f. WritesUpTo f lines.now schedule.now (W.contents output.old) (W.contents output.new)) }
+    ensures cause { IfErr result (λ f. IsCaused f (W.failed output.new)) }
 {
     let clients = schedule.clients();
     let mut machine = Machine::with_present(alloc, clients, schedule.present(), schedule.start())?;
     let opening = opening_words(alloc, schedule)?;
-    put(output, opening.as_bytes())?;
+    output.put(opening.as_bytes())?;
     let stopped = write_moves(alloc, &mut machine, lines, schedule, output)?;
     let last = last_words(alloc, &machine, lines, schedule, stopped)?;
-    put(output, last.as_bytes())?;
+    output.put(last.as_bytes())?;
     Ok(stopped.is_some())
 }

@@ -1,10 +1,10 @@
 -- From the bytes that were read to the input.
-use Rattle.std.proofs.Common.{◌≡◌, ◌∙◌, ℕ, List, Option, Some, None, inr, subst}
+use Rattle.std.proofs.Common.{◌≡◌, ◌∙◌, ℕ, Bool, List, Option, Some, None, inr, subst}
 use Rattle.std.specs.Prelude.{IfSome}
 use Rattle.outcomes.specs.Outcomes.{Streams}
 use Rattle.ot_explain_command.specs.Explains.{Explains, ExplainsText}
 
-pub explained : (input : Option (List ℕ)) (bytes read : List ℕ) (status : ℕ) (streams : Streams) → IfSome input (λ text. bytes ≡ text) → read ≡ bytes → ExplainsText read status streams
-    → IfSome input (λ text. Explains text status streams)
-explained None bytes read status streams is same does = tt
-explained (Some text) bytes read status streams is same does = inr (subst (λ (t : List ℕ). ExplainsText t status streams) (same ∙ is) does)
+pub explained : (input : Option (List ℕ)) (unread : Bool) (bytes read : List ℕ) (status : ℕ) (streams : Streams) → IfSome input (λ text. bytes ≡ text) → read ≡ bytes → ExplainsText read status streams
+    → IfSome input (λ text. Explains unread text status streams)
+explained None unread bytes read status streams is same does = tt
+explained (Some text) unread bytes read status streams is same does = inr (subst (λ (t : List ℕ). ExplainsText t status streams) (same ∙ is) does)

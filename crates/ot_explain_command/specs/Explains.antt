@@ -1,5 +1,5 @@
 -- What `explain` writes and answers.
-use Rattle.std.specs.Prelude.{◌≡◌, ◌⊎◌, ℕ, List, Bool, Option, Ok, if◌then◌else◌}
+use Rattle.std.specs.Prelude.{◌≡◌, ◌⊎◌, ℕ, List, Bool, true, Option, Ok, if◌then◌else◌}
 use Rattle.std.specs.Io.KnownBytes.{Keeps}
 use Rattle.streams.specs.Streams.{WritesPart}
 use Rattle.line_reader.specs.Lines.{lines_of}
@@ -22,10 +22,10 @@ pub record WritesWords (lines : List ℕ) (schedule : Program) (status : ℕ) (s
   pub run : WritesRun lines schedule refused streams.output streams.output'
   pub quiet : Keeps streams.faults streams.faults'
 
--- a write failed: a first part of the run, and nothing on the faults
+-- only where a write failed: a first part of the run, and nothing on the faults
 abbrev pub BreaksOff : List ℕ → Program → ℕ → Streams → Type 0
 BreaksOff lines schedule status streams =
-    (status ≡ 1) × WritesPartOfRun lines schedule streams.output streams.output' × Keeps streams.faults streams.faults'
+    (status ≡ 1) × (streams.broken ≡ true) × WritesPartOfRun lines schedule streams.output streams.output' × Keeps streams.faults streams.faults'
 
 -- memory was wanting: whole paragraphs, and on the faults that it was
 abbrev pub WantsMemory : List ℕ → Program → ℕ → Streams → Type 0
@@ -56,6 +56,6 @@ abbrev pub ExplainsText : List ℕ → ℕ → Streams → Type 0
 ExplainsText text status streams =
     Refuses text status streams ⊎ ((schedule : Program) × (outcome text ≡ Ok schedule) × MayExplain (places text) schedule status streams)
 
--- the input was not read whole, or it is a text, which is explained
-abbrev pub Explains : List ℕ → ℕ → Streams → Type 0
-Explains text status streams = GivesUp status streams ⊎ ExplainsText text status streams
+-- the input was not read whole (`unread`: it has failed), or it is a text, which is explained
+abbrev pub Explains : Bool → List ℕ → ℕ → Streams → Type 0
+Explains unread text status streams = GivesUp unread status streams ⊎ ExplainsText text status streams

@@ -21,18 +21,18 @@ use ot_isa::Schedule;
 use ot_steps::StepsFault;
 use outcomes::{complain, complain_of_input, complain_of_memory};
 use std::alloc::Global;
-use std::io::{Read, Write};
-use streams::read_whole;
+use std::io::Write;
+use streams::{Sink, Source};
 
 // Writes the schedule's run in words; its instructions stand at these lines.
-fn write_words<O: Write, F: Write>(
+fn write_words<O: Sink, F: Write>(
     alloc: Global,
     lines: &[u64],
     schedule: &Schedule,
     output: &mut O,
     faults: &mut F,
 ) -> u8
-    ensures { MayExplain lines.now schedule.now result (record { output = O.contents output.old; output' = O.contents output.new; faults = F.contents faults.old; faults' = F.contents faults.new }) }
+    ensures { MayExplain lines.now schedule.now result (record { output = O.contents output.old; output' = O.contents output.new; broken = O.failed output.new; faults = F.contents faults.old; faults' = F.contents faults.new }) }
 {
     match explain(alloc, schedule, lines, output) {
         Ok(true) => 1,
@@ -57,13 +57,8 @@ fn complain_of_text<F: Write>(alloc: Global, text: &[u8], fault: AsmFault, fault
 }
 
 // Explains a text.
-fn explain_text<O: Write, F: Write>(
-    alloc: Global,
-    text: &[u8],
-    output: &mut O,
-    faults: &mut F,
-) -> u8
-    ensures { ExplainsText text.now result (record { output = O.contents output.old; output' = O.contents output.new; faults = F.contents faults.old; faults' = F.contents faults.new }) }
+fn explain_text<O: Sink, F: Write>(alloc: Global, text: &[u8], output: &mut O, faults: &mut F) -> u8
+    ensures { ExplainsText text.now result (record { output = O.contents output.old; output' = O.contents output.new; broken = O.failed output.new; faults = F.contents faults.old; faults' = F.contents faults.new }) }
 {
     let mut rest = text;
     match assemble_from(alloc, &mut rest) {
@@ -84,15 +79,15 @@ fn explain_text<O: Write, F: Write>(
 /// Writes the run of the schedule whose text is the input in words, and answers the status: 0 where all instructions were performed; 1
 /// where one was not, for a refused text (its fault's line and the cause on the faults, nothing on the output), and for a fault of
 /// reading, writing or memory. The text is read whole, at most 2^30 bytes.
-pub fn run_explain<I: Read, O: Write, F: Write>(
+pub fn run_explain<I: Source, O: Sink, F: Write>(
     alloc: Global,
     input: &mut I,
     output: &mut O,
     faults: &mut F,
 ) -> u8
-    ensures { IfSome (I.remaining input.old) (λ text. Explains text result (record { output = O.contents output.old; output' = O.contents output.new; faults = F.contents faults.old; faults' = F.contents faults.new })) }
+    ensures { IfSome (I.remaining input.old) (λ text. Explains (I.failed input.new) text result (record { output = O.contents output.old; output' = O.contents output.new; broken = O.failed output.new; faults = F.contents faults.old; faults' = F.contents faults.new })) }
 {
-    match read_whole(alloc, input) {
+    match input.read_whole(alloc) {
         Ok(text) => explain_text(alloc, text.as_slice(), output, faults),
         Err(fault) => {
             complain_of_input(fault, faults);

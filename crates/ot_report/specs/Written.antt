@@ -1,5 +1,5 @@
 -- What is written of a run while it goes.
-use Rattle.std.specs.Prelude.{◌≡◌, ◌⊎◌, ℕ, ◌<◌, List, [], ◌++◌, Option, Some, None}
+use Rattle.std.specs.Prelude.{◌≡◌, ◌⊎◌, ℕ, ◌<◌, List, [], ◌++◌, Bool, true, Option, Some, None, ⊤}
 use Rattle.std.specs.Io.KnownBytes.{Appends, Keeps}
 use Rattle.streams.specs.Streams.{WritesPart}
 use Rattle.ot_isa.specs.Program.{Program}
@@ -44,6 +44,11 @@ pub record WritesFirstReads (s : Program) (old new : Option (List ℕ)) : Type 0
 abbrev pub WritesReportUpTo : ReportFault → Program → Option (List ℕ) → Option (List ℕ) → Type 0
 WritesReportUpTo Memory s old new = WritesFirstReads s old new
 WritesReportUpTo WriteFault s old new = WritesPartOfReport s old new
+
+-- WriteFault is said only where a write has failed, as the output says itself
+abbrev pub IsCaused : ReportFault → Bool → Type 0
+IsCaused Memory failed = ⊤
+IsCaused WriteFault failed = failed ≡ true
 
 -- ---- for private clauses
 

@@ -1,11 +1,11 @@
 //! The report of a schedule's run, written while it goes.
 
-ghost use Rattle.std.specs.Prelude.{◌≡◌, [], ◌++◌, IfErr, IfOk, IfSome, OnErr, OnOk, string_bytes};
+ghost use Rattle.std.specs.Prelude.{◌≡◌, true, [], ◌++◌, IfErr, IfOk, IfSome, OnErr, OnOk, string_bytes};
 ghost use Rattle.std.specs.Option.{option_map};
 ghost use Rattle.streams.specs.Streams.{WritesPart};
 ghost use Rattle.ot_model.specs.Runs.{opening_of};
 ghost use Rattle.ot_machine.specs.Reads.{shown_by, IsThere};
-ghost use Rattle.ot_report.specs.Written.{Flushes, Gathers, GathersReads, GathersUpTo, ReadsUpTo, WritesReport, WritesReportUpTo};
+ghost use Rattle.ot_report.specs.Written.{Flushes, Gathers, GathersReads, GathersUpTo, IsCaused, ReadsUpTo, WritesReport, WritesReportUpTo};
 
 use crate::ending::print_end;
 use crate::lines::push_read;
@@ -14,8 +14,7 @@ use ot_isa::Schedule;
 use ot_machine::Machine;
 use ot_model::{Reader, Refusal};
 use std::alloc::{AllocError, Global};
-use std::io::Write;
-use streams::put;
+use streams::Sink;
 
 /// Lines are gathered until they have so many bytes, and then written in one go: 64 KiB.
 const GATHERED: usize = 1 << 16;
@@ -52,20 +51,21 @@ impl From<streams::WriteFault> for ReportFault {
 }
 
 // Writes what is gathered, where that is enough.
-fn flush_full<W: Write>(text: &mut String, output: &mut W) -> Result<(), streams::WriteFault>
+fn flush_full<W: Sink>(text: &mut String, output: &mut W) -> Result<(), streams::WriteFault>
     ensures ok { OnOk result (Flushes (string_bytes text.old) (string_bytes text.new) (W.contents output.old) (W.contents output.new)) }
     ensures err { OnErr result (WritesPart (W.contents output.old) (W.contents output.new) (string_bytes text.old)) }
+    ensures cause { OnErr result (W.failed output.new ≡ true) }
 {
     if text.len() < GATHERED {
         return Ok(());
     }
-    put(output, text.as_bytes())?;
+    output.put(text.as_bytes())?;
     text.clear();
     Ok(())
 }
 
 // Gathers the line of a read, where there is one: it shows the machine's own list.
-fn gather<W: Write>(
+fn gather<W: Sink>(
     alloc: Global,
     machine: &Machine,
     who: Option<Reader>,
@@ -75,6 +75,7 @@ fn gather<W: Write>(
     requires { IfSome who (IsThere machine.now) }
     ensures ok { OnOk result (Gathers (option_map (shown_by machine.now) who) (string_bytes text.old) (string_bytes text.new) (W.contents output.old) (W.contents output.new)) }
     ensures err { IfErr result (λ f. GathersUpTo f (string_bytes text.old) (W.contents output.old) (W.contents output.new)) }
+    ensures cause { IfErr result (λ f. IsCaused f (W.failed output.new)) }
 {
     let Some(who) = who else { return Ok(()) };
     flush_full(text, output)?;
@@ -83,7 +84,7 @@ fn gather<W: Write>(
 }
 
 // Performs the instructions up to the first that is not performed, and gathers and writes the lines of the reads.
-fn write_reads<W: Write>(
+fn write_reads<W: Sink>(
     alloc: Global,
     machine: &mut Machine,
     schedule: &Schedule,
@@ -94,6 +95,7 @@ fn write_reads<W: Write>(
     requires empty { string_bytes text.old ≡ [] }
     ensures ok { IfOk result (λ stopped. GathersReads schedule.now stopped machine.new (string_bytes text.new) (W.contents output.old) (W.contents output.new)) }
     ensures err { IfErr result (λ f. ReadsUpTo f schedule.now (W.contents output.old) (W.contents output.new)) }
+    ensures cause { IfErr result (λ f. IsCaused f (W.failed output.new)) }
 {
     for place in 0..schedule.len() {
         let Some(instr) = schedule.get(place) else {
@@ -111,16 +113,17 @@ fn write_reads<W: Write>(
 /// for want of memory), and the state where the run ended. What is written is what [`print_run`](crate::print_run) makes of the run. Says
 /// which instruction was not performed, and why.
 ///
-/// After a failed write a first part of the report is written; for want of memory the lines of the first reads, and these are whole; lines
+/// After a failed write a first part of the report is written, and `WriteFault` is said only where one has failed, as the output says itself; for want of memory the lines of the first reads, and these are whole; lines
 /// that were gathered and not yet written are lost. Memory does not grow with the reads: their lines are gathered in one buffer, which is
 /// written once it has 64 KiB, and beside it there is room for the machine, for the line of one read, and for the lines of the end.
-pub fn write_report<W: Write>(
+pub fn write_report<W: Sink>(
     alloc: Global,
     schedule: &Schedule,
     output: &mut W,
 ) -> Result<Option<(usize, Refusal)>, ReportFault>
     ensures ok { IfOk result (λ stopped. WritesReport schedule.now stopped (W.contents output.old) (W.contents output.new)) }
     ensures err { IfErr result (λ f. WritesReportUpTo f schedule.now (W.contents output.old) (W.contents output.new)) }
+    ensures cause { IfErr result (λ f. IsCaused f (W.failed output.new)) }
 {
     let clients = schedule.clients();
     let mut machine = Machine::with_present(alloc, clients, schedule.present(), schedule.start())?;
@@ -128,7 +131,7 @@ pub fn write_report<W: Write>(
     let stopped = write_reads(alloc, &mut machine, schedule, &mut text, output)?;
     push_stop(alloc, &mut text, stopped)?;
     let end = print_end(alloc, &machine)?;
-    put(output, text.as_bytes())?;
-    put(output, end.as_bytes())?;
+    output.put(text.as_bytes())?;
+    output.put(end.as_bytes())?;
     Ok(stopped)
 }

@@ -1,5 +1,5 @@
 -- What is written of a run.
-use Rattle.std.specs.Prelude.{◌≡◌, ◌⊎◌, ℕ, ◌≤◌, List, Bool, Option, Some, is_some, take}
+use Rattle.std.specs.Prelude.{◌≡◌, ◌⊎◌, ℕ, ◌≤◌, List, Bool, true, Option, Some, is_some, take, ⊤}
 use Rattle.std.specs.Io.KnownBytes.{Appends, Keeps}
 use Rattle.streams.specs.Streams.{WritesPart}
 use Rattle.ot_isa.specs.Program.{Program}
@@ -51,6 +51,11 @@ pub record WritesPartOfRun (documents : Bool) (s : Program) (old new : Option (L
 abbrev pub WritesUpTo : StepsFault → Bool → Program → Option (List ℕ) → Option (List ℕ) → Type 0
 WritesUpTo Memory documents s old new = WritesFirstLines documents s old new
 WritesUpTo WriteFault documents s old new = WritesPartOfRun documents s old new
+
+-- WriteFault is said only where a write has failed, as the output says itself
+abbrev pub IsCaused : StepsFault → Bool → Type 0
+IsCaused Memory failed = ⊤
+IsCaused WriteFault failed = failed ≡ true
 
 -- ---- for private clauses
 

@@ -8,7 +8,7 @@ ghost use Rattle.ot_steps.specs.Kept.{AreKept};
 ghost use Rattle.ot_steps.specs.Steps.{last_lines};
 ghost use Rattle.ot_steps.specs.Text.{lines_text};
 ghost use Rattle.ot_steps.specs.Gathered.{Gathers, GathersMoves, GathersRun, GathersUpTo, MovesUpTo, RunUpTo};
-ghost use Rattle.ot_steps.specs.Written.{IsMove, WritesRun, WritesUpTo};
+ghost use Rattle.ot_steps.specs.Written.{IsCaused, IsMove, WritesRun, WritesUpTo};
 
 use crate::kept::{Kept, kept_of, nothing_kept, perform_keeping};
 use crate::lines::{print_end, print_opening, print_stop, write_step};
@@ -16,8 +16,7 @@ use crate::moving::sends;
 use ot_isa::{Instr, Schedule};
 use ot_machine::{Machine, Refusal};
 use std::alloc::{AllocError, Global};
-use std::io::Write;
-use streams::put;
+use streams::Sink;
 
 /// As many bytes of lines are held before they are written: 64 KiB.
 const HELD: usize = 65_536;
@@ -84,21 +83,22 @@ fn perform(
 }
 
 // Holds a text, and writes all that is held where it is much.
-fn gather<W: Write>(held: &mut Vec<u8>, text: &str, output: &mut W) -> Result<(), StepsFault>
+fn gather<W: Sink>(held: &mut Vec<u8>, text: &str, output: &mut W) -> Result<(), StepsFault>
     ensures ok { OnOk result (Gathers (W.contents output.old) (W.contents output.new) held.old.items held.new.items text.now) }
     ensures err { IfErr result (λ f. GathersUpTo f (W.contents output.old) (W.contents output.new) held.old.items held.new.items text.now) }
+    ensures cause { IfErr result (λ f. IsCaused f (W.failed output.new)) }
 {
     held.extend_from_slice(text.as_bytes())?;
     if held.len() < HELD {
         return Ok(());
     }
-    put(output, held.as_slice())?;
+    output.put(held.as_slice())?;
     held.clear();
     Ok(())
 }
 
 // Performs the instructions up to the first that is not performed, and gathers the line of each.
-fn gather_moves<W: Write>(
+fn gather_moves<W: Sink>(
     alloc: Global,
     machine: &mut Machine,
     schedule: &Schedule,
@@ -109,6 +109,7 @@ fn gather_moves<W: Write>(
     requires { machine.old ≡ opening_of schedule.now }
     ensures ok { IfOk result (λ stopped. GathersMoves documents schedule.now stopped machine.new (W.contents output.old) (W.contents output.new) held.old.items held.new.items) }
     ensures err { IfErr result (λ f. MovesUpTo f documents schedule.now (W.contents output.old) (W.contents output.new) held.old.items held.new.items) }
+    ensures cause { IfErr result (λ f. IsCaused f (W.failed output.new)) }
 {
     let mut line = String::new(alloc);
     let mut kept = nothing_kept(alloc, machine.clients())?;
@@ -154,7 +155,7 @@ fn print_last(
 }
 
 // Runs the schedule and gathers the lines of its run. Says whether an instruction was not performed.
-fn gather_run<W: Write>(
+fn gather_run<W: Sink>(
     alloc: Global,
     schedule: &Schedule,
     documents: bool,
@@ -163,6 +164,7 @@ fn gather_run<W: Write>(
 ) -> Result<bool, StepsFault>
     ensures ok { IfOk result (λ refused. GathersRun documents schedule.now refused (W.contents output.old) (W.contents output.new) held.old.items held.new.items) }
     ensures err { IfErr result (λ f. RunUpTo f documents schedule.now (W.contents output.old) (W.contents output.new) held.old.items held.new.items) }
+    ensures cause { IfErr result (λ f. IsCaused f (W.failed output.new)) }
 {
     let clients = schedule.clients();
     let mut machine = Machine::with_present(alloc, clients, schedule.present(), schedule.start())?;
@@ -178,10 +180,10 @@ fn gather_run<W: Write>(
 /// instruction was not performed (refused, or for want of memory), and the end. Says whether one was not performed. With `documents` each
 /// performed instruction's line has the document of the one that moved.
 ///
-/// After a fault a first part of the lines is written; for want of memory for a line these are whole lines, all that were made before it. Memory does
+/// After a fault a first part of the lines is written. `WriteFault` is said only where a write has failed, as the output says itself. For want of memory for a line these are whole lines, all that were made before it. Memory does
 /// not grow with the lines: they are written wherever 64 KiB of them are held. Beside the machine stand the texts of the long operations for which clients
 /// wait, in less than twice their bytes.
-pub fn print_steps<W: Write>(
+pub fn print_steps<W: Sink>(
     alloc: Global,
     schedule: &Schedule,
     documents: bool,
@@ -189,15 +191,16 @@ pub fn print_steps<W: Write>(
 ) -> Result<bool, StepsFault>
     ensures ok { IfOk result (λ refused. WritesRun documents schedule.now refused (W.contents output.old) (W.contents output.new)) }
     ensures err { IfErr result (λ f. WritesUpTo f documents schedule.now (W.contents output.old) (W.contents output.new)) }
+    ensures cause { IfErr result (λ f. IsCaused f (W.failed output.new)) }
 {
     let mut held = Vec::new(alloc);
     match gather_run(alloc, schedule, documents, &mut held, output) {
         Ok(refused) => {
-            put(output, held.as_slice())?;
+            output.put(held.as_slice())?;
             Ok(refused)
         }
         Err(StepsFault::Memory) => {
-            put(output, held.as_slice())?;
+            output.put(held.as_slice())?;
             Err(StepsFault::Memory)
         }
         Err(StepsFault::WriteFault) => Err(StepsFault::WriteFault),

@@ -1,5 +1,5 @@
 -- What `steps` writes and answers.
-use Rattle.std.specs.Prelude.{◌≡◌, ◌⊎◌, ℕ, List, Bool, if◌then◌else◌}
+use Rattle.std.specs.Prelude.{◌≡◌, ◌⊎◌, ℕ, List, Bool, true, if◌then◌else◌}
 use Rattle.std.specs.Io.KnownBytes.{Keeps}
 use Rattle.streams.specs.Streams.{WritesPart}
 use Rattle.outcomes.specs.Outcomes.{Streams, memory_fault}
@@ -18,10 +18,10 @@ pub record WritesSteps (documents : Bool) (schedule : Program) (status : ℕ) (s
   pub lines : WritesRun documents schedule refused streams.output streams.output'
   pub quiet : Keeps streams.faults streams.faults'
 
--- a write failed: a first part of the lines, and nothing on the faults
+-- only where a write failed: a first part of the lines, and nothing on the faults
 abbrev pub BreaksOff : Bool → Program → ℕ → Streams → Type 0
 BreaksOff documents schedule status streams =
-    (status ≡ 1) × WritesPartOfRun documents schedule streams.output streams.output' × Keeps streams.faults streams.faults'
+    (status ≡ 1) × (streams.broken ≡ true) × WritesPartOfRun documents schedule streams.output streams.output' × Keeps streams.faults streams.faults'
 
 -- memory was wanting: the first lines, and on the faults that it was
 abbrev pub WantsMemory : Bool → Program → ℕ → Streams → Type 0

@@ -87,7 +87,7 @@ pub record Ends (plan : PlanView) (status : ℕ) (streams : Streams) : Type 0 wh
 abbrev pub CarriesOut : PlanView → ℕ → Streams → Type 0
 CarriesOut plan status streams = WantsMemory status streams ⊎ Ends plan status streams
 
--- what is done with an input: it was not read whole, it is no plan, or it is a plan that is carried out
-abbrev pub Threads : List ℕ → ℕ → Streams → Type 0
-Threads bytes status streams =
-    GivesUp status streams ⊎ RefusesPlan bytes status streams ⊎ ((plan : PlanView) × (plan_of_bytes bytes ≡ Ok plan) × CarriesOut plan status streams)
+-- what is done with an input: it was not read whole (`unread`: it has failed), it is no plan, or it is a plan that is carried out
+abbrev pub Threads : Bool → List ℕ → ℕ → Streams → Type 0
+Threads unread bytes status streams =
+    GivesUp unread status streams ⊎ RefusesPlan bytes status streams ⊎ ((plan : PlanView) × (plan_of_bytes bytes ≡ Ok plan) × CarriesOut plan status streams)

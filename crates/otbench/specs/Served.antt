@@ -1,5 +1,5 @@
 -- What the program writes and answers.
-use Rattle.std.specs.Prelude.{◌≡◌, ◌⊎◌, ℕ, true, List, Some, None}
+use Rattle.std.specs.Prelude.{◌≡◌, ◌⊎◌, ℕ, Bool, true, List, Some, None}
 use Rattle.std.specs.Io.KnownBytes.{Keeps}
 use Rattle.streams.specs.Streams.{WritesPart}
 use Rattle.clap.specs.Words.{Text, takes}
@@ -27,33 +27,33 @@ use Rattle.ot_words.specs.declared.words.Asked.TheVariants.{Plainly, Threads}
 abbrev pub WithoutInput : (ℕ → Streams → Type 0) → List ℕ → ℕ → Streams → Type 0
 WithoutInput does text = does
 
--- what a subcommand that needs no handle does with its input
-abbrev pub Serves : Request → List ℕ → ℕ → Streams → Type 0
-Serves (Run form.Text) = OfText MayReport
-Serves (Run form.Image) = OfImage MayReport
-Serves Check = OfText MayFind
-Serves Debug = Debugs
-Serves Assemble = OfText MayGiveImage
-Serves Disassemble = OfImage MayGiveText
-Serves Judge = Judges
-Serves (Steps documents) = DoesSteps documents
-Serves Explain = Explains
-Serves Conform = Compares
-Serves Complete = OfText MayComplete
-Serves (Generate seed shape) = WithoutInput (Generates shape)
+-- what a subcommand that needs no handle does with its input; `unread` says that the input has failed
+abbrev pub Serves : Request → Bool → List ℕ → ℕ → Streams → Type 0
+Serves (Run form.Text) unread = OfText MayReport
+Serves (Run form.Image) unread = OfImage MayReport unread
+Serves Check unread = OfText MayFind
+Serves Debug unread = Debugs
+Serves Assemble unread = OfText MayGiveImage
+Serves Disassemble unread = OfImage MayGiveText unread
+Serves Judge unread = Judges unread
+Serves (Steps documents) unread = DoesSteps documents
+Serves Explain unread = Explains unread
+Serves Conform unread = Compares
+Serves Complete unread = OfText MayComplete
+Serves (Generate seed shape) unread = WithoutInput (Generates shape)
 
 -- what a subcommand does with its input
-abbrev pub ServesAsked : Asked → List ℕ → ℕ → Streams → Type 0
-ServesAsked (Plainly request) = Serves request
-ServesAsked Threads = DoesThreads
+abbrev pub ServesAsked : Asked → Bool → List ℕ → ℕ → Streams → Type 0
+ServesAsked (Plainly request) unread = Serves request unread
+ServesAsked Threads unread = DoesThreads unread
 
 -- status 2, nothing on the output, and a text on the faults
 abbrev pub Advises : ℕ → Streams → Type 0
 Advises status streams = (status ≡ 2) × Keeps streams.output streams.output' × ((text : List ℕ) × WritesPart streams.faults streams.faults' text)
 
 -- what the words ask for is done; or, where `clap` does not take them or they ask for nothing, its text is given; or memory for them was wanting
-abbrev pub ServesWords : List Text → List ℕ → ℕ → Streams → Type 0
-ServesWords words input status streams =
-    ((asked : Asked) × (request_of words ≡ Some asked) × ServesAsked asked input status streams)
+abbrev pub ServesWords : List Text → Bool → List ℕ → ℕ → Streams → Type 0
+ServesWords words unread input status streams =
+    ((asked : Asked) × (request_of words ≡ Some asked) × ServesAsked asked unread input status streams)
     ⊎ ((takes otbench_app words ≡ true → request_of words ≡ None) × Advises status streams)
     ⊎ WantsMemory status streams

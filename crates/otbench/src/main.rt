@@ -17,6 +17,7 @@ mod serving;
 use serving::serve;
 use std::process::ExitCode;
 use std::{env, io};
+use streams::Device;
 
 // Says that memory for the program's own words was wanting.
 fn wants_memory(rt: &impl Eprint) -> ExitCode {
@@ -40,8 +41,8 @@ fn main(rt: HostRuntime) -> ExitCode {
     let Ok(words) = all.collect::<Vec<String>>(alloc) else {
         return wants_memory(&rt);
     };
-    let mut input = rt.reader();
-    let mut output = io::writer(&rt);
+    let mut input = Device::new(rt.reader());
+    let mut output = Device::new(io::writer(&rt));
     let mut faults = rt.stderr();
     let status = serve(&rt, words.as_slice(), &mut input, &mut output, &mut faults);
     ExitCode::from(status)

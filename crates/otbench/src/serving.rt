@@ -21,9 +21,10 @@ use ot_words::{Asked, Form, Request, read_request};
 use outcomes::{complain, complain_of_memory};
 use std::alloc::Global;
 use std::convert::AsStr;
-use std::io::{Read, Write};
+use std::io::Write;
 use std::sync::Wait;
 use std::thread::Threads;
+use streams::{Sink, Source};
 
 // Writes `clap`'s text where the words gave no subcommand.
 fn no_matches<F: Write>(alloc: Global, error: &Error, faults: &mut F) -> u8
@@ -48,14 +49,14 @@ fn no_matches<F: Write>(alloc: Global, error: &Error, faults: &mut F) -> u8
 }
 
 // Carries out a subcommand that needs no handle.
-fn carry_out<I: Read, O: Write, F: Write>(
+fn carry_out<I: Source, O: Sink, F: Write>(
     alloc: Global,
     request: Request,
     input: &mut I,
     output: &mut O,
     faults: &mut F,
 ) -> u8
-    ensures { IfSome (I.remaining input.old) (λ text. Serves request text result (record { output = O.contents output.old; output' = O.contents output.new; faults = F.contents faults.old; faults' = F.contents faults.new })) }
+    ensures { IfSome (I.remaining input.old) (λ text. Serves request (I.failed input.new) text result (record { output = O.contents output.old; output' = O.contents output.new; broken = O.failed output.new; faults = F.contents faults.old; faults' = F.contents faults.new })) }
 {
     match request {
         Request::Run(Form::Text) => run_text(alloc, input, output, faults),
@@ -74,7 +75,7 @@ fn carry_out<I: Read, O: Write, F: Write>(
 }
 
 // Carries out what was asked for; `threads` alone may wait.
-fn serve_asked<R: Threads + Wait + Sync, I: Read, O: Write, F: Write>(
+fn serve_asked<R: Threads + Wait + Sync, I: Source, O: Sink, F: Write>(
     rt: &R,
     alloc: Global,
     asked: Asked,
@@ -82,7 +83,7 @@ fn serve_asked<R: Threads + Wait + Sync, I: Read, O: Write, F: Write>(
     output: &mut O,
     faults: &mut F,
 ) -> u8
-    ensures { IfSome (I.remaining input.old) (λ text. ServesAsked asked text result (record { output = O.contents output.old; output' = O.contents output.new; faults = F.contents faults.old; faults' = F.contents faults.new })) }
+    ensures { IfSome (I.remaining input.old) (λ text. ServesAsked asked (I.failed input.new) text result (record { output = O.contents output.old; output' = O.contents output.new; broken = O.failed output.new; faults = F.contents faults.old; faults' = F.contents faults.new })) }
 {
     match asked {
         Asked::Plainly(request) => carry_out(alloc, request, input, output, faults),
@@ -98,11 +99,11 @@ pub fn serve<
     'a,
     R: Alloc<A = Global> + Threads + Wait + Sync,
     S: AsStr,
-    I: Read,
-    O: Write,
+    I: Source,
+    O: Sink,
     F: Write,
 >(rt: &R, words: &'a [S], input: &mut I, output: &mut O, faults: &mut F) -> u8
-    ensures { IfSome (I.remaining input.old) (λ text. ServesWords (map S.text words.entry.now) text result (record { output = O.contents output.old; output' = O.contents output.new; faults = F.contents faults.old; faults' = F.contents faults.new })) }
+    ensures { IfSome (I.remaining input.old) (λ text. ServesWords (map S.text words.entry.now) (I.failed input.new) text result (record { output = O.contents output.old; output' = O.contents output.new; broken = O.failed output.new; faults = F.contents faults.old; faults' = F.contents faults.new })) }
 {
     let alloc = rt.alloc();
     match read_request(alloc, words) {

@@ -1,14 +1,15 @@
 -- What is left on the output and on the faults, with the status.
-use Rattle.std.specs.Prelude.{◌≡◌, ◌⊎◌, ℕ, List, [], ◌∷◌, ◌++◌, Option, codes}
+use Rattle.std.specs.Prelude.{◌≡◌, ◌⊎◌, ℕ, List, [], ◌∷◌, ◌++◌, Option, Bool, true, codes}
 use Rattle.std.specs.Io.KnownBytes.{Appends, Keeps}
 use Rattle.streams.specs.Streams.{WritesPart}
 use Rattle.streams.specs.declared.InputFault.{InputFault}
 use Rattle.streams.specs.declared.InputFault.TheVariants.{Read, Memory}
 
--- the streams before and after: what was on the output and on the faults, and what is there now
+-- the streams before and after: what was on the output and on the faults, and what is there now; and whether a write to the output has failed
 pub record Streams : Type 0 where
   pub output : Option (List ℕ)
   pub output' : Option (List ℕ)
+  pub broken : Bool
   pub faults : Option (List ℕ)
   pub faults' : Option (List ℕ)
 
@@ -36,17 +37,22 @@ Refuses line status streams = (status ≡ 1) × Keeps streams.output streams.out
 abbrev pub WantsMemory : ℕ → Streams → Type 0
 WantsMemory status streams = (status ≡ 1) × Keeps streams.output streams.output' × WritesPart streams.faults streams.faults' memory_fault
 
--- status 1, nothing on the output, and on the faults why the input was not read whole: a read failed, the input is too long, or memory was wanting
-abbrev pub GivesUp : ℕ → Streams → Type 0
-GivesUp status streams = (fault : InputFault) × (status ≡ 1) × Keeps streams.output streams.output' × WritesPart streams.faults streams.faults' (input_fault fault)
+-- status 1, nothing on the output, and on the faults why the input was not read whole: memory was wanting, or, only where the input says that it has
+-- failed (`unread`), a read failed or the input is too long
+pub record GivesUp (unread : Bool) (status : ℕ) (streams : Streams) : Type 0 where
+  pub fault : InputFault
+  pub cause : fault ≡ Read → unread ≡ true
+  pub status_is : status ≡ 1
+  pub output : Keeps streams.output streams.output'
+  pub told : WritesPart streams.faults streams.faults' (input_fault fault)
 
--- the whole text and its status; or, where writing failed, a first part of it and status 1
-abbrev pub Puts : ℕ → List ℕ → ℕ → Option (List ℕ) → Option (List ℕ) → Type 0
-Puts right text status old new = ((status ≡ right) × Appends old new text) ⊎ ((status ≡ 1) × WritesPart old new text)
+-- the whole text and its status; or, only where a write failed, a first part of it and status 1
+abbrev pub Puts : ℕ → List ℕ → ℕ → Option (List ℕ) → Option (List ℕ) → Bool → Type 0
+Puts right text status old new broken = ((status ≡ right) × Appends old new text) ⊎ ((status ≡ 1) × WritesPart old new text × (broken ≡ true))
 
 -- the output with its status, as far as writing went, and nothing on the faults
 abbrev pub Gives : ℕ → List ℕ → ℕ → Streams → Type 0
-Gives right text status streams = Puts right text status streams.output streams.output' × Keeps streams.faults streams.faults'
+Gives right text status streams = Puts right text status streams.output streams.output' streams.broken × Keeps streams.faults streams.faults'
 
 -- status 1, a first part of the output, and on the faults that memory was wanting: where the output is written piece by piece
 abbrev pub StopsShort : List ℕ → ℕ → Streams → Type 0

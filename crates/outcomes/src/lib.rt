@@ -1,14 +1,15 @@
 //! What a subcommand leaves: on the output, on the faults, and its status.
 //!
 //! ```text
-//!    the whole output, no fault    Gives right text    its own status; 1 where writing failed, with a first part of the text
+//!    the whole output, no fault    Gives right text    its own status; 1 only where a write failed, with a first part of the text
 //!    a refused input               Refuses line        1, nothing on the output, the fault's line
 //!    want of memory                WantsMemory         1, nothing on the output, `otbench: Memory`
 //!    want of memory on the way     StopsShort text     1, a first part of the output, `otbench: Memory`
-//!    an input that was not read    GivesUp             1, nothing on the output, `otbench: ReadFault`, or the line above
+//!    an input that was not read    GivesUp unread      1, nothing on the output, `otbench: ReadFault` only where it has failed, or the line above
 //! ```
 //!
-//! A line on the faults is written as far as that can be done, so there a first part of it may stand.
+//! A line on the faults is written as far as that can be done, so there a first part of it may stand. That a write to the output or a read of
+//! the input has failed is what the output, a `Sink`, and the input, a `Source`, say of themselves (`streams`).
 //! The definitions stand in `specs/Outcomes.antt`; a subcommand's contract puts together what they say.
 #![tactic(auto)]
 
@@ -16,13 +17,13 @@ ghost use Rattle.streams.specs.Streams.{WritesPart};
 ghost use Rattle.outcomes.specs.Outcomes.{Puts, input_fault, memory_fault};
 
 use std::io::Write;
-use streams::{InputFault, put};
+use streams::{InputFault, Sink, put};
 
 /// Writes the whole output and answers its status; 1 where writing failed.
-pub fn give<O: Write>(text: &[u8], right: u8, output: &mut O) -> u8
-    ensures { Puts right text.now result (O.contents output.old) (O.contents output.new) }
+pub fn give<O: Sink>(text: &[u8], right: u8, output: &mut O) -> u8
+    ensures { Puts right text.now result (O.contents output.old) (O.contents output.new) (O.failed output.new) }
 {
-    match put(output, text) {
+    match output.put(text) {
         Ok(()) => right,
         Err(_) => 1,
     }

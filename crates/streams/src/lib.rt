@@ -1,17 +1,26 @@
 //! Whole reads and whole writes over any reader and writer, each error of the device a fault.
 //!
-//! std's `write_all` and `read_to_end` try an `Interrupted` call again, and say nothing of the bytes at an error. `put` and
-//! `read_whole` call `write` and `read` themselves: `Interrupted` is a fault, and so is a write that takes no byte; and after a
+//! std's `write_all` and `read_to_end` try an `Interrupted` call again, and say nothing of the bytes at an error. [`put`] and
+//! [`Source::read_whole`] call `write` and `read` themselves: `Interrupted` is a fault, and so is a write that takes no byte; and after a
 //! fault the writer has got a first part of the bytes (`WritesPart`), the reader has lost bytes at its front (`Loses`).
 //! Both definitions stand in `specs/Streams.antt`.
+//!
+//! ```text
+//!    Device<D> ── Sink::put ──────────▶ failed: a write has failed
+//!              ── Source::read_whole ─▶ failed: a read has failed, or there are too many bytes
+//! ```
+//!
+//! A [`Sink`] is a writer, and a [`Source`] a reader, that tells whether it has failed. Nobody but its own calls can make it say so, and so a
+//! function over one can promise that it speaks of a fault only where there was one. [`Device`] is both, over any reader or writer.
 #![tactic(auto)]
 
-ghost use Rattle.std.specs.Prelude.{◌≡◌, ◌≤◌, ℕ, List, length, IfSome, IfOk, OnOk, OnErr, vec_len};
+ghost use Rattle.std.specs.Prelude.{◌≡◌, ◌≤◌, ℕ, List, length, Bool, true, false, IfSome, IfOk, IfErr, OnOk, OnErr, vec_len};
 ghost use Rattle.std.specs.Io.KnownBytes.{Appends, Consumes, IsAtEnd};
 ghost use Rattle.streams.specs.Streams.{WritesPart, Loses};
-ghost use Rattle.streams.specs.declared.InputFault.TheVariants.{Memory};
+ghost use Rattle.streams.specs.declared.InputFault.TheVariants.{Memory, Read as ReadFault};
 
 use std::alloc::{AllocError, Global};
+use std::io;
 use std::io::{Read, Write};
 
 /// The most bytes that are read whole: 2^30.
@@ -54,8 +63,8 @@ pub fn put<W: Write>(writer: &mut W, bytes: &[u8]) -> Result<(), WriteFault>
     Ok(())
 }
 
-/// All bytes that the reader has left, at most 2^30. After a fault the bytes that were read are lost.
-pub fn read_whole<R: Read>(alloc: Global, reader: &mut R) -> Result<Vec<u8>, InputFault>
+// All bytes that the reader has left, at most 2^30. After a fault the bytes that were read are lost.
+fn read_whole<R: Read>(alloc: Global, reader: &mut R) -> Result<Vec<u8>, InputFault>
     ensures bytes { IfOk result (λ v. IfSome (R.remaining reader.old) (λ text. v.items ≡ text)) }
     ensures most { IfOk result (λ v. vec_len v ≤ MOST) }
     ensures end { OnOk result (IsAtEnd (R.remaining reader.new)) }
@@ -71,4 +80,107 @@ pub fn read_whole<R: Read>(alloc: Global, reader: &mut R) -> Result<Vec<u8>, Inp
         }
     }
     Err(InputFault::Read)
+}
+
+/// A writer that tells whether it has failed.
+pub trait Sink: Write {
+    // Whether a write by `put` has failed by now.
+    ghost failed: { Self → Bool };
+
+    /// Writes the bytes and nothing else. After a fault the writer has got a first part of them.
+    fn put(&mut self, bytes: &[u8]) -> Result<(), WriteFault>
+        ensures ok { OnOk result (Appends (Self.contents self.old) (Self.contents self.new) bytes.now) }
+        ensures err { OnErr result (WritesPart (Self.contents self.old) (Self.contents self.new) bytes.now) }
+        ensures same { OnOk result (failed self.new ≡ failed self.old) }
+        ensures cause { OnErr result (failed self.new ≡ true) };
+}
+
+/// A reader that tells whether it has failed.
+pub trait Source: Read {
+    // Whether by now it could not be read whole: a read has failed, or there were more than 2^30 bytes.
+    ghost failed: { Self → Bool };
+
+    /// All bytes that the reader has left, at most 2^30. After a fault the bytes that were read are lost.
+    fn read_whole(&mut self, alloc: Global) -> Result<Vec<u8>, InputFault>
+        ensures bytes { IfOk result (λ v. IfSome (Self.remaining self.old) (λ text. v.items ≡ text)) }
+        ensures most { IfOk result (λ v. vec_len v ≤ MOST) }
+        ensures end { OnOk result (IsAtEnd (Self.remaining self.new)) }
+        ensures err { OnErr result (Loses (Self.remaining self.old) (Self.remaining self.new)) }
+        ensures cause { IfErr result (λ f. f ≡ ReadFault → failed self.new ≡ true) };
+}
+
+/// A reader or a writer, and whether it has failed.
+#[derive(Debug, Drop)]
+pub struct Device<D> {
+    inner: D,
+    failed: bool,
+}
+
+impl<D> Device<D> {
+    /// One that has not failed.
+    pub fn new(inner: D) -> Device<D>
+        ensures inner { result.inner ≡ inner }
+        ensures failed { result.failed ≡ false }
+    {
+        Device {
+            inner,
+            failed: false,
+        }
+    }
+
+    /// The reader or the writer itself.
+    pub fn inner(&self) -> &D
+        ensures { result.now ≡ self.now.inner }
+    {
+        &self.inner
+    }
+
+    /// Whether it has failed.
+    pub fn has_failed(&self) -> bool
+        ensures { result ≡ self.now.failed }
+    {
+        self.failed
+    }
+}
+
+impl<W: Write> Write for Device<W> {
+    ghost contents = { λ d. W.contents d.inner };
+
+    fn write(&mut self, buf: &[u8]) -> io::Result<usize> {
+        self.inner.write(buf)
+    }
+
+    fn flush(&mut self) -> io::Result<()> {
+        self.inner.flush()
+    }
+}
+
+impl<W: Write> Sink for Device<W> {
+    ghost failed = { λ d. d.failed };
+
+    fn put(&mut self, bytes: &[u8]) -> Result<(), WriteFault> {
+        let written = put(&mut self.inner, bytes);
+        self.failed |= written.is_err();
+        written
+    }
+}
+
+impl<R: Read> Read for Device<R> {
+    ghost remaining = { λ d. R.remaining d.inner };
+
+    fn read(&mut self, buf: &mut [u8]) -> io::Result<usize> {
+        self.inner.read(buf)
+    }
+}
+
+impl<R: Read> Source for Device<R> {
+    ghost failed = { λ d. d.failed };
+
+    fn read_whole(&mut self, alloc: Global) -> Result<Vec<u8>, InputFault> {
+        let bytes = read_whole(alloc, &mut self.inner);
+        if let Err(InputFault::Read) = bytes {
+            self.failed = true;
+        }
+        bytes
+    }
 }

@@ -15,6 +15,7 @@ returns-in-Ok-places g c =
           (record {
             output = g.O.Write.contents c.args.output.now;
             output' = g.O.Write.contents c.write_words.new.output;
+            broken = g.O.Sink.failed c.write_words.new.output;
             faults = g.F.Write.contents c.args.faults.now;
             faults' = g.F.Write.contents c.write_words.new.faults;
           })) (c.as_slice.ensures.value ∙ c.in-Ok-places.ensures) c.write_words.ensures,

@@ -6,9 +6,9 @@ pub returns-in-Ok-talk : goal.returns-in-Ok-talk
 returns-in-Ok-talk g c =
     rw c.talk_status.ensures
     (converses c.args.schedule c.in-Ok.debugger c.talk.new.debugger c.in-Ok-talk.faulted (before c.args.ahead.now (g.I.Read.remaining c.args.input.now)) c.args.earlier
-    (g.O.Write.contents c.args.output.now) (g.O.Write.contents c.talk.new.writer) (g.F.Write.contents c.args.faults.now) c.in-Ok.ensures.ok c.in-Ok-talk.ensures.ok)
+    (g.O.Write.contents c.args.output.now) (g.O.Write.contents c.talk.new.writer) (g.F.Write.contents c.args.faults.now) (g.O.Sink.failed c.talk.new.writer) c.in-Ok.ensures.ok c.in-Ok-talk.ensures.ok)
 
 pub returns : goal.returns
 returns g c =
     breaks_off c.args.schedule c.in-Ok.debugger c.talk.new.debugger c.in-Err.stop (before c.args.ahead.now (g.I.Read.remaining c.args.input.now)) (before c.talk.new.ahead (g.I.Read.remaining c.talk.new.reader)) c.args.earlier
-    (g.O.Write.contents c.args.output.now) (g.O.Write.contents c.talk.new.writer) (g.F.Write.contents c.args.faults.now) (g.F.Write.contents c.complain_of_stop.new.faults) c.in-Ok.ensures.ok c.in-Err.ensures.err c.complain_of_stop.ensures
+    (g.O.Write.contents c.args.output.now) (g.O.Write.contents c.talk.new.writer) (g.F.Write.contents c.args.faults.now) (g.F.Write.contents c.complain_of_stop.new.faults) (g.O.Sink.failed c.talk.new.writer) c.in-Ok.ensures.ok c.in-Err.ensures.err c.in-Err.ensures.cause c.complain_of_stop.ensures

@@ -28,7 +28,7 @@ returns-in_err-put-clause-err g c =
     let s = c.args.schedule.now in
     let old = g.W.Write.contents c.args.output.now in
     let mid = g.W.Write.contents c.write_reads.new.output in
-    let new = g.W.Write.contents c.put.new.writer in
+    let new = g.W.Write.contents c.put.new.self in
     let written = subst (λ (bytes : List ℕ). WritesPart mid new bytes) c.as_bytes.ensures.value c.in_err-put.ensures.err in
     err_is c.from_residual-in_err-put.result WriteFault (λ (f : ReportFault). WritesReportUpTo f s old new) c.from_residual-in_err-put.ensures.1
     (text_cut c.args.alloc s c.clients-clients.ensures.limits c.in_ok-stopped.stopped c.write_reads.new.machine (string_bytes c.write_reads.new.text) old mid c.in_ok-stopped.ensures.ok
@@ -39,8 +39,8 @@ returns-in_err-put-2-clause-err g c =
     let s = c.args.schedule.now in
     let old = g.W.Write.contents c.args.output.now in
     let mid = g.W.Write.contents c.write_reads.new.output in
-    let later = g.W.Write.contents c.put.new.writer in
-    let new = g.W.Write.contents c.put-2.new.writer in
+    let later = g.W.Write.contents c.put.new.self in
+    let new = g.W.Write.contents c.put-2.new.self in
     let before = subst (λ (bytes : List ℕ). Appends mid later bytes) c.as_bytes.ensures.value c.in_ok-put.ensures.ok in
     let written = subst (λ (bytes : List ℕ). WritesPart later new bytes) c.as_bytes-2.ensures.value c.in_err-put-2.ensures.err in
     err_is c.from_residual-in_err-put-2.result WriteFault (λ (f : ReportFault). WritesReportUpTo f s old new) c.from_residual-in_err-put-2.ensures.1
@@ -52,8 +52,8 @@ returns-clause-ok g c =
     let s = c.args.schedule.now in
     let old = g.W.Write.contents c.args.output.now in
     let mid = g.W.Write.contents c.write_reads.new.output in
-    let later = g.W.Write.contents c.put.new.writer in
-    let new = g.W.Write.contents c.put-2.new.writer in
+    let later = g.W.Write.contents c.put.new.self in
+    let new = g.W.Write.contents c.put-2.new.self in
     let before = subst (λ (bytes : List ℕ). Appends mid later bytes) c.as_bytes.ensures.value c.in_ok-put.ensures.ok in
     let written = subst (λ (bytes : List ℕ). Appends later new bytes) c.as_bytes-2.ensures.value c.in_ok-put-2.ensures.ok in
     all_reported c.args.alloc s c.clients-clients.ensures.limits c.in_ok-stopped.stopped c.write_reads.new.machine (string_bytes c.write_reads.new.text) old mid c.in_ok-stopped.ensures.ok

@@ -14,7 +14,7 @@ returns-in_err-put-in-Ok-clause-err g c =
     let s = c.args.schedule.now in
     let old = g.W.Write.contents c.args.output.now in
     let mid = g.W.Write.contents c.gather_run.new.output in
-    let new = g.W.Write.contents c.put.new.writer in
+    let new = g.W.Write.contents c.put.new.self in
     let written = subst (λ (bytes : List ℕ). WritesPart mid new bytes) c.as_slice.ensures.value c.in_err-put-in-Ok.ensures.err in
     err_is c.from_residual.result WriteFault (λ (f : StepsFault). WritesUpTo f d s old new) c.from_residual.ensures.1
     (all_cut d s old mid new c.new-held.result.items c.gather_run.new.held.items c.new-held.ensures.items c.in-Ok.refused c.in-Ok.ensures.ok written)
@@ -25,7 +25,7 @@ returns-in_err-put-in-Err-Memory-clause-err g c =
     let s = c.args.schedule.now in
     let old = g.W.Write.contents c.args.output.now in
     let mid = g.W.Write.contents c.gather_run.new.output in
-    let new = g.W.Write.contents c.put-in-Err-Memory.new.writer in
+    let new = g.W.Write.contents c.put-in-Err-Memory.new.self in
     let none = c.new-held.result.items in
     let held = c.gather_run.new.held.items in
     let run = subst (λ (f : StepsFault). RunUpTo f d s old mid none held) c.in-Err-Memory.field-0-is c.in-Err-Memory.ensures.err in
@@ -39,7 +39,7 @@ returns-in-Err-Memory-clause-err g c =
     let s = c.args.schedule.now in
     let old = g.W.Write.contents c.args.output.now in
     let mid = g.W.Write.contents c.gather_run.new.output in
-    let new = g.W.Write.contents c.put-in-Err-Memory.new.writer in
+    let new = g.W.Write.contents c.put-in-Err-Memory.new.self in
     let none = c.new-held.result.items in
     let held = c.gather_run.new.held.items in
     let run = subst (λ (f : StepsFault). RunUpTo f d s old mid none held) c.in-Err-Memory.field-0-is c.in-Err-Memory.ensures.err in
