@@ -6,7 +6,7 @@ import pathlib
 import sys
 
 sys.path.append(str(pathlib.Path(__file__).resolve().parent.parent / "bench"))
-from storms import add, compose, delta, transform  # noqa: E402  (the algebra that the benchmarks' sessions are made with)
+from storms import compose, delta, transform  # noqa: E402  (the algebra that the benchmarks' sessions are made with)
 
 
 class Simulator:
@@ -90,14 +90,25 @@ class Simulator:
 
 
 def fitted(edit, length):
-    """An edit cut, or led on by a retain, to a document's length, in ot.js' form."""
+    """An edit cut, or led on by a retain, to a document's length; neighbours of one kind are one, and an insertion behind a deletion stays there."""
     operation = []
     for component in edit:
-        if isinstance(component, str):
-            add(operation, component)
-            continue
-        step = min(abs(component), length)
-        length -= step
-        add(operation, step if component > 0 else -step)
-    add(operation, length)
+        if not isinstance(component, str):
+            step = min(abs(component), length)
+            length -= step
+            component = step if component > 0 else -step
+        append(operation, component)
+    append(operation, length)
     return tuple(operation)
+
+
+def append(operation, component):
+    """Adds a component that is not empty, to the last one where both are of one kind."""
+    if operation and component and kind(component) == kind(operation[-1]):
+        operation[-1] += component
+    elif component:
+        operation.append(component)
+
+
+def kind(component):
+    return "insert" if isinstance(component, str) else "retain" if component > 0 else "delete"

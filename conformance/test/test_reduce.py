@@ -22,6 +22,10 @@ class Repairing(unittest.TestCase):
         self.assertEqual(repaired(read_schedule(text)).text(),
                          'clients 2\nstart "ab"\nedit 0 [2,"c"]\ntake 0\ndeliver 1\nack 0\nread 1\n')
 
+    def test_an_edit_that_is_not_in_normal_form_stays_so(self):
+        text = 'clients 1\nstart "abc"\nedit 0 [-1,"x",-1,"y",1]\nedit 0 [2,-9,"z"]\nedit 0 [1,1]\n'
+        self.assertEqual(repaired(read_schedule(text)).text(), 'clients 1\nstart "abc"\nedit 0 [-1,"x",-1,"y",1]\nedit 0 [2,-1,"z"]\nedit 0 [3]\n')
+
 
 @needs_program
 class Reducing(unittest.TestCase):
@@ -108,6 +112,14 @@ class Reducing(unittest.TestCase):
         small, = reduced((session,), first_shown)
         self.assertLess(len(small.instructions[0].edit), 1010)
         self.assertLess(asked, 100)
+
+    def test_an_insertion_behind_a_deletion(self):
+        def shows(schedule):
+            edits = [instruction.edit for instruction in schedule.instructions]
+            return any(isinstance(one, int) and one < 0 and isinstance(other, str) for edit in edits for one, other in zip(edit, edit[1:]))
+
+        session = read_schedule('clients 1\nstart "ab"\nedit 0 [1,"x",1]\nedit 0 [1,-1,"yz",1]\n')
+        self.assertEqual(reduced((session,), showing(shows))[0].text(), 'clients 1\nstart "aa"\nedit 0 [1,-1,"a"]\n')
 
     def test_long_texts(self):
         start = "the quick brown fox " * 2000
