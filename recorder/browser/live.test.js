@@ -69,7 +69,7 @@ test("the recorded session, looked at", async () => {
 test("an adapter that deletes too much is found in its document", async () => {
   const { merged } = await runLive("#adapter");
   const difference = firstDifference(merged);
-  if (difference) assert.deepEqual(difference, ["deliver", "document"]);
+  if (difference?.[1] !== "cut") assert.deepEqual(difference, ["deliver", "document"]);
   else assert.match(merged.fault, /^(ann|ben), event \d+: deliver leaves half of a surrogate pair/);
 });
 

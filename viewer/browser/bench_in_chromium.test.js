@@ -2,11 +2,14 @@
 "use strict";
 const assert = require("node:assert/strict");
 const { test } = require("node:test");
-const { User, testIn } = require("./bench_tests.js");
+const { testIn } = require("./bench_tests.js");
 const { openChromium } = require("./chromium.js");
+const { testLong } = require("./long_tests.js");
 const { skip } = require("./otbench.js");
+const { User } = require("./user.js");
 
 testIn("Chromium", openChromium);
+testLong("Chromium", openChromium);
 
 test("what an input method composes is one edit, at its end", { skip }, async () => {
   const page = await openChromium();

@@ -7,111 +7,10 @@ const { after, before, describe, test } = require("node:test");
 const { bugs } = require("../../examples/port/bugs.js");
 const { drive, loadPort } = require("../../examples/port/driver.js");
 const { wait } = require("./chromium.js");
-const { longSchedule } = require("./long_session.js");
 const { addressOfPage, otbench, skip } = require("./otbench.js");
+const { User, clipboardEvent, quoted } = require("./user.js");
 
 const file = (name) => fs.readFileSync(path.join(__dirname, "../../examples", name), "utf8");
-const quoted = (value) => JSON.stringify(value);
-
-/* A clipboard's event in the page, with what is to be pasted; gives what was copied. Firefox takes no clipboard of a script. */
-const clipboardEvent = (type, selector, content) => {
-  const data = new DataTransfer();
-  if (content !== null) data.setData("text/plain", content);
-  const event = new ClipboardEvent(type, { bubbles: true, cancelable: true });
-  Object.defineProperty(event, "clipboardData", { value: data });
-  document.querySelector(selector).dispatchEvent(event);
-  return data.getData("text/plain");
-};
-
-/* What a test does with the page of a browser. */
-class User {
-  constructor(page) {
-    this.page = page;
-  }
-
-  run(expression) {
-    return this.page.run(expression);
-  }
-
-  text(selector) {
-    return this.run(`document.querySelector(${quoted(selector)}).textContent`);
-  }
-
-  /* Waits until an expression holds. */
-  async until(expression, what = expression) {
-    for (let turn = 0; turn < 300; turn++) {
-      if (await this.run(expression)) return;
-      await wait(30);
-    }
-    throw new Error(`waited for ${what}`);
-  }
-
-  async open(hash = "", change = null) {
-    await this.page.goto(`${addressOfPage(change)}${hash}`);
-    await this.until('document.body.classList.contains("with-engine") && !document.getElementById("header").hidden', "the engine");
-  }
-
-  /* When the page shows the text: after the engine has answered. */
-  async shown(pattern) {
-    await this.until(`${pattern}.test(document.getElementById("text").value)`, `${pattern} in the text`);
-    await this.page.drawn();
-  }
-
-  async settled(place) {
-    await this.until(`document.getElementById("place").value === "${place}"`, `place ${place}`);
-    await this.page.drawn();
-  }
-
-  async click(selector, number = 0) {
-    const point = await this.run(`(() => {
-      const found = document.querySelectorAll(${quoted(selector)})[${number}];
-      found.scrollIntoView({ block: "nearest" });
-      const box = found.getBoundingClientRect();
-      return [box.left + box.width / 2, box.top + box.height / 2];
-    })()`);
-    await this.page.click(...point);
-  }
-
-  async press(...names) {
-    for (const name of names) await this.page.key(name);
-  }
-
-  schedule() {
-    return this.run('document.getElementById("text").value');
-  }
-
-  /* The documents that the page shows: the server's, then the clients'. */
-  documents() {
-    return this.run(`[...document.querySelectorAll(".card .document")].map((text) =>
-      [...text.querySelectorAll("span:not(.deleted):not(.cut)")].map((run) => run.textContent).join(""))`);
-  }
-
-  /* What the page shows of its place, in the lines of \`otbench run\`. */
-  end() {
-    return this.run(`(() => {
-      const lines = [...document.querySelectorAll(".card")].map((card) => {
-        const [first, second = ""] = [...card.querySelectorAll(".badge")].map((badge) => badge.textContent);
-        const runs = [...card.querySelectorAll(".document span:not(.deleted):not(.cut)")];
-        const text = JSON.stringify(runs.map((run) => run.textContent).join(""));
-        if (card.classList.contains("server")) return "server " + first + " " + text;
-        return "client " + card.dataset.card + " " + (second.startsWith("rev") ? second : "rev 0") + " " + first + " " + text;
-      });
-      const [now] = /^(not )?quiet/.exec(document.querySelector("#sentence .now").textContent);
-      return [...lines.slice(1), lines[0], now].join("\\n") + "\\n";
-    })()`);
-  }
-
-  drop(name, content) {
-    const bytes = typeof content === "string" ? quoted(content) : `new Uint8Array([${content.join()}])`;
-    return this.run(`(() => { const data = new DataTransfer(); data.items.add(new File([${bytes}], ${quoted(name)}));
-      document.body.dispatchEvent(new DragEvent("drop", { dataTransfer: data, bubbles: true, cancelable: true })); })()`);
-  }
-
-  /* Pastes a text at an element, as the browser's own event. */
-  paste(selector, content) {
-    return this.run(`(${clipboardEvent})("paste", ${quoted(selector)}, ${quoted(content)})`);
-  }
-}
 
 /* Tests the page in a browser: its name, and what opens it. */
 function testIn(name, openBrowser) {
@@ -135,6 +34,14 @@ function testIn(name, openBrowser) {
       assert.deepEqual(await user.documents(), ["", "a", "b"]);
       await user.until('/holds/.test(document.getElementById("list-verdict").textContent)', "the verdict");
       assert.equal(await user.text("#verdict"), "ends quiet");
+      const text = await user.schedule();
+      await user.click('[data-play="take 0"]');
+      await user.settled(3);
+      assert.equal(await user.schedule(), text, "a message that goes through next anyway");
+      await user.click('[data-play="deliver 1"]');
+      await user.settled(4);
+      assert.match(await user.schedule(), /take 0\ndeliver 1\ntake 1\nack 1\n/);
+      await user.until('document.getElementById("verdict").textContent === "ends quiet"', "the verdict");
     });
 
     test("the guide's story, from nothing, by clicks and keys, shared and opened again", async () => {
@@ -245,9 +152,10 @@ function testIn(name, openBrowser) {
       await user.until('document.getElementById("place").value === "3"', "the edit");
       const typed = await user.schedule();
       await user.press("Escape", "q");
-      await user.until('document.getElementById("sentence").textContent.includes("refused")', "what came behind does not fit");
+      await user.until('document.querySelector("#sentence .now").textContent === "quiet."', "quiet");
       const last = await user.schedule();
-      assert.ok(last.endsWith(first.slice(first.indexOf("take 0"))), "what came behind is kept");
+      assert.deepEqual(typed.split("\n").filter((line) => !last.split("\n").includes(line)), [], "what came behind is kept");
+      assert.deepEqual(last.match(/^take [01]$/gm), ["take 0", "take 1", "take 0"], "and no message is taken twice");
       await user.press("Control+z");
       await user.until(`document.getElementById("text").value === ${quoted(typed)}`, "the text with what was typed");
       await user.click("#undo");
@@ -393,6 +301,9 @@ function testIn(name, openBrowser) {
       await user.press("Enter");
       await user.shown("/^; client 1 is Ben\\n/");
       assert.match(await user.text("#heads"), /1 Ben/);
+      assert.match(await user.text('[data-card="1"] h2'), /^client 1 \(Ben\)/);
+      await user.press("ArrowLeft", "ArrowRight");
+      assert.match(await user.text("#sentence"), /^edit 1: the user of client 1 \(Ben\) edits/);
       await user.press("v");
       await user.click('#shown-lanes input[value="0"]');
       await user.press("Escape");
@@ -402,6 +313,54 @@ function testIn(name, openBrowser) {
       await page.drawn();
       assert.equal(await user.run("document.documentElement.scrollWidth"), 390, "nothing is wider than a narrow window");
       await page.size(1440, 900);
+    });
+
+    test("where the recorder's log is cut is shown, and so are characters that look the same", async () => {
+      await user.open();
+      const cut = "ann, event 9: deliver of operation 7, which the server did not take";
+      await user.paste("body", `; client 0 is "a\\u0007b"\nclients 1\nstart "\u00e9"\nread 0\n; cut: ${quoted(cut)}\n%%\n{"at":1,"document":"e\u0301\u200b"}\n{"cut":${quoted(cut)}}\n`);
+      await user.until('document.getElementById("conformance").textContent.startsWith("differs at 1")', "the difference");
+      assert.equal(await user.text("#cut"), `ends before its logs: ${cut}`);
+      await user.press("d");
+      await user.settled(1);
+      assert.match(await user.text("#sentence"), /The port: document "e\\u\{301\}\\u\{200b\}", ot\.js: "\\u\{e9\}"\./);
+      assert.match(await user.text("#answer"), /found "e\\u\{301\}\\u\{200b\}"\s*ot\.js "\\u\{e9\}"/);
+      assert.match(await user.text('[data-card="0"] h2'), /^client 0 \(a␇b\)/);
+      await user.open();
+      assert.equal(await user.run('document.getElementById("cut").hidden'), true);
+    });
+
+    test("what was changed is there again after a reload, of a link's session too, and a new visit begins anew", async () => {
+      const noticed = 'document.getElementById("notice").textContent.startsWith("What was changed before")';
+      await user.open();
+      const first = await user.schedule();
+      await user.reload();
+      assert.equal(await user.schedule(), first, "nothing was changed");
+      await user.click('.document[data-who="0"]');
+      await page.type("x");
+      await user.settled(3);
+      await user.run('document.activeElement.blur()');
+      const typed = await user.schedule();
+      assert.match(typed, /edit 0 \[/);
+      await user.reload();
+      await user.until(noticed, "the notice");
+      assert.equal(await user.schedule(), typed);
+      await user.settled(3);
+      await user.reload();
+      await user.until(noticed, "the notice, again");
+      await user.click("#undo");
+      await user.until(`document.getElementById("text").value === ${quoted(first)}`, "the session that it was opened with");
+      await user.press("c");
+      await user.until('location.hash.includes("image=")', "the link");
+      await user.press("End", "r");
+      await user.press("0", "r");
+      await user.shown("/read 0\\n$/");
+      const read = await user.schedule();
+      await user.reload();
+      await user.until(noticed, "the notice of the link's session");
+      assert.equal(await user.schedule(), read);
+      await user.open();
+      assert.equal(await user.schedule(), first, "a new visit");
     });
 
     test("a page whose engine does not load says so, and leaves the viewer", async () => {
@@ -415,42 +374,7 @@ function testIn(name, openBrowser) {
       assert.equal(await user.run('document.querySelectorAll("[contenteditable], [data-play]").length'), 0);
       page.exceptions.length = 0;
     });
-
-    test("10,000 instructions: a keystroke in the text and a click are answered soon, and the picture follows", async () => {
-      const schedule = longSchedule({ clients: 64, instructions: 10000 });
-      await user.open();
-      await user.drop("long.ots", schedule);
-      await user.until('document.getElementById("length").textContent === "of 10000"', "the session");
-      const times = await user.run(`(async () => {
-        const area = document.getElementById("text");
-        const measure = async (count, act) => {
-          const times = [];
-          for (let k = 0; k < count; k++) {
-            const begin = performance.now();
-            act(k);
-            document.body.offsetHeight;
-            times.push(performance.now() - begin);
-            await new Promise((done) => requestAnimationFrame(done));
-          }
-          return times.sort((a, b) => a - b)[count >> 1];
-        };
-        const type = (letter) => { area.setRangeText(letter, area.value.length, area.value.length, "end"); area.dispatchEvent(new Event("input")); };
-        const press = (key) => document.body.dispatchEvent(new KeyboardEvent("keydown", { key, bubbles: true }));
-        press("End");
-        await new Promise((done) => requestAnimationFrame(done));
-        const letters = "; a comment of 21 ch\\n";
-        const typed = await measure(letters.length, (k) => type(letters[k]));
-        const clicked = await measure(40, () => press("k"));
-        const began = performance.now();
-        type("read-server\\n");
-        while (document.getElementById("length").textContent !== "of 10001") await new Promise((done) => setTimeout(done, 5));
-        return { typed, clicked, follows: performance.now() - began };
-      })()`);
-      const words = Object.entries(times).map(([key, time]) => `${key} ${time.toFixed(0)} ms`);
-      console.log(`${name}, 64 clients, 10,000 instructions: ${words.join(", ")}`);
-      assert.ok(times.typed < 1000 && times.clicked < 1500, words.join()); // whatever else the machine does
-    });
   });
 }
 
-module.exports = { User, testIn };
+module.exports = { testIn };

@@ -77,6 +77,14 @@ class Page {
     await this.drawn();
   }
 
+  /* Loads the page anew, as its user does. */
+  async reload() {
+    const loaded = new Promise((done) => (this.loaded = done));
+    await this.send("Page.reload");
+    await loaded;
+    await this.drawn();
+  }
+
   /* The value of an expression in the page. */
   async run(expression) {
     const { result, exceptionDetails } = await this.send("Runtime.evaluate", { expression, awaitPromise: true, returnByValue: true });

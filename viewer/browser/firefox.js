@@ -79,6 +79,12 @@ class Page {
     await this.drawn();
   }
 
+  /* Loads the page anew, as its user does. */
+  async reload() {
+    await this.send("browsingContext.reload", { context: this.context, wait: "complete" });
+    await this.drawn();
+  }
+
   /* The value of an expression in the page, which is one of JSON. */
   async run(expression) {
     const wrapped = `(async () => JSON.stringify((await (${expression})) ?? null))()`;

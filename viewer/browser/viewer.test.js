@@ -275,7 +275,7 @@ test("64 clients and 10,000 instructions open and step smoothly", async () => {
   const shown = (number) => number.toFixed(0);
   const words = ["step", "back", "jump"].map((name) => `a ${name} ${shown(times[name].median)} ms (at most ${shown(times[name].most)})`);
   console.log(`64 clients, 10,000 instructions: opened in ${shown(open)} ms, ${words.join(", ")}, heap ${shown(times.heap)} MB`);
-  assert.ok(times.step.median < 100, "a step is seen at once");
+  assert.ok(times.step.median < 500, `a step takes ${shown(times.step.median)} ms`); // some 25 ms on a machine that does nothing else
   await write("place", 9876, "change");
   const [expected] = shownByDebug(schedule, [9876]);
   const cut = (lines) => lines.replace(/ ".*"/g, "");

@@ -85,6 +85,7 @@ export class Bench {
     this.state = reduce(this.state, action);
     this.onChange(action);
     this.#giveUpOld();
+    this.#endOldJudging();
     this.#follow();
     this.#judgeSoon();
   }
@@ -157,6 +158,13 @@ export class Bench {
     if (isOld && performance.now() - this.#askedAt > PATIENCE) this.engine.giveUp();
   }
 
+  /* Verdicts of an old text are not waited for, and take no time from the engine. */
+  #endOldJudging() {
+    if (!this.#judging || this.#judging.text === this.state.text) return;
+    this.#judging = null;
+    this.#judge.giveUp();
+  }
+
   async #steps(text) {
     await this.engine.load();
     this.#askedAt = performance.now();
@@ -194,7 +202,7 @@ export class Bench {
     if (this.#isToJudge()) this.#timer = setTimeout(() => this.#judgeNow(), STILL + RUNS * this.state.took);
   }
 
-  /* The verdicts have a worker of their own, which is ended where they are of an old text. */
+  /* The verdicts have a worker of their own. */
   async #judgeNow() {
     if (!this.#isToJudge()) return;
     if (this.#judging) this.#judge.giveUp();

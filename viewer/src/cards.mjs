@@ -4,11 +4,11 @@
 
 import { START, sameText, walk } from "./document.mjs";
 import { SERVER } from "./fold.mjs";
-import { documentAt, downAt, headsAt, logLengthAt, stateAt, upAt, versionsOf } from "./places.mjs";
+import { documentAt, downAt, headsAt, logLengthAt, receiptsIn, stateAt, upAt, versionsOf } from "./places.mjs";
 import { colourOf } from "./theme.mjs";
-import { escapeMarkup, nameOfMember, operationMarkup, quoted, seen, valueMarkup } from "./words.mjs";
+import { apart, escapeMarkup, nameOfMember, operationMarkup, quoted, seen, valueMarkup } from "./words.mjs";
 
-export const authorOf = (element) => (element.maker === START ? "the start" : `client ${element.maker}`);
+export const authorOf = ({ maker }, names) => (maker === START ? "the start" : nameOfMember(maker, names));
 
 /* The characters that are shown at a place, with what it deleted: [{ element, index, change }]; of a draft its own. */
 function shownCharacters(session, who, { place, draft }) {
@@ -37,7 +37,7 @@ function shownCharacters(session, who, { place, draft }) {
 }
 
 /* Runs of one author and one change; the picked character is a run of its own. */
-function runsOf(shown, picked) {
+function runsOf(shown, { picked, names }) {
   const runs = [];
   for (const { element, index, change } of shown) {
     const last = runs[runs.length - 1];
@@ -45,7 +45,7 @@ function runsOf(shown, picked) {
     const joins = last && last.maker === element.maker && last.change === change && !isPicked && !last.isPicked;
     const { maker, character: text } = element;
     if (joins) last.text += text;
-    else runs.push({ maker, author: authorOf(element), change, index, isPicked, text });
+    else runs.push({ maker, author: authorOf(element, names), change, index, isPicked, text });
   }
   return runs;
 }
@@ -56,16 +56,16 @@ const EDITOR = 'contenteditable="true" role="textbox" aria-multiline="true" spel
 
 /* A document at a place; of a long one, what is around the change, or around where its user types. */
 function documentMarkup(session, who, view) {
-  const { picked, canPlay, carets } = view;
+  const { canPlay, carets } = view;
   const shown = shownCharacters(session, who, view);
   const room = session.clients > 16 ? 160 : 600;
   const changed = shown.findIndex(({ change }) => change !== "");
   const centre = changed < 0 ? (carets?.get(who) ?? 0) : changed;
   const from = Math.max(0, Math.min(centre - (room >> 1), shown.length - room));
-  const runs = runsOf(shown.slice(from, from + room), picked);
+  const runs = runsOf(shown.slice(from, from + room), view);
   const first = shown.slice(0, from).filter(({ index }) => index >= 0).length;
   const spans = runs.map(({ maker, author, change, index, isPicked, text }) => {
-    const title = `${author}${change ? `, ${change} here` : ""}`;
+    const title = escapeMarkup(`${author}${change ? `, ${change} here` : ""}`);
     const words = `class="${change}${isPicked ? " picked" : ""}" title="${title}" data-index="${index}"`;
     const colour = maker === START ? "" : ` style="--maker:${colourOf(maker)}"`;
     return `<span ${words}${colour}>${escapeMarkup(seen(text))}</span>`;
@@ -75,7 +75,7 @@ function documentMarkup(session, who, view) {
   const last = runs[runs.length - 1];
   const end = isEditor && last && last.text.endsWith("\n") ? "<br>" : "";
   const text = cutMark(from) + (spans.join("") + end || empty) + cutMark(shown.length - from - room);
-  const words = isEditor ? ` ${EDITOR} aria-label="document of ${nameOfMember(who)}" data-first="${first}"` : "";
+  const words = isEditor ? ` ${EDITOR} aria-label="${escapeMarkup(`document of ${nameOfMember(who, view.names)}`)}" data-first="${first}"` : "";
   return `<div class="document" data-who="${who}"${words}>${text}</div>${authorsMarkup(runs)}`;
 }
 
@@ -96,23 +96,24 @@ function table(rows) {
 
 function portRows(port, who, place) {
   if (!port) return [];
-  return port.differencesOf(who, place).map(({ key, found, ours }) => [
-    `<span class="differs">port: ${key}</span>`,
-    `${valueMarkup(found)} <span class="against">ot.js: ${valueMarkup(ours)}</span>`,
-  ]);
+  return port.differencesOf(who, place).map(({ key, found, ours }) => {
+    const [theirs, wanted] = apart(found, ours).map(valueMarkup);
+    return [`<span class="differs">port: ${key}</span>`, `${theirs} <span class="against">ot.js: ${wanted}</span>`];
+  });
 }
 
 function card(who, { isMoved, names }, heading, body) {
   const colour = who === SERVER ? "var(--ink)" : colourOf(who);
   const look = `class="card${who === SERVER ? " server" : ""}${isMoved ? " moved" : ""}"`;
-  const name = names?.has(who) ? `${nameOfMember(who)}, ${names.get(who)}` : nameOfMember(who);
-  const words = `${look} data-card="${who}" tabindex="-1" style="--who:${colour}" aria-label="${escapeMarkup(name)}"`;
+  const words = `${look} data-card="${who}" tabindex="-1" style="--who:${colour}" aria-label="${escapeMarkup(nameOfMember(who, names))}"`;
   return `<section ${words}><h2>${heading}</h2>${body}</section>`;
 }
 
-/* A button that puts an instruction behind the place. */
-const playButton = (instruction, title, markup = instruction, look = "") =>
-  `<button class="play ${look}" data-play="${instruction}" title="${title}">${markup}</button>`;
+/* A button that puts an instruction behind the place; one that was pressed waits for the engine's answer. */
+const playButton = (instruction, title, { markup = instruction, look = "", isAsked = false } = {}) =>
+  `<button class="play ${look}${isAsked ? " asked" : ""}" data-play="${instruction}" title="${title}"${isAsked ? " disabled" : ""}>${markup}</button>`;
+
+const READ = { markup: "read", look: "small" };
 
 const acts = (buttons) => (buttons ? `<span class="acts">${buttons}</span>` : "");
 
@@ -120,34 +121,39 @@ function serverCard(session, view, isMoved) {
   const { place, port, canPlay } = view;
   const length = logLengthAt(session, place);
   const entries = session.log.slice(Math.max(0, length - 4), length).reverse();
-  const lines = entries.map(({ number, operation, maker }) => `${number}: ${operationMarkup(operation, maker)} client ${maker}`);
+  const lines = entries.map(({ number, operation, maker }) => `${number}: ${operationMarkup(operation, maker)} ${escapeMarkup(nameOfMember(maker, view.names))}`);
   if (length > 4) lines.push(`and ${length - 4} before`);
   const rows = length ? [["log, last first", lines.join("<br>")]] : [];
   rows.push(...portRows(port, SERVER, place));
-  const read = canPlay ? playButton("read-server", "shows the server’s document here", "read", "small") : "";
+  const read = canPlay ? playButton("read-server", "shows the server’s document here", READ) : "";
   const heading = `server ${badge(`rev ${length}`)}${acts(read)}`;
   return card(SERVER, { ...view, isMoved }, heading, documentMarkup(session, SERVER, view) + table(rows));
 }
 
-function linkRows(session, client, { place, canPlay }) {
+const isAsked = (instruction, { asked }) => Boolean(asked?.includes(instruction));
+
+function linkRows(session, client, view) {
+  const { place, canPlay } = view;
   const rows = [];
   const up = upAt(session, client, place);
-  const heads = canPlay ? headsAt(session, client, place) : { up: null, down: [] };
-  const asHead = (markup, instruction, title) =>
-    instruction ? playButton(instruction, title, `${markup} <b>${instruction.split(" ")[0]}</b>`, "head") : markup;
+  const asHead = (markup, instruction, title, isAsked) =>
+    playButton(instruction, title, { markup: `${markup} <b>${instruction.split(" ")[0]}</b>`, look: "head", isAsked });
   if (up) {
     const message = `${operationMarkup(up.operation, client)} at revision ${up.revision}`;
-    rows.push(["to server", asHead(message, heads.up, "the server takes it (u)")]);
+    const take = `take ${client}`;
+    rows.push(["to server", canPlay ? asHead(message, take, "the server takes it (u)", isAsked(take, view)) : message]);
   }
   const { from, to } = downAt(session, client, place);
-  const messages = session.log.slice(from, Math.min(to, from + 3));
-  const words = messages.map(({ maker, operation }, i) => {
+  const { down } = headsAt(session, client, place);
+  const asked = receiptsIn(view.asked ?? [], client);
+  const most = 3 + asked;
+  const words = session.log.slice(from, Math.min(to, from + most)).map(({ maker, operation }, i) => {
     const isOwn = maker === client;
-    if (i > 0 || !canPlay) return isOwn ? "ack" : operationMarkup(operation, maker);
+    if (i > asked || !canPlay) return isOwn ? "ack" : operationMarkup(operation, maker);
     const markup = isOwn ? "its own operation" : operationMarkup(operation, maker);
-    return asHead(markup, heads.down[0], isOwn ? "the client has its operation confirmed (n)" : "the client takes it (n)");
+    return asHead(markup, down[i], isOwn ? "the client has its operation confirmed (n)" : "the client takes it (n)", i < asked);
   });
-  if (to - from > 3) words.push(`and ${to - from - 3} more`);
+  if (to - from > most) words.push(`and ${to - from - most} more`);
   if (words.length) rows.push(["from server", words.join(", ")]);
   return rows;
 }
@@ -157,11 +163,11 @@ const STATE_LOOKS = { synchronized: "", "awaiting-confirm": "confirm", "awaiting
 function clientCard(session, client, view, isMoved) {
   const { place, port, canPlay, names } = view;
   const { state, revision, outstanding, buffer } = stateAt(session, client, place);
-  const called = names?.has(client) ? ` <span class="called">${escapeMarkup(names.get(client))}</span>` : "";
+  const called = names?.has(client) ? ` <span class="called">(${escapeMarkup(seen(names.get(client)))})</span>` : "";
   const name = `<span class="name">client ${client}</span>${called} ${badge(state, STATE_LOOKS[state])}`;
   const rename = canPlay ? `<button class="small" data-name="${client}" title="gives the client a name">name</button>` : "";
   if (state === "not-joined") {
-    const join = canPlay ? playButton(`join ${client}`, "the client joins with the server’s document (+)", `join ${client}`, "head") : "";
+    const join = canPlay ? playButton(`join ${client}`, "the client joins with the server’s document (+)", { look: "head", isAsked: isAsked(`join ${client}`, view) }) : "";
     return card(client, { ...view, isMoved }, name + acts(rename), join);
   }
   const rows = [];
@@ -170,24 +176,26 @@ function clientCard(session, client, view, isMoved) {
   rows.push(...linkRows(session, client, view), ...portRows(port, client, place));
   const isSame = sameText(documentAt(session, client, place), documentAt(session, SERVER, place));
   const heading = `${name} ${badge(`rev ${revision}`)} ${badge(isSame ? "= server" : "≠ server")}`;
-  const read = canPlay ? playButton(`read ${client}`, "shows the document here (r)", "read", "small") : "";
+  const read = canPlay ? playButton(`read ${client}`, "shows the document here (r)", READ) : "";
   return card(client, { ...view, isMoved }, heading + acts(read + rename), documentMarkup(session, client, view) + table(rows));
 }
 
 /* Of what a participant's card is made: where all of it is the same, the card is. */
 export function cardParts(session, who, view) {
-  const { place, port, picked, draft, canPlay, names, carets, answered } = view;
-  const isMoved = session.steps[place]?.moved === who;
-  const server = session.server.versionAt(place);
-  const parts = [answered, isMoved ? place : null, server, port && place, picked, draft, canPlay, names.get(who), carets.get(who)];
+  const { place, port, picked, draft, canPlay, names, carets, asked } = view;
+  const step = session.steps[place];
+  const moved = step?.moved === who ? step.line : null;
+  const parts = [session.clients, moved, session.server.markAt(place), port, port && place, picked, canPlay, [...names].join(), carets.get(who)];
   if (who === SERVER) return parts;
-  const state = stateAt(session, who, place);
-  return [...parts, state, session.members[who].versions.versionAt(place), upAt(session, who, place), logLengthAt(session, place)];
+  const own = asked.filter((instruction) => instruction.endsWith(` ${who}`)).join();
+  const { versions } = session.members[who];
+  const up = upAt(session, who, place);
+  return [...parts, stateAt(session, who, place), versions.markAt(place), up?.operation, draft?.client === who ? draft : null, own];
 }
 
 /*
  * A participant's card at a place: view.place. Of the rest of a view `draft` is what a client's document is while that is not
- * answered, `carets` where users type, `names` what clients are called, and `canPlay` says whether there is an engine.
+ * answered, `asked` the instructions that the engine has not answered yet, `carets` where users type, `names` what clients are called, and `canPlay` says whether there is an engine.
  */
 export function cardMarkup(session, who, view) {
   const step = session.steps[view.place];

@@ -70,8 +70,9 @@ export class Deck {
     if (focused.matches(".document")) return keepEditor(card, fresh, focused);
     const { play, name } = focused.dataset;
     card.replaceWith(fresh);
-    const same = [...fresh.querySelectorAll("button")].find((button) => button.dataset.play === play && button.dataset.name === name);
-    (same || fresh.querySelector("button.head") || fresh).focus({ preventScroll: true });
+    const isSame = ({ dataset, disabled }) => !disabled && dataset.play === play && dataset.name === name;
+    const same = [...fresh.querySelectorAll("button")].find(isSame);
+    (same || fresh.querySelector("button.head:not(:disabled)") || fresh).focus({ preventScroll: true });
   }
 }
 

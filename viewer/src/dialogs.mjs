@@ -37,9 +37,9 @@ export function paste() {
 }
 
 /** Which lanes are shown. */
-export function showLanes({ session, hidden }) {
+export function showLanes({ session, hidden, outline }) {
   const boxes = session.members.map(
-    ({ number }) => `<label><input type="checkbox" value="${number}"${hidden.has(number) ? "" : " checked"}> client ${number}</label>`,
+    ({ number }) => `<label><input type="checkbox" value="${number}"${hidden.has(number) ? "" : " checked"}> ${escapeMarkup(nameOfMember(number, outline.names))}</label>`,
   );
   element("shown-lanes").innerHTML = boxes.join("");
   if (!element("hiding").open) openDialog("hiding");

@@ -97,14 +97,17 @@ export class Versions {
     this.#keep();
   }
 
-  /* Takes back the changes behind a place. */
-  cutTo(place) {
+  /* The versions up to a place, for changes of their own. */
+  upTo(place) {
     const version = this.versionAt(place);
-    if (version === this.places.length - 1) return;
-    this.now = this.#elements(version).slice();
-    this.places.length = this.changes.length = version + 1;
-    for (const kept of this.kept.keys()) if (kept > version) this.kept.delete(kept);
-    this.lastKept = Math.max(...this.kept.keys());
+    const elements = version === this.places.length - 1 ? this.now.slice() : this.#elements(version);
+    const front = new Versions(elements);
+    front.places = this.places.slice(0, version + 1);
+    front.changes = this.changes.slice(0, version + 1);
+    front.kept = new Map([...this.kept].filter(([number]) => number <= version));
+    front.lastKept = Math.max(...front.kept.keys());
+    front.memo = { version, elements };
+    return front;
   }
 
   /* The change that was made at a place: { operation, insertions, before }, or null. */
@@ -116,6 +119,12 @@ export class Versions {
 
   at(place) {
     return this.#elements(this.versionAt(place));
+  }
+
+  /* What the version at a place is known by: the change that led to it, or the list that the first one is. */
+  markAt(place) {
+    const version = this.versionAt(place);
+    return this.changes[version] ?? this.kept.get(version);
   }
 
   /* The number of the version at a place. */

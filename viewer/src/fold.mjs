@@ -25,15 +25,17 @@ class ClientHistory {
     this.statePlaces.push(at);
   }
 
-  /* Takes back what happened behind a place. */
-  cutTo(place) {
+  /* The history up to a place; its message that is under way there is one of its own. */
+  upTo(place) {
+    const front = new ClientHistory(this.number, false, []);
     const count = lastUpTo(this.statePlaces, place) + 1;
-    this.states.length = this.statePlaces.length = count;
-    this.versions.cutTo(place);
-    while (this.sent.length && this.sent[this.sent.length - 1].sent > place) this.sent.pop();
-    const last = this.sent[this.sent.length - 1];
-    if (last && last.got > place) last.got = null;
-    this.up = last && last.got === null ? last : null;
+    front.states = this.states.slice(0, count);
+    front.statePlaces = this.statePlaces.slice(0, count);
+    front.versions = this.versions.upTo(place);
+    front.sent = this.sent.filter(({ sent }) => sent <= place);
+    const last = front.sent[front.sent.length - 1];
+    if (last && (last.got === null || last.got > place)) front.sent[front.sent.length - 1] = front.up = { ...last, got: null };
+    return front;
   }
 }
 
@@ -56,16 +58,19 @@ export class Session {
     return this.steps.length - 1;
   }
 
-  /* Takes back what happened behind a place, as if the lines behind it had not been added. */
-  cutTo(place) {
-    this.stop = this.end = null;
-    if (place === this.length) return;
-    this.steps.length = place + 1;
-    this.log.length = lastUpTo(this.logPlaces, place);
-    this.logPlaces.length = this.log.length + 1;
-    this.server.cutTo(place);
-    this.messages = this.messages.filter(({ kind, sent, got }) => (kind === "up" ? sent : got) <= place);
-    for (const member of this.members) member.cutTo(place);
+  /* A session of its own with what happened up to a place, as if the lines behind it had not been added to this one. */
+  upTo(place) {
+    const front = new Session(this);
+    front.steps = this.steps.slice(0, place + 1);
+    front.log = this.log.slice(0, lastUpTo(this.logPlaces, place));
+    front.logPlaces = this.logPlaces.slice(0, front.log.length + 1);
+    front.server = this.server.upTo(place);
+    front.members = this.members.map((member) => member.upTo(place));
+    const underWay = new Map(front.members.flatMap(({ up }) => (up ? [[up.sent, up]] : [])));
+    for (const [sent, up] of underWay) front.steps[sent] = { ...front.steps[sent], sent: up };
+    const isThere = ({ kind, sent, got }) => (kind === "up" ? sent : got) <= place;
+    front.messages = this.messages.filter(isThere).map((message) => (message.kind === "up" && underWay.get(message.sent)) || message);
+    return front;
   }
 
   add(line) {

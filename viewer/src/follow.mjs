@@ -1,5 +1,5 @@
-// A session that follows the lines of steps as they change: what is equal at the front stays, the rest is folded anew, a slice at a
-// time, so that a page that shows it stays in use.
+// A session that follows the lines of steps as they change: the equal lines at the front are not folded again, those behind them are, a
+// slice at a time, so that a page stays in use. The session that the page shows meanwhile stays as it is.
 
 import { openSession } from "./fold.mjs";
 
@@ -11,7 +11,7 @@ const LINES = 50;
  * @param {import("./fold.mjs").Session | null} session what the last lines gave
  * @param {{ keep: number, rest: string }} change how many lines at the front stay, and those behind them
  * @param {() => Promise<void>} pause between two slices
- * @returns {Promise<import("./fold.mjs").Session>} the session; the old one where lines stayed
+ * @returns {Promise<import("./fold.mjs").Session>} the session of the lines
  */
 export async function followLines(session, { keep, rest }, pause) {
   const lines = rest.split("\n");
@@ -19,7 +19,7 @@ export async function followLines(session, { keep, rest }, pause) {
   if (lines.length === 0) return session;
   let next = 0;
   if (keep === 0 || !session) session = openSession(JSON.parse(lines[next++]));
-  else session.cutTo(Math.min(keep - 1, session.length));
+  else session = session.upTo(Math.min(keep - 1, session.length));
   let began = performance.now();
   for (; next < lines.length; next++) {
     session.add(JSON.parse(lines[next]));

@@ -4,13 +4,13 @@ import { lastUpTo } from "./document.mjs";
 import { SERVER } from "./fold.mjs";
 import { HEAD_HEIGHT, svgText } from "./layout.mjs";
 import { colourOf } from "./theme.mjs";
-import { brief, escapeMarkup, nameOfMember } from "./words.mjs";
+import { brief, escapeMarkup, nameOfMember, seen } from "./words.mjs";
 
 export function headMarkup(layout, followed, names = new Map()) {
   const isWide = layout.laneWidth >= 60;
   return [SERVER, ...[...layout.members.keys()].filter((who) => who !== SERVER)].map((who) => {
     const x = layout.x(who);
-    const called = names.has(who) ? `${who} ${brief(names.get(who), layout.laneWidth >= 90 ? 12 : 6)}` : nameOfMember(who);
+    const called = names.has(who) ? `${who} ${brief(seen(names.get(who)), layout.laneWidth >= 90 ? 12 : 6)}` : nameOfMember(who);
     const name = escapeMarkup(isWide ? called : who === SERVER ? "S" : String(who));
     const fill = followed === who ? "var(--pick)" : "transparent";
     const size = `width="${layout.laneWidth - 2}" height="${HEAD_HEIGHT - 5}"`;

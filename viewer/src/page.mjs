@@ -7,6 +7,7 @@ import { Engine, wanted } from "./engine.mjs";
 import { SERVER, fold } from "./fold.mjs";
 import { splitInput, unescapeLine } from "./input.mjs";
 import { takeIn } from "./intake.mjs";
+import { Keeper, tabStorage } from "./keeping.mjs";
 import { linkTo, openLink } from "./linking.mjs";
 import { otherEnd, sameMember, towards } from "./moves.mjs";
 import { documentAt } from "./places.mjs";
@@ -26,9 +27,12 @@ const sheet = new Sheet({
   go: (place) => go(place),
 });
 let canPlay = false;
+let isStarted = false; // what the page shows is the user's
 let shown = -1; // the place that was shown last
 let naming = null; // the timer that will put the place into the address
 let linked = null; // the text whose link is in the address, and what stands there behind #
+
+const keeper = new Keeper(tabStorage(), location.pathname);
 
 const act = (name, more = {}) => bench.dispatch({ do: name, ...more });
 
@@ -59,12 +63,17 @@ const memberOf = (word) => (word === "" ? null : word === SERVER ? SERVER : Numb
 
 /* Playing. */
 
-const play = (...instructions) => act("play", { instructions });
+function play(...instructions) {
+  if (bench.state.fault) say("The text has a fault: mend it before you play.");
+  else act("play", { instructions });
+}
 
 function playKey(name) {
   const { instruction, reason } = played(bench.state, name);
   return instruction ? play(instruction) : say(reason);
 }
+
+const letThrough = () => (bench.state.fault ? play() : bench.quiet());
 
 function writeInDocument() {
   const { chosen } = bench.state;
@@ -181,7 +190,7 @@ const KEYS_OF_PLAY = {
   n: () => playKey("next"),
   "+": () => playKey("join"),
   r: () => playKey("read"),
-  q: () => bench.quiet(),
+  q: letThrough,
   l: () => openDialog("choosing"),
   c: copyLink,
   Enter: writeInDocument,
@@ -224,6 +233,7 @@ const CLICKS = {
   next: () => go(towards(bench.state, 1)),
   last: () => go(bench.state.session.length),
   answer: goToDifference,
+  conformance: goToDifference,
   undo: () => act("undo"),
   redo: () => act("redo"),
   new: () => act("open", { text: "clients 2\n" }),
@@ -237,7 +247,7 @@ const CLICKS = {
   help: () => element("keys").showModal(),
   lanes: () => showLanes(bench.state),
   "text-shown": () => turnText(),
-  quiet: () => bench.quiet(),
+  quiet: letThrough,
   "leave-out": () => act("leaveOut"),
   "to-fault": () => {
     const { fault, refusal } = bench.state;
@@ -369,6 +379,27 @@ async function followLink(hash) {
 /* What stands in the page's elements of data. */
 const given = (id) => element(id).textContent.replace(/^\n/, "");
 
+/* What the page was opened with: a link's session, or that which stands in it. */
+const openedWith = () => readAddress(location.hash).image ?? given("schedule");
+
+/* Takes back what was changed before a reload, or before another page was gone to and back; Undo leads to what it was opened with. */
+function takeBack() {
+  isStarted = true;
+  const isVisit = performance.getEntriesByType("navigation")[0]?.type === "navigate";
+  const kept = isVisit ? null : keeper.keptOf(openedWith());
+  if (!kept) return false;
+  act("open", kept);
+  say("What was changed before the page was loaded anew is here again; Undo shows what it was opened with.");
+  return true;
+}
+
+const keep = () => !isStarted || keeper.keep(openedWith(), bench.state);
+addEventListener("pagehide", keep);
+document.addEventListener("visibilitychange", keep);
+addEventListener("beforeunload", (event) => {
+  if (!keep()) event.preventDefault(); // the browser asks whether to leave
+});
+
 /* The engine, if the page has one and the browser can run it; else the viewer stays, and says what is wanted. */
 async function startEngine() {
   const module = given("module").trim();
@@ -401,10 +432,15 @@ async function start() {
   await startEngine();
   if (!canPlay) return undefined;
   turnText(innerWidth > 1100);
-  if (await followLink(hash)) return undefined;
-  if (bench.state.session) return changed({ do: "go" });
+  const isLink = await followLink(hash);
+  if (isLink || bench.state.session) {
+    changed({ do: "go" });
+    return takeBack();
+  }
   openChoice(choices.findIndex(({ name }) => name === "two-clients"), 2);
-  return say("Two people have typed at one place, and their messages are under way. Step on with → or click a message to let it through; type into a document to change what happens.");
+  if (!takeBack())
+    say("Two people have typed at one place, and their messages are under way. Step on with → or click a message to let it through; type into a document to change what happens.");
+  return undefined;
 }
 
 watchCards(bench);

@@ -35,6 +35,10 @@ export function headsAt(session, client, place) {
   return { up: upAt(session, client, place) ? `take ${client}` : null, down };
 }
 
+/* How many of these instructions are receipts of what is on a client's link from the server. */
+export const receiptsIn = (instructions, client) =>
+  instructions.filter((instruction) => instruction === `deliver ${client}` || instruction === `ack ${client}`).length;
+
 /* "quiet", or the first thing that is under way. A client whose message is under way to the server awaits a confirmation. */
 export function quietAt(session, place) {
   for (let client = 0; client < session.clients; client++) {

@@ -2,7 +2,7 @@
 
 import { element } from "./dom.mjs";
 import { SERVER } from "./fold.mjs";
-import { headsAt, stateAt } from "./places.mjs";
+import { headsAt, receiptsIn, stateAt } from "./places.mjs";
 import { deck } from "./screen.mjs";
 import { documentNow, shownPlace } from "./state.mjs";
 import { watchTyping } from "./typing.mjs";
@@ -14,9 +14,10 @@ export function played(state, name) {
   const place = shownPlace(state);
   const { up, down } = headsAt(session, chosen, place);
   const isThere = stateAt(session, chosen, place).state !== "not-joined";
+  if (name === "take" && up && state.asked.includes(up)) return { reason: `The engine has not answered ${up} yet.` };
   const [instruction, reason] = {
     take: [up, `No message of client ${chosen} is under way to the server.`],
-    next: [down[0], `Nothing is under way to client ${chosen}.`],
+    next: [down[receiptsIn(state.asked, chosen)], `Nothing is under way to client ${chosen}.`],
     join: [isThere ? null : `join ${chosen}`, `Client ${chosen} has joined.`],
     read: [isThere ? `read ${chosen}` : null, `Client ${chosen} has not joined.`],
   }[name];

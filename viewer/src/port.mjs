@@ -19,6 +19,16 @@ function readLine(text) {
   return { text };
 }
 
+/* What the recorder's last line {"cut":".."} says of why its lines end before its logs do; null where there is none. */
+function cutIn(texts) {
+  try {
+    const { cut } = JSON.parse(texts[texts.length - 1] ?? "null") ?? {};
+    return typeof cut === "string" ? cut : null;
+  } catch {
+    return null;
+  }
+}
+
 /* The values that ot.js has at a place, by the keys of `steps`. */
 function valuesAt(session, place) {
   const { line, moved } = session.steps[place];
@@ -48,6 +58,7 @@ export class Port {
     this.moves = new Map([SERVER, ...session.members.keys()].map((who) => [who, [0]]));
     session.steps.forEach((step, place) => step && this.lines[place] && this.moves.get(step.moved).push(place));
     this.answer = answer;
+    this.cut = cutIn(texts);
     this.first = this.#first();
   }
 

@@ -4,27 +4,49 @@
 import { trimmed } from "./input.mjs";
 
 const OPENING = /^(clients|present|start)(?![^ \t])/;
-const NAME = /^;\s*client (\d{1,9}) is (.+)$/;
+const NAME = /^;\s*client (\d{1,9}) is (.+)$/s;
+const CUT = /^;\s*cut: (".*)$/s;
+
+/* What a comment says, where it stands there as a JSON string. */
+function unquoted(words) {
+  try {
+    const value = words.startsWith('"') ? JSON.parse(words) : words;
+    return typeof value === "string" ? value : words;
+  } catch {
+    return words;
+  }
+}
+
+/* A name as a comment has it: as it is, or as a JSON string where it would not be one line's rest. */
+const written = (name) => (/^[^\p{C}\s"](?:[^\p{C}]*[^\p{C}\s])?$/u.test(name) ? name : JSON.stringify(name));
 
 /**
  * @typedef {object} Outline
  * @property {number} opening how many lines there are up to the last one of the opening
  * @property {number[]} lines the line of each instruction
  * @property {Map<number, string>} names what comments `; client 0 is Ann` call the clients
+ * @property {string | null} cut what the recorder's comment `; cut: ".."` says of why its schedule ends before its logs do
  */
 
 /** @param {string} text @returns {Outline} */
 export function outlineOf(text) {
-  const outline = { opening: 0, lines: [], names: new Map() };
+  const outline = { opening: 0, lines: [], names: new Map(), cut: null };
   text.split("\n").forEach((raw, i) => {
     const line = trimmed(raw);
-    const name = NAME.exec(line);
-    if (name) outline.names.set(Number(name[1]), name[2]);
-    if (line === "" || line.startsWith(";")) return;
+    if (line.startsWith(";")) return readComment(outline, line);
+    if (line === "") return undefined;
     if (outline.lines.length === 0 && OPENING.test(line)) outline.opening = i + 1;
     else outline.lines.push(i);
+    return undefined;
   });
   return outline;
+}
+
+function readComment(outline, line) {
+  const name = NAME.exec(line);
+  if (name) outline.names.set(Number(name[1]), unquoted(name[2]));
+  const cut = CUT.exec(line);
+  if (cut) outline.cut = unquoted(cut[1]);
 }
 
 /** The line that led to a place: the opening's last one at place 0, and -1 where there is none. */
@@ -42,12 +64,33 @@ export function placeOfLine({ lines }, line) {
   return from;
 }
 
-/** The text with instructions behind a place. */
-export function withInstructions(text, place, instructions) {
+const RECEIPT = /^(take|deliver|ack|join) /;
+
+/* The lines behind a place that have these instructions, each the first one that is left. */
+function linesBehind(lines, outline, place, instructions) {
+  const found = new Set();
+  const wanted = [...instructions];
+  for (const number of outline.lines.slice(place)) {
+    if (wanted.length === 0) break;
+    const at = wanted.indexOf(trimmed(lines[number]).replace(/[ \t]+/g, " "));
+    if (at < 0) continue;
+    wanted.splice(at, 1);
+    found.add(number);
+  }
+  return found;
+}
+
+/**
+ * The text of an outline with instructions behind a place. Where a message is let through, or a client joins, that stands further down,
+ * the line is moved up: no message is taken twice.
+ */
+export function withInstructions(text, outline, place, instructions) {
   const lines = text.split("\n");
   if (lines[lines.length - 1] === "") lines.pop();
-  lines.splice(lineOfPlace(outlineOf(text), place) + 1, 0, ...instructions);
-  return `${lines.join("\n")}\n`;
+  const moved = linesBehind(lines, outline, place, instructions.filter((instruction) => RECEIPT.test(instruction)));
+  const at = lineOfPlace(outline, place) + 1;
+  const behind = lines.slice(at).filter((_, i) => !moved.has(at + i));
+  return `${[...lines.slice(0, at), ...instructions, ...behind].join("\n")}\n`;
 }
 
 /** The text without the instruction that led to a place. */
@@ -60,6 +103,6 @@ export function withoutInstruction(text, place) {
 /** The text with a comment that names a client; without one where the name is empty. */
 export function withName(text, client, name) {
   const lines = text.split("\n").filter((line) => Number(NAME.exec(trimmed(line))?.[1] ?? NaN) !== client);
-  const words = name.replace(/[\0-\x1f\x7f\u2028\u2029]/g, " ").trim();
-  return (words ? [`; client ${client} is ${words}`, ...lines] : lines).join("\n");
+  const words = name.trim();
+  return (words ? [`; client ${client} is ${written(words)}`, ...lines] : lines).join("\n");
 }

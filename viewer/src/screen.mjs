@@ -9,7 +9,7 @@ import { quietAt } from "./places.mjs";
 import { isAnswered, shownPlace } from "./state.mjs";
 import { variablesOf } from "./theme.mjs";
 import { Timeline } from "./timeline.mjs";
-import { escapeMarkup, instructionOf, nameOfMember, sentence, valueMarkup } from "./words.mjs";
+import { apart, escapeMarkup, instructionOf, nameOfMember, seen, sentence, valueMarkup } from "./words.mjs";
 
 /** Of a session of so many instructions, above how many milliseconds of the engine's the page says that the picture comes later. */
 const LONG = 1000;
@@ -22,10 +22,10 @@ export const isNarrow = () => innerWidth <= 800;
 
 /** What is drawn of a state. */
 export function viewOf(state, canPlay) {
-  const { session, beside, followed, picked, hidden, draft, chosen, caret, outline } = state;
+  const { session, beside, followed, picked, hidden, draft, chosen, caret, outline, asked } = state;
   const place = shownPlace(state);
   const carets = caret ? new Map([[caret.client, caret.index]]) : new Map();
-  return { session, answered: state.answered, port: beside, place, followed, picked, hidden, draft, chosen, carets, names: outline.names, canPlay };
+  return { session, port: beside, place, followed, picked, hidden, draft, asked, chosen, carets, names: outline.names, canPlay };
 }
 
 /* Of what the picture is made: where nothing of it is another one, the picture is the same. */
@@ -45,6 +45,7 @@ export function show(state, { canPlay, isOther, isTyped, sheet }) {
   const isFirst = element("main").hidden;
   element("empty").hidden = true;
   element("header").hidden = element("main").hidden = false;
+  document.body.classList.toggle("long", session.length >= LONG);
   const view = viewOf(state, canPlay);
   showHeader(state, view);
   if (!isPictured(state, view, isOther)) {
@@ -78,7 +79,7 @@ function showHeader(state, view) {
   setText("name", title || "otbench");
   const words = title ? `${title}: otbench session` : "otbench session";
   if (document.title !== words) document.title = words;
-  showMembers(session);
+  showMembers(session, view.names);
   element("slider").max = element("place").max = session.length;
   setText("length", `of ${session.length}`);
   element("slider").value = element("place").value = place;
@@ -95,11 +96,12 @@ function showHeader(state, view) {
   showVerdicts(state);
 }
 
-let members = 0;
-function showMembers({ members: { length } }) {
-  if (members === length) return;
-  members = length;
-  const options = [SERVER, ...Array(length).keys()].map((who) => `<option value="${who}">${nameOfMember(who)}</option>`);
+let members = "";
+function showMembers({ members: { length } }, names) {
+  const all = [SERVER, ...Array(length).keys()].map((who) => [who, nameOfMember(who, names)]);
+  if (members === all.join()) return;
+  members = all.join();
+  const options = all.map(([who, name]) => `<option value="${who}">${escapeMarkup(name)}</option>`);
   element("followed").innerHTML = `<option value="">all instructions</option>${options.join("")}`;
 }
 
@@ -113,14 +115,25 @@ function showVerdicts(state) {
   const lists = { holds: "the weak list property holds", "trace full": "too long to judge its lists" };
   element("list-verdict").hidden = list === "";
   setVerdict("list-verdict", lists[list] ?? list, list === "holds" ? "good" : "");
+  const cut = state.outline.cut ?? beside?.cut ?? null;
+  element("cut").hidden = cut === null;
+  setVerdict("cut", `ends before its logs: ${seen(cut ?? "")}`, "bad");
   element("conformance").hidden = element("answer").hidden = !beside;
   if (!beside) return;
   const [first] = beside.answer;
   const conforms = first === undefined ? beside.first === null : first === "conforms";
-  const seen = beside.first === null ? "the port's lines agree" : `the port's lines differ at ${beside.first}`;
-  setVerdict("conformance", first || seen, conforms ? "good" : "bad");
+  const marked = beside.first === null ? "the port's lines agree" : `the port's lines differ at ${beside.first}`;
+  setVerdict("conformance", first || marked, conforms ? "good" : "bad");
   element("answer").hidden = conforms || first === undefined;
-  setText("answer", beside.answer.join("\n"));
+  setText("answer", answerOf(beside.answer).join("\n"));
+}
+
+/* What conform answered, the values that differ told apart. */
+function answerOf(lines) {
+  const [found, ours] = ["found ", "ot.js "].map((word) => lines.findIndex((line) => line.startsWith(word)));
+  if (found < 0 || ours < 0) return lines;
+  const [theirs, wanted] = apart(lines[found].slice(6), lines[ours].slice(6));
+  return lines.with(found, `found ${theirs}`).with(ours, `ot.js ${wanted}`);
 }
 
 function setVerdict(id, words, look) {
@@ -129,19 +142,27 @@ function setVerdict(id, words, look) {
 }
 
 /* What the line above the diagram says. */
-function wordsAt(state, { session, place, picked, port, followed }) {
-  const stop = place === session.length && session.stop;
-  const reason = state.refusal && isAnswered(state) ? state.refusal.reason : session.stop?.stopped;
-  const now = stop ? `Then ${instructionOf(stop)} is refused: ${reason}.` : `${quietAt(session, place)}.`;
-  const parts = [sentence(session, place), `<span class="now">${escapeMarkup(now)}</span>`];
+function wordsAt(state, { session, place, picked, port, followed, names }) {
+  const now = state.asked.length && state.took > SLOW ? waits(state.asked) : nowAt(state, place);
+  const parts = [sentence(session, place, names), `<span class="now">${escapeMarkup(now)}</span>`];
   for (const { key, found, ours } of port ? port.differencesAt(place) : [])
-    parts.push(`<span class="differs">The port: ${key} ${valueMarkup(found)}, ot.js: ${valueMarkup(ours)}.</span>`);
-  if (followed !== null) parts.push(`<span class="now">Stepping through ${nameOfMember(followed)}.</span>`);
+    parts.push(`<span class="differs">The port: ${key} ${apart(found, ours).map(valueMarkup).join(", ot.js: ")}.</span>`);
+  if (followed !== null) parts.push(`<span class="now">Stepping through ${escapeMarkup(nameOfMember(followed, names))}.</span>`);
   if (picked) {
-    const when = picked.born ? `inserted by ${authorOf(picked)} at ${picked.born}` : "of the start text";
+    const when = picked.born ? `inserted by ${authorOf(picked, names)} at ${picked.born}` : "of the start text";
     parts.push(`<span class="badge">${escapeMarkup(`“${picked.character}” ${when}`)}</span>`);
   }
   return parts.join(" ");
+}
+
+const waits = (asked) => `${asked[0]}${asked.length > 1 ? ` and ${asked.length - 1} more` : ""}: not answered yet.`;
+
+/* What is under way at a place, or refused there. */
+function nowAt(state, place) {
+  const { session, refusal } = state;
+  const stop = place === session.length && session.stop;
+  const reason = refusal && isAnswered(state) ? refusal.reason : session.stop?.stopped;
+  return stop ? `Then ${instructionOf(stop)} is refused: ${reason}.` : `${quietAt(session, place)}.`;
 }
 
 export function faultWords({ fault }) {
@@ -159,15 +180,15 @@ function showFault(state) {
   element("to-fault").hidden = !fault && !isRefused;
   element("leave-out").hidden = !isRefused;
   element("pace").hidden = took <= SLOW || session.length < LONG;
-  setText("pace", `A long session: the picture follows a change after ${(took / 1000).toFixed(1)} s.`);
+  setText("pace", `too long for live answers: ${(took / 1000).toFixed(1)} s`);
   element("text").setAttribute("aria-invalid", String(Boolean(fault)));
 }
 
 function scrollToCard({ place, port }) {
   const moved = document.querySelector(".card.moved");
-  const covered = isNarrow() ? "0" : `${element("cards").firstElementChild.offsetHeight + 4}px`;
-  const { style } = element("cards");
-  if (style.getPropertyValue("--top") !== covered) style.setProperty("--top", covered);
+  const covered = isNarrow() ? "0px" : `${element("cards").firstElementChild.offsetHeight + 4}px`;
+  const { style } = element("state");
+  if (style.scrollPaddingTop !== covered) style.scrollPaddingTop = covered;
   if (port && place === port.first) element("state").scrollTop = 0;
   else if (moved) moved.scrollIntoView({ block: "nearest" });
 }

@@ -9,13 +9,13 @@ const LINE = 19; // pixels, as in style.css
 const PAD = 6;
 
 /** Up to how many lines the field has all of a text, and how many of a longer one. */
-const WHOLE = 2000;
-const PART = 1000;
+const WHOLE = 1000;
+const PART = 400;
 
 /** How long a pause ends a burst of typing, in milliseconds: a burst is undone as one. */
 const BURST = 1000;
 
-const spaced = (count) => count.toLocaleString("en");
+const spaced = (count) => String(count).replace(/\B(?=(\d{3})+$)/g, ",");
 
 export class Sheet {
   #lines = [""];
@@ -26,6 +26,7 @@ export class Sheet {
   #burst = 0;
   #typed = 0;
   #line = -1; // where the caret stood last
+  #next = null; // the state that is to be shown
 
   /**
    * @param {object} to
@@ -37,6 +38,7 @@ export class Sheet {
     this.area = element("text");
     this.area.addEventListener("input", () => this.#write());
     this.area.addEventListener("scroll", () => this.measure());
+    this.area.addEventListener("focus", () => this.#showNext());
     document.addEventListener("selectionchange", () => this.#follow());
     element("numbers").addEventListener("click", (event) => {
       const line = event.target.closest("[data-line]");
@@ -46,8 +48,21 @@ export class Sheet {
     element("lines-below").onclick = () => this.#turn(this.#part.to + PART / 2);
   }
 
-  /** @param {import("./state.mjs").State} state */
+  /**
+   * Shows a state; a long text that is not written in, when the rest of the page is drawn.
+   * @param {import("./state.mjs").State} state
+   */
   show(state, place) {
+    const isWaiting = this.#next !== null;
+    this.#next = { state, place };
+    if (this.#lines.length <= WHOLE || document.activeElement === this.area) this.#showNext();
+    else if (!isWaiting) requestAnimationFrame(() => setTimeout(() => this.#showNext()));
+  }
+
+  #showNext() {
+    if (!this.#next) return;
+    const { state, place } = this.#next;
+    this.#next = null;
     this.state = state;
     const isOther = this.#shown.place !== place;
     this.#shown = { place, fault: state.fault, refusal: state.refusal };
@@ -77,6 +92,7 @@ export class Sheet {
 
   /** Puts the caret to a line and column, from 0. */
   select(line, column) {
+    this.#showNext();
     this.#put(this.#partAround(line));
     const before = this.#lines.slice(this.#part.from, line).reduce((sum, text) => sum + text.length + 1, 0);
     const at = before + [...(this.#lines[line] ?? "")].slice(0, column).join("").length;

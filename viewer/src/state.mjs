@@ -13,6 +13,8 @@ import { outlineOf, placeOfLine, withInstructions, withName, withoutInstruction 
  * @property {string[] | null} port the lines that a port printed
  * @property {string} title
  * @property {number} place the place that is looked at
+ * @property {string[]} asked the instructions that were played and that the engine has not answered yet
+ * @property {number | null} stood the place that is shown until it has, the one that they were played at
  * @property {object[]} past what undo leads back to: { text, port, place, title, tag }
  * @property {object[]} future what redo leads on to
  * @property {string | null} answered the text that the session is of
@@ -40,6 +42,8 @@ export const emptyState = () => ({
   port: null,
   title: "",
   place: 0,
+  asked: [],
+  stood: null,
   past: [],
   future: [],
   answered: null,
@@ -58,18 +62,23 @@ export const emptyState = () => ({
   notice: "",
 });
 
-/** How many steps back are kept. */
+/** How many steps back are kept, and how many characters their texts may have together. */
 const DEPTH = 1000;
+const ROOM = 1 << 26;
 
 const snapshot = ({ text, port, place, title }, tag) => ({ text, port, place, title, tag });
+
+/* Nothing that was played waits for the engine. */
+const NOT_ASKED = { asked: [], stood: null, draft: null };
 
 /* The state with another text; an action with the tag of the one before is undone together with it. */
 function changed(state, { text, port = state.port, place = state.place, title = state.title, tag = null }) {
   if (text === state.text && port === state.port) return { ...state, place, title };
   const last = state.past[state.past.length - 1];
   const joins = tag !== null && last !== undefined && last.tag === tag;
-  const past = joins ? state.past : [...state.past.slice(-DEPTH), snapshot(state, tag)];
-  return { ...state, text, outline: outlineOf(text), port, place, title, past, future: [], draft: null, beside: null, notice: "" };
+  const depth = Math.min(DEPTH, Math.ceil(ROOM / (text.length + 1)));
+  const past = joins ? state.past : [...state.past.slice(-depth), snapshot(state, tag)];
+  return { ...state, text, outline: outlineOf(text), port, place, title, past, future: [], ...NOT_ASKED, beside: null, notice: "" };
 }
 
 /* Undo and redo: the last of one list takes the state's place, which goes to the other list. */
@@ -78,14 +87,14 @@ function restored(state, from, to) {
   if (list.length === 0) return state;
   const { text, port, place, title, tag } = list[list.length - 1];
   const lists = { [from]: list.slice(0, -1), [to]: [...state[to], snapshot(state, tag)] };
-  return { ...state, ...lists, text, port, place, title, outline: outlineOf(text), draft: null, beside: null, notice: "" };
+  return { ...state, ...lists, text, port, place, title, outline: outlineOf(text), ...NOT_ASKED, beside: null, notice: "" };
 }
 
 /** Whether the session is that of the text. */
 export const isAnswered = (state) => state.answered === state.text;
 
-/** The place that can be shown of the session there is. */
-export const shownPlace = ({ session, place }) => (session ? Math.max(0, Math.min(place, session.length)) : 0);
+/** The place that can be shown of the session there is: while instructions are not answered, the one that they were played at. */
+export const shownPlace = ({ session, place, stood }) => (session ? Math.max(0, Math.min(stood ?? place, session.length)) : 0);
 
 /** The elements of a client's document as the page shows it now; null while that is not known. */
 export function documentNow(state, client) {
@@ -99,7 +108,8 @@ function typed(state, { client, from, to, text }) {
   const edit = elements && editOf(elements.map(({ character }) => character), from, to, text);
   if (!edit) return state;
   const place = state.draft ? state.place : shownPlace(state);
-  const next = played({ ...state, place }, { instructions: [`edit ${client} ${JSON.stringify(edit)}`] });
+  const { asked } = state;
+  const next = { ...played({ ...state, place }, { instructions: [`edit ${client} ${JSON.stringify(edit)}`] }), asked };
   const after = patched(elements, edit, makeElements(insertedText(edit), client, place + 1));
   return { ...next, draft: { client, place: next.place, elements: after }, caret: { client, index: from + [...wellFormed(text)].length }, chosen: client };
 }
@@ -107,8 +117,10 @@ function typed(state, { client, from, to, text }) {
 function played(state, { instructions, tag }) {
   if (instructions.length === 0) return state;
   const place = Math.min(state.place, state.outline.lines.length);
-  const text = withInstructions(state.text, place, instructions);
-  return changed(state, { text, place: place + instructions.length, tag });
+  const text = withInstructions(state.text, state.outline, place, instructions);
+  const stood = state.stood ?? shownPlace(state);
+  const next = changed(state, { text, place: place + instructions.length, tag });
+  return text === state.text ? next : { ...next, asked: [...state.asked, ...instructions], stood, draft: state.draft };
 }
 
 const REDUCERS = {
@@ -143,7 +155,7 @@ const REDUCERS = {
   compare: (state, { port }) => changed(state, { text: state.text, port }),
   undo: (state) => restored(state, "past", "future"),
   redo: (state) => restored(state, "future", "past"),
-  go: (state, { place }) => ({ ...state, place: Math.max(0, Math.min(place, state.session ? state.session.length : 0)) }),
+  go: (state, { place }) => ({ ...state, stood: null, place: Math.max(0, Math.min(place, state.session ? state.session.length : 0)) }),
   follow: (state, { who }) => ({ ...state, followed: who }),
   choose: (state, { client }) => ({ ...state, chosen: client }),
   pick: (state, { element }) => ({ ...state, picked: element === state.picked ? null : element }),
@@ -153,9 +165,9 @@ const REDUCERS = {
   answer: (state, { text, session, refusal, took }) => {
     const isNow = text === state.text;
     const place = isNow ? Math.max(0, Math.min(state.place, session.length)) : state.place;
-    return { ...state, answered: text, session, refusal, took, place, fault: null, beside: null, verdicts: [], draft: isNow ? null : state.draft };
+    return { ...state, answered: text, session, refusal, took, place, fault: null, beside: null, verdicts: [], ...(isNow ? NOT_ASKED : {}) };
   },
-  fault: (state, { fault, took }) => ({ ...state, fault, took, refusal: null, draft: null }),
+  fault: (state, { fault, took }) => ({ ...state, fault, took, refusal: null, ...NOT_ASKED }),
   verdicts: (state, { text, verdicts }) => (text === state.answered && isAnswered(state) ? { ...state, verdicts } : state),
   beside: (state, { text, beside }) => (text === state.answered && isAnswered(state) ? { ...state, beside } : state),
 };

@@ -10,6 +10,7 @@ export class Timeline {
   #view = null;
   #drawn = ""; // the rows that are drawn
   #heads = "";
+  #of = []; // of what they are drawn
   #size = "";
   #box = { top: 0, left: 0, width: 0, height: 0 }; // how it is scrolled: asked of it after each change it would be slow
 
@@ -25,6 +26,10 @@ export class Timeline {
     this.#view = view;
     this.layout = layoutOf(view.session, isNarrow, view.hidden);
     const { rowHeight, width } = this.layout;
+    const { session, place, port, followed, hidden } = view;
+    const of = [session, place, port, followed, hidden, isNarrow];
+    if (of.some((part, i) => part !== this.#of[i])) this.#drawn = "";
+    this.#of = of;
     const height = rowCount(view.session) * rowHeight + 40;
     if (this.#size !== `${width} ${height}`) {
       this.#size = `${width} ${height}`;
@@ -32,7 +37,6 @@ export class Timeline {
       element("rows").style.width = element("heads").style.width = `${width}px`;
     }
     this.#showHeads();
-    this.#drawn = "";
     if (isOther) this.#scrollTo(view.place);
     this.draw();
   }

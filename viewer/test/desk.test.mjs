@@ -43,7 +43,7 @@ test("a session that follows changes is that of the lines", { skip }, async () =
   let pauses = 0;
   for (const text of texts) {
     session = await followLines(session, await engine.steps(text), async () => void pauses++);
-    const fresh = fold(new TextDecoder().decode(engine.serve(["steps"], text).output).trim().split("\n"));
+    const fresh = fold(new TextDecoder().decode(engine.serve(["steps"], new TextEncoder().encode(text)).output).trim().split("\n"));
     assert.deepEqual(session.steps.map((step) => step && step.line), fresh.steps.map((step) => step && step.line));
     assert.deepEqual([session.stop, session.end, session.log.length], [fresh.stop, fresh.end, fresh.log.length]);
   }

@@ -115,6 +115,32 @@ test("seeded sessions: every document that ot.js has, at every place", () => {
   }
 });
 
+/* What a session tells at each place. */
+function told(session) {
+  const at = (place) => ({
+    documents: documentsAt(session, place),
+    members: [...session.members.keys()].map((client) => [stateAt(session, client, place), upAt(session, client, place), downAt(session, client, place)]),
+    quiet: quietAt(session, place),
+    step: session.steps[place],
+  });
+  return { places: [...session.steps.keys()].map(at), messages: session.messages, log: session.log, stop: session.stop, end: session.end };
+}
+
+test("a session up to a place is that of the lines up to there, goes on by itself, and leaves the whole one as it is", () => {
+  for (const kind of [{ clients: 3, edits: 12 }, { clients: 4, late: 2, edits: 12 }, { cut: true, edits: 10 }]) {
+    const lines = linesOf(seededSchedule({ ...kind, seed: 3 }));
+    const whole = fold(lines);
+    const expected = told(fold(lines));
+    for (let place = 0; place <= whole.length; place++) {
+      const front = whole.upTo(place);
+      assert.deepEqual(told(front), told(fold(lines.slice(0, place + 1))), `up to ${place}`);
+      for (const line of lines.slice(place + 1)) front.add(JSON.parse(line));
+      assert.deepEqual(told(front), expected, `on from ${place}`);
+      assert.deepEqual(told(whole), expected, `the whole one, after ${place}`);
+    }
+  }
+});
+
 test("lines that do not fit one another are named", () => {
   const lines = linesOf(example("weak-order"));
   const change = (number, values) => lines.map((text, i) => (i === number ? JSON.stringify({ ...JSON.parse(text), ...values }) : text));

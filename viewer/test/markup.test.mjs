@@ -9,7 +9,7 @@ import { picture } from "../src/diagram.mjs";
 import { SERVER, fold } from "../src/fold.mjs";
 import { rowCount } from "../src/layout.mjs";
 import { Port } from "../src/port.mjs";
-import { operationText, quoted, seen, sentence } from "../src/words.mjs";
+import { apart, operationText, quoted, seen, sentence } from "../src/words.mjs";
 import { example, linesOf, portLinesOf, seededSchedule } from "./sessions.mjs";
 
 const ENTITIES = { "&lt;": "<", "&gt;": ">", "&quot;": '"', "&amp;": "&" };
@@ -23,8 +23,8 @@ test("each instruction in words", () => {
     [1, 'edit 0: the user of client 0 edits [1,"z"]; it is sent at revision 0.'],
     [2, 'edit 0: the user of client 0 edits [1,"a",1]; it becomes the buffer.'],
     [3, 'edit 0: the user of client 0 edits [-1,2]; it is composed into the buffer ["a",-1,1].'],
-    [5, 'take 1: the server takes ["c",1] of revision 0, and appends ["c",1] as log entry 0.'],
-    [6, 'take 0: the server takes [1,"z"] of revision 0, transforms it over 1 concurrent operation, and appends [2,"z"] as log entry 1.'],
+    [5, 'take 1: the server takes ["c",1] of client 1, made at revision 0, and appends ["c",1] as log entry 0.'],
+    [6, 'take 0: the server takes [1,"z"] of client 0, made at revision 0, transforms it over 1 concurrent operation, and appends [2,"z"] as log entry 1.'],
     [7, 'deliver 0: client 0 takes log entry 0 of client 1, ["c",1]; transformed against the outstanding operation and the buffer, it applies [1,"c",1].'],
     [8, 'ack 0: the outstanding operation of client 0 is confirmed; its buffer ["a",1,-1,1] is sent at revision 2.'],
     [13, "ack 0: the outstanding operation of client 0 is confirmed; it is synchronized."],
@@ -109,8 +109,9 @@ test("docs/session.svg is the picture of examples/weak-order.ots", () => {
   assert.equal(fs.readFileSync(new URL("../../docs/session.svg", import.meta.url), "utf8"), picture(session, view, "light"));
 });
 
+const base = { picked: null, port: null, draft: null, canPlay: true, names: new Map(), carets: new Map(), asked: [] };
+
 test("where of a card nothing is another, its markup is the same", () => {
-  const base = { picked: null, port: null, draft: null, canPlay: true, names: new Map(), carets: new Map(), answered: "" };
   for (const seed of [1, 2, 3]) {
     const session = fold(linesOf(seededSchedule({ seed, clients: 4, late: 1, edits: 60 })));
     for (const who of [SERVER, ...session.members.keys()]) {
@@ -125,17 +126,61 @@ test("where of a card nothing is another, its markup is the same", () => {
   }
 });
 
+test("so it is in a session with other instructions behind a place, and those cards alone are others that show them", () => {
+  const lines = linesOf(example("two-clients"));
+  const session = fold(lines);
+  const place = 4;
+  const other = session.upTo(place - 1);
+  for (const line of linesOf('clients 2\nedit 0 ["a"]\nedit 1 ["b"]\ntake 0\nedit 1 [1,"c"]\n').slice(4)) other.add(JSON.parse(line));
+  const cardsOf = (one) => [SERVER, 0, 1].map((who) => ({ parts: cardParts(one, who, { ...base, place }), markup: cardMarkup(one, who, { ...base, place }) }));
+  const [before, after] = [cardsOf(session), cardsOf(other)];
+  for (const i of [0, 1, 2]) assert.equal(before[i].parts.every((part, k) => part === after[i].parts[k]), before[i].markup === after[i].markup, String(i));
+  assert.notEqual(before[2].markup, after[2].markup);
+});
+
+test("what was played and is not answered yet is marked, and what is behind it on the link can be played", () => {
+  const session = fold(linesOf('clients 2\nedit 0 ["a"]\ntake 0\nedit 0 [1,"b"]\nack 0\ntake 0\nedit 1 ["c"]\n'));
+  const button = (markup, instruction) => [...markup.matchAll(new RegExp(`<button class="([^"]*)" data-play="${instruction}"[^>]*?( disabled)?>`, "g"))].map(([, look, off]) => [look, Boolean(off)]);
+  const idle = cardMarkup(session, 1, { ...base, place: 6 });
+  assert.deepEqual([button(idle, "deliver 1"), button(idle, "take 1")], [[["play head", false]], [["play head", false]]]);
+  const asked = cardMarkup(session, 1, { ...base, place: 6, asked: ["deliver 1", "take 1"] });
+  assert.deepEqual(button(asked, "deliver 1"), [["play head asked", true], ["play head", false]]);
+  assert.deepEqual(button(asked, "take 1"), [["play head asked", true]]);
+});
+
 test("where the page can play, a document is an editor and the heads of links are buttons", () => {
-  const view = { place: 7, picked: null, port: null, draft: null, canPlay: true, names: new Map([[0, "<i>"]]), carets: new Map() };
+  const view = { ...base, place: 7, names: new Map([[0, "<i>"]]) };
   const card = cardMarkup(weakOrder(), 0, view);
-  assert.match(card, /contenteditable="true" role="textbox" aria-multiline="true"[^>]* aria-label="document of client 0" data-first="0"/);
+  assert.match(card, /contenteditable="true" role="textbox" aria-multiline="true"[^>]* aria-label="document of client 0 \(&lt;i&gt;\)" data-first="0"/);
   assert.match(card, /data-play="ack 0"/);
-  assert.match(card, /client 0, &lt;i&gt;/);
+  assert.match(card, /aria-label="client 0 \(&lt;i&gt;\)"/);
   assert.doesNotMatch(card, /<i>|data-play="take 0"/);
   assert.match(cardMarkup(weakOrder(), 1, { ...view, place: 4 }), /data-play="take 1"/);
   assert.doesNotMatch(cardMarkup(weakOrder(), SERVER, view), /contenteditable/);
   const late = fold(linesOf(example("late-join")));
   assert.match(cardMarkup(late, 1, { ...view, place: 1 }), /data-play="join 1"/);
+});
+
+test("two texts that differ and look the same are told apart by code points", () => {
+  const rows = [
+    ['"acz"', '"caz"', ['"acz"', '"caz"']],
+    ['"\u00e9x"', '"e\u0301x"', ['"\\u{e9}x"', '"e\\u{301}x"']],
+    ['"a\u200bb"', '"ab"', ['"a\\u{200b}b"', '"ab"']],
+    ['"a\u200db"', '"ab"', ['"a\\u{200d}b"', '"ab"']],
+    ['"a\u00a0b"', '"a b"', ['"a\\u{a0}b"', '"a b"']],
+    ['"\u202ex"', '"y"', ['"\\u{202e}x"', '"y"']],
+    ['"é\ufe0f"', '"é"', ['"é\\u{fe0f}"', '"é"']],
+    ["none", '"é"', ["none", '"é"']],
+  ];
+  for (const [found, ours, expected] of rows) assert.deepEqual(apart(found, ours), expected);
+});
+
+test("names stand with the clients in cards and sentences, as texts", () => {
+  const names = new Map([[0, "<b>"], [1, "a\u0007"]]);
+  const session = weakOrder();
+  assert.match(cardMarkup(session, 0, { ...base, place: 7, names }), /<span class="name">client 0<\/span> <span class="called">\(&lt;b&gt;\)<\/span>/);
+  assert.match(sentence(session, 7, names), /client 0 \(&lt;b&gt;\) takes log entry 0 of client 1 \(a␇\), /);
+  assert.match(sentence(session, 5, names), /the server takes .* of client 1 \(a␇\), made at revision 0/);
 });
 
 test("characters that are not seen have a sign, one for one", () => {

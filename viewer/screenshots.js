@@ -1,0 +1,75 @@
+#!/usr/bin/env node
+/*
+ * Takes the pictures of the page that README.md and docs/GUIDE.md show, in Chromium, each in both themes.
+ *
+ *     node --experimental-websocket viewer/screenshots.js [FOLDER]      into docs/, or a folder
+ *
+ * The page is dist/otbench.html, or that which OTBENCH_PAGE names.
+ */
+"use strict";
+const fs = require("node:fs");
+const path = require("node:path");
+const { bugs } = require("../examples/port/bugs.js");
+const { drive, loadPort } = require("../examples/port/driver.js");
+const { openChromium } = require("./browser/chromium.js");
+const { User } = require("./browser/user.js");
+
+/** How many bytes a picture may have. */
+const MOST = 150_000;
+
+const example = (name) => fs.readFileSync(path.join(__dirname, `../examples/${name}.ots`), "utf8");
+
+/* The schedule of an example, and what a port with a planted fault printed. */
+function withPort(name, bug) {
+  const port = loadPort();
+  bugs[bug](port);
+  return `${example(name)}%%\n${drive(example(name), port).join("\n")}\n`;
+}
+
+/* What each picture shows. */
+const PICTURES = {
+  /* Two users at one place, with their names. */
+  async page(user) {
+    await user.page.size(1440, 600);
+    await user.paste("body", `; client 0 is Ann\n; client 1 is Ben\n${example("two-clients")}`);
+    await user.shown("/client 0 is Ann/");
+    await user.until('document.getElementById("length").textContent === "of 8"', "the session");
+    for (let k = 0; k < 4; k++) await user.press("j");
+    await user.settled(4);
+  },
+  /* A port that breaks ties the other way, without the text. */
+  async "page-port"(user) {
+    await user.page.size(1440, 560);
+    await user.press("e");
+    await user.paste("body", withPort("weak-order", "tie"));
+    await user.until('document.getElementById("conformance").textContent.startsWith("differs")', "the answer of conform");
+    await user.press("d");
+    await user.settled(7);
+  },
+};
+
+async function take(folder) {
+  const page = await openChromium();
+  const user = new User(page);
+  try {
+    for (const [name, prepare] of Object.entries(PICTURES))
+      for (const theme of ["light", "dark"]) {
+        await user.open(`#theme=${theme}`);
+        await prepare(user);
+        await user.until('document.getElementById("list-verdict").textContent !== ""', "the verdict");
+        await page.drawn();
+        const file = path.join(folder, `${name}${theme === "dark" ? "-dark" : ""}.png`);
+        await page.screenshot(file);
+        const { size } = fs.statSync(file);
+        console.log(`${file}: ${size} bytes`);
+        if (size > MOST) throw new Error(`${file} has more than ${MOST} bytes`);
+      }
+  } finally {
+    await page.close();
+  }
+}
+
+take(process.argv[2] ?? path.join(__dirname, "../docs")).catch((fault) => {
+  console.error(`screenshots: ${fault.message}`);
+  process.exitCode = 1;
+});
