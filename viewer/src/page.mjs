@@ -64,7 +64,7 @@ const memberOf = (word) => (word === "" ? null : word === SERVER ? SERVER : Numb
 /* Playing. */
 
 function play(...instructions) {
-  if (bench.state.fault) say("The text has a fault: mend it before you play.");
+  if (bench.state.fault?.line) say("The text has a fault: mend it before you play.");
   else act("play", { instructions });
 }
 
@@ -73,7 +73,7 @@ function playKey(name) {
   return instruction ? play(instruction) : say(reason);
 }
 
-const letThrough = () => (bench.state.fault ? play() : bench.quiet());
+const letThrough = () => (bench.state.fault?.line ? play() : bench.quiet());
 
 function writeInDocument() {
   const { chosen } = bench.state;
