@@ -201,7 +201,7 @@ test("a file is dropped, and a faulty one is refused with its line", async () =>
 test("by keyboard alone, and for those who hear the page", async () => {
   await page.goto(pageOf("keyboard", example("weak-order")));
   const reached = [];
-  for (let k = 0; k < 16; k++) {
+  for (let k = 0; k < 30; k++) {
     await page.key("Tab");
     reached.push(await page.run("document.activeElement.id"));
   }
