@@ -38,7 +38,10 @@ export class Sheet {
     this.area = element("text");
     this.area.addEventListener("input", () => this.#write());
     this.area.addEventListener("scroll", () => this.measure());
-    this.area.addEventListener("focus", () => this.#showNext());
+    this.area.addEventListener("focus", ({ relatedTarget }) => {
+      this.#showNext();
+      if (relatedTarget) this.#caretToPlace();
+    });
     document.addEventListener("selectionchange", () => this.#follow());
     element("numbers").addEventListener("click", (event) => {
       const line = event.target.closest("[data-line]");
@@ -100,6 +103,15 @@ export class Sheet {
     this.area.setSelectionRange(at, at);
     this.measure();
     this.reveal(line);
+  }
+
+  /* Who comes by Tab stays at the place. */
+  #caretToPlace() {
+    if (!this.state) return;
+    const line = Math.max(this.#part.from, lineOfPlace(this.state.outline, this.#shown.place));
+    const end = this.#lines.slice(this.#part.from, line + 1).join("\n").length;
+    this.#line = line;
+    this.area.setSelectionRange(end, end);
   }
 
   /* The part for a line: that which there is, where the line is well within it. */
