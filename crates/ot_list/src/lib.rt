@@ -23,6 +23,7 @@
 //! - `Draft::last_sum` and `Draft::unfinished` say how what is written ends, by the sum of the last whole leaf and the items behind it.
 //! - `List::find` goes over leaves by their sums; `List::copy` copies a list. `List::replace_in_leaf` changes one leaf where it lies, if the rule on leaves still holds
 //!   then.
+//! - `List::push`, `extend`, `set_last` and `set_last_but_one` change the end of a list where it lies; where memory is refused, it is as it was.
 //! - `List::prepare` makes room in the patch; that may fail, and changes no value.
 //! - `List::swap` exchanges leaves: it takes no memory, cannot fail, and moves only the headers of leaves. Where as many go as come at each place, it touches
 //!   these alone; else it goes over all headers once.
@@ -30,6 +31,7 @@
 #![tactic(auto)]
 
 mod draft;
+mod end;
 mod item;
 mod laws;
 mod list;
