@@ -20,6 +20,7 @@ use Rattle.ot_codes.proofs.Filled.{news_append, news_texts, news_olds}
 use Rattle.ot_codes.proofs.Cutting.{within_more, within_cut, carried_more, carried_cut}
 use Rattle.ot_codes.proofs.Marked.{length-places, places-add, take-places, drop-places, blanks-places, marked, marked-base, marked-target, marked-without_keep, marked-without_skip}
 use Rattle.ot_codes.proofs.Composing.{first_of_codes, second_of_codes, Composing}
+use Rattle.ot_codes.proofs.Summing.{inserted-append}
 use Rattle.ot_codes.proofs.Skipping.{base_in, target_in}
 use Rattle.ot_codes.proofs.ComposeSkips.{composed_moved, composed_kept_first, composed_kept_second, composed_deleted}
 
@@ -33,12 +34,6 @@ marked-append mark at (Insert n ∷ xs) ys =
     let e : at + n + inserted_in xs ≡ at + (n + inserted_in xs) = omega arith in
     ap (λ rest. Add (places mark at n) ∷ rest) (marked-append mark (at + n) xs ys ∙ ap (λ k. marked mark (at + n) xs ++ marked mark k ys) e)
 marked-append mark at (Delete n ∷ xs) ys = ap (λ rest. Skip n ∷ rest) (marked-append mark at xs ys)
-
-pub inserted-append : (xs ys : List Code) → inserted_in (xs ++ ys) ≡ inserted_in xs + inserted_in ys
-inserted-append [] ys = omega arith
-inserted-append (Retain n ∷ xs) ys = inserted-append xs ys
-inserted-append (Insert n ∷ xs) ys = omega (arith, inserted-append xs ys)
-inserted-append (Delete n ∷ xs) ys = inserted-append xs ys
 
 -- what they insert, and their shape
 

@@ -16,3 +16,8 @@ pub mod TransformSkips
 pub mod ComposeSkips
 pub mod Skipping
 pub mod ComposeSkipping
+pub mod Packing
+pub mod Summing
+pub mod Reading
+pub mod Appending
+pub mod Running

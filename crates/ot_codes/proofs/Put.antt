@@ -1,15 +1,14 @@
 -- One more code at the end of a list of codes.
-use Rattle.std.proofs.Common.{◌≡◌, ℕ, zero, suc, ◌+◌, ◌<◌, ◌≤◌, List, [], ◌∷◌, ◌++◌, length, take, drop, set, get_or, true, false, Some, None, refl, sym, ap, ◌∙◌, arith, length-append, append_assoc}
+use Rattle.std.proofs.Common.{◌≡◌, ℕ, zero, suc, ◌+◌, ◌-◌, ◌<◌, ◌≤◌, List, [], ◌∷◌, ◌++◌, length, take, drop, set, get_or, true, false, Some, None, refl, sym, ap, ◌∙◌, arith, length-append, append_assoc}
 use Rattle.std.proofs.lemmas.List.{append-nil, map-append, set-append_left, get_or_append_left}
-use Rattle.std.proofs.Math.Seq.{take-append_seam, drop-append_seam}
-use Rattle.std.specs.Prelude.{insert}
+use Rattle.std.proofs.Math.Seq.{set-append_seam}
 use Rattle.ot_text.specs.Operation.{with_insert}
 use Rattle.ot_text.specs.Run.{Run, Keep, Add, Skip, MayFollow, IsNormal, Extends}
 use Rattle.ot_text.proofs.RunLemmas.{longer_keep, one_more_keep, longer_drop, one_more_drop, longer_add, one_more_add, MayEnd, normal_push, normal_replace, normal_before_drop}
 use Rattle.ot_algebra.specs.Cursor.{appended}
 use Rattle.ot_codes.specs.declared.code.Code.{Code}
 use Rattle.ot_codes.specs.declared.code.Code.TheVariants.{Retain, Insert, Delete}
-use Rattle.ot_codes.specs.Codes.{blanks, run_of, runs_of, length_of, joined, stands_before, total_of, EndsInDelete}
+use Rattle.ot_codes.specs.Codes.{blanks, run_of, runs_of, length_of, joined, stands_before, total_of, EndsWithDelete}
 
 -- lists that end in an element
 
@@ -135,9 +134,32 @@ before_delete (Insert n) (Retain m) is = cc
 before_delete (Insert n) (Insert m) is = cc
 
 pub at_delete :
-    (cs : List Code) (k : ℕ) (last code : Code) → k + 1 ≡ length cs → last ≡ get_or cs k last → stands_before code last ≡ true → EndsInDelete cs
+    (cs : List Code) (k : ℕ) (last code : Code) → k + 1 ≡ length cs → last ≡ get_or cs k last → stands_before code last ≡ true → EndsWithDelete cs last
 at_delete cs k last code h here is =
-    (take k cs, length_of last, ends cs k last h ∙ ap (λ c. take k cs ++ c ∷ []) (sym here ∙ (before_delete code last is).1))
+    let last_is : last ≡ Delete (length_of last) = (before_delete code last is).1 in
+    (take k cs, length_of last, ends cs k last h ∙ ap (λ c. take k cs ++ c ∷ []) (sym here ∙ last_is), last_is)
+
+pub joined_length : (last code both : Code) → joined last code ≡ Some both → length_of both ≡ length_of last + length_of code
+joined_length (Retain m) (Retain n) both is = let e : Retain (m + n) ≡ both = cc in ap length_of (sym e)
+joined_length (Insert m) (Insert n) both is = let e : Insert (m + n) ≡ both = cc in ap length_of (sym e)
+joined_length (Delete m) (Delete n) both is = let e : Delete (m + n) ≡ both = cc in ap length_of (sym e)
+joined_length (Retain m) (Insert n) both is = cc
+joined_length (Retain m) (Delete n) both is = cc
+joined_length (Insert m) (Retain n) both is = cc
+joined_length (Insert m) (Delete n) both is = cc
+joined_length (Delete m) (Retain n) both is = cc
+joined_length (Delete m) (Insert n) both is = cc
+
+-- the only code
+pub first_pushed :
+    (cs made : List Code) (code : Code) → length cs ≡ 0 → made ≡ cs ++ code ∷ [] → 0 < length_of code → IsNormal (runs_of cs)
+    → Extends (runs_of cs) (runs_of made) (λ op. appended op (run_of code))
+first_pushed [] made code none is some normal = pushed [] made code is some tt normal
+first_pushed (c ∷ cs) made code none is some normal = absurd (omega (arith, none))
+
+skip_filled : (xs : List (Run (Unit {0}))) (n : ℕ) → IsNormal (xs ++ Skip n ∷ []) → 0 < n
+skip_filled [] n normal = normal.0
+skip_filled (x ∷ xs) n normal = skip_filled xs n normal.2
 
 module _ (cs front : List Code) (n count : ℕ) (form : cs ≡ front ++ Delete n ∷ []) (some : 0 < count) (normal : IsNormal (runs_of cs)) where
   runs_form : runs_of cs ≡ runs_of front ++ Skip n ∷ []
@@ -145,16 +167,6 @@ module _ (cs front : List Code) (n count : ℕ) (form : cs ≡ front ++ Delete n
 
   filled : 0 < length (blanks count)
   filled = omega (arith, length-blanks count, some)
-
-  new_before :
-      (made : List Code) → made ≡ front ++ Insert count ∷ Delete n ∷ [] → MayEnd (runs_of front) (Add (blanks count))
-      → Extends (runs_of cs) (runs_of made) (λ op. with_insert op (blanks count))
-  new_before made is may =
-      rw (runs_form, ap runs_of is ∙ runs_of-append front (Insert count ∷ Delete n ∷ []))
-      (record {
-        normal = normal_before_drop (runs_of front) (blanks count) n filled may (rw runs_form at normal);
-        operation = one_more_add (runs_of front) (blanks count) (Skip n ∷ []) (λ from. refl);
-      })
 
   -- the code before the deletion
   pub longer_before :
@@ -184,11 +196,19 @@ module _ (cs front : List Code) (n count : ℕ) (form : cs ≡ front ++ Delete n
         operation = longer_add low (blanks before) (blanks count) (Skip n ∷ []) (λ from. refl);
       })
 
-  pub insert_later :
-      (made : List Code) (place : ℕ) (code : Code) → place + 2 ≡ length cs → code ≡ get_or cs place code → ((before : ℕ) → code ≡ Insert before → ⊥)
-      → made ≡ insert cs (suc place) (Insert count)
-      → Extends (runs_of cs) (runs_of made) (λ op. with_insert op (blanks count))
-  insert_later made place code h here other made_is =
+  -- the insertion may stand before the deletion: nothing else is there, or what is there does not insert
+
+  pub goes_first : length cs < 2 → IsNormal (runs_of (front ++ Insert count ∷ Delete n ∷ []))
+  goes_first one = by front form
+    where
+      by : (f : List Code) → cs ≡ f ++ Delete n ∷ [] → IsNormal (runs_of (f ++ Insert count ∷ Delete n ∷ []))
+      by [] e = (filled, tt, (skip_filled (runs_of front) n (rw runs_form at normal), tt, tt))
+      by (x ∷ f) e = absurd (omega (arith, one, ap length e, length-append f (Delete n ∷ [])))
+
+  pub goes_behind :
+      (place : ℕ) (code : Code) → place + 2 ≡ length cs → code ≡ get_or cs place code → ((before : ℕ) → code ≡ Insert before → ⊥)
+      → IsNormal (runs_of (front ++ Insert count ∷ Delete n ∷ []))
+  goes_behind place code h here other =
       let long : suc place ≡ length front = omega (arith, h, ap length form, length-append front (Delete n ∷ [])) in
       let long_too : place + 1 ≡ length front = omega (arith, long) in
       let last : code ≡ get_or front place code = here ∙ ap (λ xs. get_or xs place code) form ∙ get_or_append_left front (Delete n ∷ []) code place (omega (arith, long)) in
@@ -198,11 +218,8 @@ module _ (cs front : List Code) (n count : ℕ) (form : cs ≡ front ++ Delete n
       let follows : MayFollow (run_of code) (Skip n) = seam (runs_of (take place front)) (run_of code) (Skip n) [] (rw old_runs at normal) in
       let may : MayEnd (runs_of front) (Add (blanks count)) =
       rw front_is (may_end_last (runs_of (take place front)) (run_of code) (Add (blanks count)) (not_insert code other follows)) in
-      let form_made : made ≡ front ++ Insert count ∷ Delete n ∷ [] =
-      made_is ∙ ap (λ xs. insert xs (suc place) (Insert count)) form ∙ ap (λ k. insert (front ++ Delete n ∷ []) k (Insert count)) long
-      ∙ ap (λ xs. xs ++ Insert count ∷ drop (length front) (front ++ Delete n ∷ [])) (take-append_seam front (Delete n ∷ []))
-      ∙ ap (λ xs. front ++ Insert count ∷ xs) (drop-append_seam front (Delete n ∷ [])) in
-      new_before made form_made may
+      rw (runs_of-append front (Insert count ∷ Delete n ∷ []))
+      (normal_before_drop (runs_of front) (blanks count) n filled may (rw runs_form at normal))
     where
       seam : (xs : List (Run (Unit {0}))) (q r : Run (Unit {0})) (back : List (Run (Unit {0}))) → IsNormal (xs ++ q ∷ r ∷ back) → MayFollow q r
       seam [] q r back normal = normal.1
@@ -212,6 +229,24 @@ module _ (cs front : List Code) (n count : ℕ) (form : cs ≡ front ++ Delete n
       not_insert (Retain m) other follows = tt
       not_insert (Insert m) other follows = absurd (other m refl)
       not_insert (Delete m) other follows = absurd follows
+
+  pub put_before :
+      (made : List Code) → made ≡ set (cs ++ Delete n ∷ []) (length (cs ++ Delete n ∷ []) - 2) (Insert count)
+      → IsNormal (runs_of (front ++ Insert count ∷ Delete n ∷ [])) → Extends (runs_of cs) (runs_of made) (λ op. with_insert op (blanks count))
+  put_before made made_is now =
+      let long : length (front ++ Delete n ∷ Delete n ∷ []) - 2 ≡ length front = omega (arith, length-append front (Delete n ∷ Delete n ∷ [])) in
+      let form_made : made ≡ front ++ Insert count ∷ Delete n ∷ [] =
+      made_is ∙ ap (λ (xs : List Code). set (xs ++ Delete n ∷ []) (length (xs ++ Delete n ∷ []) - 2) (Insert count)) form
+      ∙ ap (λ (xs : List Code). set xs (length xs - 2) (Insert count)) (append_assoc front (Delete n ∷ []) (Delete n ∷ []))
+      ∙ ap (λ (k : ℕ). set (front ++ Delete n ∷ Delete n ∷ []) k (Insert count)) long
+      ∙ set-append_seam front (Delete n) (Delete n ∷ []) (Insert count) in
+      let runs_made : runs_of made ≡ runs_of front ++ Add (blanks count) ∷ Skip n ∷ [] =
+      ap runs_of form_made ∙ runs_of-append front (Insert count ∷ Delete n ∷ []) in
+      rw (runs_form, runs_made)
+      (record {
+        normal = rw (runs_of-append front (Insert count ∷ Delete n ∷ [])) at now;
+        operation = one_more_add (runs_of front) (blanks count) (Skip n ∷ []) (λ from. refl);
+      })
 
 -- a code is no longer than all
 

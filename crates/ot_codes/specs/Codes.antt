@@ -1,7 +1,7 @@
 -- The codes of an operation: its components without their elements. They spell an operation whose elements are all the one of the unit type.
 use Rattle.std.specs.Prelude.{◌≡◌, ℕ, ◌+◌, ◌-◌, ◌<◌, ◌≤◌, List, [], ◌∷◌, ◌++◌, map, replicate, Bool, true, false, Option, Some, None, nat_eq, if◌then◌else◌}
 use Rattle.ot_text.specs.Operation.{Operation}
-use Rattle.ot_text.specs.Run.{Run, Keep, Add, Skip, operation_of, IsSound}
+use Rattle.ot_text.specs.Run.{Run, Keep, Add, Skip, operation_of, MayFollow, IsNormal, IsSound}
 use Rattle.ot_codes.specs.declared.code.Sum.{Sum}
 use Rattle.ot_codes.specs.declared.code.Code.{Code}
 use Rattle.ot_codes.specs.declared.code.Code.TheVariants.{Retain, Insert, Delete}
@@ -45,6 +45,13 @@ deletion_of [] = None
 deletion_of (Retain count ∷ codes) = None
 deletion_of (Insert count ∷ codes) = None
 deletion_of (Delete count ∷ codes) = Some count
+
+-- how much it retains, if it retains
+abbrev pub retain_of : List Code → Option ℕ
+retain_of [] = None
+retain_of (Retain count ∷ codes) = Some count
+retain_of (Insert count ∷ codes) = None
+retain_of (Delete count ∷ codes) = None
 
 abbrev pub others_of : List Code → List Code
 others_of [] = []
@@ -97,8 +104,26 @@ stands_before (Insert count) (Retain last) = false
 stands_before (Insert count) (Insert last) = false
 stands_before (Insert count) (Delete last) = true
 
-abbrev pub EndsInDelete : List Code → Type 0
-EndsInDelete codes = (front : List Code) × (count : ℕ) × (codes ≡ front ++ Delete count ∷ [])
+-- the next code may stand directly behind the first: it is of another kind, and no insertion behind a deletion
+abbrev pub precedes : Code → Code → Bool
+precedes (Retain count) (Retain next) = false
+precedes (Retain count) (Insert next) = true
+precedes (Retain count) (Delete next) = true
+precedes (Insert count) (Retain next) = true
+precedes (Insert count) (Insert next) = false
+precedes (Insert count) (Delete next) = true
+precedes (Delete count) (Retain next) = true
+precedes (Delete count) (Insert next) = false
+precedes (Delete count) (Delete next) = false
+
+-- that code, a deletion, stands at the end
+abbrev pub EndsWithDelete : List Code → Code → Type 0
+EndsWithDelete codes last = (front : List Code) × (count : ℕ) × (codes ≡ front ++ Delete count ∷ []) × (last ≡ Delete count)
+
+-- an insertion may stand before the deletion at the end
+abbrev pub MayGoBefore : List Code → ℕ → Type 0
+MayGoBefore codes count =
+    (front : List Code) (last : ℕ) → codes ≡ front ++ Delete last ∷ [] → IsNormal (runs_of (front ++ Insert count ∷ Delete last ∷ []))
 
 -- how many elements codes retain, insert and delete
 abbrev pub total_of : List Code → ℕ
@@ -136,6 +161,16 @@ inserted_in (Delete count ∷ codes) = inserted_in codes
 
 abbrev pub sum_of : List Code → Sum
 sum_of codes = record { kept = kept_in codes; deleted = deleted_in codes; inserted = inserted_in codes }
+
+-- two sums together
+abbrev pub added : Sum → Sum → Sum
+added sum more = record { kept = sum.kept + more.kept; deleted = sum.deleted + more.deleted; inserted = sum.inserted + more.inserted }
+
+-- the code may stand directly behind these
+abbrev pub MayEndWith : List Code → Code → Type 0
+MayEndWith [] code = Unit {0}
+MayEndWith (last ∷ []) code = MayFollow (run_of last) (run_of code)
+MayEndWith (first ∷ next ∷ codes) code = MayEndWith (next ∷ codes) code
 
 -- the codes without the first `count` elements of their first code, or all of them
 abbrev pub past : ℕ → List Code → List Code

@@ -3,3 +3,6 @@ pub mod Shape
 pub mod Cuts
 pub mod Splice
 pub mod Laws
+pub mod Packing
+pub mod Leaf
+pub mod Runs

@@ -1,57 +1,81 @@
 //! Writing codes: each call adds one at the end, in normal form.
 
-ghost use Rattle.std.specs.Prelude.{◌≡◌, ◌+◌, ◌<◌, ◌≤◌, ◌^◌, OnOk, OnErr, length};
+ghost use Rattle.std.specs.Prelude.{◌≡◌, ◌+◌, ◌<◌, ◌≤◌, ◌^◌, IsTrue, OnOk, OnErr};
 ghost use Rattle.ot_text.specs.Operation.{with_insert};
 ghost use Rattle.ot_text.specs.Run.{IsNormal, Extends};
 ghost use Rattle.ot_algebra.specs.Cursor.{appended};
-ghost use Rattle.ot_codes.specs.Codes.{EndsInDelete, blanks, length_of, run_of, runs_of, total_of};
+ghost use Rattle.ot_list.specs.Leaves.{concatenated};
+ghost use Rattle.ot_codes.specs.Codes.{EndsWithDelete, MayEndWith, MayGoBefore, blanks, length_of, run_of, runs_of, total_of};
 
 use crate::code::Code;
+use crate::packed::Packed;
+use ot_list::List;
 use std::alloc::AllocError;
 
 /// Adds a code: a neighbour of its kind is lengthened, and an insertion stands before a deletion.
-pub(crate) fn add(codes: &mut Vec<Code>, code: Code) -> Result<(), AllocError>
+pub(crate) fn add(codes: &mut List<Packed>, code: Code) -> Result<(), AllocError>
     requires filled { 0 < length_of code }
-    requires normal { IsNormal (runs_of codes.old.items) }
-    requires fits { total_of codes.old.items + length_of code < 2 ^ 32 }
-    ensures ok { OnOk result (Extends (runs_of codes.old.items) (runs_of codes.new.items) (λ op. appended op (run_of code))) }
-    ensures err { OnErr result (codes.new.items ≡ codes.old.items) }
+    requires normal { IsNormal (runs_of (concatenated codes.old)) }
+    requires short { total_of (concatenated codes.old) + length_of code < 2 ^ 26 }
+    ensures ok { OnOk result (Extends (runs_of (concatenated codes.old)) (runs_of (concatenated codes.new)) (λ op. appended op (run_of code))) }
+    ensures err { OnErr result (codes.new ≡ codes.old) }
 {
-    let length = codes.len();
-    if length == 0 {
-        codes.push(code)?;
-        return Ok(());
-    }
-    let last = codes[length - 1];
+    let Some(last) = codes.last() else {
+        return codes.push(Packed::new(code));
+    };
+    let last = last.code();
     if let Some(both) = last.joined(code) {
-        codes[length - 1] = both;
+        codes.set_last(Packed::new(both));
         return Ok(());
     }
     if code.stands_before(last) {
-        return insert_before_delete(codes, code.len());
+        return insert_before_delete(codes, last, code.len());
     }
-    codes.push(code)?;
-    Ok(())
+    codes.push(Packed::new(code))
 }
 
 // The insertion stands before the deletion at the end.
-fn insert_before_delete(codes: &mut Vec<Code>, count: u32) -> Result<(), AllocError>
+fn insert_before_delete(codes: &mut List<Packed>, last: Code, count: u32) -> Result<(), AllocError>
     requires filled { 0 < count }
-    requires normal { IsNormal (runs_of codes.old.items) }
-    requires fits { total_of codes.old.items + count < 2 ^ 32 }
-    requires at_delete { EndsInDelete codes.old.items }
-    ensures ok { OnOk result (Extends (runs_of codes.old.items) (runs_of codes.new.items) (λ op. with_insert op (blanks count))) }
-    ensures err { OnErr result (codes.new.items ≡ codes.old.items) }
+    requires normal { IsNormal (runs_of (concatenated codes.old)) }
+    requires short { total_of (concatenated codes.old) + count < 2 ^ 26 }
+    requires at_delete { EndsWithDelete (concatenated codes.old) last }
+    ensures ok { OnOk result (Extends (runs_of (concatenated codes.old)) (runs_of (concatenated codes.new)) (λ op. with_insert op (blanks count))) }
+    ensures err { OnErr result (codes.new ≡ codes.old) }
 {
-    let length = codes.len();
-    if length < 2 {
-        codes.insert(0, Code::Insert(count))?;
-        return Ok(());
+    match codes.last_but_one() {
+        None => put_before(codes, last, count),
+        Some(before) => match before.code() {
+            Code::Insert(length) => {
+                codes.set_last_but_one(Packed::new(Code::Insert(length + count)));
+                Ok(())
+            }
+            _ => put_before(codes, last, count),
+        },
     }
-    if let Code::Insert(before) = codes[length - 2] {
-        codes[length - 2] = Code::Insert(before + count);
-        return Ok(());
-    }
-    codes.insert(length - 1, Code::Insert(count))?;
+}
+
+// The insertion stands between the deletion at the end and what is before it.
+fn put_before(codes: &mut List<Packed>, last: Code, count: u32) -> Result<(), AllocError>
+    requires filled { 0 < count }
+    requires normal { IsNormal (runs_of (concatenated codes.old)) }
+    requires short { total_of (concatenated codes.old) + count < 2 ^ 26 }
+    requires at_delete { EndsWithDelete (concatenated codes.old) last }
+    requires may { MayGoBefore (concatenated codes.old) count }
+    ensures ok { OnOk result (Extends (runs_of (concatenated codes.old)) (runs_of (concatenated codes.new)) (λ op. with_insert op (blanks count))) }
+    ensures err { OnErr result (codes.new ≡ codes.old) }
+{
+    codes.push(Packed::new(last))?;
+    codes.set_last_but_one(Packed::new(Code::Insert(count)));
     Ok(())
+}
+
+/// May that code stand directly behind these?
+pub(crate) fn may_end_with(codes: &List<Packed>, code: Code) -> bool
+    ensures { IsTrue result → MayEndWith (concatenated codes.now) code }
+{
+    match codes.last() {
+        None => true,
+        Some(last) => last.code().precedes(code),
+    }
 }

@@ -1,7 +1,7 @@
 //! One code, and what codes come to.
 
 ghost use Rattle.std.specs.Prelude.{◌≡◌, ◌+◌, ◌<◌, ◌≤◌, ◌^◌, ◌↔◌, IsTrue};
-ghost use Rattle.ot_codes.specs.Codes.{counted, joined, keeps, length_of, stands_before, with_length};
+ghost use Rattle.ot_codes.specs.Codes.{added, counted, joined, keeps, length_of, precedes, stands_before, with_length};
 
 /// A component without its elements: what it does, and with how many of them (1 to 1,000,000 in an operation).
 #[derive(Clone, Copy)]
@@ -47,6 +47,18 @@ impl Code {
         ensures { result ≡ stands_before self last }
     {
         matches!((self, last), (Code::Insert(_), Code::Delete(_)))
+    }
+
+    /// The next code may stand directly behind this one: it is of another kind, and no insertion behind a deletion.
+    pub(crate) fn precedes(self, next: Code) -> bool
+        ensures { result ≡ precedes self next }
+    {
+        matches!(
+            (self, next),
+            (Code::Retain(_), Code::Insert(_) | Code::Delete(_))
+                | (Code::Insert(_), Code::Retain(_) | Code::Delete(_))
+                | (Code::Delete(_), Code::Retain(_))
+        )
     }
 
     /// Two codes of one kind as one; none where they are of two kinds.
@@ -98,6 +110,20 @@ impl Sum {
                 deleted: self.deleted + count,
                 ..self
             },
+        }
+    }
+
+    /// Two sums together.
+    pub(crate) fn plus(self, more: Sum) -> Sum
+        requires kept { self.kept + more.kept < 2 ^ 32 }
+        requires deleted { self.deleted + more.deleted < 2 ^ 32 }
+        requires inserted { self.inserted + more.inserted < 2 ^ 32 }
+        ensures { result ≡ added self more }
+    {
+        Sum {
+            kept: self.kept + more.kept,
+            deleted: self.deleted + more.deleted,
+            inserted: self.inserted + more.inserted,
         }
     }
 }

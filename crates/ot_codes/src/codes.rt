@@ -1,15 +1,18 @@
 //! The codes of an operation, and the pen that writes them.
 
-ghost use Rattle.std.specs.Prelude.{◌≡◌, ◌+◌, ◌≤◌, length, max, OnOk, OnErr};
+ghost use Rattle.std.specs.Prelude.{◌≡◌, ◌+◌, ◌<◌, ◌≤◌, ◌∷◌, length, max, false, IsTrue, IfOk, OnOk, OnErr};
 ghost use Rattle.ot_text.specs.Operation.{IsOperation, IsTooLong, empty, news};
 ghost use Rattle.ot_text.specs.Run.{IsNormal};
+ghost use Rattle.ot_text.specs.Rewriting.{with_runs};
 ghost use Rattle.ot_text.specs.declared.TheConstants.{LIMIT};
 ghost use Rattle.ot_algebra.specs.Cursor.{appended};
 ghost use Rattle.ot_codes.specs.Codes.{run_of, runs_of, spelled};
 
-use crate::build::add;
+use crate::build::{add, may_end_with};
 use crate::code::{Code, Sum};
 use crate::cursor::Cursor;
+use crate::packed::Packed;
+use ot_list::{Item, List};
 use std::alloc::{AllocError, Global};
 use std::marker::Model;
 
@@ -17,7 +20,7 @@ use std::marker::Model;
 /// target length are at most 1,000,000 elements. A contract sees the operation that they spell over the unit type: the shape of every operation with these codes.
 #[derive(Drop)]
 pub struct Codes {
-    items: Vec<Code>,
+    list: List<Packed>,
     sum: Sum,
 }
 
@@ -26,11 +29,12 @@ impl Model for Codes {
 
     ghost Value = { Operation (Unit {0}) };
 
+    ghost use Rattle.ot_list.specs.Leaves.{concatenated};
     ghost use Rattle.ot_codes.specs.Codes.{AreSound, spelled};
 
-    ghost view = { λ s. spelled s.items.items };
+    ghost view = { λ s. spelled (concatenated s.list) };
 
-    ghost invariant = { λ s. AreSound s.items.items s.sum };
+    ghost invariant = { λ s. AreSound (concatenated s.list) s.sum };
 }
 
 impl Codes {
@@ -39,12 +43,13 @@ impl Codes {
         ensures { result ≡ empty }
     {
         Codes {
-            items: Vec::new(alloc),
+            list: List::new(alloc),
             sum: Sum::ZERO,
         }
     }
 
-    // One more code at the end, as ot.js' builder adds it. `AllocError` where a growth was refused; nothing has changed then.
+    /// One more code at the end, as ot.js' builder adds a component: one of no elements adds nothing, a neighbour of its kind is lengthened, and an insertion
+    /// stands before a deletion. `AllocError` where a growth was refused; nothing has changed then.
     pub fn put(&mut self, code: Code) -> Result<(), AllocError>
         requires { IsTooLong (appended self.old (run_of code)) → ⊥ }
         ensures ok { OnOk result (self.new ≡ appended self.old (run_of code)) }
@@ -53,8 +58,42 @@ impl Codes {
         if code.len() == 0 {
             return Ok(());
         }
-        add(&mut self.items, code)?;
+        add(&mut self.list, code)?;
         self.sum = self.sum.with(code);
+        Ok(())
+    }
+
+    // These codes at the end, as they are, where the first of them may stand behind what is there. Else nothing changes, and the answer is no.
+    fn extend(&mut self, codes: &[Packed]) -> Result<bool, AllocError>
+        requires some { 0 < length codes.now }
+        requires few { length codes.now ≤ 64 }
+        requires normal { IsNormal (runs_of codes.now) }
+        requires short { IsTooLong (with_runs self.old (runs_of codes.now)) → ⊥ }
+        ensures yes { IfOk result (λ done. IsTrue done → self.new ≡ with_runs self.old (runs_of codes.now)) }
+        ensures no { IfOk result (λ done. done ≡ false → self.new ≡ self.old) }
+    {
+        if !may_end_with(&self.list, codes[0].code()) {
+            return Ok(false);
+        }
+        self.list.extend(codes)?;
+        self.sum = self.sum.plus(Packed::sum(codes).sum);
+        Ok(true)
+    }
+
+    // Codes in normal form at the end: those that join with what is there one by one, and the others as they are.
+    fn append(&mut self, first: Code, others: &[Packed]) -> Result<(), AllocError>
+        requires few { length others.now ≤ 64 }
+        requires normal { IsNormal (runs_of (first ∷ others.now)) }
+        requires short { IsTooLong (with_runs self.old (runs_of (first ∷ others.now))) → ⊥ }
+        ensures { OnOk result (self.new ≡ with_runs self.old (runs_of (first ∷ others.now))) }
+    {
+        self.put(first)?;
+        for (place, code) in others.iter().enumerate() {
+            if self.extend(&others[place..])? {
+                return Ok(());
+            }
+            self.put(code.code())?;
+        }
         Ok(())
     }
 
@@ -64,7 +103,7 @@ impl Codes {
         ensures spells { spelled result ≡ self.now }
         ensures fits { max self.now.base (length self.now.image) ≤ LIMIT }
     {
-        Cursor::new(self.items.as_slice())
+        Cursor::new(&self.list)
     }
 
     /// How many elements they retain, delete and insert. A look-up.
@@ -138,6 +177,16 @@ impl Pen {
         ensures err { OnErr result (self.new ≡ self.old) }
     {
         self.written.put(code)
+    }
+
+    /// Writes codes in normal form, the first of which may join with what is written; the others follow as they are. `AllocError` where a growth was refused.
+    pub fn append(&mut self, first: Code, others: &[Packed]) -> Result<(), AllocError>
+        requires few { length others.now ≤ 64 }
+        requires normal { IsNormal (runs_of (first ∷ others.now)) }
+        requires short { IsTooLong (with_runs self.old (runs_of (first ∷ others.now))) → ⊥ }
+        ensures { OnOk result (self.new ≡ with_runs self.old (runs_of (first ∷ others.now))) }
+    {
+        self.written.append(first, others)
     }
 
     /// What is written, as the codes of an operation.

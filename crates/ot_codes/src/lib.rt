@@ -23,12 +23,20 @@
 //!     cuts        at 1: 1 goes, 2 come, from 0              text  x u v z
 //! ```
 //!
-//! Codes are read through a [`Cursor`] and written by a [`Pen`] alone, each of which a contract sees as a value: what is left, and what is written. Each turn of a
-//! loop ends a code of one operation, so `transform` and `compose` cost the codes of both, whatever is inserted.
+//! Codes lie in leaves of up to 64 (`ot_list`), four bytes each, beside what each leaf comes to:
+//!
+//! ```text
+//!     sums     [ 31 kept, 4 deleted, 9 inserted | 12 kept, 0 deleted, 2 inserted ]
+//!     leaves   [ R 3  I 1  R 2  D 4 ..          | R 9  I 2  R 3                  ]
+//! ```
+//!
+//! They are read through a [`Cursor`] and written by a [`Pen`] alone, each of which a contract sees as a value: what is left, and what is written. [`Cursor::run`] reads
+//! codes of one leaf at once, as many as fit into a length; of a whole leaf it looks at the sum alone. [`Pen::append`] writes them, and joins only what has to be
+//! joined. `transform` and `compose` go code by code: each turn of a loop ends a code of one operation, so they cost the codes of both, whatever is inserted.
 //!
 //! Contracts: `specs/Shape.antt` (shapes, and how they are filled), `specs/Codes.antt` (codes as runs of `ot_text` over the unit type), `specs/Cuts.antt` (the text of a
-//! composition, and what carrying out its cuts gives), `specs/Laws.antt` (the laws, each the contract of a function in [`laws`]). `specs/Splice.antt` serves the loop of `compose` alone. To read: `code.rt`,
-//! `build.rt` (normal form), `codes.rt`, `cursor.rt`, then `transformation.rt`, `cut.rt` and `composition.rt`.
+//! composition, and what carrying out its cuts gives), `specs/Laws.antt` (the laws, each the contract of a function in [`laws`]). `specs/Splice.antt` serves the loop of `compose` alone, `specs/Runs.antt` says what is
+//! read at once. To read: `code.rt`, `packed.rt` (four bytes), `build.rt` (normal form), `codes.rt`, `cursor.rt`, then `transformation.rt`, `cut.rt` and `composition.rt`.
 #![tactic(auto)]
 
 mod build;
@@ -38,11 +46,15 @@ mod composition;
 mod cursor;
 mod cut;
 pub mod laws;
+mod leaf;
+mod packed;
 mod transformation;
 
 pub use code::{Code, Sum};
 pub use codes::{Codes, Pen};
 pub use composition::{Composed, compose};
-pub use cursor::Cursor;
+pub use cursor::{Cursor, Measure, Run};
 pub use cut::{Cut, carry};
+pub use leaf::Leaf;
+pub use packed::Packed;
 pub use transformation::transform;

@@ -1,28 +1,33 @@
-use Rattle.std.proofs.Common.{◌≡◌, suc, ◌-◌, ◌∙◌, arith, ap, refl}
-use Rattle.std.specs.Prelude.{insert}
-use Rattle.ot_codes.specs.declared.code.Code.TheVariants.{Insert}
+use Rattle.std.proofs.Common.{◌≡◌, ◌-◌, length, set, ap, sym, ◌∙◌, arith}
+use Rattle.ot_list.specs.Leaves.{concatenated}
+use Rattle.ot_codes.specs.declared.code.Code.{Code}
 use Rattle.ot_codes.specs.Codes.{length_of}
-use Rattle.ot_codes.proofs.Put.{longer_before, insert_later, within_total}
+use Rattle.ot_codes.proofs.Put.{goes_behind, longer_before, within_total}
 use Rattle.ot_codes.proofs.build.insert_before_delete.Goals as goal
 
-pub overflow_add-before : goal.overflow_add-before
-overflow_add-before c =
-    let cs = c.args.codes.now.items in
-    let within = within_total cs (c.len-length.result - 2) c.index.result.now (omega arith) c.index.ensures in
-    omega (arith, within, ap length_of c.in-Insert.is)
+pub new-requires : goal.new-requires
+new-requires c =
+    let cs = concatenated c.args.codes.now in
+    let within = within_total cs (length cs - 2) c.in-Some.before (omega (arith, c.in-Some.ensures.0)) c.in-Some.ensures.1 in
+    omega (arith, within, c.requires.short, ap length_of c.in-Insert.ensures.is)
+
+pub put_before-requires-in_default : goal.put_before-requires-in_default
+put_before-requires-in_default c =
+    let cs = concatenated c.args.codes.now in
+    record {
+      filled = c.requires.filled;
+      normal = c.requires.normal;
+      short = c.requires.short;
+      at_delete = c.requires.at_delete;
+      may = λ front n form.
+          goes_behind (concatenated c.args.codes.now) front n c.args.count form c.requires.filled c.requires.normal (length (concatenated c.args.codes.now) - 2) c.in-Some.before
+          (omega (arith, c.in-Some.ensures.0)) c.in-Some.ensures.1 (λ m is. c.in_default.not-Insert m (c.code.ensures.is ∙ is));
+    }
 
 pub returns-in-Insert-clause-ok : goal.returns-in-Insert-clause-ok
 returns-in-Insert-clause-ok c =
     let e = c.requires.at_delete in
-    longer_before c.args.codes.now.items e.0 e.1 c.args.count e.2 c.requires.filled c.requires.normal _
-    (c.len-length.result - 2) c.in-Insert.before c.index.result.now (omega arith) c.index.ensures c.in-Insert.is refl
-
-pub returns : goal.returns
-returns c =
-    let e = c.requires.at_delete in
-    record {
-      ok = insert_later c.args.codes.now.items e.0 e.1 c.args.count e.2 c.requires.filled c.requires.normal c.insert-2.new.self.items
-          (c.len-length.result - 2) c.index.result.now (omega arith) c.index.ensures c.in_default.not-Insert
-          (c.in_ok-insert-2.ensures.items ∙ ap (λ k. insert c.args.codes.now.items k (Insert c.args.count)) (let same : c.len-length.result - 1 ≡ suc (c.len-length.result - 2) = omega arith in same));
-      err = tt;
-    }
+    let cs = concatenated c.args.codes.now in
+    longer_before cs e.0 e.1 c.args.count e.2 c.requires.filled c.requires.normal (concatenated c.set_last_but_one.new.self)
+    (length cs - 2) c.in-Insert.length c.in-Some.before (omega (arith, c.in-Some.ensures.0)) c.in-Some.ensures.1 (sym c.in-Insert.ensures.is)
+    (c.set_last_but_one.ensures ∙ ap (λ (x : Code). set cs (length cs - 2) x) c.new.ensures)

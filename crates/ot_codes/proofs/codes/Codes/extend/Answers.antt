@@ -1,0 +1,44 @@
+use Rattle.std.proofs.Common.{◌≡◌, ◌++◌, ◌∷◌, ◌+◌, List, drop, refl, ap, sym, subst, ◌∙◌, arith}
+use Rattle.ot_text.specs.Operation.{IsTooLong}
+use Rattle.ot_text.specs.Rewriting.{with_runs}
+use Rattle.ot_list.specs.Leaves.{concatenated}
+use Rattle.ot_codes.specs.declared.code.Code.{Code}
+use Rattle.ot_codes.specs.declared.code.Sum.{Sum}
+use Rattle.ot_codes.specs.declared.leaf.Leaf.{Leaf}
+use Rattle.ot_codes.specs.Codes.{added, runs_of, spelled, MayEndWith}
+use Rattle.ot_codes.proofs.Appending.{first_part, small_sum, sound_extended, spelled-append}
+use Rattle.ot_codes.proofs.codes.Codes.extend.Goals as goal
+
+pub plus-self-inside-requires-clause-kept : goal.plus-self-inside-requires-clause-kept
+plus-self-inside-requires-clause-kept c =
+    let small = small_sum c.args.self.now c.args.codes.now c.requires.short in
+    let i = c.self.invariant in
+    omega (arith, i.base_fits, i.target_fits, small.0, small.1, ap (λ (l : Leaf). l.sum.kept) c.sum.ensures)
+
+pub plus-self-inside-requires-clause-deleted : goal.plus-self-inside-requires-clause-deleted
+plus-self-inside-requires-clause-deleted c =
+    let small = small_sum c.args.self.now c.args.codes.now c.requires.short in
+    let i = c.self.invariant in
+    omega (arith, i.base_fits, i.target_fits, small.0, small.1, ap (λ (l : Leaf). l.sum.deleted) c.sum.ensures)
+
+pub plus-self-inside-requires-clause-inserted : goal.plus-self-inside-requires-clause-inserted
+plus-self-inside-requires-clause-inserted c =
+    let small = small_sum c.args.self.now c.args.codes.now c.requires.short in
+    let i = c.self.invariant in
+    omega (arith, i.base_fits, i.target_fits, small.0, small.1, ap (λ (l : Leaf). l.sum.inserted) c.sum.ensures)
+
+pub invariant_of-self-2 : goal.invariant_of-self-2
+invariant_of-self-2 c =
+    let old = concatenated c.self.inside.list in
+    let first = c.index-codes-0.result in
+    sound_extended old (concatenated c.extend.new.self) c.args.codes.now c.self.inside.sum c.plus-self-inside.result first (drop 1 c.args.codes.now) c.self.invariant
+    c.in_ok-extend.ensures.ok (first_part c.args.codes.now first c.requires.some c.index-codes-0.is)
+    (subst (λ (x : Code). MayEndWith (concatenated c.self.inside.list) x) c.code.ensures.is (c.if-not-may_end_with.ensures refl)) c.requires.normal
+    (subst (λ op. IsTooLong (with_runs op (runs_of c.args.codes.now)) → ⊥) (sym c.self.view_is) c.requires.short)
+    (c.plus-self-inside.ensures ∙ ap (λ (l : Leaf). added c.self.inside.sum l.sum) c.sum.ensures)
+
+pub returns-clause-yes : goal.returns-clause-yes
+returns-clause-yes c =
+    λ yes.
+    ap spelled c.in_ok-extend.ensures.ok ∙ spelled-append (concatenated c.self.inside.list) c.args.codes.now
+    ∙ ap (λ op. with_runs op (runs_of c.args.codes.now)) c.self.view_is
