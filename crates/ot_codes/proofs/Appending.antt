@@ -1,12 +1,12 @@
 -- Codes behind codes.
-use Rattle.std.proofs.Common.{◌≡◌, ℕ, zero, suc, ◌+◌, ◌-◌, ◌<◌, ◌≤◌, List, [], ◌∷◌, ◌++◌, length, take, drop, get_or, max, true, refl, sym, ap, subst, ◌∙◌, arith, append_assoc, append-nil, length-append, length-drop}
+use Rattle.std.proofs.Common.{◌≡◌, ℕ, zero, suc, ◌+◌, ◌-◌, ◌<◌, ◌≤◌, List, [], ◌∷◌, ◌++◌, length, take, drop, get_or, max, true, sym, ap, subst, ◌∙◌, arith, append_assoc, length-append, length-drop}
 use Rattle.std.proofs.lemmas.List.{take-append-drop}
 use Rattle.std.proofs.Math.Seq.{take-length}
-use Rattle.ot_text.specs.Operation.{Operation, IsTooLong, news}
+use Rattle.ot_text.specs.Operation.{Operation, IsTooLong}
 use Rattle.ot_text.specs.Run.{Run, Keep, Add, Skip, base_of, image_from, operation_of, MayFollow, IsNormal}
 use Rattle.ot_text.specs.Rewriting.{with_runs}
 use Rattle.ot_text.proofs.RunLemmas.{MayEnd, base_of-append, image_from-append, same_operation}
-use Rattle.ot_algebra.specs.Cursor.{appended, target_of}
+use Rattle.ot_algebra.specs.Cursor.{appended}
 use Rattle.ot_algebra.proofs.RunLengths.{length-image_from}
 use Rattle.ot_algebra.proofs.KeptRuns.{with_runs-none, with_runs-keep, with_runs-add, with_runs-skip}
 use Rattle.ot_codes.specs.declared.code.Code.{Code}
@@ -69,10 +69,6 @@ may_end_at (c ∷ []) zero last code h is may = subst (λ c. MayFollow (run_of c
 may_end_at (c ∷ []) (suc k) last code h is may = absurd (omega (arith, h))
 may_end_at (c ∷ d ∷ codes) zero last code h is may = absurd (omega (arith, h))
 may_end_at (c ∷ d ∷ codes) (suc k) last code h is may = may_end_at (d ∷ codes) k last code (omega (arith, h)) is may
-
-pub may_end_first : (codes : List Code) (code : Code) → length codes ≡ 0 → MayEndWith codes code
-may_end_first [] code none = tt
-may_end_first (c ∷ codes) code none = absurd (omega (arith, none))
 
 -- sums behind one another
 

@@ -1,5 +1,5 @@
 -- Codes of one operation that lie in a single code of the other: what the loop of compose keeps past all of them.
-use Rattle.std.proofs.Common.{◌≡◌, ℕ, ◌+◌, ◌-◌, ◌<◌, ◌≤◌, List, [], ◌∷◌, ◌++◌, length, map, take, drop, nat_eq, Bool, true, false, if◌then◌else◌, refl, sym, ap, subst, ◌∙◌, arith, append-nil}
+use Rattle.std.proofs.Common.{◌≡◌, ℕ, ◌+◌, ◌-◌, ◌≤◌, List, [], ◌∷◌, ◌++◌, map, take, drop, nat_eq, Bool, true, false, if◌then◌else◌, refl, sym, ap, subst, ◌∙◌, arith, append-nil}
 use Rattle.std.proofs.lemmas.List.{map-append}
 use Rattle.ot_text.specs.Operation.{Item, New, Operation, olds, news, with_delete}
 use Rattle.ot_text.specs.Run.{Run, Keep, Add, Skip, base_of, image_from}

@@ -16,7 +16,6 @@ pub mod TransformSkips
 pub mod ComposeSkips
 pub mod Skipping
 pub mod ComposeSkipping
-pub mod Packing
 pub mod Summing
 pub mod Reading
 pub mod Appending

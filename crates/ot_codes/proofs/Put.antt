@@ -1,5 +1,5 @@
 -- One more code at the end of a list of codes.
-use Rattle.std.proofs.Common.{◌≡◌, ℕ, zero, suc, ◌+◌, ◌-◌, ◌<◌, ◌≤◌, List, [], ◌∷◌, ◌++◌, length, take, drop, set, get_or, true, false, Some, None, refl, sym, ap, ◌∙◌, arith, length-append, append_assoc}
+use Rattle.std.proofs.Common.{◌≡◌, ℕ, zero, suc, ◌+◌, ◌-◌, ◌<◌, ◌≤◌, List, [], ◌∷◌, ◌++◌, length, take, set, get_or, true, false, Some, None, refl, sym, ap, ◌∙◌, arith, length-append, append_assoc}
 use Rattle.std.proofs.lemmas.List.{append-nil, map-append, set-append_left, get_or_append_left}
 use Rattle.std.proofs.Math.Seq.{set-append_seam}
 use Rattle.ot_text.specs.Operation.{with_insert}
@@ -149,13 +149,6 @@ joined_length (Insert m) (Retain n) both is = cc
 joined_length (Insert m) (Delete n) both is = cc
 joined_length (Delete m) (Retain n) both is = cc
 joined_length (Delete m) (Insert n) both is = cc
-
--- the only code
-pub first_pushed :
-    (cs made : List Code) (code : Code) → length cs ≡ 0 → made ≡ cs ++ code ∷ [] → 0 < length_of code → IsNormal (runs_of cs)
-    → Extends (runs_of cs) (runs_of made) (λ op. appended op (run_of code))
-first_pushed [] made code none is some normal = pushed [] made code is some tt normal
-first_pushed (c ∷ cs) made code none is some normal = absurd (omega (arith, none))
 
 skip_filled : (xs : List (Run (Unit {0}))) (n : ℕ) → IsNormal (xs ++ Skip n ∷ []) → 0 < n
 skip_filled [] n normal = normal.0

@@ -1,40 +1,19 @@
 -- What is left of codes in leaves.
-use Rattle.std.proofs.Common.{◌≡◌, ℕ, zero, suc, ◌+◌, ◌<◌, ◌≤◌, List, [], ◌∷◌, ◌++◌, length, take, drop, get_or, Option, Some, None, refl, sym, ap, ◌∙◌, arith}
+use Rattle.std.proofs.Common.{◌≡◌, ℕ, zero, suc, ◌+◌, ◌<◌, ◌≤◌, List, [], ◌∷◌, ◌++◌, length, take, drop, get_or, refl, sym, ap, ◌∙◌, arith}
 use Rattle.std.proofs.lemmas.List.{take-append-drop}
 use Rattle.ot_list.specs.Leaves.{concatenated}
 use Rattle.ot_codes.specs.declared.code.Code.{Code}
 use Rattle.ot_codes.specs.declared.code.Code.TheVariants.{Retain, Insert, Delete}
 use Rattle.ot_codes.specs.declared.code.Sum.{Sum}
 use Rattle.ot_codes.specs.declared.cursor.Measure.{Measure}
-use Rattle.ot_codes.specs.Codes.{length_of, counted, codes_left, others_of, total_of, kept_in, deleted_in, inserted_in, sum_of, added}
+use Rattle.ot_codes.specs.Codes.{length_of, counted, total_of, kept_in, deleted_in, inserted_in, sum_of, added}
 use Rattle.ot_codes.specs.Runs.{measured}
 use Rattle.ot_codes.proofs.Summing.{same_sum, counted_more, take_more, total-append, total_in}
-
-pub none_past : {A : Type 0} (cs : List (List A)) (place : ℕ) → length cs ≤ place → concatenated (drop place cs) ≡ []
-none_past [] zero h = refl
-none_past [] (suc place) h = refl
-none_past (c ∷ cs) zero h = absurd (omega (arith, h))
-none_past (c ∷ cs) (suc place) h = none_past cs place (omega (arith, h))
 
 pub leaf_there : {A : Type 0} (cs : List (List A)) (place : ℕ) → place < length cs → get_or cs place [] ++ concatenated (drop (suc place) cs) ≡ concatenated (drop place cs)
 leaf_there [] place h = absurd (omega (arith, h))
 leaf_there (c ∷ cs) zero h = refl
 leaf_there (c ∷ cs) (suc place) h = leaf_there cs place (omega (arith, h))
-
--- a leaf, from its first item on
-pub leaf_front :
-    {A : Type 0} (cs : List (List A)) (place next : ℕ) (leaf rest : List A) (first : A) → place < length cs → leaf ≡ get_or cs place [] → leaf ≡ first ∷ rest
-    → next ≡ place + 1 → first ∷ (rest ++ concatenated (drop next cs)) ≡ concatenated (drop place cs)
-leaf_front {A} cs place next leaf rest first h leaf_is parts next_is =
-    let later : next ≡ suc place = omega (arith, next_is) in
-    ap (λ (k : ℕ). first ∷ (rest ++ concatenated (drop k cs))) later
-    ∙ ap (λ (xs : List A). xs ++ concatenated (drop (suc place) cs)) (sym parts ∙ leaf_is)
-    ∙ leaf_there cs place h
-
--- behind the code at hand
-pub others_left : (head : Option Code) (codes : List Code) → 0 < length (codes_left head codes) → others_of (codes_left head codes) ≡ codes
-others_left None codes some = absurd (omega (arith, some))
-others_left (Some code) codes some = refl
 
 -- codes that fit so far, behind others of a sum
 

@@ -1,5 +1,5 @@
 -- Codes that are read at once.
-use Rattle.std.proofs.Common.{◌≡◌, ℕ, suc, ◌+◌, ◌<◌, ◌≤◌, List, [], ◌∷◌, ◌++◌, length, take, drop, get_or, map, Option, Some, None, refl, sym, ap, subst, ◌∙◌, arith, append_assoc, length-take}
+use Rattle.std.proofs.Common.{◌≡◌, ℕ, suc, ◌+◌, ◌<◌, ◌≤◌, List, [], ◌∷◌, ◌++◌, length, take, drop, get_or, map, Option, Some, None, sym, ap, ◌∙◌, arith, append_assoc, length-take}
 use Rattle.std.proofs.lemmas.List.{take-append-drop, get_or-map}
 use Rattle.ot_list.specs.Leaves.{concatenated}
 use Rattle.ot_codes.specs.declared.code.Code.{Code}

@@ -1,18 +1,17 @@
 -- Codes of one operation that lie in a single code of the other: what transform and compose make of all of them at once.
-use Rattle.std.proofs.Common.{◌≡◌, ℕ, zero, suc, ◌+◌, ◌-◌, ◌<◌, ◌≤◌, List, [], ◌∷◌, ◌++◌, length, Some, None, nat_eq, Bool, true, false, if◌then◌else◌, refl, sym, ap, subst, ◌∙◌, arith, append-nil}
-use Rattle.std.proofs.lemmas.List.{map-append}
-use Rattle.ot_text.specs.Operation.{Operation, New, news, with_retain, with_insert, with_delete}
-use Rattle.ot_text.specs.Run.{Run, Keep, Add, Skip, base_of, image_from, IsNormal}
+use Rattle.std.proofs.Common.{◌≡◌, ℕ, ◌+◌, ◌<◌, ◌≤◌, List, [], ◌∷◌, ◌++◌, nat_eq, Bool, true, false, if◌then◌else◌, refl, sym, ap, subst, ◌∙◌, arith}
+use Rattle.ot_text.specs.Operation.{Operation, with_retain, with_delete}
+use Rattle.ot_text.specs.Run.{Run, base_of, IsNormal}
 use Rattle.ot_text.specs.Rewriting.{with_runs}
-use Rattle.ot_algebra.specs.Cursor.{target_of, skipped}
+use Rattle.ot_algebra.specs.Cursor.{target_of}
 use Rattle.ot_algebra.proofs.TransformProgress.{Progress}
-use Rattle.ot_algebra.proofs.KeptRuns.{first_keep, after_kept, progress_kept}
+use Rattle.ot_algebra.proofs.KeptRuns.{after_kept, progress_kept}
 use Rattle.ot_codes.specs.declared.code.Code.{Code}
 use Rattle.ot_codes.specs.declared.code.Code.TheVariants.{Retain, Insert, Delete}
-use Rattle.ot_codes.specs.Codes.{run_of, runs_of, first_of, without, past, kept_in, deleted_in, inserted_in}
+use Rattle.ot_codes.specs.Codes.{runs_of, without, past, kept_in, deleted_in, inserted_in}
 use Rattle.ot_codes.proofs.Put.{length-blanks, runs_of-append}
 use Rattle.ot_codes.proofs.Read.{without_keep, without_skip}
-use Rattle.ot_codes.proofs.TransformSkips.{first_skip, AddNothing, moved_to, progress_kept_second, progress_deleted, progress_deleted_second}
+use Rattle.ot_codes.proofs.TransformSkips.{AddNothing, moved_to, progress_kept_second, progress_deleted, progress_deleted_second}
 
 -- what codes take and make
 

@@ -1,6 +1,5 @@
 -- What codes come to, one after the other.
 use Rattle.std.proofs.Common.{◌≡◌, ℕ, suc, zero, ◌+◌, ◌*◌, ◌<◌, ◌≤◌, List, [], ◌∷◌, ◌++◌, take, get_or, length, refl, sym, ap, ◌∙◌, arith}
-use Rattle.std.proofs.Math.Seq.{take-length}
 use Rattle.ot_codes.specs.declared.code.Code.{Code}
 use Rattle.ot_codes.specs.declared.code.Code.TheVariants.{Retain, Insert, Delete}
 use Rattle.ot_codes.specs.declared.code.Sum.{Sum}
@@ -72,15 +71,3 @@ sum_next codes i j sum next code d w h j_is code_is short next_is =
     by (Retain n) short = omega (arith, w.short, short)
     by (Insert n) short = omega (arith, w.short, short)
     by (Delete n) short = omega (arith, w.short, short)
-
-pub sum_begun : (codes : List Code) → IsSumUpTo codes 0 (record { kept = 0; deleted = 0; inserted = 0 })
-sum_begun codes = record { is = refl; short = omega arith }
-
--- with one more of at most 64 codes no part is too large
-pub sum_fits :
-    (codes : List Code) (i : ℕ) (sum : Sum) (code : Code) → IsSumUpTo codes i sum → i < length codes → length codes ≤ 64 → length_of code < 67108864
-    → (sum.kept + length_of code < 4294967296) × (sum.deleted + length_of code < 4294967296) × (sum.inserted + length_of code < 4294967296)
-sum_fits codes i sum code w h few short = (omega (arith, w.short), omega (arith, w.short), omega (arith, w.short))
-
-pub sum_done : (codes : List Code) (i : ℕ) (sum : Sum) → IsSumUpTo codes i sum → i ≡ length codes → sum ≡ sum_of codes
-sum_done codes i sum w i_is = w.is ∙ ap (λ k. sum_of (take k codes)) i_is ∙ ap sum_of (take-length codes)

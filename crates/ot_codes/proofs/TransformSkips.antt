@@ -1,5 +1,5 @@
 -- Runs of one operation that lie in a single run of the other: transform goes past all of them at once.
-use Rattle.std.proofs.Common.{nat_eq, if◌then◌else◌, ◌≡◌, ℕ, suc, zero, ◌+◌, ◌-◌, ◌<◌, ◌≤◌, List, [], ◌∷◌, ◌++◌, length, refl, sym, ap, subst, ◌∙◌, arith}
+use Rattle.std.proofs.Common.{◌≡◌, ℕ, suc, zero, ◌+◌, ◌-◌, ◌<◌, ◌≤◌, List, [], ◌∷◌, ◌++◌, length, refl, sym, ap, subst, ◌∙◌, arith}
 use Rattle.ot_text.specs.Operation.{Operation, with_retain, with_insert, with_delete}
 use Rattle.ot_text.specs.Run.{Run, Keep, Add, Skip, base_of}
 use Rattle.ot_text.specs.Rewriting.{with_runs}

@@ -1,4 +1,4 @@
-use Rattle.std.proofs.Common.{◌≡◌, ◌-◌, length, set, ap, sym, ◌∙◌, arith}
+use Rattle.std.proofs.Common.{◌-◌, length, set, ap, sym, ◌∙◌, arith}
 use Rattle.ot_list.specs.Leaves.{concatenated}
 use Rattle.ot_codes.specs.declared.code.Code.{Code}
 use Rattle.ot_codes.specs.Codes.{length_of}

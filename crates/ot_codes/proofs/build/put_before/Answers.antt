@@ -1,4 +1,4 @@
-use Rattle.std.proofs.Common.{◌≡◌, ◌++◌, ◌∷◌, ◌-◌, [], List, length, set, ap, subst, sym, ◌∙◌, arith}
+use Rattle.std.proofs.Common.{◌≡◌, ◌++◌, ◌∷◌, ◌-◌, [], List, length, set, ap, ◌∙◌, arith}
 use Rattle.ot_list.specs.Leaves.{concatenated}
 use Rattle.ot_codes.specs.declared.code.Code.{Code}
 use Rattle.ot_codes.specs.declared.code.Code.TheVariants.{Delete}

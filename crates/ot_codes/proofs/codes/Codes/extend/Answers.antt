@@ -1,9 +1,8 @@
-use Rattle.std.proofs.Common.{◌≡◌, ◌++◌, ◌∷◌, ◌+◌, List, drop, refl, ap, sym, subst, ◌∙◌, arith}
+use Rattle.std.proofs.Common.{drop, refl, ap, sym, subst, ◌∙◌, arith}
 use Rattle.ot_text.specs.Operation.{IsTooLong}
 use Rattle.ot_text.specs.Rewriting.{with_runs}
 use Rattle.ot_list.specs.Leaves.{concatenated}
 use Rattle.ot_codes.specs.declared.code.Code.{Code}
-use Rattle.ot_codes.specs.declared.code.Sum.{Sum}
 use Rattle.ot_codes.specs.declared.leaf.Leaf.{Leaf}
 use Rattle.ot_codes.specs.Codes.{added, runs_of, spelled, MayEndWith}
 use Rattle.ot_codes.proofs.Appending.{first_part, small_sum, sound_extended, spelled-append}

@@ -1,4 +1,4 @@
-use Rattle.std.proofs.Common.{drop, refl, arith, ap, ◌∙◌}
+use Rattle.std.proofs.Common.{drop, refl}
 use Rattle.ot_list.specs.Leaves.{concatenated}
 use Rattle.ot_codes.proofs.Appending.{rest_of}
 use Rattle.ot_codes.proofs.Running.{first_small, rest_small, behind_small, part_is}
