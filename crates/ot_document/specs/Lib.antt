@@ -1,0 +1,4 @@
+pub mod Change
+pub mod Places
+pub mod Steps
+pub mod Writing
