@@ -1,0 +1,28 @@
+use Rattle.std.proofs.Common.{◌∙◌, ap, refl}
+use Rattle.ot_text.specs.Operation.{Operation, news}
+use Rattle.ot_op.proofs.Parts.{AreParts, as_long, joined}
+use Rattle.ot_op.proofs.Pairs.{fit_together, first_parts}
+use Rattle.ot_op.proofs.algebra.transform_first.Goals as goal
+
+pub transform-requires-clause-fits : goal.transform-requires-clause-fits
+transform-requires-clause-fits g c =
+    let parts_a : AreParts c.codes.result.now (news c.args.a.image) c.args.a = record { codes_are = c.codes.ensures.value; text_is = refl } in
+    let parts_b : AreParts c.codes-2.result.now (news c.args.b.now.image) c.args.b.now = record { codes_are = c.codes-2.ensures.value; text_is = refl } in
+    fit_together c.args.a c.args.b.now c.codes.result.now c.codes-2.result.now (news c.args.a.image) (news c.args.b.now.image) parts_a parts_b c.requires.fits
+
+pub from_parts-requires : goal.from_parts-requires
+from_parts-requires g c =
+    let parts_a : AreParts c.codes.result.now (news c.args.a.image) c.args.a = record { codes_are = c.codes.ensures.value; text_is = refl } in
+    let parts_b : AreParts c.codes-2.result.now (news c.args.b.now.image) c.args.b.now = record { codes_are = c.codes-2.ensures.value; text_is = refl } in
+    as_long
+    (first_parts c.args.a c.args.b.now c.codes.result.now c.codes-2.result.now (news c.args.a.image) (news c.args.b.now.image) parts_a parts_b c.codes.ensures.operation c.codes-2.ensures.operation
+    c.requires.same_base c.in_ok-first.first c.into_text.result.items (ap (λ (p : Operation (Unit {0}) × Operation (Unit {0})). p.0) c.in_ok-first.ensures) (c.into_text.ensures))
+
+pub returns : goal.returns
+returns g c =
+    let parts_a : AreParts c.codes.result.now (news c.args.a.image) c.args.a = record { codes_are = c.codes.ensures.value; text_is = refl } in
+    let parts_b : AreParts c.codes-2.result.now (news c.args.b.now.image) c.args.b.now = record { codes_are = c.codes-2.ensures.value; text_is = refl } in
+    c.from_parts.ensures
+    ∙ joined
+    (first_parts c.args.a c.args.b.now c.codes.result.now c.codes-2.result.now (news c.args.a.image) (news c.args.b.now.image) parts_a parts_b c.codes.ensures.operation c.codes-2.ensures.operation
+    c.requires.same_base c.in_ok-first.first c.into_text.result.items (ap (λ (p : Operation (Unit {0}) × Operation (Unit {0})). p.0) c.in_ok-first.ensures) (c.into_text.ensures))
