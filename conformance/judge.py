@@ -15,6 +15,8 @@ from utf16 import Translation
 
 TROUBLE = re.compile(r"the driver (ended with status \d+|was ended by signal \d+|was ended: it (?:took|printed) more than [\d.,]+ \w+|ended before the line %%)")
 
+AGREES = ("conforms\n", "nothing counted\n")  # no difference; whether what is needed was compared is told of all sessions together
+
 
 class Refused(Exception):
     """The program does not say what `otbench conform` says."""
@@ -25,7 +27,7 @@ class Verdict:
 
     def __init__(self, sessions, said, trouble, printed):
         self.sessions, self.said, self.trouble = sessions, said, trouble
-        self.conforms = said.startswith("conforms\n") and trouble is None
+        self.conforms = said.startswith(AGREES) and trouble is None
         at = re.match(r"differs at ([0-9]+): ", said)
         self.place = int(at[1]) if at else None
         self.ended = trouble is not None and trouble.startswith(ENDED)
@@ -52,7 +54,7 @@ class Verdict:
         """How the driver ended, if otherwise than it should, and the answer; that the lines so far conform is none of a driver that failed."""
         if self.trouble is None:
             return self.said
-        return f"{self.trouble}\n" + ("" if self.said.startswith("conforms\n") else self.said)
+        return f"{self.trouble}\n" + ("" if self.said.startswith(AGREES) else self.said)
 
 
 def fails_likewise(first):

@@ -37,13 +37,24 @@ export const readSteps = (text) => linesOf(text).map((line) => JSON.parse(line))
 
 const WAITS = /^not quiet: (client|up|down) (\d+)$/;
 
+/* What a line of `check` says that is not settled, or null. */
+function waitIn(line) {
+  const waits = WAITS.exec(line);
+  return waits && { what: waits[1], client: Number(waits[2]) };
+}
+
 /** What `check` prints. */
 export function readCheck(text) {
   const lines = linesOf(text);
   const stopped = stopIn(lines[0]);
-  const [first, property] = lines.slice(-2);
-  const waits = WAITS.exec(first);
-  return { stopped, quiet: first === "quiet", waits: waits && { what: waits[1], client: Number(waits[2]) }, property };
+  const first = lines[stopped ? 1 : 0];
+  return { stopped, quiet: first === "quiet", waits: waitIn(first), property: lines.at(-1) };
+}
+
+/** What `check --all` prints. */
+export function readCheckOfAll(text) {
+  const unsettled = linesOf(text).map(waitIn).filter(Boolean);
+  return { ...readCheck(text), unsettled };
 }
 
 /** What `judge` prints. */
@@ -62,6 +73,7 @@ const DIFFERENCE = /^differs at (\d+): ([^:]*): (.*)$/s;
 export function readConform(text) {
   const [first, ...lines] = linesOf(text);
   if (first === "conforms") return { verdict: "conforms", conforms: true, compared: countsIn(lines[0]), text };
+  if (first === "nothing counted") return { verdict: "nothing", conforms: false, compared: countsIn(lines[0]), text };
   const stopped = stopIn(first);
   if (stopped) return { verdict: "stopped", conforms: false, ...stopped, text };
   const [, at, what, field] = DIFFERENCE.exec(first);

@@ -4,7 +4,7 @@
  *     arguments ── call ──▶ words, input ── serve ──▶ status, output, errors ── read ──▶ a value, or an OtbenchError
  */
 
-import { readCheck, readConform, readJudge, readRun, readSteps } from "./answers.mjs";
+import { readCheck, readCheckOfAll, readConform, readJudge, readRun, readSteps } from "./answers.mjs";
 import { check, OtbenchError } from "./errors.mjs";
 import { bytesOf, joined, markIn, textOf, withRest } from "./text.mjs";
 
@@ -31,7 +31,8 @@ const calls = {
     return reading(["conform"], withRest(bytes, linesOf(lines)), readConform, signal);
   },
 
-  check: (text, { signal } = {}) => reading(["check"], schedule(text), readCheck, signal),
+  check: (text, { all = false, signal } = {}) =>
+    reading(all ? ["check", "--all"] : ["check"], schedule(text), all ? readCheckOfAll : readCheck, signal),
 
   judge: (trace, { signal } = {}) => reading(["judge"], traceOf(trace), readJudge, signal),
 

@@ -152,6 +152,14 @@ export interface Conforms {
   text: string;
 }
 
+/** Nothing differs, and no value was counted: the port printed places alone, perhaps. */
+export interface NothingCounted {
+  verdict: "nothing";
+  conforms: false;
+  compared: Record<ComparedKey, number>;
+  text: string;
+}
+
 /** The first value in which the port left ot.js. Values are as they are printed: compact JSON, `none`, `nothing`, `performed` or a refusal. */
 export interface Differs {
   verdict: "differs";
@@ -180,13 +188,21 @@ export interface NotCompared extends Stop {
   text: string;
 }
 
-export type Conformance = Conforms | Differs | NotCompared;
+export type Conformance = Conforms | NothingCounted | Differs | NotCompared;
+
+/** What is not settled: a client that is not synchronized, its message to the server, or messages to it. */
+export interface Waits {
+  what: "client" | "up" | "down";
+  client: number;
+}
 
 export interface Check {
   stopped: Stop | null;
   quiet: boolean;
-  /** What keeps the session from being quiet: a client that is not synchronized, its message to the server, or messages to it. */
-  waits: { what: "client" | "up" | "down"; client: number } | null;
+  /** The first thing that keeps the session from being quiet. */
+  waits: Waits | null;
+  /** With `all`: everything that does, by client. */
+  unsettled?: Waits[];
   /** Whether the trace of the run has the weak list property: `holds`, or `trace full` where it is too long to be judged. */
   property: string;
 }
@@ -237,7 +253,7 @@ export interface Bench {
   /** Compares what a port of ot.js printed with the run of the schedule. */
   conform(schedule: Text, lines: PortLines): Conformance;
   /** Whether all is quiet and one, and whether the trace has the weak list property. */
-  check(schedule: Text): Check;
+  check(schedule: Text, options?: { all?: boolean }): Check;
   /** Judges a recorded trace: a value, or its JSON. */
   judge(trace: object | Text): Judgement;
   /** A schedule's image. */

@@ -14,7 +14,7 @@ export interface WorkerBench {
   steps(schedule: Text, options?: { documents?: boolean } & Cancelled): Promise<ReturnType<Bench["steps"]>>;
   explain(schedule: Text, options?: Cancelled): Promise<string>;
   conform(schedule: Text, lines: PortLines, options?: Cancelled): Promise<ReturnType<Bench["conform"]>>;
-  check(schedule: Text, options?: Cancelled): Promise<ReturnType<Bench["check"]>>;
+  check(schedule: Text, options?: { all?: boolean } & Cancelled): Promise<ReturnType<Bench["check"]>>;
   judge(trace: object | Text, options?: Cancelled): Promise<ReturnType<Bench["judge"]>>;
   assemble(schedule: Text, options?: Cancelled): Promise<Uint8Array>;
   disassemble(image: Uint8Array, options?: Cancelled): Promise<string>;

@@ -19,6 +19,7 @@ const READS_TEXT = ["run", "check", "explain", "steps", "asm"];
  */
 function schedule(ask, name, text, draw) {
     for (const word of ["run", "check", "explain"]) ask(name, [word], text);
+    ask(name, ["check", "--all"], text);
     ask(name, ["steps", "--documents"], text);
     const lines = ask(name, ["steps"], text);
     ask(name, ["conform"], Buffer.concat([text, BEHIND, lines]));

@@ -72,7 +72,7 @@ test("explain says the column and the cause too", () => {
 test("a schedule with a line %% is refused by conform as by run, and takes no line of the port's", () => {
   refused(() => conform("clients 1\n \t%% \r\nread 0\n", []), "UnknownWord", { line: 2 });
   refused(() => conform("bogus\n%%\n", []), "NoClients", { line: 1 });
-  assert.equal(conform('clients 1\nstart "%%"\n; %%\nread 0\n', [{ at: 1 }]).verdict, "conforms");
+  assert.equal(conform('clients 1\nstart "%%"\n; %%\nread 0\n', [{ at: 1, document: "%%" }]).verdict, "conforms");
 });
 
 test("options that are refused, by the program's words", () => {

@@ -147,6 +147,10 @@ test("check: quiet, and what is waited for", () => {
   assert.deepEqual(check(edited).waits, { what: "client", client: 0 });
   assert.deepEqual(check(`${edited}take 0\nack 0\n`).waits, { what: "down", client: 1 });
   assert.deepEqual(check(`${edited}join 1\n`).stopped, { at: 1, refusal: "AlreadyJoined" });
+  const all = check(`${edited}take 0\njoin 1\n`, { all: true });
+  const unsettled = [{ what: "client", client: 0 }, { what: "down", client: 0 }, { what: "down", client: 1 }];
+  assert.deepEqual(all, { stopped: { at: 2, refusal: "AlreadyJoined" }, quiet: false, waits: unsettled[0], property: "holds", unsettled });
+  assert.deepEqual(check(example("weak-order.ots"), { all: true }).unsettled, []);
 });
 
 test("judge: each verdict, from a value and from a text", () => {

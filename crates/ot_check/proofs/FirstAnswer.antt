@@ -18,7 +18,7 @@ use Rattle.ot_check.proofs.FirstUnequal.{first_unequal-refl}
 
 -- ---- the first answer
 
-got : {A B : Type 0} (f : A → B) (o : Option A) (v : B) → option_map f o ≡ Some v → (x : A) × (o ≡ Some x) × (f x ≡ v)
+pub got : {A B : Type 0} (f : A → B) (o : Option A) (v : B) → option_map f o ≡ Some v → (x : A) × (o ≡ Some x) × (f x ≡ v)
 got f None v e = absurd (cc)
 got f (Some x) v e = (x, refl, same_Some (f x) v e)
 

@@ -1,5 +1,6 @@
 pub mod FirstUnequal
 pub mod FirstAnswer
+pub mod AllAnswers
 pub mod Placing
 pub mod Stepping
 pub mod Noting

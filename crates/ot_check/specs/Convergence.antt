@@ -1,5 +1,5 @@
 -- Whether all is quiet and all lists are one, and what comes first against it.
-use Rattle.std.specs.Prelude.{ℕ, suc, List, [], ◌∷◌, length, Bool, true, false, not, ◌==◌, ◌&&◌, Option, Some, None, is_some, if◌then◌else◌}
+use Rattle.std.specs.Prelude.{ℕ, suc, List, [], ◌∷◌, ◌++◌, length, Bool, true, false, not, ◌==◌, ◌&&◌, Option, Some, None, is_some, if◌then◌else◌}
 use Rattle.std.specs.Option.{option_map}
 use Rattle.ot_isa.specs.declared.elements.Tagged.{Tagged}
 use Rattle.ot_model.specs.Table.{Phase, NotJoined, Synchronized, AwaitingConfirm, AwaitingWithBuffer, Client, State, downlink, is_joined}
@@ -18,6 +18,11 @@ or_else None other = other
 abbrev pub first_from : {A B : Type 0} → (ℕ → A → Option B) → ℕ → List A → Option B
 first_from at k [] = None
 first_from at k (x ∷ xs) = or_else (at k x) (first_from at (suc k) xs)
+
+-- all answers at the elements of a list, which are numbered from k on
+abbrev pub all_from : {A B : Type 0} → (ℕ → A → List B) → ℕ → List A → List B
+all_from at k [] = []
+all_from at k (x ∷ xs) = at k x ++ all_from at (suc k) xs
 
 -- ---- lists
 
@@ -60,6 +65,21 @@ unsettled_at s c x =
 -- the first that is not settled, by the client's number
 abbrev pub first_unsettled : State → Option Unsettled
 first_unsettled s = first_from (unsettled_at s) 0 s.clients
+
+-- this, if it is so
+abbrev pub if_so : Bool → Unsettled → List Unsettled
+if_so true what = what ∷ []
+if_so false what = []
+
+-- all that is not settled of client c: its phase, its message, its downlink
+abbrev pub all_unsettled_at : State → ℕ → Client → List Unsettled
+all_unsettled_at s c x =
+    if is_joined x.phase then if_so (not (is_synchronized x.phase)) (unsettled.Client c) ++ if_so (is_some x.message) (unsettled.Up c) ++ if_so (not (length (downlink s c x) == 0)) (unsettled.Down c)
+    else []
+
+-- all that is not settled, by the client's number
+abbrev pub all_unsettled : State → List Unsettled
+all_unsettled s = all_from (all_unsettled_at s) 0 s.clients
 
 -- a joined client's number, with the first place at which its list is not the server's
 abbrev pub astray_at : State → ℕ → Client → Option (ℕ × ℕ)

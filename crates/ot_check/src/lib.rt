@@ -2,6 +2,7 @@
 //!
 //! ```text
 //!   machine  ----- convergence ---->  quiet | not quiet: client, up or down | differs: client, place
+//!               |- all_unsettled ->   all that is not settled, in order
 //!   schedule ----- traced_run ----->  where it ends: a machine, and its stop
 //!               |                     trace, or none where it is full  ----- judge ---->  holds | the first fault
 //!               -- trace_of ------->    "
@@ -10,7 +11,8 @@
 //!
 //! - `convergence` says of a machine what is the first thing that is not settled: by client, its phase, its message to the
 //!   server, the messages to it. Where all is settled it compares all lists; it then always answers `Quiet`, since every
-//!   run converges. `differs` is that comparison by itself. `specs/Convergence.antt` computes both answers.
+//!   run converges. `differs` is that comparison by itself. `all_unsettled` lists everything that is not settled; what `convergence` names is
+//!   the first of it. `specs/Convergence.antt` computes all three.
 //! - `traced_run` runs a schedule once and gives where the run ended, and its trace, as `specs/Events.antt` of `ot_model`
 //!   defines it: one event for each performed edit and read, with what it saw of each replica's edits; `trace_of` gives the
 //!   trace alone, and goes no further where it is full. They run the machine and count beside it: how many
@@ -45,6 +47,6 @@ pub use ot_judge::{
     Event, MOST_ENTRIES, MOST_EVENTS, Placed, Trace, TraceFault, Verdict, judge, read_trace,
 };
 pub use outcome::{Convergence, Unsettled};
-pub use settling::convergence;
+pub use settling::{all_unsettled, convergence};
 pub use stop::TraceStop;
 pub use traced::{TracedRun, trace_of, traced_run};

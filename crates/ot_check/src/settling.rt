@@ -1,14 +1,15 @@
 //! Whether a machine is quiet with one list everywhere.
 
-ghost use Rattle.std.specs.Prelude.{◌≡◌, ◌<◌, ◌↔◌, ℕ, length};
-ghost use Rattle.ot_model.specs.Table.{IsQuiet};
+ghost use Rattle.std.specs.Prelude.{◌≡◌, ◌<◌, ◌↔◌, ◌++◌, [], ℕ, None, is_some, length, not, slice_get, ◌==◌, IfOk, OnOk};
+ghost use Rattle.ot_model.specs.Table.{downlink, IsQuiet};
 ghost use Rattle.ot_model.specs.Sound.{IsSound};
 ghost use Rattle.ot_machine.specs.Readers.{ClientHas};
-ghost use Rattle.ot_check.specs.Convergence.{astray_at, convergence_of, first_astray, first_unsettled, unsettled_at};
+ghost use Rattle.ot_check.specs.Convergence.{all_unsettled, all_unsettled_at, answer_of, astray_at, convergence_of, first_astray, first_unsettled, if_so, is_synchronized, unsettled_at};
 
 use crate::comparing::first_unequal;
 use crate::outcome::{Convergence, Unsettled};
 use ot_machine::{Machine, Phase};
+use std::alloc::{AllocError, Global};
 
 // What of this client is not settled.
 fn unsettled_at(machine: &Machine, client: u16) -> Option<Unsettled>
@@ -85,4 +86,76 @@ pub fn convergence(machine: &Machine) -> Convergence
         return Convergence::Differs(client, place);
     }
     Convergence::Quiet
+}
+
+// The client is synchronized.
+fn is_synchronized(machine: &Machine, client: u16) -> bool
+    requires { client < length machine.now.clients }
+    ensures { ClientHas machine.now client (λ x. is_synchronized x.phase) result }
+{
+    match machine.phase(client) {
+        Phase::Synchronized => true,
+        Phase::NotJoined | Phase::AwaitingConfirm | Phase::AwaitingWithBuffer => false,
+    }
+}
+
+// A message is on its way from the client to the server.
+fn sends(machine: &Machine, client: u16) -> bool
+    requires { client < length machine.now.clients }
+    ensures { ClientHas machine.now client (λ x. is_some x.message) result }
+{
+    machine.up(client).is_some()
+}
+
+// No message is on its way from the server to the client.
+fn awaits_none(machine: &Machine, client: u16) -> bool
+    requires { client < length machine.now.clients }
+    ensures { ClientHas machine.now client (λ x. length (downlink machine.now client x) == 0) result }
+{
+    machine.down_len(client) == 0
+}
+
+// Adds what is not settled, if it is so.
+fn push_if(found: &mut Vec<Unsettled>, so: bool, what: Unsettled) -> Result<(), AllocError>
+    ensures { OnOk result (found.new.items ≡ found.old.items ++ if_so so what) }
+{
+    if so {
+        found.push(what)?;
+    }
+    Ok(())
+}
+
+// Adds all that is not settled of this client.
+fn push_unsettled(
+    machine: &Machine,
+    client: u16,
+    found: &mut Vec<Unsettled>,
+) -> Result<(), AllocError>
+    requires { client < length machine.now.clients }
+    ensures { OnOk result (ClientHas machine.now client (λ x. found.old.items ++ all_unsettled_at machine.now client x) found.new.items) }
+{
+    if !machine.joined(client) {
+        return Ok(());
+    }
+    let synchronized = is_synchronized(machine, client);
+    push_if(found, !synchronized, Unsettled::Client(client))?;
+    let sends = sends(machine, client);
+    push_if(found, sends, Unsettled::Up(client))?;
+    let none = awaits_none(machine, client);
+    push_if(found, !none, Unsettled::Down(client))?;
+    Ok(())
+}
+
+/// All that is not settled: by the number of the joined client, and of one client in the order of `Unsettled`. The first of it is what
+/// [`convergence`] names, and there is nothing exactly where all is quiet. An error only where a growth was refused.
+pub fn all_unsettled(alloc: Global, machine: &Machine) -> Result<Vec<Unsettled>, AllocError>
+    ensures exact { IfOk result (λ all. all.items ≡ all_unsettled machine.now) }
+    ensures first { IfOk result (λ all. convergence_of machine.now ≡ answer_of (slice_get all.items 0) None) }
+    ensures quiet { IfOk result (λ all. (all.items ≡ []) ↔ IsQuiet machine.now) }
+{
+    let mut found = Vec::new(alloc);
+    for client in 0..machine.clients() {
+        push_unsettled(machine, client, &mut found)?;
+    }
+    Ok(found)
 }

@@ -32,7 +32,8 @@
 //!
 //! They are read through a [`Cursor`] and written by a [`Pen`] alone, each of which a contract sees as a value: what is left, and what is written. [`Cursor::run`] reads
 //! codes of one leaf at once, as many as fit into a length; of a whole leaf it looks at the sum alone. [`Pen::append`] writes them, and joins only what has to be
-//! joined. `transform` and `compose` go code by code: each turn of a loop ends a code of one operation, so they cost the codes of both, whatever is inserted.
+//! joined. `transform` does so where codes of one operation lie in a retain of the other: they stay as they are, and the other retains what they make.
+//! Else `transform`, and always `compose`, go code by code: each turn of a loop ends a code of one operation at least, so they cost the codes of both, whatever is inserted.
 //!
 //! Contracts: `specs/Shape.antt` (shapes, and how they are filled), `specs/Codes.antt` (codes as runs of `ot_text` over the unit type), `specs/Cuts.antt` (the text of a
 //! composition, and what carrying out its cuts gives), `specs/Laws.antt` (the laws, each the contract of a function in [`laws`]). `specs/Splice.antt` serves the loop of `compose` alone, `specs/Runs.antt` says what is

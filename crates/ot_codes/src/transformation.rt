@@ -1,14 +1,19 @@
 //! Two operations on one document, each after the other.
 
-ghost use Rattle.std.specs.Prelude.{◌≡◌, ◌+◌, ◌≤◌, length, IfOk, OnOk};
+ghost use Rattle.std.specs.Prelude.{◌≡◌, ◌+◌, ◌<◌, ◌≤◌, ◌^◌, ◌∷◌, length, IfOk, OnOk};
 ghost use Rattle.ot_text.specs.Operation.{IsTooLong, news};
+ghost use Rattle.ot_text.specs.Run.{IsNormal};
+ghost use Rattle.ot_text.specs.Rewriting.{with_runs};
 ghost use Rattle.ot_text.specs.declared.TheConstants.{LIMIT};
 ghost use Rattle.ot_algebra.specs.Merge.{first_after, second_after};
 ghost use Rattle.ot_algebra.specs.Cursor.{appended, transformed_part};
-ghost use Rattle.ot_codes.specs.Codes.{keeps, run_of};
+ghost use Rattle.ot_codes.specs.Codes.{keeps, run_of, runs_of};
+ghost use Rattle.ot_codes.specs.declared.code.Code.TheVariants.{Retain};
 
-use crate::code::Code;
+use crate::code::{Code, Sum};
 use crate::codes::{Codes, Pen};
+use crate::cursor::Measure;
+use crate::packed::Packed;
 use std::alloc::{AllocError, Global};
 
 /// What `a` becomes after `b`, and what `b` becomes after `a` (`transform` of ot.js' `TextOperation`), in codes: what the first inserts is what `a` inserts, and
@@ -28,6 +33,23 @@ pub fn transform(alloc: Global, a: &Codes, b: &Codes) -> Result<(Codes, Codes), 
     let mut first = Pen::new(alloc);
     let mut second = Pen::new(alloc);
     'parts: loop {
+        if let Some(count) = at_b.retain() {
+            if let Some(run) = at_a.run(count, Measure::Taken) {
+                put_run(&mut first, &mut second, run.first, run.others, run.sum)?;
+                at_b.pass(run.sum.kept + run.sum.deleted);
+                at_a = run.behind;
+                continue 'parts;
+            }
+        }
+        // one element fewer: an insertion of `a` behind what it retains comes before one of `b` there
+        if let Some(count) = at_a.retain() {
+            if let Some(run) = at_b.run(count - 1, Measure::Taken) {
+                put_run(&mut second, &mut first, run.first, run.others, run.sum)?;
+                at_a.pass(run.sum.kept + run.sum.deleted);
+                at_b = run.behind;
+                continue 'parts;
+            }
+        }
         if let Some(count) = at_a.insertion() {
             put_both(
                 &mut first,
@@ -71,6 +93,26 @@ fn put_both(first: &mut Pen, second: &mut Pen, code: Code, other: Code) -> Resul
 {
     first.put(code)?;
     second.put(other)
+}
+
+// Codes of one operation that lie in a retain of the other: they stay as they are, and the other retains what they make.
+fn put_run(
+    pen: &mut Pen,
+    other: &mut Pen,
+    first: Code,
+    others: &[Packed],
+    sum: Sum,
+) -> Result<(), AllocError>
+    requires few { length others.now ≤ 64 }
+    requires normal { IsNormal (runs_of (first ∷ others.now)) }
+    requires small { sum.kept + sum.deleted + sum.inserted < 2 ^ 26 }
+    requires pen_fits { IsTooLong (with_runs pen.old (runs_of (first ∷ others.now))) → ⊥ }
+    requires other_fits { IsTooLong (appended other.old (run_of (Retain (sum.kept + sum.inserted)))) → ⊥ }
+    ensures pen_is { OnOk result (pen.new ≡ with_runs pen.old (runs_of (first ∷ others.now))) }
+    ensures other_is { OnOk result (other.new ≡ appended other.old (run_of (Retain (sum.kept + sum.inserted)))) }
+{
+    pen.append(first, others)?;
+    other.put(Code::Retain(sum.kept + sum.inserted))
 }
 
 // `count` elements of the document, which one operation treats as `code` says and the other as `other`, as the first treats them after the other.

@@ -14,12 +14,12 @@ use Rattle.ot_commands.specs.Ran.{stop_status}
 abbrev pub check_status : Bool → Option (ℕ × Refusal) → ℕ
 check_status full stopped = if full then 1 else stop_status stopped
 
--- what is found of the schedule's run, as it is printed
-pub record Finds (schedule : Program) (status : ℕ) (streams : Streams) : Type 0 where
+-- what is found of the schedule's run, as it is printed: the first that is not settled, or all
+pub record Finds (all : Bool) (schedule : Program) (status : ℕ) (streams : Streams) : Type 0 where
   pub ending : Ending
   pub is_ending : IsEnding schedule ending
-  pub gives : Gives (check_status (is_full (trace_of schedule)) ending.stopped) (findings schedule ending) status streams
+  pub gives : Gives (check_status (is_full (trace_of schedule)) ending.stopped) (findings all schedule ending) status streams
 
 -- what is found, or want of memory for it
-abbrev pub MayFind : Program → ℕ → Streams → Type 0
-MayFind schedule status streams = Finds schedule status streams ⊎ WantsMemory status streams
+abbrev pub MayFind : Bool → Program → ℕ → Streams → Type 0
+MayFind all schedule status streams = Finds all schedule status streams ⊎ WantsMemory status streams

@@ -29,29 +29,31 @@ fn check_status(found: &Findings) -> u8
 fn report_findings<O: Sink, F: Write>(
     alloc: Global,
     schedule: &Schedule,
+    all: bool,
     output: &mut O,
     faults: &mut F,
 ) -> u8
-    ensures { MayFind schedule.now result (record { output = O.contents output.old; output' = O.contents output.new; broken = O.failed output.new; faults = F.contents faults.old; faults' = F.contents faults.new }) }
+    ensures { MayFind all schedule.now result (record { output = O.contents output.old; output' = O.contents output.new; broken = O.failed output.new; faults = F.contents faults.old; faults' = F.contents faults.new }) }
 {
-    let Ok(found) = find(alloc, schedule) else {
+    let Ok(found) = find(alloc, schedule, all) else {
         complain_of_memory(faults);
         return 1;
     };
     give(found.text.as_bytes(), check_status(&found), output)
 }
 
-/// Runs the schedule whose text is the input, and prints what is found of it.
+/// Runs the schedule whose text is the input, and prints what is found of it: of what is not settled the first, or with `all` everything.
 pub fn check_text<I: Read, O: Sink, F: Write>(
     alloc: Global,
+    all: bool,
     input: &mut I,
     output: &mut O,
     faults: &mut F,
 ) -> u8
-    ensures { IfSome (I.remaining input.old) (λ text. OfText MayFind text result (record { output = O.contents output.old; output' = O.contents output.new; broken = O.failed output.new; faults = F.contents faults.old; faults' = F.contents faults.new })) }
+    ensures { IfSome (I.remaining input.old) (λ text. OfText (MayFind all) text result (record { output = O.contents output.old; output' = O.contents output.new; broken = O.failed output.new; faults = F.contents faults.old; faults' = F.contents faults.new })) }
 {
     match assemble_from(alloc, input) {
-        Ok(schedule) => report_findings(alloc, &schedule, output, faults),
+        Ok(schedule) => report_findings(alloc, &schedule, all, output, faults),
         Err(fault) => {
             complain_of_line(alloc, fault, faults);
             1

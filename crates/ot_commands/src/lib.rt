@@ -2,7 +2,7 @@
 //!
 //! ```text
 //!    running      run: a schedule's reads, stop and end
-//!    checking     check: a run's stop, whether all is quiet, the verdict of its trace
+//!    checking     check: a run's stop, whether all is quiet or what is not, the verdict of its trace
 //!    debugging    debug: back and forth through a run, by commands
 //!    converting   asm, dis: between a schedule's text and its image
 //!    judging      judge: whether a recorded trace has the weak list property

@@ -16,4 +16,5 @@ pub mod PrintedLines
 pub mod Printed
 pub mod DueLines
 pub mod Alike
+pub mod Counting
 mod Examples

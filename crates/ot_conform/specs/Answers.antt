@@ -16,7 +16,7 @@ use Rattle.ot_conform.specs.Due.{DueLine, What, Opening, Instruction, End, place
 use Rattle.ot_conform.specs.Differences.{Outcome, Conforms, Differs, LeftOver, Stopped, field_of}
 use Rattle.ot_conform.specs.Keys.{found_at, is_null, is_part, key_text}
 use Rattle.ot_conform.specs.Ports.{PortLine, Told, OtherForm, NoText, Nothing}
-use Rattle.ot_conform.specs.Counted.{tells}
+use Rattle.ot_conform.specs.Counted.{is_nothing, tells}
 use Rattle.ot_conform.specs.Values.{text_at}
 use Rattle.ot_conform.specs.declared.answers.Difference.{Difference}
 use Rattle.ot_conform.specs.declared.counts.Counts.{Counts}
@@ -262,5 +262,10 @@ other_counts text c =
     ++ count_text (codes "document") c.document
     ++ count_text (codes "end") c.end
 
-abbrev pub conforms_text : Counts → List ℕ
-conforms_text c = other_counts (first_counts (codes "conforms\ncompared") c) c ++ codes "\n"
+-- where no value is counted, the port does not conform
+abbrev pub agreement_head : Bool → List ℕ
+agreement_head true = codes "nothing counted\ncompared"
+agreement_head false = codes "conforms\ncompared"
+
+abbrev pub agreement_text : Counts → List ℕ
+agreement_text c = other_counts (first_counts (agreement_head (is_nothing c)) c) c ++ codes "\n"

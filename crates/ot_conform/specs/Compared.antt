@@ -1,10 +1,10 @@
 -- What comes of comparing the lines of an input.
-use Rattle.std.specs.Prelude.{◌≡◌, ◌⊎◌, ◌+◌, ◌-◌, ◌^◌, min, ℕ, List, ◌++◌, length}
+use Rattle.std.specs.Prelude.{◌≡◌, ◌⊎◌, ◌+◌, ◌-◌, ◌^◌, min, ℕ, List, ◌++◌, length, if◌then◌else◌}
 use Rattle.ot_isa.specs.Program.{Program}
 use Rattle.ot_model.specs.declared.shown.Refusal.{Refusal}
 use Rattle.ot_model.specs.declared.shown.Refusal.TheVariants.{Memory}
 use Rattle.ot_conform.specs.Answers.{IsDifferenceOf}
-use Rattle.ot_conform.specs.Counted.{counted, no_counts}
+use Rattle.ot_conform.specs.Counted.{counted, is_nothing, no_counts}
 use Rattle.ot_conform.specs.Differences as differences
 use Rattle.ot_conform.specs.Differences.{outcome}
 use Rattle.ot_conform.specs.Ports.{PortLine, counted_lines}
@@ -52,8 +52,8 @@ pub record StopsBehind (s : Program) (stop : CompareStop) (earlier : ℕ) (all :
   pub leads : Leads s (begun s) (counted_lines lines) here
   pub number : IsNumber stop (earlier + length lines)
 
--- the verdict's status
+-- the verdict's status: that nothing differs is none of conforming where no value is counted
 abbrev pub verdict_status : Verdict → ℕ
-verdict_status (Conforms counts) = 0
+verdict_status (Conforms counts) = if is_nothing counts then 1 else 0
 verdict_status (Differs difference) = 1
 verdict_status (Stopped place refusal) = 1

@@ -1,5 +1,5 @@
 -- How much of a port's lines was compared.
-use Rattle.std.specs.Prelude.{ℕ, ◌+◌, ◌-◌, ◌^◌, min, List, [], ◌∷◌, Bool, is_some, if◌then◌else◌}
+use Rattle.std.specs.Prelude.{ℕ, ◌+◌, ◌-◌, ◌^◌, ◌==◌, ◌&&◌, min, List, [], ◌∷◌, Bool, is_some, if◌then◌else◌}
 use Rattle.serde_json.specs.Data.{Data}
 use Rattle.ot_steps.specs.Lines.{Line}
 use Rattle.ot_conform.specs.Keys.{found_at, is_told}
@@ -78,3 +78,13 @@ with_port_line c Nothing = c
 abbrev pub counted : Counts → List PortLine → Counts
 counted c [] = c
 counted c (line ∷ lines) = counted (with_port_line c line) lines
+
+-- no value is counted, of the keys up to the state and of those behind it
+abbrev pub no_first : Counts → Bool
+no_first c = c.clients == 0 && (c.present == 0 && (c.start == 0 && (c.word == 0 && (c.client == 0 && (c.edit == 0 && (c.revision == 0 && c.state == 0))))))
+
+abbrev pub no_other : Counts → Bool
+no_other c = c.outstanding == 0 && (c.buffer == 0 && (c.sent == 0 && (c.applied == 0 && (c.appended == 0 && (c.document == 0 && c.end == 0)))))
+
+abbrev pub is_nothing : Counts → Bool
+is_nothing c = no_first c && no_other c

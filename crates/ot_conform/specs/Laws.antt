@@ -1,5 +1,5 @@
 -- What comes of the lines of `steps` themselves.
-use Rattle.std.specs.Prelude.{◌≡◌, ◌≢◌, ℕ, List, [], ◌∷◌, Bool, Option, Some, None, codes, option_map, if◌then◌else◌}
+use Rattle.std.specs.Prelude.{◌≡◌, ◌≢◌, ℕ, List, [], ◌∷◌, map, Bool, false, true, Option, Some, None, codes, option_map, if◌then◌else◌}
 use Rattle.std.specs.Str.{encode_utf8_all}
 use Rattle.serde_json.specs.Data.{Data, number, unsigned, string, object, no_members, member}
 use Rattle.serde_json.specs.Find.{get}
@@ -14,6 +14,7 @@ use Rattle.ot_values.specs.Values.{refusal_text}
 use Rattle.ot_steps.specs.Lines.{Line, Message}
 use Rattle.ot_steps.specs.Text.{Value, Number, Name, Text, Op, Sent, lines_text}
 use Rattle.ot_steps.specs.Written.{AreRunLines}
+use Rattle.ot_conform.specs.Counted.{counted, is_nothing, no_counts}
 use Rattle.ot_conform.specs.Differences.{Outcome, Conforms, Stopped, is_limit, outcome}
 use Rattle.ot_conform.specs.Keys.{found_at}
 use Rattle.ot_conform.specs.Ports.{PortLine, Told, OtherForm, NoText, Nothing, counted_lines}
@@ -74,3 +75,17 @@ PrintedStepsConform =
     (documents : Bool) (s : Program) (stopped : Option (ℕ × Refusal)) (lines : List Line)
     → IsProgram s → AreRunLines documents s stopped lines → IsOfTable stopped
     → outcome s (counted_lines (lines_of (lines_text lines))) ≡ outcome_at stopped
+
+-- the lines of `steps` tell values, so that for them the answer is never that nothing is counted
+abbrev pub StepsAreCounted : Type 0
+StepsAreCounted =
+    (documents : Bool) (s : Program) (stopped : Option (ℕ × Refusal)) (lines : List Line) (ports : List PortLine)
+    → AreRunLines documents s stopped lines → Say lines ports → is_nothing (counted no_counts ports) ≡ false
+
+-- an object with a place alone
+abbrev pub place_alone : ℕ → PortLine
+place_alone n = Told (object (member (codes "at") (number (unsigned n)) no_members))
+
+-- of lines with places alone nothing is counted
+abbrev pub PlacesAreNotCounted : Type 0
+PlacesAreNotCounted = (places : List ℕ) → is_nothing (counted no_counts (map place_alone places)) ≡ true

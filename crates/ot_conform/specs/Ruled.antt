@@ -6,7 +6,7 @@ use Rattle.ot_rules.specs.Explained as explained
 use Rattle.ot_rules.specs.Explained.{Explains}
 use Rattle.ot_rules.specs.declared.field.Field as rules
 use Rattle.ot_rules.specs.declared.field.Field.TheVariants as value
-use Rattle.ot_conform.specs.Answers.{conforms_text, difference_text}
+use Rattle.ot_conform.specs.Answers.{agreement_text, difference_text}
 use Rattle.ot_conform.specs.declared.answers.Difference.{Difference}
 use Rattle.ot_conform.specs.declared.comparison.Verdict.{Verdict}
 use Rattle.ot_conform.specs.declared.comparison.Verdict.TheVariants.{Conforms, Differs, Stopped}
@@ -58,6 +58,6 @@ pub record IsDifferenceText (s : Program) (d : Difference) (text : List ℕ) : T
 
 -- the lines of the answer
 abbrev pub IsAnswer : Program → Verdict → List ℕ → Type 0
-IsAnswer s (Conforms counts) text = text ≡ conforms_text counts
+IsAnswer s (Conforms counts) text = text ≡ agreement_text counts
 IsAnswer s (Differs difference) text = IsDifferenceText s difference text
 IsAnswer s (Stopped place refusal) text = text ≡ stop_line place refusal

@@ -40,7 +40,7 @@ impl Counts {
     ghost use Rattle.std.specs.Prelude.{◌≡◌, length};
     ghost use Rattle.serde_json.specs.View.{view};
     ghost use Rattle.ot_isa.specs.Program.{IsForClients};
-    ghost use Rattle.ot_conform.specs.Counted.{no_counts, with_line, with_printed};
+    ghost use Rattle.ot_conform.specs.Counted.{is_nothing, no_counts, no_first, no_other, with_line, with_printed};
     ghost use Rattle.ot_conform.specs.Due.{printed_line};
 
     /// Nothing was compared yet.
@@ -111,5 +111,39 @@ impl Counts {
             document: one_more(step.prints(Key::Document, documents), self.document),
             end: one_more(step.prints(Key::End, documents), self.end),
         }
+    }
+
+    // No value of the keys up to the state is counted.
+    fn no_first(&self) -> bool
+        ensures { result ≡ no_first self.now }
+    {
+        self.clients == 0
+            && self.present == 0
+            && self.start == 0
+            && self.word == 0
+            && self.client == 0
+            && self.edit == 0
+            && self.revision == 0
+            && self.state == 0
+    }
+
+    // Nor of those behind it.
+    fn no_other(&self) -> bool
+        ensures { result ≡ no_other self.now }
+    {
+        self.outstanding == 0
+            && self.buffer == 0
+            && self.sent == 0
+            && self.applied == 0
+            && self.appended == 0
+            && self.document == 0
+            && self.end == 0
+    }
+
+    /// Whether no value is counted: a port that printed places alone, whose lines agree and show nothing.
+    pub fn is_nothing(&self) -> bool
+        ensures { result ≡ is_nothing self.now }
+    {
+        self.no_first() && self.no_other()
     }
 }

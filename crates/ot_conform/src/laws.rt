@@ -1,6 +1,6 @@
 //! What comes of every run's own lines, as the contracts of functions that do nothing.
 
-ghost use Rattle.ot_conform.specs.Laws.{PrintedStepsConform, StepsConform};
+ghost use Rattle.ot_conform.specs.Laws.{PlacesAreNotCounted, PrintedStepsConform, StepsAreCounted, StepsConform};
 
 /// A port whose lines say what the lines of `steps` say of a schedule's run, with or without documents, conforms; where the run is
 /// refused for a limit of the bench alone, the comparison stops there.
@@ -12,4 +12,14 @@ pub fn steps_conform()
 /// conforms.
 pub fn printed_steps_conform()
     ensures { PrintedStepsConform }
+{}
+
+/// A port whose lines say what the lines of `steps` say is never told that nothing is counted.
+pub fn steps_are_counted()
+    ensures { StepsAreCounted }
+{}
+
+/// A port whose lines are places alone is told so, wherever they agree.
+pub fn places_are_not_counted()
+    ensures { PlacesAreNotCounted }
 {}

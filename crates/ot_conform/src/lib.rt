@@ -19,7 +19,8 @@
 //! - *The rule of ot.js* (`specs/Ruled.antt`): behind a difference at an instruction stands what `ot_rules` says of it: the method of ot.js that
 //!   makes the value, what that is given, and the first note that is true of what was found.
 //! - *Laws* (`specs/Laws.antt`): [`steps_conform`], that a port with the lines of `steps` conforms, and [`printed_steps_conform`], the same of
-//!   the bytes that `steps` prints.
+//!   the bytes that `steps` prints. [`steps_are_counted`] and [`places_are_not_counted`]: those lines are never said to show nothing, and
+//!   lines with places alone always are.
 //! - *A comparison under way* (`specs/Standing.antt`, `specs/Compared.antt`): [`Comparison`] is a machine that goes along; no run is kept
 //!   whole, so memory is bounded by a line. [`compare_lines`] compares the lines of a reader as they come.
 //!
@@ -46,7 +47,7 @@ pub use comparison::{Comparison, Stage, Verdict};
 pub use counts::Counts;
 pub use due::{Due, Step, Stop};
 pub use keys::{KEYS, Key, found, key_text};
-pub use laws::{printed_steps_conform, steps_conform};
+pub use laws::{places_are_not_counted, printed_steps_conform, steps_are_counted, steps_conform};
 pub use lines::{PortLine, is_opening_line, read_line};
 pub use meeting::{Field, meet};
 pub use printing::print_verdict;

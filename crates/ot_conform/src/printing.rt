@@ -2,7 +2,7 @@
 
 ghost use Rattle.std.specs.Prelude.{◌≡◌, ◌++◌, IfOk, OnOk, string_bytes};
 ghost use Rattle.ot_conform.specs.Ruled.{IsAnswer, IsDifferenceText};
-ghost use Rattle.ot_conform.specs.Answers.{conforms_text, count_text, difference_text, first_counts, found_row, front_rows, head_row, other_counts, wanted_row};
+ghost use Rattle.ot_conform.specs.Answers.{agreement_head, agreement_text, count_text, difference_text, first_counts, found_row, front_rows, head_row, other_counts, wanted_row};
 
 use crate::answers::Difference;
 use crate::comparison::Verdict;
@@ -99,11 +99,22 @@ fn push_other_counts(alloc: Global, text: &mut String, counts: &Counts) -> Resul
     push_count(alloc, text, "end", counts.end)
 }
 
-// The lines of a port that conforms: how much was compared.
-fn print_conforms(alloc: Global, counts: &Counts) -> Result<String, AllocError>
-    ensures { IfOk result (λ s. string_bytes s ≡ conforms_text counts.now) }
+// The first line, and the word before the counts.
+fn agreement_head(is_nothing: bool) -> &'static str
+    ensures { result.now ≡ agreement_head is_nothing }
 {
-    let mut text = String::from_str(alloc, "conforms\ncompared")?;
+    if is_nothing {
+        "nothing counted\ncompared"
+    } else {
+        "conforms\ncompared"
+    }
+}
+
+// The lines of a port without a difference: whether it conforms, and how much was compared.
+fn print_agreement(alloc: Global, counts: &Counts) -> Result<String, AllocError>
+    ensures { IfOk result (λ s. string_bytes s ≡ agreement_text counts.now) }
+{
+    let mut text = String::from_str(alloc, agreement_head(counts.is_nothing()))?;
     push_first_counts(alloc, &mut text, counts)?;
     push_other_counts(alloc, &mut text, counts)?;
     text.push_str("\n")?;
@@ -124,7 +135,8 @@ fn print_explained(
     Ok(text)
 }
 
-/// The lines of a verdict on a port's lines for the schedule: `conforms` with how much was compared; the first difference with what was
+/// The lines of a verdict on a port's lines for the schedule: `conforms` with how much was compared, or `nothing counted` where no value
+/// was; the first difference with what was
 /// found, what ot.js has, for two texts how much of them is equal, and where an instruction was performed which rule of ot.js makes the
 /// value, what that is given, and the first note that is true of what was found; or where the run stopped for a limit of the bench. For
 /// the rules the schedule is run again up to the difference.
@@ -136,7 +148,7 @@ pub fn print_verdict(
     ensures { IfOk result (λ s. IsAnswer schedule.now verdict.now (string_bytes s)) }
 {
     match verdict {
-        Verdict::Conforms(counts) => print_conforms(alloc, counts),
+        Verdict::Conforms(counts) => print_agreement(alloc, counts),
         Verdict::Differs(difference) => print_explained(alloc, schedule, difference),
         Verdict::Stopped { place, refusal } => print_stop(alloc, *place, *refusal),
     }

@@ -57,7 +57,7 @@ fn verdict_status(verdict: &Verdict) -> u8
     ensures { result ≡ verdict_status verdict.now }
 {
     match verdict {
-        Verdict::Conforms(_) => 0,
+        Verdict::Conforms(counts) => u8::from(counts.is_nothing()),
         Verdict::Differs(_) => 1,
         Verdict::Stopped { .. } => 1,
     }
@@ -104,7 +104,7 @@ fn judge<I: Read, O: Sink, F: Write>(
 }
 
 /// Reads a schedule's lines as far as the first line `%%`, compares the port's lines behind it with the schedule's run as they come, writes
-/// the answer, and gives the status: 0 where the port conforms; 1 where it differs, where nothing can be compared for a limit of the
+/// the answer, and gives the status: 0 where the port conforms; 1 where it differs, where no value is counted, where nothing can be compared for a limit of the
 /// bench, for a refused schedule, and for a fault of reading, writing or memory.
 pub fn run_conform<I: Read, O: Sink, F: Write>(
     alloc: Global,

@@ -18,10 +18,12 @@
 //! - `compose` changes codes, and cuts the text of `a`: elements that `b` deletes go, and elements that `b` inserts come.
 //! - Two operations are equal where their codes and their texts are.
 //! - Components are read in order without taking memory: an insertion has its part of the text as a slice.
+//! - `apply` changes a copy of a document (`Doc` of `ot_document`), and `invert` reads from the document what the operation deletes.
 //!
 //! Contracts: `Operation.antt` and `Run.antt` of `ot_text` (an operation, the builder, its runs), `Compose.antt` and `Merge.antt` of
 //! `ot_algebra`, `Shape.antt` of `ot_codes` (shapes, and how they are filled), and `specs/Components.antt` here (codes with a text, as runs). The laws of
-//! `ot_algebra` hold of these operations as they stand, since they speak of images. To read: [`TextOp`] below, `algebra.rt`, `components.rt`.
+//! `ot_algebra` hold of these operations as they stand, since they speak of images. To read: [`TextOp`] below, `algebra.rt`, `components.rt`,
+//! `documents.rt`.
 #![tactic(auto)]
 
 ghost use Rattle.std.specs.Prelude.{◌≡◌, ◌+◌, ◌↔◌, ◌≤◌, length, max, IfOk, OnOk, OnErr, IsErrOf, IsTrue};
@@ -33,6 +35,7 @@ ghost use Rattle.ot_codes.specs.Shape.{filled, shape};
 mod algebra;
 mod compare;
 mod components;
+mod documents;
 
 pub use algebra::{compose, transform, transform_first, transform_second};
 use compare::{copy_codes, same_codes, same_text};
@@ -168,7 +171,7 @@ impl<T: Element> TextOp<T> {
     pub fn text(&self) -> &[T]
         ensures { result.now ≡ news self.now.image }
     {
-        self.text.as_slice()
+        self.text.as_slice() // in the order of the codes
     }
 
     // The same, where the operation is no longer wanted: nothing is copied.

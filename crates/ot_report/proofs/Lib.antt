@@ -1,4 +1,5 @@
 pub mod Listing
+pub mod AllLines
 pub mod Progress
 pub mod Quiet
 pub mod Reported

@@ -3,7 +3,7 @@
 //! ```text
 //!   Replay ── print_run ──▶ its reads, its stop, and its end (print_end: the state of any machine)
 //!   Schedule ── write_report ──▶ the same lines as print_run's, written while the run goes
-//!   Schedule ── find ──▶ the stop of its run, whether all is quiet with one list, and the verdict of its trace
+//!   Schedule ── find ──▶ the stop of its run, whether all is quiet with one list or what is not settled, and the verdict of its trace
 //! ```
 //!
 //! Every line ends with LF; a text is printed as a JSON string. Each call that prints answers an error only for want of memory, and its
@@ -23,5 +23,5 @@ pub use ending::print_end;
 pub use findings::{Findings, find};
 pub use lines::{print_client, print_read, print_server, print_stop, push_read, quiet_text};
 pub use running::print_run;
-pub use verdicts::{print_convergence, print_verdict};
+pub use verdicts::{print_convergence, print_unsettled, print_verdict};
 pub use writing::{ReportFault, write_report};

@@ -1,11 +1,14 @@
 //! The lines of verdicts.
 
 ghost use Rattle.std.specs.Prelude.{◌≡◌, IfOk, string_bytes};
-ghost use Rattle.ot_report.specs.Verdicts.{at_event, convergence_line, tag_text, verdict_line};
+ghost use Rattle.ot_model.specs.Table.{IsQuiet};
+ghost use Rattle.ot_check.specs.Convergence.{all_unsettled, convergence_of};
+ghost use Rattle.ot_report.specs.Verdicts.{all_lines, at_event, convergence_line, tag_text, unsettled_lines, verdict_line, BeginsWith};
 
-use ot_check::{Convergence, Unsettled};
+use ot_check::{Convergence, Unsettled, all_unsettled};
 use ot_isa::Tag;
 use ot_judge::Verdict;
+use ot_machine::Machine;
 use std::alloc::{AllocError, Global};
 
 // A tag: `origin:serial`.
@@ -74,4 +77,38 @@ pub fn print_convergence(alloc: Global, convergence: Convergence) -> Result<Stri
             format!(in alloc; "differs: client {client} place {place}\n")
         }
     }
+}
+
+// The lines of all of these, in order.
+fn unsettled_text(alloc: Global, unsettled: &[Unsettled]) -> Result<String, AllocError>
+    ensures { IfOk result (λ s. string_bytes s ≡ unsettled_lines unsettled.now) }
+{
+    let mut text = String::new(alloc);
+    for what in unsettled {
+        let line = print_convergence(alloc, Convergence::NotQuiet(*what))?;
+        text.push_str(line.as_str())?;
+    }
+    Ok(text)
+}
+
+// The lines of all of these, or `quiet` where there is none.
+fn all_text(alloc: Global, unsettled: &[Unsettled]) -> Result<String, AllocError>
+    ensures { IfOk result (λ s. string_bytes s ≡ all_lines unsettled.now) }
+{
+    if unsettled.is_empty() {
+        return print_convergence(alloc, Convergence::Quiet);
+    }
+    unsettled_text(alloc, unsettled)
+}
+
+/// The lines of all that is not settled, one each, in the order of [`all_unsettled`](ot_check::all_unsettled): the first is the line of the
+/// machine's [`convergence`](ot_check::convergence). Where all is quiet, `quiet`.
+pub fn print_unsettled(alloc: Global, machine: &Machine) -> Result<String, AllocError>
+    ensures lines { IfOk result (λ s. string_bytes s ≡ all_lines (all_unsettled machine.now)) }
+    ensures first { IfOk result (λ s. BeginsWith (convergence_line (convergence_of machine.now)) (string_bytes s)) }
+    ensures quiet { IfOk result (λ s. IsQuiet machine.now → string_bytes s ≡ convergence_line Convergence.Quiet) }
+{
+    let unsettled = all_unsettled(alloc, machine)?;
+    let text = all_text(alloc, unsettled.as_slice())?;
+    Ok(text)
 }

@@ -57,7 +57,7 @@ unfoldable pub otbench_app : App
 otbench_app =
     top_app
     +> flagged_app (codes "run") (codes "image")
-    +> plain_app (codes "check")
+    +> flagged_app (codes "check") (codes "all")
     +> plain_app (codes "debug")
     +> plain_app (codes "asm")
     +> plain_app (codes "dis")
@@ -120,7 +120,7 @@ generate_among rows = option_map Plainly (session_among (chars_among (codes "sta
 abbrev pub request_in_rows : Text × List Row → Option Asked
 request_in_rows p =
     if bytes_eq p.0 (codes "run") then Some (Plainly (Run (form_among p.1))) else
-    (if bytes_eq p.0 (codes "check") then Some (Plainly Check) else
+    (if bytes_eq p.0 (codes "check") then Some (Plainly (Check (flag_among (codes "all") p.1))) else
     (if bytes_eq p.0 (codes "debug") then Some (Plainly Debug) else
     (if bytes_eq p.0 (codes "asm") then Some (Plainly Assemble) else
     (if bytes_eq p.0 (codes "dis") then Some (Plainly Disassemble) else

@@ -18,7 +18,7 @@ The form of a schedule: docs/FORMATS.md, 'The text of a schedule'.";
 /// Of `check`.
 pub const CHECK: &str = "\
 Reads a schedule's text on standard input. Prints where the run stopped if an instruction was refused; then whether all is
-quiet, or what is not; then the verdict of the schedule's trace.
+quiet, or the first thing that is not, or with --all each, one on a line; then the verdict of the schedule's trace.
 Example:  printf 'clients 2\\nedit 0 [\"a\"]\\ntake 0\\nack 0\\ndeliver 1\\n' | otbench check
 Status 0: all instructions were performed. 1: one was refused, the trace is too large, or the input was refused, or a fault of
 reading, writing or memory. The lines: docs/FORMATS.md, 'Verdicts of a schedule'.";
@@ -82,8 +82,8 @@ Reads a schedule's text, a line '%%', and the lines that a port of ot.js printed
 'otbench steps'. Says that the port conforms and how much was compared, or the first difference: where, whose, which value, what
 was found and what ot.js has. A key that the port does not print is not compared.
 Example:  printf 'clients 1\\nedit 0 [\"a\"]\\n%%%%\\n{\"at\":1,\"document\":\"a\"}\\n' | otbench conform
-Status 0: conforms. 1: differs, or nothing can be compared for a limit of otbench, or the schedule was refused, or a fault of
-reading, writing or memory. The lines and the answer: docs/FORMATS.md, 'Conform'.";
+Status 0: conforms. 1: differs, or no value was counted, or nothing can be compared for a limit of otbench, or the schedule was
+refused, or a fault of reading, writing or memory. The lines and the answer: docs/FORMATS.md, 'Conform'.";
 
 /// Of `threads`.
 pub const THREADS: &str = "\

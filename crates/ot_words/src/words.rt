@@ -25,8 +25,9 @@ pub enum Form {
 pub enum Request {
     /// Runs a schedule and prints what it shows and where it ends.
     Run(Form),
-    /// Runs a schedule and prints what is found of it: a stop, whether all is quiet, and whether its trace has the weak list property.
-    Check,
+    /// Runs a schedule and prints what is found of it: a stop, whether all is quiet, and whether its trace has the weak list property; whether
+    /// all that is not settled is told, or the first alone.
+    Check(bool),
     /// Steps through a schedule by commands, back and forth.
     Debug,
     /// Turns a schedule's text into its image.
@@ -183,12 +184,17 @@ fn command<'a>(alloc: Global) -> Result<Command<'a>, AllocError>
         "Read a schedule's image in place of its text",
     )?;
     let program = joined(top(alloc), run)?;
-    let check = plain(
+    let check = flagged(
         alloc,
-        "check",
-        "Run a schedule and judge it: convergence, and the weak list specification",
-        help::CHECK,
-    );
+        plain(
+            alloc,
+            "check",
+            "Run a schedule and judge it: convergence, and the weak list specification",
+            help::CHECK,
+        ),
+        "all",
+        "Tell all that is not settled, not the first alone",
+    )?;
     let program = joined(program, check)?;
     let debug = plain(
         alloc,
@@ -365,7 +371,7 @@ fn request_in(alloc: Global, matches: &ArgMatches<'_>) -> Result<Option<Asked>, 
     };
     match name {
         "run" => Ok(Some(Asked::Plainly(Request::Run(form_in(found))))),
-        "check" => Ok(Some(Asked::Plainly(Request::Check))),
+        "check" => Ok(Some(Asked::Plainly(Request::Check(is_set(found, "all"))))),
         "debug" => Ok(Some(Asked::Plainly(Request::Debug))),
         "asm" => Ok(Some(Asked::Plainly(Request::Assemble))),
         "dis" => Ok(Some(Asked::Plainly(Request::Disassemble))),

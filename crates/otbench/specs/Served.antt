@@ -31,7 +31,7 @@ WithoutInput does text = does
 abbrev pub Serves : Request → Bool → List ℕ → ℕ → Streams → Type 0
 Serves (Run form.Text) unread = OfText MayReport
 Serves (Run form.Image) unread = OfImage MayReport unread
-Serves Check unread = OfText MayFind
+Serves (Check all) unread = OfText (MayFind all)
 Serves Debug unread = Debugs
 Serves Assemble unread = OfText MayGiveImage
 Serves Disassemble unread = OfImage MayGiveText unread

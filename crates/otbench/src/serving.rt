@@ -61,7 +61,7 @@ fn carry_out<I: Source, O: Sink, F: Write>(
     match request {
         Request::Run(Form::Text) => run_text(alloc, input, output, faults),
         Request::Run(Form::Image) => run_image(alloc, input, output, faults),
-        Request::Check => check_text(alloc, input, output, faults),
+        Request::Check(all) => check_text(alloc, all, input, output, faults),
         Request::Debug => debug_text(alloc, input, output, faults),
         Request::Assemble => assemble(alloc, input, output, faults),
         Request::Disassemble => disassemble_image(alloc, input, output, faults),

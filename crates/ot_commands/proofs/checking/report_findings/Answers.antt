@@ -14,7 +14,7 @@ returns g c =
     let right : c.check_status.result ≡ check_status (is_full (trace_of c.args.schedule.now)) found.ending.stopped =
     c.check_status.ensures ∙ ap (λ (full : Bool). check_status full c.in-Ok.found.stopped) found.full ∙ ap (check_status (is_full (trace_of c.args.schedule.now))) found.stopped in
     let written = subst (λ (bytes : List ℕ). Puts c.check_status.result bytes c.give.result (contents c.args.output.now) (contents c.give.new.output) (g.O.Sink.failed c.give.new.output)) (c.as_bytes.ensures.value ∙ found.text) c.give.ensures in
-    let given = subst (λ (status : ℕ). Puts status (findings c.args.schedule.now found.ending) c.give.result (contents c.args.output.now) (contents c.give.new.output) (g.O.Sink.failed c.give.new.output)) right written in
+    let given = subst (λ (status : ℕ). Puts status (findings c.args.all c.args.schedule.now found.ending) c.give.result (contents c.args.output.now) (contents c.give.new.output) (g.O.Sink.failed c.give.new.output)) right written in
     inl (record {
       ending = found.ending;
       is_ending = found.is_ending;

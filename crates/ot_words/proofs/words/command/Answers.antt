@@ -11,13 +11,15 @@ returns c =
     let run : app_of c.in_ok-run.run' ≡ flagged_app (codes "run") (codes "image") =
     c.in_ok-run.ensures ∙ ap (λ (a : App). with_rule a (flag_rule (codes "image"))) c.plain.ensures in
     let one = c.in_ok-program.ensures (ap plain_of run) ∙ ap₂ (◌+>◌) c.top.ensures run in
-    let two = c.in_ok-program-2.ensures (ap plain_of c.plain-check.ensures) ∙ ap₂ (◌+>◌) one c.plain-check.ensures in
+    let check : app_of c.in_ok-check.check ≡ flagged_app (codes "check") (codes "all") =
+    c.in_ok-check.ensures ∙ ap (λ (a : App). with_rule a (flag_rule (codes "all"))) c.plain-2.ensures in
+    let two = c.in_ok-program-2.ensures (ap plain_of check) ∙ ap₂ (◌+>◌) one check in
     let three = c.in_ok-program-3.ensures (ap plain_of c.plain-debug.ensures) ∙ ap₂ (◌+>◌) two c.plain-debug.ensures in
     let four = c.in_ok-program-4.ensures (ap plain_of c.plain-asm.ensures) ∙ ap₂ (◌+>◌) three c.plain-asm.ensures in
     let five = c.in_ok-program-5.ensures (ap plain_of c.plain-dis.ensures) ∙ ap₂ (◌+>◌) four c.plain-dis.ensures in
     let six = c.in_ok-program-6.ensures (ap plain_of c.plain-judge.ensures) ∙ ap₂ (◌+>◌) five c.plain-judge.ensures in
     let steps : app_of c.in_ok-steps.steps ≡ flagged_app (codes "steps") (codes "documents") =
-    c.in_ok-steps.ensures ∙ ap (λ (a : App). with_rule a (flag_rule (codes "documents"))) c.plain-2.ensures in
+    c.in_ok-steps.ensures ∙ ap (λ (a : App). with_rule a (flag_rule (codes "documents"))) c.plain-3.ensures in
     let seven = c.in_ok-program-7.ensures (ap plain_of steps) ∙ ap₂ (◌+>◌) six steps in
     let eight = c.in_ok-program-8.ensures (ap plain_of c.plain-explain.ensures) ∙ ap₂ (◌+>◌) seven c.plain-explain.ensures in
     let nine = c.in_ok-program-9.ensures (ap plain_of c.plain-conform.ensures) ∙ ap₂ (◌+>◌) eight c.plain-conform.ensures in
