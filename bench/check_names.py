@@ -7,7 +7,7 @@ What stands between backquotes in a document and ends as a file does must be the
 definitions or proofs that is named without backquotes, as proofs/NAME.antt. Of all other words
 between backquotes in the documents on proofs and definitions, each must stand in a source of the repository. The table
 of tests/README.md must have a row for each folder of tests, and must name each crate in some row. And the README says how many
-wrong bodies there are.
+mutants there are.
 The last line says how many were looked up and how many were not found; the status is 1 where one was not.
 """
 import pathlib
@@ -15,7 +15,7 @@ import re
 import sys
 
 TOP = pathlib.Path(__file__).resolve().parent.parent
-NAMED = ["README.md", "docs/PROOFS.md", "docs/DEFINITIONS.md", "docs/DECISIONS.md", "docs/EDITS.md"]
+NAMED = ["README.md", "docs/PROOFS.md", "docs/DEFINITIONS.md", "docs/DECISIONS.md", "ARCHITECTURE.md"]
 FILE = re.compile(r"^[\w./-]+\.(?:antt|rt|py|js|c|h|ots|json|img|txt|md|html|edit|svg)$")
 BARE = re.compile(r"(?<![\w/`.])(?:proofs|specs)/\w+\.antt")
 WORD = re.compile(r"[A-Za-z_][A-Za-z0-9_'-]*")
@@ -44,10 +44,10 @@ def untried():
     return sorted(there ^ {row[0] for row in rows}) + sorted(crates ^ tried)
 
 
-def wrong_bodies():
-    """How many wrong bodies there are, where the README says another number."""
+def mutants():
+    """How many mutants there are, where the README says another number."""
     count = len(list(TOP.glob("crates/*/must-fail/*.edit"))) + len(list(TOP.glob("wrong-bodies/*/*.edit")))
-    said = re.search(r"(\d+) wrong bodies", (TOP / "README.md").read_text(encoding="utf-8"))
+    said = re.search(r"(\d+) mutants", (TOP / "README.md").read_text(encoding="utf-8"))
     return None if said and int(said.group(1)) == count else count
 
 
@@ -76,10 +76,10 @@ def main():
     for name in untried():
         print(f"tests/README.md: its table and the folders and crates that are there differ: {name}")
         looked, missing = looked + 1, missing + 1
-    count = wrong_bodies()
+    count = mutants()
     if count is not None:
         missing += 1
-        print(f"README.md: there are {count} wrong bodies")
+        print(f"README.md: there are {count} mutants")
     looked += 1
     print(f"names: {looked - missing} passed, {missing} failed")
     return 1 if missing or not looked else 0
