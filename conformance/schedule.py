@@ -5,6 +5,7 @@ import re
 
 BLANKS = " \t"
 NAMED = re.compile(r"; client ([0-9]{1,9}) is (.+)")
+CLIENT = re.compile(r'"(?:[^"\\\n]|\\.)*"|\bclient ([0-9]{1,9})\b')
 
 
 @dataclasses.dataclass(frozen=True)
@@ -43,6 +44,12 @@ class Schedule:
             lines.append(f"start {json_of(self.start)}")
         lines += [instruction.line() for instruction in self.instructions]
         return "".join(line + "\n" for line in lines)
+
+
+def named(text, names):
+    """What otbench says, with the names in it: `client 1` becomes `client 1 (ben)`, but not inside of a string."""
+    called = {str(client): name for client, name in enumerate(names) if name is not None}
+    return CLIENT.sub(lambda found: f"{found[0]} ({called[found[1]]})" if found[1] in called else found[0], text)
 
 
 def json_of(value):

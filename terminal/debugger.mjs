@@ -1,6 +1,7 @@
 // The debugger without its terminal: a place in a recording, breaks and watches; each command answers lines.
 
 import { COMMANDS, commandOf, helpOf, nearest } from "./commands.mjs";
+import { named } from "./names.mjs";
 import { WATCHED } from "./recording.mjs";
 
 const AROUND = 4; // how many instructions `list` shows before and behind the place
@@ -26,15 +27,20 @@ export class Debugger {
 
   /** What stands above the first prompt. */
   greeting() {
-    const { opening, difference } = this.recording;
+    const { opening, difference, cut } = this.recording;
+    const ends = cut === null ? [] : [`the schedule ends before its logs: ${cut}`];
     const said = difference ? [`the port differs at place ${difference.place}: run stops there`] : [];
-    return [opening, ...said, "help lists the commands"];
+    return [opening, ...ends, ...said, "help lists the commands"];
   }
 
-  /** Carries out a line and answers lines. @param {string} line @returns {string[]} */
+  /** Carries out a line and answers lines, with the clients' names. @param {string} line @returns {string[]} */
   perform(line) {
+    return this.#perform(line).map((answer) => named(answer, this.recording.names));
+  }
+
+  #perform(line) {
     const words = line.trim().split(/\s+/).filter(Boolean);
-    if (!words.length) return this.repeated ? this.perform(this.repeated) : [];
+    if (!words.length) return this.repeated ? this.#perform(this.repeated) : [];
     this.repeated = line;
     const found = commandOf(words[0]);
     if (found.fault) return [found.fault];

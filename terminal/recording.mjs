@@ -1,8 +1,9 @@
-// A run that can be looked at in every place. All that it knows comes from otbench: `steps` gives the values, `explain` the words, `conform` where a port differs.
+// A run that can be looked at in every place. All that it knows comes from otbench: `steps` gives the values, `explain` the words, `conform` where a port differs; names stand in comments.
 
 import { fold, SERVER } from "../viewer/src/fold.mjs";
 import { documentAt, downAt, logLengthAt, quietAt, stateAt, upAt } from "../viewer/src/places.mjs";
 import { textOf } from "../viewer/src/document.mjs";
+import { commentsOf } from "./names.mjs";
 
 /** A text that otbench refuses, with what it says of it. */
 export class RefusedText extends Error {}
@@ -49,6 +50,7 @@ export class Recording {
     const told = ask(["explain"], schedule);
     if (told.errors) throw new RefusedText(told.errors);
     this.instructions = instructionsOf(told.output);
+    Object.assign(this, commentsOf(schedule)); // names and cut
     this.opening = told.output.split("\n", 1)[0];
     this.session = fold(ask(["steps"], schedule).output.split("\n").filter(Boolean));
     this.difference = differenceOf(ask, schedule, port);

@@ -378,6 +378,13 @@ class Together(unittest.TestCase):
         self.assertRegex(printed, r"^fails: [a-z-]+, ")
         self.assertRegex(printed, r"\ndiffers at 3: edit 0: client 0 buffer\n")
 
+    def test_names_of_a_recording_stand_in_what_is_said_of_it(self):
+        with tempfile.NamedTemporaryFile("w", suffix=".ots") as file:
+            file.write("; client 0 is ann\n; client 1 is ben\n" + (KIT.parent / "examples" / "weak-order.ots").read_text(encoding="utf-8"))
+            file.flush()
+            _, printed, _ = self.run_kit("--utf16", "--session", file.name, *SAMPLE, "--bug", "buffer-kept")
+        self.assertRegex(printed, r"\n; client 0 is ann\n(.*\n)*clients 2\n(.*\n)*differs at \d+: deliver 0: client 0 \(ann\) buffer\n")
+
     def test_ot_js_conforms_with_real_surrogate_pairs(self):
         status, printed, said = self.run_kit("--utf16", "--keep-driver", "--sessions", "40", *SAMPLE, "--keep")
         self.assertEqual((status, printed.split("\n")[1], said), (0, "at random: 40 sessions conform", ""))

@@ -5,7 +5,7 @@ import unittest
 
 from paths import KIT, needs_program
 from generate import LONG_START, generated, varied
-from schedule import Instruction, Schedule, read_schedule
+from schedule import Instruction, Schedule, named, read_schedule
 from simulator import Simulator, fitted
 
 
@@ -22,6 +22,12 @@ class Texts(unittest.TestCase):
         schedule = read_schedule(text)
         self.assertEqual(schedule.names, ('"ann "', "Ben B."))
         self.assertEqual(schedule.text(), '; client 0 is "ann "\n; client 1 is Ben B.\nclients 2\nread 1\n')
+
+    def test_names_in_what_otbench_says(self):
+        said = 'differs at 2: edit 1: client 1 buffer\nfound ["client 1","\\" client 1"]\nclient 0, client 11, and " is open: client 1\n'
+        wanted = 'differs at 2: edit 1: client 1 (Ben B.) buffer\nfound ["client 1","\\" client 1"]\nclient 0, client 11, and " is open: client 1 (Ben B.)\n'
+        self.assertEqual(named(said, (None, "Ben B.")), wanted)
+        self.assertEqual(named(said, ()), said)
 
     def test_what_stands_behind_a_mark_is_no_schedule(self):
         self.assertEqual(read_schedule('clients 1\nread 0\n %%\t\r\n{"at":1}\n').text(), "clients 1\nread 0\n")

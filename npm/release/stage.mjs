@@ -25,7 +25,9 @@ const HELD = [
   "terminal",
   "viewer/src/document.mjs",
   "viewer/src/fold.mjs",
+  "viewer/src/input.mjs",
   "viewer/src/places.mjs",
+  "viewer/src/schedule.mjs",
 ];
 
 const LEFT_OUT = new Set([

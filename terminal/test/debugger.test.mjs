@@ -4,6 +4,7 @@ import assert from "node:assert/strict";
 import { existsSync, readFileSync } from "node:fs";
 import test from "node:test";
 import { commandOf, nearest } from "../commands.mjs";
+import { named, seen } from "../names.mjs";
 import { Debugger } from "../debugger.mjs";
 import { nativeProgram } from "../program.mjs";
 import { Recording, RefusedText } from "../recording.mjs";
@@ -124,6 +125,32 @@ test("words that do not fit are complained of, and the session goes on", options
   assert.match(watch, /^link cannot be watched; /);
   assert.match(number, /^x is no number; /);
   assert.match(more, /^goto takes a place; /);
+});
+
+test("a client's name stands behind its number, and in no string", () => {
+  const names = new Map([[1, "ben"], [12, "Ann B."], [3, "a\u202eb\u{e0001}"]]);
+  assert.equal(named('client 1 takes client 12\'s operation ["client 1"], client 2', names), 'client 1 (ben) takes client 12 (Ann B.)\'s operation ["client 1"], client 2');
+  assert.equal(named('found "{\\"a\\":\\"client 1"', names), 'found "{\\"a\\":\\"client 1"');
+  assert.equal(named("client 3", names), 'client 3 ("a\\u202eb\\udb40\\udc01")');
+  assert.deepEqual(["ben", "b\u00a0n", " b", '"b', "\x1b[2J", "\x9b"].map(seen), ["ben", "b\u00a0n", '" b"', '"\\"b"', '"\\u001b[2J"', '"\\u009b"']);
+});
+
+test("names of comments stand in every answer; without them the answers are the same bytes", options, () => {
+  const schedule = `; client 0 is ann\n${WEAK}`;
+  const [behind, shown, watched] = answers(["goto 7", "show 0", "watch doc 0"], schedule);
+  assert.match(behind, /client 0 \(ann\) at revision 1 awaits/);
+  assert.match(shown, /^client 0 \(ann\) rev 1 /);
+  assert.equal(watched, "watching doc of client 0 (ann)");
+  const port = ask(["steps"], WEAK).output.replace('"buffer":["a",1,-1,1],"applied"', '"buffer":["a",-1,1],"applied"');
+  assert.match(answers(["run"], schedule, port)[0], /\ndiffers at 7: deliver 0: client 0 \(ann\) buffer\n/);
+  const lines = ["run", "explain", "show", "rrun", "list"];
+  assert.deepEqual(answers(lines, schedule).map((answer) => answer.replaceAll(" (ann)", "")), answers(lines, `; x\n${WEAK}`));
+});
+
+test("where the recorder's logs are cut stands above the first prompt", options, () => {
+  const [opening, cut] = new Debugger(new Recording(ask, `${WEAK}; cut: "ann, event 9: deliver of operation 7"\n`)).greeting();
+  assert.match(opening, /^the opening: /);
+  assert.equal(cut, "the schedule ends before its logs: ann, event 9: deliver of operation 7");
 });
 
 test("completion knows commands, what is watched, and clients", options, () => {

@@ -162,6 +162,19 @@ class Terminal(unittest.TestCase):
         for status in (0, 2):
             self.assertNotIn("otbench:", self.run_on_terminal("run", "a.ots", FAKE_STATUS=str(status))[1])
 
+    def test_a_recording_that_is_cut(self):
+        self.tree.has_proved()
+        said = 'otbench: cut.ots ends before its logs: "ann, event 9: ack"\n'
+        for text in ('clients 1\n; cut: "ann, event 9: ack"\n', ' ;cut: "x"\r\nclients 1\n;\tcut: "ann, event 9: ack" \r\n'):
+            self.tree.put("cut.ots", text)
+            for word in ("run", "check", "explain", "complete"):
+                self.assertTrue(self.run_on_terminal(word, "cut.ots")[1].endswith(said), word)
+            for words, streams in ((["explain", "cut.ots"], (0, 1)), (["explain", "cut.ots"], (0, 2)), (["asm", "cut.ots"], (0, 1, 2)), (["run", "--image", "cut.ots"], (0, 2))):
+                status, shown, others = self.run_on_terminal(*words, terminal=streams)
+                self.assertNotIn("otbench:", shown + others)
+        self.tree.put("cut.ots", "clients 1\nread 0 ; cut: \"x\"\n; cut: x\n")
+        self.assertNotIn("otbench:", self.run_on_terminal("explain", "cut.ots")[1])
+
     def test_what_it_waits_for(self):
         self.tree.has_proved()
         schedule = "a schedule's text"
