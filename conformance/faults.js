@@ -1,7 +1,7 @@
 /*
  * Faults of ports: `bugs`, in the form of examples/port/bugs.js, whose five are among them. There is one for each branch of
- * ot.js, and one for each kind of text, length, operation and log. Nearly all are an edit of a method's source: what stands there, and what
- * the faulty port has instead. Those of `leaks` show only where one process performs several sessions.
+ * ot.js, and one for each kind of text, length, operation, message and log. Nearly all are an edit of a method's source: what stands
+ * there, and what the faulty port has instead. Those of `leaks` show only where one process performs several sessions.
  */
 "use strict";
 const { bugs: five, waitingStates } = require("../examples/port/bugs.js");
@@ -24,6 +24,7 @@ const EDITS = [
   ["transform-retain-delete-shorter", "transform", "minl = op1; op2 = op2 + op1;", "minl = -op2; op2 = op2 + op1;"],
 
   ["compose-first-deletes", "compose", "operation['delete'](op1); op1 = ops1[i1++]; continue;", "op1 = ops1[i1++]; continue;"],
+  ["compose-first-deletes-at-the-end", "compose", "if (isDelete(op1)) {", "if (typeof op2 === 'undefined') { break; } if (isDelete(op1)) {"],
   ["compose-second-inserts", "compose", "operation.insert(op2);", "operation.insert(op2.slice(0, 1));"],
   ["compose-retain-longer", "compose", "operation.retain(op2); op1 = op1 - op2;", "operation.retain(op1); op1 = op1 - op2;"],
   ["compose-retain-equal", "compose", "(op1 === op2) { operation.retain(op1);", "(op1 === op2) {"],
@@ -55,6 +56,7 @@ const EDITS = [
   ["buffer-ack-forgets-the-buffer", "AwaitingWithBuffer.serverAck", "return new AwaitingConfirm(this.buffer);", "return synchronized_;"],
   ["ack-keeps-revision", "Client.serverAck", "this.revision++;", ""],
   ["buffer-replaced", "AwaitingWithBuffer.applyClient", "this.buffer.compose(operation)", "operation"],
+  ["buffer-up-to-32-edits", "AwaitingWithBuffer.applyClient", "this.buffer.compose(operation)", "upTo32(this.buffer, operation)"],
 
   ["receive-first-alone", "Server.receiveOperation", "slice(revision)", "slice(revision, revision + 1)"],
   ["receive-skips-one", "Server.receiveOperation", "slice(revision)", "slice(revision + 1)"],
@@ -69,13 +71,28 @@ const EDITS = [
   ["texts-escaped", "insert", "this.targetLength += str.length;", "str = str.replace(/</g, '&lt;'); this.targetLength += str.length;"],
   ["texts-with-other-blanks", "insert", "this.targetLength += str.length;", "str = str.replace(/\\u00a0/g, ' '); this.targetLength += str.length;"],
   ["texts-end-at-nul", "insert", "this.targetLength += str.length;", "str = str.replace(/\\0.*/s, ''); this.targetLength += str.length;"],
+  ["texts-unescaped", "insert", "this.targetLength += str.length;", "str = str.replace(/&gt;/g, '>'); this.targetLength += str.length;"],
+  ["texts-as-replacements", "insert", "this.targetLength += str.length;", "str = 'x'.replace('x', str); this.targetLength += str.length;"],
+  ["texts-with-straight-quotes", "insert", "this.targetLength += str.length;", "str = str.replace(/[\\u201c\\u201d]/g, '\"'); this.targetLength += str.length;"],
+  ["texts-without-blanks-in-front", "insert", "this.targetLength += str.length;", "str = str.replace(/^ +/, ''); this.targetLength += str.length;"],
+  ["texts-without-spaces-of-no-width", "insert", "this.targetLength += str.length;", "str = str.replace(/[\\u200b\\u2060]/g, ''); this.targetLength += str.length;"],
+  ["text-12-is-a-retain", "retain", "isRetain(this.ops[this.ops.length - 1])", "this.ops[this.ops.length - 1] > 0"],
+  ["text-minus-1-is-a-deletion", "delete", "isDelete(this.ops[this.ops.length - 1])", "this.ops[this.ops.length - 1] < 0"],
+  ["text-0-is-empty", "insert", "if (str === '') {", "if (str === '' || str === '0') {"],
+  ["equal-texts-once", "transform", "if (isInsert(op1)) {", "if (isInsert(op1) && op1 === op2) { operation1prime.retain(op1.length); operation2prime.retain(op1.length); op1 = ops1[i1++]; op2 = ops2[i2++]; continue; } if (isInsert(op1)) {"],
   ["texts-without-noncharacters", "insert", "this.targetLength += str.length;", "str = str.replace(/[\\ufffe\\uffff]/g, '\\ufffd'); this.targetLength += str.length;"],
   ["lengths-of-8-bits", "retain", "if (n === 0) {", "n = n & 255; if (n === 0) {"],
   ["lengths-of-15-bits", "retain", "if (n === 0) {", "n = n & 32767; if (n === 0) {"],
   ["lengths-of-16-bits", "retain", "if (n === 0) {", "n = n & 65535; if (n === 0) {"],
   ["components-up-to-1000", "retain", "this.ops.push(n);", "if (this.ops.length === 1000) { throw new Error('too many components'); } this.ops.push(n);"],
+  ["log-cut-at-40", "Server.receiveOperation", "slice(revision)", "slice(Math.max(revision, this.operations.length - 40))"],
   ["log-cut-at-100", "Server.receiveOperation", "slice(revision)", "slice(Math.max(revision, this.operations.length - 100))"],
   ["log-cut-at-1000", "Server.receiveOperation", "slice(revision)", "slice(Math.max(revision, this.operations.length - 1000))"],
+  ["log-cut-at-1024", "Server.receiveOperation", "slice(revision)", "slice(Math.max(revision, this.operations.length - 1024))"],
+
+  ["message-changed-by-a-receiver", "AwaitingConfirm.applyServer", "client.applyOperation(pair[1]);", "client.applyOperation(Object.assign(operation, pair[1]));"],
+  ["message-changed-by-its-sender", "AwaitingConfirm.applyServer", "new AwaitingConfirm(pair[0])", "new AwaitingConfirm(Object.assign(this.outstanding, pair[0]))"],
+  ["message-read-in-pieces", "Server.receiveOperation", "var concurrentOperations =", "operation = inPieces(operation); var concurrentOperations ="],
 ];
 
 const leaks = {
@@ -85,6 +102,36 @@ const leaks = {
     const log = [];
     port.Server = function (document) {
       return new Server(document, log);
+    };
+  },
+};
+
+/* An operation as a message of bytes that are read 4,096 at a time, and each piece taken for a text. */
+function inPieces(operation) {
+  const bytes = Buffer.from(JSON.stringify(operation));
+  let text = "";
+  for (let at = 0; at < bytes.length; at += 4096) text += bytes.toString("utf8", at, at + 4096);
+  return operation.constructor.fromJSON(JSON.parse(text));
+}
+
+/* A buffer that takes 32 edits, and forgets the further ones. */
+function upTo32(buffer, operation) {
+  const { edits = 1 } = buffer;
+  return edits === 32 ? buffer : Object.assign(buffer.compose(operation), { edits: edits + 1 });
+}
+
+const others = {
+  /* The port has room for 32 clients. */
+  "clients-up-to-32"(port) {
+    const { Client, Server } = port;
+    let clients = 0;
+    port.Server = function (document) {
+      clients = 0;
+      return new Server(document);
+    };
+    port.Client = function (revision) {
+      if (clients++ === 32) throw new Error("too many clients");
+      return new Client(revision);
     };
   },
 };
@@ -110,12 +157,14 @@ function edit(port, method, from, to) {
     isInsert: (component) => typeof component === "string",
     isDelete: (component) => typeof component === "number" && component < 0,
     synchronized_: new port.Client(0).state,
+    inPieces,
+    upTo32,
     ...waitingStates(port),
   };
   owner[name] = new Function(...Object.keys(names), `return ${source.replace(from, () => to)};`)(...Object.values(names));
 }
 
-const bugs = { ...five, ...leaks };
+const bugs = { ...five, ...leaks, ...others };
 for (const [name, method, from, to] of EDITS) bugs[name] = (port) => edit(port, method, from, to);
 
 module.exports = { bugs, leaks };

@@ -70,12 +70,20 @@ test("every fault is found, every session finds one, and COVERAGE.md says by whi
 const KINDS = {
   "characters-line-end-of-two": ["line-ends-changed"],
   "characters-normal-forms": ["texts-normalized"],
-  "characters-of-markup": ["texts-escaped", "texts-with-other-blanks"],
-  "characters-rarely-used": ["texts-end-at-nul", "texts-without-noncharacters"],
+  "characters-of-markup": [
+    ..."texts-escaped texts-unescaped texts-as-replacements texts-with-other-blanks".split(" "),
+    ..."texts-with-straight-quotes texts-without-blanks-in-front".split(" "),
+  ],
+  "characters-rarely-used": ["texts-end-at-nul", "texts-without-noncharacters", "texts-without-spaces-of-no-width"],
   "characters-past-the-plane-": ["insert-counts-code-points"],
-  "lengths-above-": ["lengths-of-8-bits", "lengths-of-15-bits", "lengths-of-16-bits"],
-  "log-above-": ["log-cut-at-100", "log-cut-at-1000"],
+  "client-buffer-of-40-edits": ["buffer-up-to-32-edits"],
+  "compose-deletions-at-the-end": ["compose-first-deletes-at-the-end"],
+  "clients-of-every-number": ["clients-up-to-32"],
+  "lengths-above-": ["lengths-of-8-bits", "lengths-of-15-bits", "lengths-of-16-bits", "message-read-in-pieces"],
+  "log-above-": ["log-cut-at-40", "log-cut-at-100", "log-cut-at-1000", "log-cut-at-1024"],
+  "one-place-equal-texts": ["equal-texts-once"],
   "operations-of-many-components": ["components-up-to-1000"],
+  "texts-like-numbers": ["text-0-is-empty", "text-minus-1-is-a-deletion"],
   [TOGETHER]: ["log-shared"],
 };
 
@@ -87,6 +95,7 @@ test("each kind of session has a fault that passes the rest of the corpus", () =
       assert.ok(found.get(fault).every((name) => name.startsWith(kind)), fault);
     }
   assert.deepEqual(found.get("lengths-of-16-bits"), ["lengths-above-65535"]);
+  assert.deepEqual(found.get("message-read-in-pieces"), ["lengths-above-16384-bytes"]);
   assert.deepEqual(found.get("log-cut-at-1000"), ["log-above-1000"]);
 });
 
