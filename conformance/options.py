@@ -1,5 +1,6 @@
 """The words of `conformance/run`, and what each takes: others are refused before anything is tried, with status 2."""
 import argparse
+import difflib
 import os
 import re
 import shutil
@@ -107,12 +108,17 @@ def words_of():
 
 def arguments():
     words = words_of()
-    given = words.parse_args()
+    given, unknown = words.parse_known_args()
+    options = ["--" + name.replace("_", "-") for name in vars(given) if name != "command"]
+    if unknown:
+        near = difflib.get_close_matches(unknown[0].partition("=")[0], options, 1, 0.75)
+        words.error(f"unexpected argument '{unknown[0]}'" + (f": is it {near[0]}?" if near else ""))
     given.all = given.all or given.tap or given.junit is not None
     if given.command[:1] == ["--"]:
         del given.command[0]
     if not given.command:
         words.error("which command is the driver?")
+    given.behind = [word for word in given.command[1:] if word.partition("=")[0] in options]
     fault = no_program(given.command[0])
     if fault:
         words.error(f"the driver {given.command[0]} {fault}")

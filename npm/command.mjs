@@ -78,8 +78,9 @@ function announce(word, files) {
 
 function view(words) {
   const { flags, files } = split(words);
-  if (flags.length > 0 || files.length > FILES.view.length) {
-    complain(VIEW_HELP);
+  const [unexpected] = [...flags, ...files.slice(FILES.view.length)];
+  if (unexpected !== undefined) {
+    complain(flags.some(isHelp) ? VIEW_HELP : `error: unexpected argument '${unexpected}' found\n${VIEW_HELP}`);
     return USAGE;
   }
   announce("view", files);

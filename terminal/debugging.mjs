@@ -2,6 +2,7 @@
 
 import { readFileSync } from "node:fs";
 import { createInterface } from "node:readline";
+import { nearest } from "./commands.mjs";
 import { Debugger } from "./debugger.mjs";
 import { nativeProgram } from "./program.mjs";
 import { Recording, RefusedText } from "./recording.mjs";
@@ -34,16 +35,28 @@ export async function converse(session, input, output) {
   reader.close();
 }
 
-/** The words as { file, port, program }, or null where they are not understood. */
+/** Words that are not understood, and why; of help nothing. */
+class Misunderstood extends Error {}
+
+const isHelp = (word) => word === "-h" || word === "--help";
+
+/** The words as { file, port, program }. */
 function wordsOf(words) {
   const asked = { file: null, port: null, program: process.env.OTBENCH ?? null };
   for (let i = 0; i < words.length; i++) {
-    if (words[i] === "--port" && asked.port === null && i + 1 < words.length) asked.port = words[++i];
-    else if (words[i] === "--program" && i + 1 < words.length) asked.program = words[++i];
-    else if (!words[i].startsWith("-") && asked.file === null) asked.file = words[i];
-    else return null;
+    const word = words[i];
+    if (word === "--port" || word === "--program") {
+      if (i + 1 === words.length) throw new Misunderstood(`a value is required for '${word}' but none was supplied`);
+      if (word === "--port" && asked.port !== null) throw new Misunderstood("the argument '--port' cannot be used multiple times");
+      asked[word.slice(2)] = words[++i];
+    } else if (word.startsWith("-")) {
+      const [near] = nearest(word, ["--port"]);
+      throw new Misunderstood(`unexpected argument '${word}' found${near ? `; a similar argument exists: '${near}'` : ""}`);
+    } else if (asked.file === null) asked.file = word;
+    else throw new Misunderstood(`unexpected argument '${word}' found; the lines of a port stand behind '--port'`);
   }
-  return asked.file === null ? null : asked;
+  if (asked.file === null) throw new Misunderstood("a schedule's file is required");
+  return asked;
 }
 
 /** The file's text, or null, with a line on standard error. */
@@ -61,9 +74,14 @@ function textOf(path) {
  * @param {string[]} words @param {import("./program.mjs").Ask | null} ask null: the program that the words or OTBENCH name
  */
 export async function debug(words, ask = null) {
-  const asked = wordsOf(words);
-  if (!asked || (ask === null && asked.program === null)) {
-    process.stderr.write(USAGE);
+  let asked;
+  try {
+    if (words.some(isHelp)) throw new Misunderstood("");
+    asked = wordsOf(words);
+    if (ask === null && asked.program === null) throw new Misunderstood("'--program' or OTBENCH has to name the program");
+  } catch (fault) {
+    if (!(fault instanceof Misunderstood)) throw fault;
+    process.stderr.write(`${fault.message && `error: ${fault.message}\n`}${USAGE}`);
     return 2;
   }
   const schedule = textOf(asked.file);

@@ -46,6 +46,16 @@ export function editOf(recording, client, at, deleted, inserted) {
   return { line: `edit ${client} ${JSON.stringify(operation)}`, told: `client ${client}'s document ${JSON.stringify(before)} becomes ${JSON.stringify(after)}` };
 }
 
+/** Why these words are not understood, nothing for help, or null. */
+function faultOf(words) {
+  if (words.length === 1 && (words[0] === "-h" || words[0] === "--help")) return "";
+  const missing = ["FILE", "C", "AT", "DELETED", "INSERTED"].slice(words.length);
+  if (missing.length) return `${missing.join(" ")} ${missing.length === 1 ? "is" : "are"} missing`;
+  if (words.length > 5) return `unexpected argument '${words[5]}' found; a text with blanks stands in quotes`;
+  const wrong = ["C", "AT"].find((_, i) => !/^\d{1,9}$/.test(words[i + 1]));
+  return wrong ? `invalid value '${words[wrong === "C" ? 1 : 2]}' for ${wrong}: it takes a number of one to nine digits` : null;
+}
+
 /**
  * The whole command. Answers its status: 0; 1 where the file cannot be read or written, is refused, or the edit does not fit; 2 where words are not understood.
  * @param {string[]} words @param {import("./program.mjs").Ask | null} ask null: the program that the words or OTBENCH name
@@ -53,9 +63,11 @@ export function editOf(recording, client, at, deleted, inserted) {
 export function edit(words, ask = null) {
   const named = words[0] === "--program";
   const program = named ? words[1] : process.env.OTBENCH;
-  const [file, client, at, deleted, inserted, ...more] = named ? words.slice(2) : words;
-  if (inserted === undefined || more.length || ![client, at].every((word) => /^\d{1,9}$/.test(word)) || (ask === null && !program)) {
-    process.stderr.write(USAGE);
+  const given = named ? words.slice(2) : words;
+  const [file, client, at, deleted, inserted] = given;
+  const misunderstood = faultOf(given) ?? (ask === null && !program ? "'--program' or OTBENCH has to name the program" : null);
+  if (misunderstood !== null) {
+    process.stderr.write(`${misunderstood && `error: ${misunderstood}\n`}${USAGE}`);
     return 2;
   }
   try {

@@ -199,6 +199,15 @@ class Runs(Kit):
         for word, value, takes in rows:
             self.refused(f"argument {word}: invalid value '{value}': {takes}", ["true"], word, value)
 
+    def test_words_that_are_none(self):
+        self.refused("unexpected argument '--sessoins': is it --sessions?", ["true"], "--sessoins", "3")
+        self.refused("unexpected argument '--keep-drivers=1': is it --keep-driver?", ["true"], "--keep-drivers=1")
+        self.refused("unexpected argument '--json'", ["true"], "--json")
+
+    def test_words_behind_the_driver_are_the_driver_s(self):
+        _, printed, _ = self.run_kit(["sh", "-c", "echo wrong 0", "sh", "--utf16", "x", "--seed=3"], "--session", str(KIT / "sessions" / "no-operations.ots"))
+        self.assertTrue(printed.endswith("\nnote the driver was given --utf16 --seed=3: what is meant for run stands in front of the driver\n"), printed)
+
     @unittest.skipUnless(hasattr(os, "sched_setaffinity"), "which cores a process may use cannot be told here")
     def test_as_many_at_a_time_as_cores_may_be_used(self):
         before = os.sched_getaffinity(0)

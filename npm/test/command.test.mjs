@@ -91,8 +91,12 @@ test("help on the output with status 0, --help as the program has it, and the ve
   assert.match(call(["help", "run"])[1], /^Run a schedule/);
   assert.deepEqual(call(["help", "bogus"]).slice(0, 2), [2, ""]);
   assert.match(call(["help", "view"])[1], /^usage: otbench view/);
-  assert.equal(call(["view", "--help"])[0], 2);
-  assert.equal(call(["view", "a", "b", "c"])[0], 2);
+  for (const [words, said] of [
+    [["--help"], ""],
+    [["a", "b", "c"], "error: unexpected argument 'c' found\n"],
+    [["a", "--image"], "error: unexpected argument '--image' found\n"],
+  ])
+    assert.deepEqual(call(["view", ...words]), [2, "", said + call(["help", "view"])[1]]);
   const { version } = JSON.parse(fs.readFileSync(new URL("../package.json", import.meta.url)));
   for (const word of ["--version", "-V"]) assert.deepEqual(call([word]), [2, "", `otbench ${version} (no release, not proved)\n`]);
 });

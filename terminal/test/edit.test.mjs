@@ -54,3 +54,30 @@ test("where it does not fit the file stays as it is", options, () => {
   assert.equal(edited("clients 1\nedti\n", "0", "0", "", "a").status, 1);
   assert.equal(edited(text, "0", "zero", "", "a").status, 2);
 });
+
+test("words that are not understood are named", () => {
+  const call = (script, ...words) => {
+    const { status, stderr } = spawnSync(process.execPath, [SCRIPT.replace("edit.mjs", script), ...words], { encoding: "utf8", env: { ...process.env, OTBENCH: PROGRAM } });
+    assert.match(stderr, /^error: .*\nusage: otbench (edit|debug) FILE/);
+    return [status, stderr.split("\n")[0].slice("error: ".length)];
+  };
+  const rows = [
+    [["edit.mjs"], "FILE C AT DELETED INSERTED are missing"],
+    [["edit.mjs", "a.ots", "0", "0", "x"], "INSERTED is missing"],
+    [["edit.mjs", "a.ots", "0", "0", "x", "y", "z"], "unexpected argument 'z' found; a text with blanks stands in quotes"],
+    [["edit.mjs", "a.ots", "-1", "0", "", "y"], "invalid value '-1' for C: it takes a number of one to nine digits"],
+    [["edit.mjs", "a.ots", "0", "end", "", "y"], "invalid value 'end' for AT: it takes a number of one to nine digits"],
+    [["debug.mjs"], "a schedule's file is required"],
+    [["debug.mjs", "a.ots", "--prot", "x"], "unexpected argument '--prot' found; a similar argument exists: '--port'"],
+    [["debug.mjs", "a.ots", "--documents"], "unexpected argument '--documents' found"],
+    [["debug.mjs", "a.ots", "b.jsonl"], "unexpected argument 'b.jsonl' found; the lines of a port stand behind '--port'"],
+    [["debug.mjs", "a.ots", "--port"], "a value is required for '--port' but none was supplied"],
+    [["debug.mjs", "--port", "a", "--port", "b", "c"], "the argument '--port' cannot be used multiple times"],
+  ];
+  for (const [words, said] of rows) assert.deepEqual(call(...words), [2, said]);
+  for (const words of [["edit.mjs", "--help"], ["debug.mjs", "-h"], ["debug.mjs", "a.ots", "--help"]]) {
+    const { status, stderr } = spawnSync(process.execPath, [SCRIPT.replace("edit.mjs", words[0]), ...words.slice(1)], { encoding: "utf8" });
+    assert.match(stderr, /^usage: /);
+    assert.equal(status, 2);
+  }
+});

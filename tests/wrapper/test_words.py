@@ -86,8 +86,9 @@ class Words(unittest.TestCase):
     def test_what_view_reads(self):
         usage = self.tree.run("help", "view")[1]
         self.assertRegex(usage, r"^usage: \./otbench view \[FILE \[PORT-LINES\]\] > PAGE\n")
-        rows = [(words, "", (2, "", usage)) for words in (["view", "--help"], ["view", "a.ots", "--image"], ["view", "a.ots", "port", "port"])]
-        self.table([(["help", "view"], "", (0, usage, "")), *rows])
+        rows = [(["view", "--help"], ""), (["view", "a.ots", "--image", "-h"], "")]
+        rows += [(words, f"error: unexpected argument '{word}' found\n") for words, word in ((["view", "a.ots", "--image"], "--image"), (["view", "a.ots", "port", "more"], "more"))]
+        self.table([(["help", "view"], "", (0, usage, "")), *((words, "", (2, "", said + usage)) for words, said in rows)])
 
     def test_help(self):
         status, printed, faults = self.tree.run("help")
