@@ -150,7 +150,9 @@ class Terminal(unittest.TestCase):
             (["conform", "a.ots"], f"{there}give the schedule to {program} explain\n"),
             (["conform", "a.ots", "a.ots"], f"{there}{program} explain a.ots\n"),
             (["explain", "a.ots"], ""),
-            (["judge", "a.ots"], ""),
+            (["judge", "a.ots"], "otbench: what a trace holds, and what each verdict and fault says: docs/FORMATS.md, Traces\n"),
+            (["threads", "a.ots"], "otbench: what a plan holds, and what each fault says: docs/FORMATS.md, Plans\n"),
+            (["dis", "a.ots"], "otbench: what an image holds, and what each fault says: docs/FORMATS.md, The image of a schedule\n"),
         ]
         for words, said in rows:
             with self.subTest(words=words):
