@@ -78,8 +78,8 @@ const KINDS = {
   "characters-past-the-plane-": ["insert-counts-code-points"],
   "client-buffer-of-40-edits": ["buffer-up-to-32-edits"],
   "compose-deletions-at-the-end": ["compose-first-deletes-at-the-end"],
-  "clients-of-every-number": ["clients-up-to-32"],
-  "lengths-above-": ["lengths-of-8-bits", "lengths-of-15-bits", "lengths-of-16-bits", "message-read-in-pieces"],
+  "with-34-clients": ["clients-up-to-32"],
+  "lengths-": ["lengths-of-8-bits", "lengths-of-15-bits", "lengths-of-16-bits", "message-read-in-pieces"],
   "log-above-": ["log-cut-at-40", "log-cut-at-100", "log-cut-at-1000", "log-cut-at-1024"],
   "one-place-equal-texts": ["equal-texts-once"],
   "operations-of-many-components": ["components-up-to-1000"],
@@ -95,7 +95,7 @@ test("each kind of session has a fault that passes the rest of the corpus", () =
       assert.ok(found.get(fault).every((name) => name.startsWith(kind)), fault);
     }
   assert.deepEqual(found.get("lengths-of-16-bits"), ["lengths-above-65535"]);
-  assert.deepEqual(found.get("message-read-in-pieces"), ["lengths-above-16384-bytes"]);
+  assert.deepEqual(found.get("message-read-in-pieces"), ["lengths-of-messages"]);
   assert.deepEqual(found.get("log-cut-at-1000"), ["log-above-1000"]);
 });
 
