@@ -90,7 +90,7 @@ test("words behind `view` that it does not take are answered by what it reads", 
   for (const words of [["view", "--help"], ["view", "--image"], ["view", "a", "b", "c"]]) {
     const { stdout, stderr, status } = call(words, example("weak-order"));
     assert.deepEqual([stdout, status], ["", 2], words.join(" "));
-    assert.match(stderr, /^usage: \.\/otbench view \[FILE \[PORT-LINES\]\] > PAGE\n/);
+    assert.match(stderr, /^(error: .*\n)?usage: \.\/otbench view \[FILE \[PORT-LINES\]\] > PAGE\n/);
   }
 });
 
