@@ -111,7 +111,7 @@ class Sessions(unittest.TestCase):
     def test_the_filter_s_status(self):
         self.assertEqual(self.utf16("sh", "-c", "cat >&2; exit 7")[0], 7)
         self.assertEqual(self.utf16("true", given="clients 0\n# 😀\n"), (1, "", "utf16: otbench: line 1: BadClient\n"))
-        self.assertEqual(self.utf16("/there/is/none")[:2], (1, ""))
+        self.assertEqual(self.utf16("/there/is/none"), (2, "", "utf16: the driver /there/is/none is not there\n"))
         status, printed, said = self.utf16()
         self.assertEqual((status, printed), (2, ""))
         self.assertIn("conformance/utf16 COMMAND ..", said)

@@ -68,6 +68,9 @@ class Words(unittest.TestCase):
         rows = [
             (["generate", "--seed", "7"], "", (0, "", "")),
             (["run", "a", "b"], "", (2, "", "error: unexpected argument\n")),
+            (["threads", "--workers", "2"], "input", (0, "proved one: threads --workers 2\ninput", "")),
+            (["run", "--sparse", "a.ots"], "", (0, "proved one: run --sparse\nclients 1\n", "")),
+            (["run", "--image", "nosuch.img"], "", (1, "", "otbench: nosuch.img: there is no such file\n")),
             (["debug"], "input", (0, "proved one: debug\ninput", "")),
             (["nosuch", "x"], "input", (0, "proved one: nosuch x\ninput", "")),
             ([], "input", (0, "proved one: \ninput", "")),
