@@ -9,6 +9,7 @@ from program import program
 from schedule import read_schedule
 
 MARK = re.compile(r"^[ \t]*%%[ \t]*\r?$", re.MULTILINE)
+LARGE = 8192  # bytes
 FOLDER = pathlib.Path(__file__).resolve().parent / "sessions"
 
 
@@ -17,7 +18,8 @@ class Refused(Exception):
 
 
 def corpus():
-    for path in sorted(FOLDER.glob("*.ots")):
+    """The sessions by name, those of large texts last: each of them takes as long as several others."""
+    for path in sorted(FOLDER.glob("*.ots"), key=lambda path: (path.stat().st_size > LARGE, path)):
         yield path.stem, read_schedule(path.read_text(encoding="utf-8"))
 
 

@@ -12,6 +12,7 @@ import xml.etree.ElementTree as xml
 from paths import JUDGE, KIT, PROGRAM, STUB, needs_node, needs_program
 from options import cores
 from port import Driver, KeptDriver
+from sources import LARGE, corpus
 
 SAMPLE = ["node", str(KIT.parent / "examples" / "port" / "driver.js"), "--faults", str(KIT / "faults.js")]
 
@@ -105,6 +106,14 @@ class Runs(Kit):
         said = (f"corpus: {sessions} sessions conform\nat random: 5 sessions conform\n"
                 f"compared clients 0 do {2 * (sessions + 5)} sent 0 document 0 end 0\n")
         self.assertEqual((status, printed), (0, said))
+
+    def test_large_sessions_of_the_corpus_come_last(self):
+        names = [name for name, _ in corpus()]
+        large = [name for name in names if (KIT / "sessions" / f"{name}.ots").stat().st_size > LARGE]
+        self.assertEqual(names[-len(large):], large)
+        self.assertEqual(sorted(names), sorted(path.stem for path in (KIT / "sessions").glob("*.ots")))
+        self.assertIn("log-above-1000", large)
+        self.assertLess(len(large), 10)
 
     def test_a_port_that_differs_is_reduced(self):
         driver = ["sh", "-c", "if grep -q join; then echo wrong 99; fi"]
