@@ -89,10 +89,11 @@ def main():
     words = arguments()
     sessions = [[varied(seed * words.sessions + number, words.clients, words.instructions)[1] for number in range(words.sessions)]
                 for seed in range(1, words.seeds + 1)]
+    tried = " Faults that are neither in the table nor below it were not tried." if words.faults else ""
     print(f"""# How soon each fault is found at random
 
 Printed by `conformance/found.py --seeds {words.seeds}`: at most {words.sessions} sessions of {words.clients} clients and {words.instructions} instructions for each of {words.seeds} seeds. Found means
-that a line of the faulty port is another than ot.js' own.
+that a line of the faulty port is another than ot.js' own.{tried}
 
 | Fault | Sessions to find it: median, most | Instructions after reducing: median, most |
 |---|---|---|""")
@@ -104,7 +105,7 @@ that a line of the faulty port is another than ot.js' own.
                 print(row(fault, [it for it in found if it]), flush=True)
             if None in found:
                 missed[fault] = found.count(None)
-    said = [f"{fault} of {count} seeds" for fault, count in missed.items()]
+    said = [f"{fault} with {count} of {words.seeds} seeds" for fault, count in missed.items()]
     print(f"\nNot found: {', '.join(said) or 'none'}. The corpus finds each fault ([COVERAGE](COVERAGE.md)).")
     return 1 if missed else 0
 
