@@ -22,13 +22,15 @@ const calls = {
   steps: (text, { documents = false, signal } = {}) =>
     reading(documents ? ["steps", "--documents"] : ["steps"], schedule(text), readSteps, signal),
 
-  explain: (text, { signal } = {}) => reading(["explain"], schedule(text), String, signal),
+  /* A form that the program does not know is refused by it. */
+  explain: (given, { form, signal } = {}) =>
+    reading(form === undefined ? ["explain"] : ["explain", `--${form}`], form === "trace" ? traceOf(given) : schedule(given), String, signal),
 
   /* A line `%%` would end the schedule: one that has such a line is refused as `run` refuses it. */
-  conform(text, lines, { signal } = {}) {
+  conform(text, lines, { sparse = false, signal } = {}) {
     const bytes = schedule(text);
     if (markIn(bytes)) return reading(["run"], bytes, readRun, signal);
-    return reading(["conform"], withRest(bytes, linesOf(lines)), readConform, signal);
+    return reading(sparse ? ["conform", "--sparse"] : ["conform"], withRest(bytes, linesOf(lines)), readConform, signal);
   },
 
   check: (text, { all = false, signal } = {}) =>

@@ -250,8 +250,8 @@ export interface Bench {
   steps(schedule: Text, options?: { documents?: boolean }): Step[];
   /** The run in words. The error of a refused text says its column and cause too. */
   explain(schedule: Text): string;
-  /** Compares what a port of ot.js printed with the run of the schedule. */
-  conform(schedule: Text, lines: PortLines): Conformance;
+  /** Compares what a port of ot.js printed with the run of the schedule; with `sparse` instructions without a line are passed over. */
+  conform(schedule: Text, lines: PortLines, options?: { sparse?: boolean }): Conformance;
   /** Whether all is quiet and one, and whether the trace has the weak list property. */
   check(schedule: Text, options?: { all?: boolean }): Check;
   /** Judges a recorded trace: a value, or its JSON. */

@@ -30,13 +30,13 @@ function instructionsOf(told) {
   return instructions;
 }
 
-/** Where conform says that a port differs: { place, answer }; null where it conforms. */
-function differenceOf(ask, schedule, port) {
-  if (port === null) return null;
+/** What conform says of a port: where it differs, { place, answer } or null; and whether it shows nothing, so that no value was compared. */
+function conformOf(ask, schedule, port) {
+  if (port === null) return { difference: null, showsNothing: false };
   const { output, errors } = ask(["conform"], `${schedule.replace(/\n?$/, "\n")}%%\n${port}`);
   if (errors) throw new RefusedText(errors);
   const place = /^differs at (\d+): /.exec(output);
-  return place ? { place: Number(place[1]), answer: output.trimEnd() } : null;
+  return { difference: place && { place: Number(place[1]), answer: output.trimEnd() }, showsNothing: output.startsWith("nothing counted\n") };
 }
 
 /** A run, with the state at each place. Place p is the one where p instructions are performed. */
@@ -53,7 +53,7 @@ export class Recording {
     Object.assign(this, commentsOf(schedule)); // names and cut
     this.opening = told.output.split("\n", 1)[0];
     this.session = fold(ask(["steps"], schedule).output.split("\n").filter(Boolean));
-    this.difference = differenceOf(ask, schedule, port);
+    ({ difference: this.difference, showsNothing: this.showsNothing } = conformOf(ask, schedule, port));
   }
 
   /** The last place. */

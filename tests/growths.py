@@ -3,12 +3,14 @@
 
     python3 tests/growths.py [NAME ..]
 
-The programs are the texts in `growths/`: `board` over a board (`lend`, `settle`, `audit`), `calls` over the machine, the debugger, the formats and the judge. Each is compiled
+The programs are the texts in `growths/`: `board` over a board (`lend`, `settle`, `audit`), `calls` over the machine, the debugger, the formats and the judge, `run` over
+`ot_machine::run`. Each is compiled
 once, with a check at each access, by `rt try` in a copy of the repository. `rt try` makes one numbered growth fail, the same in each run; a program first makes as many
 growths as its input says, so that each of its own meets that number in one of the runs.
 
 A call that answers out of memory has to leave what it was lent as it was, and to succeed when it is made once more: then one line says so, and the other lines are those that
-are printed with all memory. Where a growth is refused elsewhere, the program has to end with status 1. There is no third thing. The last line of each program says how many
+are printed with all memory. Where a growth is refused elsewhere, the program has to end with status 1. There is no third thing. Of `run`, as many growths as an opening makes have to
+give no run, and each later one a run that stops before an instruction, the later the growth the later the instruction. The last line of each program says how many
 growths were refused at each call; the status is 1 where something else was seen, or where a call never met a refused growth.
 """
 import collections
@@ -35,7 +37,11 @@ PROGRAMS = {
         2000,
         re.compile(r"(\w+): all is as it was"),
     ),
+    "run": ("ot_isa ot_asm ot_machine anyhow", [], 300, None),
 }
+# What `run` prints with all memory, and where a run stops.
+WHOLE_RUN = ["opening: made", "run: whole"]
+STOPPED = re.compile(r"run: stopped at (\d+)")
 
 
 def said(room, name):
@@ -76,6 +82,35 @@ def place(whole, got, as_it_was):
     return "elsewhere" if status == 1 and not said_of and others == whole[1][:len(others)] else None
 
 
+def place_of_run(whole, got):
+    """The same of the program `run`."""
+    status, lines = got
+    if got == whole:
+        return "nowhere"
+    if status == 1 and not lines:
+        return "elsewhere"
+    if status != 0 or len(lines) != 2:
+        return None
+    if lines == ["opening: refused", WHOLE_RUN[1]]:
+        return "opening"
+    if lines == [WHOLE_RUN[0], "run: none"]:
+        return "no run"
+    return "stopped" if lines[0] == WHOLE_RUN[0] and STOPPED.fullmatch(lines[1]) else None
+
+
+def is_right_run(found):
+    """Whether the answers of `run` are those that may come, as many without a run as at an opening, and the others stop later and later."""
+    whole = 0, WHOLE_RUN
+    places = {number: place_of_run(whole, got) for number, got in sorted(found.items())}
+    bad = [number for number, it in places.items() if it is None]
+    for number in bad:
+        print(f"run: growth {number} refused: {found[number]}")
+    stops = [int(STOPPED.fullmatch(found[number][1][1])[1]) for number, it in places.items() if it == "stopped"]
+    counts = collections.Counter(places.values())
+    print(f"growths of run: {counts['opening']} refused at an opening, {counts['no run']} without a run, {counts['stopped']} before {len(set(stops))} instructions")
+    return not bad and stops != [] and stops == sorted(stops) and counts["no run"] == counts["opening"] > 0
+
+
 def tried(name):
     """Whether each growth of the program was refused, and each answer is one that may come."""
     _, calls, fails, as_it_was = PROGRAMS[name]
@@ -86,6 +121,8 @@ def tried(name):
     if len(found) != fails or whole[0] != 0:
         print(text[-2000:])
         return False
+    if name == "run":
+        return is_right_run(found)
     places = {number: place(whole, got, as_it_was) for number, got in sorted(found.items())}
     bad = [number for number, it in places.items() if it is None]
     for number in bad:

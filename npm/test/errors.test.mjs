@@ -69,6 +69,14 @@ test("explain says the column and the cause too", () => {
   refused(call, "BadOperation", { line: 2 }, /^line 2: BadOperation\n {2}column 14: a comment stands on a line of its own$/);
 });
 
+test("explain says of a trace where its first fault is", () => {
+  const told = (trace) => () => explain(trace, { form: "trace" });
+  refused(told({ replicas: 1, start: [[0]], events: [] }), "BadShape", {}, /^BadShape\n {2}start\[0\]: found \[0\]; wanted an array \[origin, serial\]$/);
+  refused(told({ replicas: 1, start: [[0, 0], [0, 0]], events: [] }), "TagTwice", {}, /^TagTwice\n {2}the tag 0:0 stands at start\[0\] and at start\[1\];/);
+  refused(told('{"replicas":1,}'), "NotJson", {}, /^NotJson\n {2}line 1, column 15: a key is missing behind the last comma$/);
+  refused(() => explain("clients 1\n", { form: "bogus" }), "Usage", {}, /^unexpected argument '--bogus' found/);
+});
+
 test("a schedule with a line %% is refused by conform as by run, and takes no line of the port's", () => {
   refused(() => conform("clients 1\n \t%% \r\nread 0\n", []), "UnknownWord", { line: 2 });
   refused(() => conform("bogus\n%%\n", []), "NoClients", { line: 1 });

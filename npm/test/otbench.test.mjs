@@ -134,6 +134,18 @@ test("conform: a port that printed nothing", () => {
   assert.deepEqual({ verdict, field, found }, { verdict: "differs", field: "line", found: "nothing" });
 });
 
+test("conform: lines for some instructions", () => {
+  const schedule = 'clients 2\nedit 0 ["a"]\ntake 0\nack 0\ndeliver 1\n';
+  const answer = (lines) => conform(schedule, lines, { sparse: true });
+  assert.equal(answer([{ at: 4, document: "a" }]).compared.document, 1);
+  assert.equal(answer([{ at: 2 }]).verdict, "nothing");
+  assert.equal(answer([]).verdict, "nothing");
+  const { at, what, field, found, otjs } = answer([{ at: 4, document: "b" }]);
+  assert.deepEqual({ at, what, field, found, otjs }, { at: 4, what: "deliver 1", field: "client 1 document", found: '"b"', otjs: '"a"' });
+  assert.deepEqual(answer([{ at: 3 }, { at: 2 }]).found, "2");
+  assert.deepEqual(conform(schedule, [{ at: 4, document: "a" }]).found, "4");
+});
+
 test("conform: where a limit of otbench ends the schedule", () => {
   const text = `clients 1\nedit 0 [${JSON.stringify("a".repeat(15_000))}]\nedit 0 [15000,"b"]\n`;
   const lines = [{ at: 1 }, { at: 2 }];

@@ -108,6 +108,13 @@ test("the place where a port differs is a break, with conform's answer", options
   assert.equal(stopped.split("\n")[2], "differs at 7: deliver 0: client 0 buffer");
 });
 
+test("a port whose lines have no value is said to show nothing", options, () => {
+  const greeting = (port) => new Debugger(new Recording(ask, "clients 1\nread 0\n", port)).greeting().slice(1, -1);
+  assert.deepEqual(greeting('{"at":1}\n'), ["the port's lines have no value that can be compared"]);
+  assert.deepEqual(greeting('{"at":1,"client":0}\n'), []);
+  assert.deepEqual(greeting(null), []);
+});
+
 test("a refused instruction ends the run with its reason", options, () => {
   const [ended] = answers(["run"], "clients 1\nedit 0 [\"a\"]\ntake 0\ntake 0\n");
   assert.equal(ended.split("\n").at(-2), "the end: line 4, instruction 2: take 0 is refused");

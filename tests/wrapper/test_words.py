@@ -185,7 +185,7 @@ class Terminal(unittest.TestCase):
         self.tree.has_proved()
         schedule = "a schedule's text"
         rows = {"run": schedule, "check": schedule, "explain": schedule, "steps": schedule, "asm": schedule, "view": schedule, "run --image": "a schedule's image", "dis": "a schedule's image",
-                "judge": "a trace (JSON)", "threads": "a plan (JSON)", "conform": f"{schedule}, a line '%%' and the lines of a port", "debug": f"{schedule}, a line '%%' and commands"}
+                "judge": "a trace (JSON)", "explain --trace": "a trace (JSON)", "threads": "a plan (JSON)", "conform": f"{schedule}, a line '%%' and the lines of a port", "debug": f"{schedule}, a line '%%' and commands"}
         for words, awaited in rows.items():
             with self.subTest(words=words):
                 shown = self.run_on_terminal(*words.split(), keys="clients 1\n\x04")[1]

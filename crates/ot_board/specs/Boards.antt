@@ -13,7 +13,7 @@ use Rattle.ot_model.specs.Session.{Session, Begins, IsPartIn, RunsTo}
 use Rattle.ot_machine.specs.Answers.{IsPerformed}
 use Rattle.ot_machine.specs.Ended.{IsRun}
 use Rattle.ot_machine.specs.Readers.{ClientHas}
-use Rattle.ot_machine.specs.declared.outcome.Replay.{Replay}
+use Rattle.ot_machine.specs.declared.outcome.Run.{Run}
 use Rattle.ot_board.specs.declared.lent.Lent.{Lent}
 use Rattle.ot_board.specs.declared.receipt.Receipt.{Receipt}
 use Rattle.ot_board.specs.declared.receipt.Replayed.{Replayed}
@@ -208,4 +208,4 @@ EndsIn (Some stop) reached state = stop.1 ≡ table.Memory
 
 -- each run of the schedule ends in this state, or for want of memory before it
 abbrev pub RunsEndIn : Program → State → Type 0
-RunsEndIn s state = (run : Replay) → IsRun s run → EndsIn run.stopped run.machine state
+RunsEndIn s state = (run : Run) → IsRun s run → EndsIn run.stopped run.machine state

@@ -1,2 +1,3 @@
 mod Talked
 mod Ran
+mod Told

@@ -3,7 +3,7 @@ use Rattle.std.specs.Prelude.{◌≡◌, ◌⊎◌, ℕ, List, Option, Some, Non
 use Rattle.streams.specs.Streams.{WritesPart}
 use Rattle.ot_isa.specs.Program.{Program}
 use Rattle.ot_model.specs.declared.shown.Refusal.{Refusal}
-use Rattle.ot_machine.specs.declared.outcome.Replay.{Replay}
+use Rattle.ot_machine.specs.declared.outcome.Run.{Run}
 use Rattle.ot_machine.specs.Ended.{IsRun}
 use Rattle.ot_report.specs.Printed.{IsReport}
 use Rattle.ot_report.specs.Written.{WritesFirstReads}
@@ -16,7 +16,7 @@ stop_status (Some stop) = 1
 
 -- the run of the schedule, as it is printed
 pub record Reports (schedule : Program) (status : ℕ) (streams : Streams) : Type 0 where
-  pub run : Replay
+  pub run : Run
   pub is_run : IsRun schedule run
   pub text : List ℕ
   pub is_report : IsReport run text

@@ -21,7 +21,8 @@ fn status_of(verdict: Verdict) -> u8
     }
 }
 
-fn fault_line(fault: TraceFault) -> &'static str
+/// The line of a trace's fault.
+pub(crate) fn fault_line(fault: TraceFault) -> &'static str
     ensures { result.now ≡ trace_fault fault }
 {
     match fault {
@@ -47,8 +48,8 @@ fn trace_in(alloc: Global, bytes: &[u8]) -> Result<Trace, TraceFault>
     }
 }
 
-// Judges the trace and prints the verdict.
-fn give_verdict<O: Sink, F: Write>(
+/// Judges the trace and prints the verdict.
+pub(crate) fn give_verdict<O: Sink, F: Write>(
     alloc: Global,
     trace: &Trace,
     output: &mut O,

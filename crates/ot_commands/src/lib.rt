@@ -6,18 +6,20 @@
 //!    debugging    debug: back and forth through a run, by commands
 //!    converting   asm, dis: between a schedule's text and its image
 //!    judging      judge: whether a recorded trace has the weak list property
+//!    explaining   explain --trace: its verdict, or in words where its first fault is
 //!    generating   generate: a session made at random
 //!    completing   complete: a schedule, and behind it what brings its run to quiet
 //! ```
 //!
 //! Each call answers the program's status, and says by its clause what it writes: `specs/` has a file for each module (`Ran`, `Checked`,
-//! `Debugged`, `Converted`, `Judged`, `Generated`, `Completes`), over the streams of `outcomes`. Begin with [`run_text`].
+//! `Debugged`, `Converted`, `Judged`, `ExplainedTraces`, `Generated`, `Completes`), over the streams of `outcomes`. Begin with [`run_text`].
 #![tactic(auto)]
 
 mod checking;
 mod completing;
 mod converting;
 mod debugging;
+mod explaining;
 mod generating;
 mod judging;
 mod running;
@@ -26,6 +28,7 @@ pub use checking::check_text;
 pub use completing::complete_text;
 pub use converting::{assemble, disassemble_image};
 pub use debugging::debug_text;
+pub use explaining::explain_trace;
 pub use generating::generate_session;
 pub use judging::judge_input;
 pub use running::{run_image, run_text};

@@ -39,7 +39,7 @@ use Rattle.ot_conform.specs.Values.{text_at, value_at}
 use Rattle.ot_conform.specs.declared.keys.Key.{Key}
 use Rattle.ot_conform.specs.declared.keys.Key.TheVariants as key
 use Rattle.ot_conform.proofs.FirstKey.{all_agree}
-use Rattle.ot_conform.proofs.Outcomes.{ahead_past, ahead_refused, goes_on, over_agrees, stops}
+use Rattle.ot_conform.proofs.Outcomes.{ahead_past, ahead_refused, goes_on, over_agrees, stops_all}
 
 -- ---- values are plain, and written as they are
 
@@ -133,7 +133,7 @@ pub record Shows (shown line : Line) : Type 0 where
   pub values : (k : Key) → (value_at k shown ≡ None) ⊎ (value_at k shown ≡ value_at k line)
   pub stopped : shown.stopped ≡ line.stopped
 
-all_shown : (line : Line) → Shows line line
+pub all_shown : (line : Line) → Shows line line
 all_shown line = record { values = λ k. inr refl; stopped = refl }
 
 value_agrees : (k : Key) (shown line : Line) → (value_at k shown ≡ None) ⊎ (value_at k shown ≡ value_at k line) → agrees_at k (text_at k line) (said (value_at k shown)) ≡ true
@@ -143,7 +143,7 @@ value_agrees k shown line (inr same) = ap (λ (v : Option Value). agrees_at k (t
 key_agrees : (line shown : Line) (d : Data) → Shows shown line → Says shown d → (k : Key) → agrees_at k (text_at k line) (found_at k d) ≡ true
 key_agrees line shown d shows says k = ap (agrees_at k (text_at k line)) (says.under k) ∙ value_agrees k shown line (shows.values k)
 
-stop_agrees : (stopped : Option Refusal) → is_told (option_map (λ r. string (refusal_text r)) stopped) ≡ is_some stopped
+pub stop_agrees : (stopped : Option Refusal) → is_told (option_map (λ r. string (refusal_text r)) stopped) ≡ is_some stopped
 stop_agrees None = refl
 stop_agrees (Some r) = refl
 
@@ -236,7 +236,7 @@ step_shown documents at i s t =
 -- ---- all lines
 
 -- a port's line that says this one agrees
-says_agrees : (line shown : Line) (port : PortLine) → Shows shown line → SaysLine shown port → field_of line port ≡ None
+pub says_agrees : (line shown : Line) (port : PortLine) → Shows shown line → SaysLine shown port → field_of line port ≡ None
 says_agrees line shown (Told d) shows says = line_agrees line shown d shows says
 says_agrees line shown (OtherForm bytes) shows says = absurd says
 says_agrees line shown NoText shows says = absurd says
@@ -244,30 +244,30 @@ says_agrees line shown Nothing shows says = absurd says
 
 -- the first line that is due agrees, and so it goes on with the rest
 first_agrees : (last : ℕ) (due : DueLine) (ahead : List Ahead) (shown : Line) (shows : Shows shown due.line) (rest : List Line) (ports : List PortLine) (o : Outcome)
-    → ((left : List PortLine) → Say rest left → over due.line.at ahead left ≡ o) → Say (shown ∷ rest) ports → over last (Wanted due ∷ ahead) ports ≡ o
+    → ((left : List PortLine) → Say rest left → over false due.line.at ahead left ≡ o) → Say (shown ∷ rest) ports → over false last (Wanted due ∷ ahead) ports ≡ o
 first_agrees last due ahead shown shows rest [] o on say = absurd say
 first_agrees last due ahead shown shows rest (port ∷ ports) o on say =
-    over_agrees last due ahead port ports (says_agrees due.line shown port shows say.0) ∙ on ports say.1
+    over_agrees false last due ahead port ports refl (says_agrees due.line shown port shows say.0) ∙ on ports say.1
 
 -- from any place on
 steps_agree : (documents : Bool) (is : List Instr) (n at end : ℕ) (p q : Place) (tail : List Line) (ports : List PortLine) (o : Outcome)
     → n ≤ length is → end ≡ at + n → run (take n is) p ≡ Some q
-    → ((left : List PortLine) → Say tail left → over end (ahead_from end q.state (drop n is)) left ≡ o)
-    → Say (lines_from documents at p.state (take n is) ++ tail) ports → over at (ahead_from at p.state is) ports ≡ o
+    → ((left : List PortLine) → Say tail left → over false end (ahead_from end q.state (drop n is)) left ≡ o)
+    → Say (lines_from documents at p.state (take n is) ++ tail) ports → over false at (ahead_from at p.state is) ports ≡ o
 steps_agree documents is zero at end p q tail ports o few so here on say =
     let same : p ≡ q = same_Some p q here in
     let place : at ≡ end = omega (arith, so) in
-    ap (λ (e : ℕ). over e (ahead_from e p.state is) ports) place ∙ ap (λ (r : Place). over end (ahead_from end r.state is) ports) same ∙ on ports say
+    ap (λ (e : ℕ). over false e (ahead_from e p.state is) ports) place ∙ ap (λ (r : Place). over false end (ahead_from end r.state is) ports) same ∙ on ports say
 steps_agree documents [] (suc n) at end p q tail ports o few so here on say = absurd (omega (arith, few))
 steps_agree documents (i ∷ is) (suc n) at end p q tail ports o few so here on say =
     go (λ t list after left. steps_agree documents is n (suc at) end (record { state = t; shown = with_shown p.shown list }) q tail left o (omega (arith, few)) (omega (arith, so)) after on) (step p.state i) here say
   where
     go : ((t : State) (list : Option Shown) → run (take n is) (record { state = t; shown = with_shown p.shown list }) ≡ Some q → (left : List PortLine)
-        → Say (lines_from documents (suc at) t (take n is) ++ tail) left → over (suc at) (ahead_from (suc at) t is) left ≡ o)
+        → Say (lines_from documents (suc at) t (take n is) ++ tail) left → over false (suc at) (ahead_from (suc at) t is) left ≡ o)
         → (out : Stepped)
         → (elim out [ Performed t list ↦ run (take n is) (record { state = t; shown = with_shown p.shown list }) | Refused r ↦ None | NoRow ↦ None ]) ≡ Some q
         → Say ((elim out [ Performed t list ↦ step_line documents (suc at) i p.state t ∷ lines_from documents (suc at) t (take n is) | Refused r ↦ [] | NoRow ↦ [] ]) ++ tail) ports
-        → over at (elim out [ Performed t list ↦ Wanted (step_due (suc at) i (sends i p.state) (applies i p.state) t) ∷ ahead_from (suc at) t is | Refused r ↦ stopping at p.state i r | NoRow ↦ [] ]) ports ≡ o
+        → over false at (elim out [ Performed t list ↦ Wanted (step_due (suc at) i (sends i p.state) (applies i p.state) t) ∷ ahead_from (suc at) t is | Refused r ↦ stopping at p.state i r | NoRow ↦ [] ]) ports ≡ o
     go next (Performed t list) here say =
         first_agrees at (step_due (suc at) i (sends i p.state) (applies i p.state) t) (ahead_from (suc at) t is)
         (step_line documents (suc at) i p.state t) (step_shown documents (suc at) i p.state t)
@@ -278,24 +278,24 @@ steps_agree documents (i ∷ is) (suc n) at end p q tail ports o few so here on 
     go next NoRow here say = absurd (cc)
 
 -- the end
-end_agrees : (last at : ℕ) (s : State) (ports : List PortLine) → Say (end_line at (is_quiet s) ∷ []) ports → over last (ending at s) ports ≡ Conforms
+end_agrees : (last at : ℕ) (s : State) (ports : List PortLine) → Say (end_line at (is_quiet s) ∷ []) ports → over false last (ending at s) ports ≡ Conforms
 end_agrees last at s ports say = first_agrees last (end_due at (is_quiet s)) [] (end_line at (is_quiet s)) (all_shown (end_line at (is_quiet s))) [] ports Conforms none_left say
   where
-    none_left : (left : List PortLine) → Say [] left → over at [] left ≡ Conforms
+    none_left : (left : List PortLine) → Say [] left → over false at [] left ≡ Conforms
     none_left [] say = refl
     none_left (port ∷ left) say = absurd say
 
 -- a stop and the end behind it
 stop_agrees_at : (at : ℕ) (s : State) (i : Instr) (r : Refusal) (ports : List PortLine) (limit : Bool) → is_limit r ≡ limit → Say (stop_line at i r ∷ end_line at (is_quiet s) ∷ []) ports
-    → over at (stopping at s i r) ports ≡ (if is_limit r then Stopped at r else Conforms)
-stop_agrees_at at s i r ports true limit say = stops at at s i r ports limit ∙ rw limit refl
+    → over false at (stopping at s i r) ports ≡ (if is_limit r then Stopped at r else Conforms)
+stop_agrees_at at s i r ports true limit say = stops_all at at s i r ports limit ∙ rw limit refl
 stop_agrees_at at s i r ports false limit say =
-    ap (λ (ahead : List Ahead). over at ahead ports) (goes_on at s i r limit)
+    ap (λ (ahead : List Ahead). over false at ahead ports) (goes_on at s i r limit)
     ∙ first_agrees at (stop_due at i r) (ending at s) (stop_line at i r) (all_shown (stop_line at i r)) (end_line at (is_quiet s) ∷ []) ports Conforms (λ left others. end_agrees at at s left others) say
     ∙ rw limit refl
 
 -- an instruction that is refused for another reason than want of memory is refused by the table
-refused_by_table : (s : Program) (state : State) (place : ℕ) (r : Refusal) → (r ≡ refusal.Memory → ⊥) → IsStopAt s state place r → IsRefusedIn s state place r
+pub refused_by_table : (s : Program) (state : State) (place : ℕ) (r : Refusal) → (r ≡ refusal.Memory → ⊥) → IsStopAt s state place r → IsRefusedIn s state place r
 refused_by_table s state place refusal.NoSuchClient table stop = stop.1
 refused_by_table s state place refusal.StepsFull table stop = stop.1
 refused_by_table s state place refusal.NotJoined table stop = stop.1
@@ -308,19 +308,19 @@ refused_by_table s state place refusal.Memory table stop = absurd (table refl)
 
 -- behind the instructions that are performed
 last_agree : (s : Program) (state : State) (stopped : Option (ℕ × Refusal)) (ports : List PortLine) → IsStop s state stopped → IsOfTable stopped → Say (last_lines s state stopped) ports
-    → over (reached s stopped) (ahead_from (reached s stopped) state (drop (reached s stopped) s.instrs)) ports ≡ outcome_at stopped
+    → over false (reached s stopped) (ahead_from (reached s stopped) state (drop (reached s stopped) s.instrs)) ports ≡ outcome_at stopped
 last_agree s state None ports stop table say =
     let end : ℕ = length s.instrs in
-    ap (λ (ahead : List Ahead). over end ahead ports) (ahead_past end state s.instrs (omega arith)) ∙ end_agrees end end state ports say
+    ap (λ (ahead : List Ahead). over false end ahead ports) (ahead_past end state s.instrs (omega arith)) ∙ end_agrees end end state ports say
 last_agree s state (Some stop) ports is table say =
     let refused = refused_by_table s state stop.0 stop.1 table is in
     let two : Say (stop_line stop.0 refused.0 stop.1 ∷ end_line stop.0 (is_quiet state) ∷ []) ports =
     subst (λ (o : Option Instr). Say (stop_at stop.0 stop.1 o ++ end_line stop.0 (is_quiet state) ∷ []) ports) refused.1 say in
-    ap (λ (ahead : List Ahead). over stop.0 ahead ports) (ahead_refused stop.0 state refused.0 s.instrs stop.1 refused.1 refused.2)
+    ap (λ (ahead : List Ahead). over false stop.0 ahead ports) (ahead_refused stop.0 state refused.0 s.instrs stop.1 refused.1 refused.2)
     ∙ stop_agrees_at stop.0 state refused.0 stop.1 ports (is_limit stop.1) refl two
 
 -- the opening's line is taken for it
-is_the_opening : (s : Program) (port : PortLine) → SaysLine (opening_line s) port → is_opening_line port ≡ true
+pub is_the_opening : (s : Program) (port : PortLine) → SaysLine (opening_line s) port → is_opening_line port ≡ true
 is_the_opening s (Told d) says =
     let at : get (codes "at") d ≡ Some (number (unsigned 0)) = says.under key.At in
     let word : get (codes "do") d ≡ None = says.under key.Do in
@@ -331,11 +331,11 @@ is_the_opening s (OtherForm bytes) says = absurd says
 is_the_opening s NoText says = absurd says
 is_the_opening s Nothing says = absurd says
 
-opened : (opening : DueLine) (ahead : List Ahead) (port : PortLine) (ports : List PortLine) → is_opening_line port ≡ true → from_opening opening ahead (port ∷ ports) ≡ over 0 (Wanted opening ∷ ahead) (port ∷ ports)
+opened : (opening : DueLine) (ahead : List Ahead) (port : PortLine) (ports : List PortLine) → is_opening_line port ≡ true → from_opening false opening ahead (port ∷ ports) ≡ over false 0 (Wanted opening ∷ ahead) (port ∷ ports)
 opened opening ahead port ports on = rw on refl
 
 run_agrees : (documents : Bool) (s : Program) (stopped : Option (ℕ × Refusal)) (place : Place) (ports : List PortLine) → place_at s (reached s stopped) ≡ Some place → IsStop s place.state stopped → IsOfTable stopped
-    → Say (run_lines documents s place.state stopped) ports → outcome s ports ≡ outcome_at stopped
+    → Say (run_lines documents s place.state stopped) ports → outcome false s ports ≡ outcome_at stopped
 run_agrees documents s stopped place [] at stop table say = absurd say
 run_agrees documents s stopped place (port ∷ ports) at stop table say =
     let n : ℕ = reached s stopped in

@@ -1,5 +1,5 @@
--- A printed line, read back.
-use Rattle.std.proofs.Common.{◌≡◌, [], ◌∷◌, negsuc, refl, Some}
+-- A printed line, read back; and lines for some instructions alone.
+use Rattle.std.proofs.Common.{◌≡◌, ℕ, List, [], ◌∷◌, negsuc, true, false, refl, Some}
 use Rattle.std.specs.Prelude.{codes}
 use Rattle.std.specs.Fmt.{digits}
 use lib.Utf8.{encode}
@@ -11,6 +11,13 @@ use Rattle.ot_text.specs.Run.{Keep, Add, Skip, operation_of}
 use Rattle.ot_steps.specs.Lines.{Line, Take, bare}
 use Rattle.ot_steps.specs.Text.{line_text}
 use Rattle.ot_conform.proofs.LineTrees.{body_text, line_data}
+use Rattle.ot_isa.specs.declared.instruction.Instr.TheVariants as instr
+use Rattle.ot_conform.specs.Differences.{Ahead, Wanted, Conforms, Differs, LeftOver, first_key, over}
+use Rattle.ot_conform.specs.Due.{DueLine, Instruction, end_due}
+use Rattle.ot_conform.specs.Laws.{place_alone}
+use Rattle.ot_conform.specs.Ports.{PortLine, Told}
+use Rattle.ot_conform.specs.declared.keys.Key.TheVariants.{At}
+use Rattle.ot_conform.specs.declared.meeting.Field.TheVariants.{Key}
 
 -- a message is taken, carried over what the log has gained
 abbrev taken : Line
@@ -36,3 +43,45 @@ object_is = refl
 read_back : read (body_text taken) ≡ Some taken_data
 unfolding serde_json_on_literals digits
 read_back = refl
+
+-- ---- three reads, and the end
+
+abbrev reading : ℕ → DueLine
+reading at = record { what = Instruction (instr.Read 0); line = bare at; shown = bare at }
+
+abbrev three : List Ahead
+three = Wanted (reading 1) ∷ Wanted (reading 2) ∷ Wanted (reading 3) ∷ Wanted (end_due 3 true) ∷ []
+
+abbrev ended : ℕ → PortLine
+ended at = Told (object (member (codes "at") (number (unsigned at)) (member (codes "end") (string (codes "quiet")) no_members)))
+
+-- one line is enough; with a line for each it is of the wrong instruction
+second_alone : over true 0 three (place_alone 2 ∷ []) ≡ Conforms
+unfolding first_key digits
+second_alone = refl
+
+second_first : over false 0 three (place_alone 2 ∷ []) ≡ Differs (reading 1) (Key At) (place_alone 2)
+unfolding first_key digits
+second_first = refl
+
+-- no line is needed
+none_at_all : over true 0 three [] ≡ Conforms
+none_at_all = refl
+
+-- a place that does not rise is compared with the one that is due
+falls : over true 0 three (place_alone 2 ∷ place_alone 1 ∷ []) ≡ Differs (reading 3) (Key At) (place_alone 1)
+unfolding first_key digits
+falls = refl
+
+stays : over true 0 three (place_alone 2 ∷ place_alone 2 ∷ []) ≡ Differs (reading 3) (Key At) (place_alone 2)
+unfolding first_key digits
+stays = refl
+
+-- the end's line passes over the last instruction, and behind it no line is due
+ends : over true 0 three (ended 3 ∷ []) ≡ Conforms
+unfolding first_key digits encode escape_byte
+ends = refl
+
+behind_the_end : over true 0 three (ended 3 ∷ place_alone 4 ∷ []) ≡ LeftOver 3 (place_alone 4)
+unfolding first_key digits encode escape_byte
+behind_the_end = refl

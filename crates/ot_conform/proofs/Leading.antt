@@ -16,7 +16,7 @@ use Rattle.ot_conform.specs.Counted.{counted}
 use Rattle.ot_conform.specs.Answers.{IsDifferenceOf}
 use Rattle.ot_conform.specs.Differences.{Outcome}
 use Rattle.ot_conform.specs.Ports.{PortLine, Nothing, counted_lines, front, is_empty, port_line, told_or_other}
-use Rattle.ot_conform.specs.Standing.{Goes, IsStanding, IsVerdict, begun, rest}
+use Rattle.ot_conform.specs.Standing.{Goes, IsPassed, IsStanding, IsVerdict, begun, rest}
 use Rattle.ot_conform.proofs.Going.{front_there}
 use Rattle.ot_conform.proofs.Outcomes.{IsThere}
 use Rattle.ot_conform.specs.declared.comparison.Comparison.{Comparison}
@@ -70,7 +70,7 @@ counted-append (line ∷ xs) ys = cons_append line xs ys (counted-append xs ys)
 -- ---- lines that lead on
 
 pub stays : (s : Program) (c : Comparison) → IsStanding s c → Leads s c [] c
-stays s c standing = record { standing = standing; rest_is = λ more. refl; counts_are = λ more. refl }
+stays s c standing = record { standing = standing; rest_is = λ more. refl; counts_are = λ more. refl; sparse_is = refl }
 
 pub one_leads : (s : Program) (c c' : Comparison) (line : PortLine) → Goes s c line c' → Leads s c (line ∷ []) c'
 one_leads s c c' line goes =
@@ -78,6 +78,7 @@ one_leads s c c' line goes =
       standing = goes.standing;
       rest_is = goes.rest_is;
       counts_are = λ (more : List PortLine). ap (λ counts. counted counts more) (sym goes.counts_are);
+      sparse_is = goes.sparse_is;
     }
 
 pub leads_on : (s : Program) (a b c : Comparison) (xs ys : List PortLine) → Leads s a xs b → Leads s b ys c → Leads s a (xs ++ ys) c
@@ -86,6 +87,7 @@ leads_on s a b c xs ys first second =
       standing = second.standing;
       rest_is = λ (more : List PortLine). ap (rest s a) (append_assoc xs ys more) ∙ first.rest_is (ys ++ more) ∙ second.rest_is more;
       counts_are = λ (more : List PortLine). ap (counted a.counts) (append_assoc xs ys more) ∙ first.counts_are (ys ++ more) ∙ second.counts_are more;
+      sparse_is = second.sparse_is ∙ first.sparse_is;
     }
 
 -- ---- one line of bytes
@@ -103,15 +105,18 @@ blank_leads s c line text is none standing =
 
 pub bytes_decide : (s : Program) (c : Comparison) (line text : List ℕ) (read : PortLine) (v : Verdict) → text ≡ trimmed line → (length text == 0) ≡ false → read ≡ port_line text
     → ((lines : List PortLine) → IsVerdict c read (rest s c (front read lines)) v)
-    → (lines : List (List ℕ)) → IsVerdict c (port_line (trimmed line)) (rest s c (counted_lines (line ∷ lines))) v
-bytes_decide s c line text read v is some was given lines =
+    → (is_empty (trimmed line) ≡ false) × ((lines : List (List ℕ)) → IsVerdict c (port_line (trimmed line)) (rest s c (counted_lines (line ∷ lines))) v)
+bytes_decide s c line text read v is some was given =
     let none : is_empty (trimmed line) ≡ false = subst (λ (t : List ℕ). is_empty t ≡ false) is (empty_is text false some) in
-    let same : read ≡ port_line (trimmed line) = was ∙ ap port_line is in
-    let more : List PortLine = counted_lines lines in
-    let at : IsVerdict c (port_line (trimmed line)) (rest s c (front (port_line (trimmed line)) more)) v =
-    subst (λ (l : PortLine). IsVerdict c l (rest s c (front l more)) v) same (given more) in
-    let all : front (port_line (trimmed line)) more ≡ counted_lines (line ∷ lines) = front_there (port_line (trimmed line)) more (line_there (trimmed line)) ∙ sym (counted_first line lines none) in
-    subst (λ (ls : List PortLine). IsVerdict c (port_line (trimmed line)) (rest s c ls) v) all at
+    let same : read ≡ port_line (trimmed line) = was ∙ ap port_line is in (
+      none,
+      λ (lines : List (List ℕ)).
+          let more : List PortLine = counted_lines lines in
+          let at : IsVerdict c (port_line (trimmed line)) (rest s c (front (port_line (trimmed line)) more)) v =
+          subst (λ (l : PortLine). IsVerdict c l (rest s c (front l more)) v) same (given more) in
+          let all : front (port_line (trimmed line)) more ≡ counted_lines (line ∷ lines) = front_there (port_line (trimmed line)) more (line_there (trimmed line)) ∙ sym (counted_first line lines none) in
+          subst (λ (ls : List PortLine). IsVerdict c (port_line (trimmed line)) (rest s c ls) v) all at,
+    )
 
 -- ---- the lines of a reader
 
@@ -122,24 +127,24 @@ TakesLines (Some text) None lines = ⊥
 TakesLines (Some text) (Some rest) lines = lines_of text ≡ lines ++ lines_of rest
 
 -- so many lines of the input were taken, and they agree
-pub record IsUnderWay (s : Program) (c : Comparison) (count : ℕ) (input left : Option (List ℕ)) : Type 0 where
+pub record IsUnderWay (sparse : Bool) (s : Program) (c : Comparison) (count : ℕ) (input left : Option (List ℕ)) : Type 0 where
   pub lines : List (List ℕ)
   pub taken : TakesLines input left lines
   pub count_is : length lines ≡ count
-  pub leads : Leads s (begun s) (counted_lines lines) c
+  pub leads : Leads s (begun sparse s) (counted_lines lines) c
 
 nothing_taken : (input : Option (List ℕ)) → TakesLines input input []
 nothing_taken None = tt
 nothing_taken (Some text) = refl
 
-pub is_begun : (s : Program) (c : Comparison) (input : Option (List ℕ)) → c ≡ begun s → IsUnderWay s c 0 input input
-is_begun s c input is =
-    subst (λ (x : Comparison). IsUnderWay s x 0 input input) (sym is)
+pub is_begun : (sparse : Bool) (s : Program) (c : Comparison) (input : Option (List ℕ)) → c ≡ begun sparse s → IsUnderWay sparse s c 0 input input
+is_begun sparse s c input is =
+    subst (λ (x : Comparison). IsUnderWay sparse s x 0 input input) (sym is)
     (record {
       lines = [];
       taken = nothing_taken input;
       count_is = refl;
-      leads = stays s (begun s) (record { shown = []; at = refl; opening = refl });
+      leads = stays s (begun sparse s) (record { shown = []; at = refl; opening = refl });
     })
 
 takes_more : (input left next : Option (List ℕ)) (lines : List (List ℕ)) (line : List ℕ) → TakesLines input left lines → TakesLine left next true line → TakesLines input next (lines ++ line ∷ [])
@@ -149,28 +154,29 @@ takes_more (Some text) (Some rest) None lines line taken more = absurd more
 takes_more (Some text) (Some rest) (Some behind) lines line taken more =
     taken ∙ ap (λ ls. lines ++ ls) more ∙ sym (append_assoc lines (line ∷ []) (lines_of behind))
 
-pub goes_further : (s : Program) (c c' : Comparison) (count : ℕ) (input left next : Option (List ℕ)) (line : List ℕ) → IsUnderWay s c count input left → TakesLine left next true line → Leads s c (counted_lines (line ∷ [])) c'
-    → IsUnderWay s c' (count + 1) input next
-goes_further s c c' count input left next line way more leads =
+pub goes_further : (sparse : Bool) (s : Program) (c c' : Comparison) (count : ℕ) (input left next : Option (List ℕ)) (line : List ℕ) → IsUnderWay sparse s c count input left → TakesLine left next true line → Leads s c (counted_lines (line ∷ [])) c'
+    → IsUnderWay sparse s c' (count + 1) input next
+goes_further sparse s c c' count input left next line way more leads =
     record {
       lines = way.lines ++ line ∷ [];
       taken = takes_more input left next way.lines line way.taken more;
       count_is = length-append way.lines (line ∷ []) ∙ ap (λ n. n + 1) way.count_is;
-      leads = subst (λ (ls : List PortLine). Leads s (begun s) ls c') (sym (counted-append way.lines (line ∷ []))) (leads_on s (begun s) c c' (counted_lines way.lines) (counted_lines (line ∷ [])) way.leads leads);
+      leads = subst (λ (ls : List PortLine). Leads s (begun sparse s) ls c') (sym (counted-append way.lines (line ∷ []))) (leads_on s (begun sparse s) c c' (counted_lines way.lines) (counted_lines (line ∷ [])) way.leads leads);
     }
 
 -- ---- verdicts
 
 -- where the lines before agree, the verdict on the rest is that on all
-pub verdict_on_all : (s : Program) (c : Comparison) (first more : List PortLine) (line : PortLine) (v : Verdict) → Leads s (begun s) first c → (line ≡ Nothing → more ≡ []) → IsVerdict c line (rest s c more) v → IsVerdictOf s (first ++ more) v
-verdict_on_all s c first more line (Conforms counts) leads last is = (
-  leads.rest_is more ∙ is.0,
-  is.1 ∙ ap (counted c.counts) (sym (last is.2)) ∙ sym (leads.counts_are more),
+pub verdict_on_all : (sparse : Bool) (s : Program) (c : Comparison) (first behind : List PortLine) (line : PortLine) (v : Verdict) → Leads s (begun sparse s) first c → IsVerdict c line (rest s c (front line behind)) v
+    → IsVerdictOf sparse s (first ++ front line behind) v
+verdict_on_all sparse s c first behind line (Conforms counts) leads is = (
+  leads.rest_is (front line behind) ∙ is.0,
+  is.1 ∙ ap (λ (l : PortLine). counted c.counts (front l behind)) (sym is.2) ∙ sym (leads.counts_are (front line behind)),
 )
-verdict_on_all s c first more line (Differs d) leads last is = subst (λ (o : Outcome). IsDifferenceOf o d) (sym (leads.rest_is more)) is
-verdict_on_all s c first more line (Stopped place refusal) leads last (inl e) = inl (leads.rest_is more ∙ e)
-verdict_on_all s c first more line (Stopped place refusal) leads last (inr e) =
-    inr (record { front = first; left = more; are = refl; here = c; leads = leads; place_is = e.0; memory = e.1 })
+verdict_on_all sparse s c first behind line (Differs d) leads is = subst (λ (o : Outcome). IsDifferenceOf o d) (sym (leads.rest_is (front line behind))) is
+verdict_on_all sparse s c first behind line (Stopped place refusal) leads (inl e) = inl (leads.rest_is (front line behind) ∙ e)
+verdict_on_all sparse s c first behind line (Stopped place refusal) leads (inr e) =
+    inr (record { agreed = first; next = line; behind = behind; are = refl; here = c; leads = leads; place_is = e.0; memory = e.1 })
 
 no_lines : (bytes : List ℕ) → bytes ≡ [] → lines_of bytes ≡ []
 unfolding lines_of
@@ -180,54 +186,60 @@ no_lines bytes e = ap lines_of e
 all_taken : (text rest : List ℕ) (lines : List (List ℕ)) → lines_of text ≡ lines ++ lines_of rest → rest ≡ [] → lines_of text ≡ lines
 all_taken text rest lines taken none = taken ∙ ap (λ ls. lines ++ ls) (no_lines rest none) ∙ append-nil lines
 
-pub finished : (s : Program) (c : Comparison) (count : ℕ) (input left next : Option (List ℕ)) (line : List ℕ) (v : Verdict) → IsUnderWay s c count input left → TakesLine left next false line → IsVerdict c Nothing (rest s c []) v
-    → IfSome input (λ text. IsVerdictOf s (counted_lines (lines_of text)) v)
-finished s c count None left next line v way none is = tt
-finished s c count (Some text) left next line v way none is = go left way.taken none
+pub finished : (sparse : Bool) (s : Program) (c : Comparison) (count : ℕ) (input left next : Option (List ℕ)) (line : List ℕ) (v : Verdict) → IsUnderWay sparse s c count input left → TakesLine left next false line
+    → IsVerdict c Nothing (rest s c []) v → IfSome input (λ text. IsVerdictOf sparse s (counted_lines (lines_of text)) v)
+finished sparse s c count None left next line v way none is = tt
+finished sparse s c count (Some text) left next line v way none is = go left way.taken none
   where
-    all : IsVerdictOf s (counted_lines way.lines) v
-    all = subst (λ (ls : List PortLine). IsVerdictOf s ls v) (append-nil (counted_lines way.lines)) (verdict_on_all s c (counted_lines way.lines) [] Nothing v way.leads (λ e. refl) is)
+    all : IsVerdictOf sparse s (counted_lines way.lines) v
+    all = subst (λ (ls : List PortLine). IsVerdictOf sparse s ls v) (append-nil (counted_lines way.lines)) (verdict_on_all sparse s c (counted_lines way.lines) [] Nothing v way.leads is)
 
-    go : (left : Option (List ℕ)) → TakesLines (Some text) left way.lines → TakesLine left next false line → IsVerdictOf s (counted_lines (lines_of text)) v
+    go : (left : Option (List ℕ)) → TakesLines (Some text) left way.lines → TakesLine left next false line → IsVerdictOf sparse s (counted_lines (lines_of text)) v
     go None taken none = absurd taken
     go (Some rest) taken none = at next none
       where
-        at : (next : Option (List ℕ)) → TakesLine (Some rest) next false line → IsVerdictOf s (counted_lines (lines_of text)) v
+        at : (next : Option (List ℕ)) → TakesLine (Some rest) next false line → IsVerdictOf sparse s (counted_lines (lines_of text)) v
         at None none = absurd none
-        at (Some behind) none = subst (λ (ls : List (List ℕ)). IsVerdictOf s (counted_lines ls) v) (sym (all_taken text rest way.lines taken none.0)) all
+        at (Some behind) none = subst (λ (ls : List (List ℕ)). IsVerdictOf sparse s (counted_lines ls) v) (sym (all_taken text rest way.lines taken none.0)) all
 
-pub decided : (s : Program) (c : Comparison) (count : ℕ) (input left next : Option (List ℕ)) (line : List ℕ) (v : Verdict) → IsUnderWay s c count input left → TakesLine left next true line
-    → ((lines : List (List ℕ)) → IsVerdict c (port_line (trimmed line)) (rest s c (counted_lines (line ∷ lines))) v)
-    → IfSome input (λ text. IsVerdictOf s (counted_lines (lines_of text)) v)
-decided s c count None left next line v way more given = tt
-decided s c count (Some text) left next line v way more given = go left way.taken more
+-- a line of bytes, and those behind it
+decided_first : (sparse : Bool) (s : Program) (c : Comparison) (first behind all : List PortLine) (line : PortLine) (v : Verdict) → front line behind ≡ all → Leads s (begun sparse s) first c → IsVerdict c line (rest s c all) v
+    → IsVerdictOf sparse s (first ++ all) v
+decided_first sparse s c first behind all line v is leads given =
+    subst (λ (ls : List PortLine). IsVerdictOf sparse s (first ++ ls) v) is
+    (verdict_on_all sparse s c first behind line v leads (subst (λ (ls : List PortLine). IsVerdict c line (rest s c ls) v) (sym is) given))
+
+pub decided : (sparse : Bool) (s : Program) (c : Comparison) (count : ℕ) (input left next : Option (List ℕ)) (line : List ℕ) (v : Verdict) → IsUnderWay sparse s c count input left → TakesLine left next true line
+    → (is_empty (trimmed line) ≡ false) × ((lines : List (List ℕ)) → IsVerdict c (port_line (trimmed line)) (rest s c (counted_lines (line ∷ lines))) v)
+    → IfSome input (λ text. IsVerdictOf sparse s (counted_lines (lines_of text)) v)
+decided sparse s c count None left next line v way more given = tt
+decided sparse s c count (Some text) left next line v way more given = go left way.taken more
   where
-    there : (l : PortLine) → IsThere l → (more : List PortLine) → l ≡ Nothing → more ≡ []
-    there l is more none = absurd (subst IsThere none is)
+    first : (behind : List (List ℕ)) → front (port_line (trimmed line)) (counted_lines behind) ≡ counted_lines (line ∷ behind)
+    first behind = front_there (port_line (trimmed line)) (counted_lines behind) (line_there (trimmed line)) ∙ sym (counted_first line behind given.0)
 
-    on_all : (behind : List (List ℕ)) → IsVerdictOf s (counted_lines (way.lines ++ line ∷ behind)) v
+    on_all : (behind : List (List ℕ)) → IsVerdictOf sparse s (counted_lines (way.lines ++ line ∷ behind)) v
     on_all behind =
-        subst (λ (ls : List PortLine). IsVerdictOf s ls v) (sym (counted-append way.lines (line ∷ behind)))
-        (verdict_on_all s c (counted_lines way.lines) (counted_lines (line ∷ behind)) (port_line (trimmed line)) v way.leads
-        (there (port_line (trimmed line)) (line_there (trimmed line)) (counted_lines (line ∷ behind))) (given behind))
+        subst (λ (ls : List PortLine). IsVerdictOf sparse s ls v) (sym (counted-append way.lines (line ∷ behind)))
+        (decided_first sparse s c (counted_lines way.lines) (counted_lines behind) (counted_lines (line ∷ behind)) (port_line (trimmed line)) v (first behind) way.leads (given.1 behind))
 
-    go : (left : Option (List ℕ)) → TakesLines (Some text) left way.lines → TakesLine left next true line → IsVerdictOf s (counted_lines (lines_of text)) v
+    go : (left : Option (List ℕ)) → TakesLines (Some text) left way.lines → TakesLine left next true line → IsVerdictOf sparse s (counted_lines (lines_of text)) v
     go None taken more = absurd taken
     go (Some rest) taken more = at next more
       where
-        at : (next : Option (List ℕ)) → TakesLine (Some rest) next true line → IsVerdictOf s (counted_lines (lines_of text)) v
+        at : (next : Option (List ℕ)) → TakesLine (Some rest) next true line → IsVerdictOf sparse s (counted_lines (lines_of text)) v
         at None more = absurd more
         at (Some behind) more =
-            subst (λ (ls : List (List ℕ)). IsVerdictOf s (counted_lines ls) v) (sym (taken ∙ ap (λ ls. way.lines ++ ls) more)) (on_all (lines_of behind))
+            subst (λ (ls : List (List ℕ)). IsVerdictOf sparse s (counted_lines ls) v) (sym (taken ∙ ap (λ ls. way.lines ++ ls) more)) (on_all (lines_of behind))
 
 -- ---- stops
 
-pub stops_behind : (s : Program) (c : Comparison) (count earlier : ℕ) (input left : Option (List ℕ)) (stop : CompareStop) → IsUnderWay s c count input left → IsNumber stop (earlier + count)
-    → IfSome input (λ text. StopsBehind s stop earlier (lines_of text))
-stops_behind s c count earlier None left stop way number = tt
-stops_behind s c count earlier (Some text) left stop way number = go left way.taken
+pub stops_behind : (sparse : Bool) (s : Program) (c : Comparison) (count earlier : ℕ) (input left : Option (List ℕ)) (stop : CompareStop) → IsUnderWay sparse s c count input left → IsNumber stop (earlier + count)
+    → IfSome input (λ text. StopsBehind sparse s stop earlier (lines_of text))
+stops_behind sparse s c count earlier None left stop way number = tt
+stops_behind sparse s c count earlier (Some text) left stop way number = go left way.taken
   where
-    go : (left : Option (List ℕ)) → TakesLines (Some text) left way.lines → StopsBehind s stop earlier (lines_of text)
+    go : (left : Option (List ℕ)) → TakesLines (Some text) left way.lines → StopsBehind sparse s stop earlier (lines_of text)
     go None taken = absurd taken
     go (Some rest) taken =
         record {
@@ -240,11 +252,11 @@ stops_behind s c count earlier (Some text) left stop way number = go left way.ta
         }
 
 -- nothing was compared
-pub none_compared : (s : Program) (earlier : ℕ) (input : Option (List ℕ)) (stop : CompareStop) → IsNumber stop (earlier + 0) → IfSome input (λ text. StopsBehind s stop earlier (lines_of text))
-none_compared s earlier input stop number = stops_behind s (begun s) 0 earlier input input stop (is_begun s (begun s) input refl) number
+none_compared : (sparse : Bool) (s : Program) (earlier : ℕ) (input : Option (List ℕ)) (stop : CompareStop) → IsNumber stop (earlier + 0) → IfSome input (λ text. StopsBehind sparse s stop earlier (lines_of text))
+none_compared sparse s earlier input stop number = stops_behind sparse s (begun sparse s) 0 earlier input input stop (is_begun sparse s (begun sparse s) input refl) number
 
 -- for want of memory
-pub memory_at_first : (s : Program) (earlier number : ℕ) (input : Option (List ℕ)) → number ≡ min (earlier + 1) (2 ^ 64 - 1) → IfSome input (λ text. StopsBehind s (Memory number) earlier (lines_of text))
-memory_at_first s earlier number input is =
+pub memory_at_first : (sparse : Bool) (s : Program) (earlier number : ℕ) (input : Option (List ℕ)) → number ≡ min (earlier + 1) (2 ^ 64 - 1) → IfSome input (λ text. StopsBehind sparse s (Memory number) earlier (lines_of text))
+memory_at_first sparse s earlier number input is =
     let same : earlier ≡ earlier + 0 = omega arith in
-    none_compared s earlier input (Memory number) (is ∙ ap (λ (n : ℕ). min (n + 1) (2 ^ 64 - 1)) same)
+    none_compared sparse s earlier input (Memory number) (is ∙ ap (λ (n : ℕ). min (n + 1) (2 ^ 64 - 1)) same)

@@ -6,6 +6,7 @@ pub mod Going
 pub mod Settling
 pub mod Leading
 pub mod Conforming
+pub mod Selecting
 pub mod Scalars
 pub mod Formed
 pub mod FormedLines

@@ -1,5 +1,5 @@
 -- What comes of the lines that are left, one step at a time.
-use Rattle.std.proofs.Common.{◌≡◌, ℕ, suc, ◌≤◌, List, [], ◌∷◌, length, drop, true, false, Option, Some, None, refl, sym, ap, ◌∙◌, subst, inl, inr, drop-cons}
+use Rattle.std.proofs.Common.{◌≡◌, ℕ, suc, ◌≤◌, Bool, ◌&&◌, List, [], ◌∷◌, length, drop, true, false, Option, Some, None, refl, sym, ap, ◌∙◌, subst, inl, inr, drop-cons}
 use Rattle.std.specs.Prelude.{slice_get, ◌⊎◌}
 use Rattle.std.proofs.lemmas.List.{drop_all}
 use Rattle.std.proofs.lemmas.Option.{get_or_from_slice_get, slice_get_within}
@@ -14,6 +14,7 @@ use Rattle.ot_conform.specs.Answers.{IsCompared, IsDifferenceOf}
 use Rattle.ot_conform.specs.Differences as differences
 use Rattle.ot_conform.specs.Differences.{Ahead, Wanted, Limit, Outcome, ahead_from, ending, field_of, is_limit, over, stopping}
 use Rattle.ot_conform.specs.Due.{DueLine, What, Opening, Instruction, End, step_due, stop_due}
+use Rattle.ot_conform.specs.Passed.{passes, passes_step}
 use Rattle.ot_conform.specs.Ports.{PortLine, Told, OtherForm, NoText, Nothing, front}
 use Rattle.ot_conform.specs.Standing.{IsVerdict}
 use Rattle.ot_conform.specs.declared.comparison.Comparison.{Comparison}
@@ -23,13 +24,35 @@ use Rattle.ot_conform.specs.declared.answers.Difference.{Difference}
 use Rattle.ot_conform.specs.declared.meeting.Field.{Field}
 use Rattle.ot_conform.specs.declared.meeting.Field.TheVariants as field
 
--- ---- a line that agrees, and one that does not
+-- ---- a line that agrees, one that does not, and one that passes over what is due
 
-pub over_agrees : (last : ℕ) (due : DueLine) (ahead : List Ahead) (line : PortLine) (lines : List PortLine) → field_of due.line line ≡ None → over last (Wanted due ∷ ahead) (line ∷ lines) ≡ over due.line.at ahead lines
-over_agrees last due ahead line lines none = rw none refl
+pub over_agrees : (sparse : Bool) (last : ℕ) (due : DueLine) (ahead : List Ahead) (line : PortLine) (lines : List PortLine) → passes sparse due line ≡ false → field_of due.line line ≡ None
+    → over sparse last (Wanted due ∷ ahead) (line ∷ lines) ≡ over sparse due.line.at ahead lines
+over_agrees sparse last due ahead line lines kept none = rw (kept, none) refl
 
-over_differs : (last : ℕ) (due : DueLine) (ahead : List Ahead) (line : PortLine) (lines : List PortLine) (f : Field) → field_of due.line line ≡ Some f → over last (Wanted due ∷ ahead) (line ∷ lines) ≡ differences.Differs due f line
-over_differs last due ahead line lines f some = rw some refl
+over_differs : (sparse : Bool) (last : ℕ) (due : DueLine) (ahead : List Ahead) (line : PortLine) (lines : List PortLine) (f : Field) → passes sparse due line ≡ false → field_of due.line line ≡ Some f
+    → over sparse last (Wanted due ∷ ahead) (line ∷ lines) ≡ differences.Differs due f line
+over_differs sparse last due ahead line lines f kept some = rw (kept, some) refl
+
+pub over_passes : (sparse : Bool) (last : ℕ) (due : DueLine) (ahead : List Ahead) (line : PortLine) (lines : List PortLine) → passes sparse due line ≡ true
+    → over sparse last (Wanted due ∷ ahead) (line ∷ lines) ≡ over sparse due.line.at ahead (line ∷ lines)
+over_passes sparse last due ahead line lines passed = rw passed refl
+
+-- of lines for some instructions alone none is missing
+pub nothing_left : (last : ℕ) (ahead : List Ahead) → over true last ahead [] ≡ differences.Conforms
+nothing_left last [] = refl
+nothing_left last (Wanted due ∷ ahead) = may_miss due.what due
+  where
+    may_miss : (what : What) (due : DueLine) → differences.missing true what due ≡ differences.Conforms
+    may_miss Opening due = refl
+    may_miss (Instruction i) due = refl
+    may_miss End due = refl
+nothing_left last (Limit at r ∷ ahead) = refl
+
+-- the opening's line and the end's are passed over by none
+pub never : (b : Bool) → (b && false) ≡ false
+never true = refl
+never false = refl
 
 -- the port may leave out no line but the end's
 abbrev pub IsNeeded : What → Type 0
@@ -43,33 +66,33 @@ IsThere (OtherForm bytes) = Unit {0}
 IsThere NoText = Unit {0}
 IsThere Nothing = ⊥
 
-missing_is : (what : What) (due : DueLine) → IsNeeded what → differences.missing what due ≡ differences.Differs due field.Line Nothing
-missing_is Opening due needed = refl
-missing_is (Instruction i) due needed = refl
-missing_is End due needed = absurd needed
+missing_is : (sparse : Bool) (what : What) (due : DueLine) → IsNeeded what → sparse ≡ false → differences.missing sparse what due ≡ differences.Differs due field.Line Nothing
+missing_is sparse Opening due needed dense = rw dense refl
+missing_is sparse (Instruction i) due needed dense = rw dense refl
+missing_is sparse End due needed dense = absurd needed
 
-pub front_differs : (last : ℕ) (due : DueLine) (ahead : List Ahead) (line : PortLine) (lines : List PortLine) (f : Field) → IsNeeded due.what ⊎ IsThere line → field_of due.line line ≡ Some f
-    → over last (Wanted due ∷ ahead) (front line lines) ≡ differences.Differs due f line
-front_differs last due ahead (Told d) lines f which some = over_differs last due ahead (Told d) lines f some
-front_differs last due ahead (OtherForm bytes) lines f which some = over_differs last due ahead (OtherForm bytes) lines f some
-front_differs last due ahead NoText lines f which some = over_differs last due ahead NoText lines f some
-front_differs last due ahead Nothing lines f which some = go which
+pub front_differs : (sparse : Bool) (last : ℕ) (due : DueLine) (ahead : List Ahead) (line : PortLine) (lines : List PortLine) (f : Field) → IsNeeded due.what ⊎ IsThere line → (line ≡ Nothing → sparse ≡ false)
+    → passes sparse due line ≡ false → field_of due.line line ≡ Some f → over sparse last (Wanted due ∷ ahead) (front line lines) ≡ differences.Differs due f line
+front_differs sparse last due ahead (Told d) lines f which there kept some = over_differs sparse last due ahead (Told d) lines f kept some
+front_differs sparse last due ahead (OtherForm bytes) lines f which there kept some = over_differs sparse last due ahead (OtherForm bytes) lines f kept some
+front_differs sparse last due ahead NoText lines f which there kept some = over_differs sparse last due ahead NoText lines f kept some
+front_differs sparse last due ahead Nothing lines f which there kept some = go which
   where
     named : field.Line ≡ f
     named = cc
 
-    go : IsNeeded due.what ⊎ ⊥ → over last (Wanted due ∷ ahead) [] ≡ differences.Differs due f Nothing
-    go (inl needed) = missing_is due.what due needed ∙ ap (λ (g : Field). differences.Differs due g Nothing) named
+    go : IsNeeded due.what ⊎ ⊥ → over sparse last (Wanted due ∷ ahead) [] ≡ differences.Differs due f Nothing
+    go (inl needed) = missing_is sparse due.what due needed (there refl) ∙ ap (λ (g : Field). differences.Differs due g Nothing) named
     go (inr h) = absurd h
 
 -- so the verdict is that difference
 pub is_difference : (c : Comparison) (last : ℕ) (due : DueLine) (ahead : List Ahead) (line : PortLine) (lines : List PortLine) (d : Difference) (v : Verdict)
-    → IsNeeded due.what ⊎ IsThere line → IsCompared due line (Some d) → v ≡ Differs d
-    → IsVerdict c line (over last (Wanted due ∷ ahead) (front line lines)) v
-is_difference c last due ahead line lines d v which found is =
-    let e = front_differs last due ahead line lines found.0 which found.1 in
-    let told : IsDifferenceOf (over last (Wanted due ∷ ahead) (front line lines)) d = subst (λ (o : Outcome). IsDifferenceOf o d) (sym e) found.2 in
-    subst (λ (w : Verdict). IsVerdict c line (over last (Wanted due ∷ ahead) (front line lines)) w) (sym is) told
+    → IsNeeded due.what ⊎ IsThere line → (line ≡ Nothing → c.sparse ≡ false) → passes c.sparse due line ≡ false → IsCompared due line (Some d) → v ≡ Differs d
+    → IsVerdict c line (over c.sparse last (Wanted due ∷ ahead) (front line lines)) v
+is_difference c last due ahead line lines d v which there kept found is =
+    let e = front_differs c.sparse last due ahead line lines found.0 which there kept found.1 in
+    let told : IsDifferenceOf (over c.sparse last (Wanted due ∷ ahead) (front line lines)) d = subst (λ (o : Outcome). IsDifferenceOf o d) (sym e) found.2 in
+    subst (λ (w : Verdict). IsVerdict c line (over c.sparse last (Wanted due ∷ ahead) (front line lines)) w) (sym is) told
 
 -- ---- what is ahead
 
@@ -110,9 +133,17 @@ table_or_memory s i LinkEmpty is = inl is
 table_or_memory s i WrongHead is = inl is
 table_or_memory s i Memory is = inr refl
 
--- at a limit the comparison stops
-pub stops : (last at : ℕ) (s : State) (i : Instr) (r : Refusal) (lines : List PortLine) → is_limit r ≡ true → over last (stopping at s i r) lines ≡ differences.Stopped at r
-stops last at s i r lines limit = rw limit refl
+-- at a limit the comparison stops, where a line is left or each instruction has one
+pub stops : (sparse : Bool) (last at : ℕ) (s : State) (i : Instr) (r : Refusal) (line : PortLine) (lines : List PortLine) → (line ≡ Nothing → sparse ≡ false) → is_limit r ≡ true
+    → over sparse last (stopping at s i r) (front line lines) ≡ differences.Stopped at r
+stops sparse last at s i r (Told d) lines there limit = rw limit refl
+stops sparse last at s i r (OtherForm bytes) lines there limit = rw limit refl
+stops sparse last at s i r NoText lines there limit = rw limit refl
+stops sparse last at s i r Nothing lines there limit = let dense : sparse ≡ false = there refl in rw (limit, dense) refl
+
+pub stops_all : (last at : ℕ) (s : State) (i : Instr) (r : Refusal) (lines : List PortLine) → is_limit r ≡ true → over false last (stopping at s i r) lines ≡ differences.Stopped at r
+stops_all last at s i r [] limit = rw limit refl
+stops_all last at s i r (line ∷ lines) limit = rw limit refl
 
 pub goes_on : (at : ℕ) (s : State) (i : Instr) (r : Refusal) → is_limit r ≡ false → stopping at s i r ≡ Wanted (stop_due at i r) ∷ ending at s
 goes_on at s i r none = rw none refl
@@ -121,5 +152,5 @@ goes_on at s i r none = rw none refl
 pub for_memory : (c : Comparison) (line : PortLine) (o : Outcome) (v : Verdict) → IsVerdict c line (differences.Stopped c.place Memory) v → IsVerdict c line o v
 for_memory c line o (Conforms counts) is = absurd (let e : differences.Stopped c.place Memory ≡ differences.Conforms = is.0 in cc)
 for_memory c line o (Differs d) is = absurd is
-for_memory c line o (Stopped place refusal) (inl e) = inr (cc, cc)
+for_memory c line o (Stopped place refusal) (inl e) = inr (inl (cc), cc)
 for_memory c line o (Stopped place refusal) (inr e) = inr e

@@ -1,13 +1,14 @@
 -- The printed lines of a run, read as a port's lines, say what the lines say; so they conform.
-use Rattle.std.proofs.Common.{◌≡◌, List, [], ◌∷◌, refl, sym, subst}
+use Rattle.std.proofs.Common.{◌≡◌, List, [], ◌∷◌, Bool, true, false, refl, sym, subst}
 use Rattle.std.specs.List.{AllByRecursion}
 use Rattle.line_reader.specs.Lines.{lines_of}
 use Rattle.ot_steps.specs.Lines.{Line}
 use Rattle.ot_steps.specs.Text.{lines_text}
-use Rattle.ot_conform.specs.Laws.{PrintedStepsConform, Say}
+use Rattle.ot_conform.specs.Laws.{PrintedChosenStepsConform, PrintedStepsConform, Say, chosen}
 use Rattle.ot_conform.specs.Ports.{counted_lines}
 use Rattle.ot_conform.specs.declared.keys.Key.TheVariants as key
 use Rattle.ot_conform.proofs.Conforming.{steps_conform}
+use Rattle.ot_conform.proofs.Selecting.{chosen_all, chosen_steps_conform}
 use Rattle.ot_conform.proofs.FormedLines.{run_formed}
 use Rattle.ot_conform.proofs.LineSays.{says}
 use Rattle.ot_conform.proofs.LineTrees.{IsLineFormed}
@@ -26,3 +27,8 @@ printed_say (line ∷ others) h =
 pub printed_steps_conform : PrintedStepsConform
 printed_steps_conform documents s stopped lines is are table =
     steps_conform documents s stopped lines (counted_lines (lines_of (lines_text lines))) are table (printed_say lines (run_formed documents s stopped lines is are))
+
+pub printed_chosen_steps_conform : PrintedChosenStepsConform
+printed_chosen_steps_conform documents s stopped lines which is are table =
+    chosen_steps_conform documents s stopped lines which (counted_lines (lines_of (lines_text (chosen which lines)))) are table
+    (printed_say (chosen which lines) (chosen_all IsLineFormed which lines (run_formed documents s stopped lines is are)))

@@ -1,5 +1,5 @@
 -- What comes of comparing the lines of an input.
-use Rattle.std.specs.Prelude.{◌≡◌, ◌⊎◌, ◌+◌, ◌-◌, ◌^◌, min, ℕ, List, ◌++◌, length, if◌then◌else◌}
+use Rattle.std.specs.Prelude.{◌≡◌, ◌⊎◌, ◌+◌, ◌-◌, ◌^◌, min, ℕ, Bool, List, ◌++◌, length, if◌then◌else◌}
 use Rattle.ot_isa.specs.Program.{Program}
 use Rattle.ot_model.specs.declared.shown.Refusal.{Refusal}
 use Rattle.ot_model.specs.declared.shown.Refusal.TheVariants.{Memory}
@@ -7,8 +7,8 @@ use Rattle.ot_conform.specs.Answers.{IsDifferenceOf}
 use Rattle.ot_conform.specs.Counted.{counted, is_nothing, no_counts}
 use Rattle.ot_conform.specs.Differences as differences
 use Rattle.ot_conform.specs.Differences.{outcome}
-use Rattle.ot_conform.specs.Ports.{PortLine, counted_lines}
-use Rattle.ot_conform.specs.Standing.{IsStanding, begun, rest}
+use Rattle.ot_conform.specs.Ports.{PortLine, counted_lines, front}
+use Rattle.ot_conform.specs.Standing.{IsPassed, IsStanding, begun, rest}
 use Rattle.ot_conform.specs.declared.comparison.Comparison.{Comparison}
 use Rattle.ot_conform.specs.declared.comparison.Verdict.{Verdict}
 use Rattle.ot_conform.specs.declared.comparison.Verdict.TheVariants.{Conforms, Differs, Stopped}
@@ -20,22 +20,25 @@ pub record Leads (s : Program) (c : Comparison) (lines : List PortLine) (c' : Co
   pub standing : IsStanding s c'
   pub rest_is : (more : List PortLine) → rest s c (lines ++ more) ≡ rest s c' more
   pub counts_are : (more : List PortLine) → counted c.counts (lines ++ more) ≡ counted c'.counts more
+  pub sparse_is : c'.sparse ≡ c.sparse
 
--- the first lines agree, and at the place where they lead memory was wanting for the instruction
-pub record WantsMemory (s : Program) (lines : List PortLine) (place : ℕ) (refusal : Refusal) : Type 0 where
-  pub front : List PortLine
-  pub left : List PortLine
-  pub are : lines ≡ front ++ left
+-- the first lines agree, and at the place where they lead, or up to which the next line passes over the instructions, memory was wanting for
+-- the instruction
+pub record WantsMemory (sparse : Bool) (s : Program) (lines : List PortLine) (place : ℕ) (refusal : Refusal) : Type 0 where
+  pub agreed : List PortLine
+  pub next : PortLine
+  pub behind : List PortLine
+  pub are : lines ≡ agreed ++ front next behind
   pub here : Comparison
-  pub leads : Leads s (begun s) front here
-  pub place_is : place ≡ here.place
+  pub leads : Leads s (begun sparse s) agreed here
+  pub place_is : IsPassed here next place
   pub memory : refusal ≡ Memory
 
--- the verdict on these lines
-abbrev pub IsVerdictOf : Program → List PortLine → Verdict → Type 0
-IsVerdictOf s lines (Conforms counts) = (outcome s lines ≡ differences.Conforms) × (counts ≡ counted no_counts lines)
-IsVerdictOf s lines (Differs difference) = IsDifferenceOf (outcome s lines) difference
-IsVerdictOf s lines (Stopped place refusal) = (outcome s lines ≡ differences.Stopped place refusal) ⊎ WantsMemory s lines place refusal
+-- the verdict on these lines, where each instruction has one, or some alone
+abbrev pub IsVerdictOf : Bool → Program → List PortLine → Verdict → Type 0
+IsVerdictOf sparse s lines (Conforms counts) = (outcome sparse s lines ≡ differences.Conforms) × (counts ≡ counted no_counts lines)
+IsVerdictOf sparse s lines (Differs difference) = IsDifferenceOf (outcome sparse s lines) difference
+IsVerdictOf sparse s lines (Stopped place refusal) = (outcome sparse s lines ≡ differences.Stopped place refusal) ⊎ WantsMemory sparse s lines place refusal
 
 -- the number of the line behind those that were compared, at most the greatest u64
 abbrev pub IsNumber : CompareStop → ℕ → Type 0
@@ -44,12 +47,12 @@ IsNumber (stop.Memory number) compared = number ≡ min (compared + 1) (2 ^ 64 -
 
 -- the first of these lines agree with those that are due, and behind them the comparison stopped. Its number counts these lines and those
 -- before the comparison
-pub record StopsBehind (s : Program) (stop : CompareStop) (earlier : ℕ) (all : List (List ℕ)) : Type 0 where
+pub record StopsBehind (sparse : Bool) (s : Program) (stop : CompareStop) (earlier : ℕ) (all : List (List ℕ)) : Type 0 where
   pub lines : List (List ℕ)
   pub behind : List (List ℕ)
   pub are : all ≡ lines ++ behind
   pub here : Comparison
-  pub leads : Leads s (begun s) (counted_lines lines) here
+  pub leads : Leads s (begun sparse s) (counted_lines lines) here
   pub number : IsNumber stop (earlier + length lines)
 
 -- the verdict's status: that nothing differs is none of conforming where no value is counted

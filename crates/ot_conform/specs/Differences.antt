@@ -12,6 +12,7 @@ use Rattle.ot_steps.specs.Lines.{Line}
 use Rattle.ot_steps.specs.Steps.{applies, is_quiet, sends}
 use Rattle.ot_conform.specs.Due.{DueLine, What, Opening, Instruction, End, end_due, opening_due, step_due, stop_due}
 use Rattle.ot_conform.specs.Keys.{agrees_at, all_keys, found_at, is_told}
+use Rattle.ot_conform.specs.Passed.{passes}
 use Rattle.ot_conform.specs.Ports.{PortLine, Told, OtherForm, NoText, Nothing, is_opening_line}
 use Rattle.ot_conform.specs.Values.{text_at}
 use Rattle.ot_conform.specs.declared.keys.Key.{Key}
@@ -58,28 +59,37 @@ pub data Outcome : Type 0 where
   LeftOver : ℕ → PortLine → Outcome
   Stopped : ℕ → Refusal → Outcome
 
--- the end may be missing
-abbrev pub missing : What → DueLine → Outcome
-missing Opening due = Differs due field.Line Nothing
-missing (Instruction i) due = Differs due field.Line Nothing
-missing End due = Conforms
+-- where lines for some instructions alone are allowed, what has no line is passed over
+abbrev pub unless_sparse : Bool → Outcome → Outcome
+unless_sparse true o = Conforms
+unless_sparse false o = o
+
+-- no line is left; the end's may be missing
+abbrev pub missing : Bool → What → DueLine → Outcome
+missing sparse Opening due = unless_sparse sparse (Differs due field.Line Nothing)
+missing sparse (Instruction i) due = unless_sparse sparse (Differs due field.Line Nothing)
+missing sparse End due = Conforms
 
 abbrev pub unless_differs : DueLine → PortLine → Option Field → Outcome → Outcome
 unless_differs due line None rest = rest
 unless_differs due line (Some f) rest = Differs due f line
 
--- the lines against what is ahead, line by line; the last line that was due has the place `last`
-abbrev pub over : ℕ → List Ahead → List PortLine → Outcome
-over last [] [] = Conforms
-over last [] (line ∷ lines) = LeftOver last line
-over last (Wanted due ∷ ahead) [] = missing due.what due
-over last (Wanted due ∷ ahead) (line ∷ lines) = unless_differs due line (field_of due.line line) (over due.line.at ahead lines)
-over last (Limit at refusal ∷ ahead) lines = Stopped at refusal
+-- the lines against what is ahead, line by line; the last line that was due has the place `last`. Where lines for some instructions alone are
+-- allowed, each line is compared with the first one that it does not pass over
+abbrev pub over : Bool → ℕ → List Ahead → List PortLine → Outcome
+over sparse last [] [] = Conforms
+over sparse last [] (line ∷ lines) = LeftOver last line
+over sparse last (Wanted due ∷ ahead) [] = missing sparse due.what due
+over sparse last (Wanted due ∷ ahead) (line ∷ lines) =
+    if passes sparse due line then over sparse due.line.at ahead (line ∷ lines)
+    else unless_differs due line (field_of due.line line) (over sparse due.line.at ahead lines)
+over sparse last (Limit at refusal ∷ ahead) [] = unless_sparse sparse (Stopped at refusal)
+over sparse last (Limit at refusal ∷ ahead) (line ∷ lines) = Stopped at refusal
 
 -- the opening's line may be missing
-abbrev pub from_opening : DueLine → List Ahead → List PortLine → Outcome
-from_opening opening ahead [] = over 0 ahead []
-from_opening opening ahead (line ∷ lines) = if is_opening_line line then over 0 (Wanted opening ∷ ahead) (line ∷ lines) else over 0 ahead (line ∷ lines)
+abbrev pub from_opening : Bool → DueLine → List Ahead → List PortLine → Outcome
+from_opening sparse opening ahead [] = over sparse 0 ahead []
+from_opening sparse opening ahead (line ∷ lines) = if is_opening_line line then over sparse 0 (Wanted opening ∷ ahead) (line ∷ lines) else over sparse 0 ahead (line ∷ lines)
 
 -- ---- what a run has ahead
 
@@ -111,6 +121,6 @@ ahead_from at s (i ∷ is) =
       | NoRow ↦ []
     ]
 
--- what comes of comparing a port's lines with the run of a schedule
-abbrev pub outcome : Program → List PortLine → Outcome
-outcome s lines = from_opening (opening_due s) (ahead_from 0 (opening_of s) s.instrs) lines
+-- what comes of comparing a port's lines with the run of a schedule, where each instruction has a line, or some alone
+abbrev pub outcome : Bool → Program → List PortLine → Outcome
+outcome sparse s lines = from_opening sparse (opening_due s) (ahead_from 0 (opening_of s) s.instrs) lines

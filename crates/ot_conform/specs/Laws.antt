@@ -1,5 +1,5 @@
 -- What comes of the lines of `steps` themselves.
-use Rattle.std.specs.Prelude.{◌≡◌, ◌≢◌, ℕ, List, [], ◌∷◌, map, Bool, false, true, Option, Some, None, codes, option_map, if◌then◌else◌}
+use Rattle.std.specs.Prelude.{◌≡◌, ◌≢◌, ◌||◌, ℕ, List, [], ◌∷◌, map, Bool, false, true, Option, Some, None, codes, is_some, option_map, if◌then◌else◌}
 use Rattle.std.specs.Str.{encode_utf8_all}
 use Rattle.serde_json.specs.Data.{Data, number, unsigned, string, object, no_members, member}
 use Rattle.serde_json.specs.Find.{get}
@@ -67,14 +67,47 @@ IsOfTable (Some stop) = stop.1 ≢ Memory
 abbrev pub StepsConform : Type 0
 StepsConform =
     (documents : Bool) (s : Program) (stopped : Option (ℕ × Refusal)) (lines : List Line) (ports : List PortLine)
-    → AreRunLines documents s stopped lines → IsOfTable stopped → Say lines ports → outcome s ports ≡ outcome_at stopped
+    → AreRunLines documents s stopped lines → IsOfTable stopped → Say lines ports → outcome false s ports ≡ outcome_at stopped
 
 -- the bytes that `steps` prints of a schedule's run, read as a port's lines, conform; where the bench alone has the limit the comparison stops
 abbrev pub PrintedStepsConform : Type 0
 PrintedStepsConform =
     (documents : Bool) (s : Program) (stopped : Option (ℕ × Refusal)) (lines : List Line)
     → IsProgram s → AreRunLines documents s stopped lines → IsOfTable stopped
-    → outcome s (counted_lines (lines_of (lines_text lines))) ≡ outcome_at stopped
+    → outcome false s (counted_lines (lines_of (lines_text lines))) ≡ outcome_at stopped
+
+-- some of these lines, in their order
+abbrev pub chosen : List Bool → List Line → List Line
+chosen [] lines = []
+chosen (b ∷ which) [] = []
+chosen (true ∷ which) (line ∷ lines) = line ∷ chosen which lines
+chosen (false ∷ which) (line ∷ lines) = chosen which lines
+
+-- one of them is of where the run ends: of the instruction that is refused, or the end's
+abbrev pub is_last : Line → Bool
+is_last line = is_some line.stopped || is_some line.quiet
+
+abbrev pub has_last : List Line → Bool
+has_last [] = false
+has_last (line ∷ lines) = is_last line || has_last lines
+
+-- what comes of some lines of a run that ends so: that the bench alone has a limit counts only for lines from there on
+abbrev pub outcome_of_chosen : Option (ℕ × Refusal) → List Line → Outcome
+outcome_of_chosen stopped lines = if has_last lines then outcome_at stopped else Conforms
+
+-- a port that prints some of the lines of `steps`, whichever, conforms where lines for some instructions alone are allowed
+abbrev pub ChosenStepsConform : Type 0
+ChosenStepsConform =
+    (documents : Bool) (s : Program) (stopped : Option (ℕ × Refusal)) (lines : List Line) (which : List Bool) (ports : List PortLine)
+    → AreRunLines documents s stopped lines → IsOfTable stopped → Say (chosen which lines) ports
+    → outcome true s ports ≡ outcome_of_chosen stopped (chosen which lines)
+
+-- so do the bytes of some of the lines that `steps` prints
+abbrev pub PrintedChosenStepsConform : Type 0
+PrintedChosenStepsConform =
+    (documents : Bool) (s : Program) (stopped : Option (ℕ × Refusal)) (lines : List Line) (which : List Bool)
+    → IsProgram s → AreRunLines documents s stopped lines → IsOfTable stopped
+    → outcome true s (counted_lines (lines_of (lines_text (chosen which lines)))) ≡ outcome_of_chosen stopped (chosen which lines)
 
 -- the lines of `steps` tell values, so that for them the answer is never that nothing is counted
 abbrev pub StepsAreCounted : Type 0

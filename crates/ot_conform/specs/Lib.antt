@@ -4,6 +4,7 @@ pub mod Read
 pub mod Counted
 pub mod Due
 pub mod Values
+pub mod Passed
 pub mod Differences
 pub mod Answers
 pub mod Alike

@@ -48,6 +48,12 @@ is_opening_line (OtherForm bytes) = false
 is_opening_line NoText = false
 is_opening_line Nothing = false
 
+abbrev pub is_nothing : PortLine → Bool
+is_nothing (Told d) = false
+is_nothing (OtherForm bytes) = false
+is_nothing NoText = false
+is_nothing Nothing = true
+
 -- a line, and those behind it; where there is none, nothing
 abbrev pub front : PortLine → List PortLine → List PortLine
 front (Told d) lines = Told d ∷ lines

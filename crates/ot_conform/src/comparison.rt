@@ -9,6 +9,7 @@ ghost use Rattle.ot_conform.specs.Alike.{IsJudged, StandsFor};
 ghost use Rattle.ot_conform.specs.Counted.{with_port_line};
 ghost use Rattle.ot_conform.specs.Differences.{is_limit};
 ghost use Rattle.ot_conform.specs.Due.{IsOfMachine, due_of, step_due};
+ghost use Rattle.ot_conform.specs.Ports.{is_nothing};
 ghost use Rattle.ot_conform.specs.Read.{given_as, read_as};
 
 use crate::answers::{Difference, differs, left_over};
@@ -16,6 +17,7 @@ use crate::counts::Counts;
 use crate::due::{Due, Step, Stop};
 use crate::lines::{Given, PortLine, is_opening_line, read_line};
 use crate::meeting::meet;
+use crate::passing::{passes_step, passes_stop};
 use crate::same_bytes::printed_form;
 use ot_isa::{Instr, Schedule, Tagged};
 use ot_machine::{Machine, Refusal};
@@ -53,6 +55,8 @@ pub struct Comparison {
     machine: Machine,
     place: usize,
     stage: Stage,
+    // Whether the port has lines for some instructions alone: what a line passes over needs none.
+    sparse: bool,
     counts: Counts,
 }
 
@@ -131,6 +135,16 @@ fn compare_step<'a>(
     compare_given(alloc, counts, line, &Due::Step(step))
 }
 
+// Whether the port has no line.
+fn is_nothing(line: &PortLine<'_>) -> bool
+    ensures { result ≡ is_nothing (read_as line.now) }
+{
+    match line {
+        PortLine::Nothing => true,
+        _ => false,
+    }
+}
+
 // Whether the bench alone has the limit.
 fn is_limit(refusal: Refusal) -> bool
     ensures { result ≡ is_limit refusal }
@@ -144,17 +158,21 @@ fn is_limit(refusal: Refusal) -> bool
 }
 
 impl Comparison {
-    ghost use Rattle.std.specs.Prelude.{◌≡◌, [], List, Err, IfOk, IfSome, IsSome, None, Ok, Some, true, false, slice_get};
-    ghost use Rattle.ot_conform.specs.Differences.{ending, is_limit, over, stopping};
+    ghost use Rattle.std.specs.Prelude.{◌≡◌, ◌+◌, ◌^◌, ◌<◌, ◌≤◌, ◌&&◌, ◌∷◌, [], List, Err, IfOk, IfSome, IsSome, None, Ok, Some, true, false, length, slice_get};
+    ghost use Rattle.ot_machine.specs.Answers.{IsRefusal};
+    ghost use Rattle.ot_model.specs.Table.{step};
+    ghost use Rattle.ot_conform.specs.Differences.{Wanted, ending, is_limit, over};
+    ghost use Rattle.ot_conform.specs.Passed.{passes, passes_step, passes_stop};
     ghost use Rattle.ot_steps.specs.Steps.{is_quiet};
     ghost use Rattle.ot_conform.specs.Due.{end_due, stop_due};
-    ghost use Rattle.ot_conform.specs.Ports.{PortLine as Printed, Nothing, front, is_opening_line, port_line};
+    ghost use Rattle.ot_conform.specs.Ports.{PortLine as Printed, Nothing, front, is_nothing, is_opening_line, port_line};
     ghost use Rattle.ot_conform.specs.Read.{given_as, read_as};
-    ghost use Rattle.ot_conform.specs.Standing.{AgreesAt, Goes, IsStanding, IsVerdict, begun, rest};
+    ghost use Rattle.ot_conform.specs.Standing.{AgreesAt, EndsAt, Goes, IsStanding, IsVerdict, Passes, begun, rest};
 
-    /// A comparison with the schedule's run that stands at its opening; want of memory for the machine.
-    pub fn new(alloc: Global, schedule: &Schedule) -> Result<Comparison, AllocError>
-        ensures { IfOk result (λ c. c ≡ begun schedule.now) }
+    /// A comparison with the schedule's run that stands at its opening; want of memory for the machine. Where it is `sparse`, an instruction
+    /// that a line passes over needs none of its own, and none is missing behind the last one.
+    pub fn new(alloc: Global, schedule: &Schedule, sparse: bool) -> Result<Comparison, AllocError>
+        ensures { IfOk result (λ c. c ≡ begun sparse schedule.now) }
     {
         let clients = schedule.clients();
         let machine = Machine::with_present(alloc, clients, schedule.present(), schedule.start())?;
@@ -162,8 +180,31 @@ impl Comparison {
             machine,
             place: 0,
             stage: Stage::Opening,
+            sparse,
             counts: Counts::none(),
         })
+    }
+
+    // Whether the line passes over that of the instruction at the place.
+    fn passes_next(&self, line: &PortLine<'_>) -> bool
+        requires { self.now.place < 2 ^ 63 }
+        ensures { result ≡ (self.now.sparse && passes_step (self.now.place + 1) (read_as line.now)) }
+    {
+        self.sparse && passes_step(line, self.place + 1)
+    }
+
+    // Whether it passes over that of the instruction at the place, which is refused.
+    fn passes_refused(&self, line: &PortLine<'_>) -> bool
+        ensures { result ≡ (self.now.sparse && passes_stop self.now.place (read_as line.now)) }
+    {
+        self.sparse && passes_stop(line, self.place)
+    }
+
+    // Whether no line is left, and none is needed.
+    fn needs_none(&self, line: &PortLine<'_>) -> bool
+        ensures { result ≡ (self.now.sparse && is_nothing (read_as line.now)) }
+    {
+        self.sparse && is_nothing(line)
     }
 
     // Keeps the counts of a line that agrees.
@@ -205,7 +246,7 @@ impl Comparison {
         line: &PortLine<'_>,
     ) -> Result<Option<Verdict>, AllocError>
         ensures goes { IfOk result (λ v. v ≡ None → AgreesAt (end_due self.old.place (is_quiet self.old.machine)) Stage.Over self.old (read_as line.now) self.new) }
-        ensures decided { IfOk result (λ v. IfSome v (λ verdict. (lines : List Printed) → IsVerdict self.old (read_as line.now) (over self.old.place (ending self.old.place self.old.machine) (front (read_as line.now) lines)) verdict)) }
+        ensures decided { IfOk result (λ v. IfSome v (λ verdict. (lines : List Printed) → IsVerdict self.old (read_as line.now) (over self.old.sparse self.old.place (ending self.old.place self.old.machine) (front (read_as line.now) lines)) verdict)) }
         ensures nothing { IfOk result (λ v. read_as line.now ≡ Nothing → IsSome v) }
     {
         if let PortLine::Nothing = line {
@@ -220,16 +261,64 @@ impl Comparison {
         Ok(self.settle(judged))
     }
 
-    // The line against that of an instruction that was not performed.
+    // The line against that of an instruction that was not performed, which it does not pass over.
     fn take_stop(
         &mut self,
         alloc: Global,
         instr: &Instr,
         refusal: Refusal,
+        line: &PortLine<'_>,
+    ) -> Result<Option<Verdict>, AllocError>
+        requires there { read_as line.now ≡ Nothing → self.old.sparse ≡ false }
+        requires kept { passes self.old.sparse (stop_due self.old.place instr.now refusal) (read_as line.now) ≡ false }
+        ensures goes { IfOk result (λ v. v ≡ None → AgreesAt (stop_due self.old.place instr.now refusal) Stage.Ending self.old (read_as line.now) self.new) }
+        ensures decided { IfOk result (λ v. IfSome v (λ verdict. (lines : List Printed) → IsVerdict self.old (read_as line.now) (over self.old.sparse self.old.place (Wanted (stop_due self.old.place instr.now refusal) ∷ ending self.old.place self.old.machine) (front (read_as line.now) lines)) verdict)) }
+        ensures nothing { IfOk result (λ v. read_as line.now ≡ Nothing → IsSome v) }
+    {
+        self.stage = Stage::Ending;
+        let stop = Stop {
+            at: self.place,
+            instr,
+            refusal,
+        };
+        let judged = compare(alloc, self.counts, line, &Due::Stop(stop))?;
+        Ok(self.settle(judged))
+    }
+
+    // The line against that of an instruction that was not performed, or the end's where it passes over that.
+    fn take_last(
+        &mut self,
+        alloc: Global,
+        instr: &Instr,
+        refusal: Refusal,
+        line: &PortLine<'_>,
+    ) -> Result<Option<Verdict>, AllocError>
+        requires there { read_as line.now ≡ Nothing → self.old.sparse ≡ false }
+        ensures goes { IfOk result (λ v. v ≡ None → EndsAt self.old instr.now refusal (read_as line.now) self.new) }
+        ensures decided { IfOk result (λ v. IfSome v (λ verdict. (lines : List Printed) → IsVerdict self.old (read_as line.now) (over self.old.sparse self.old.place (Wanted (stop_due self.old.place instr.now refusal) ∷ ending self.old.place self.old.machine) (front (read_as line.now) lines)) verdict)) }
+        ensures nothing { IfOk result (λ v. read_as line.now ≡ Nothing → IsSome v) }
+    {
+        if self.passes_refused(line) {
+            return self.take_end(alloc, line);
+        }
+        self.take_stop(alloc, instr, refusal, line)
+    }
+
+    // The line where the instruction at the place was not performed.
+    fn take_refused(
+        &mut self,
+        alloc: Global,
+        schedule: &Schedule,
+        instr: &Instr,
+        refusal: Refusal,
         line: Given<'_, '_>,
     ) -> Result<Option<Verdict>, AllocError>
-        ensures goes { IfOk result (λ v. v ≡ None → (is_limit refusal ≡ false) × AgreesAt (stop_due self.old.place instr.now refusal) Stage.Ending self.old (given_as line.entry) self.new) }
-        ensures decided { IfOk result (λ v. IfSome v (λ verdict. (lines : List Printed) → IsVerdict self.old (given_as line.entry) (over self.old.place (stopping self.old.place self.old.machine instr.now refusal) (front (given_as line.entry) lines)) verdict)) }
+        requires standing { IsStanding schedule.now (record self.old { stage = Stage.Running }) }
+        requires here { slice_get schedule.now.instrs self.old.place ≡ Some instr.now }
+        requires refused { IsRefusal (step self.old.machine instr.now) refusal }
+        requires there { given_as line ≡ Nothing → self.old.sparse ≡ false }
+        ensures goes { IfOk result (λ v. v ≡ None → Goes schedule.now (record self.old { stage = Stage.Running }) (given_as line.entry) self.new) }
+        ensures decided { IfOk result (λ v. IfSome v (λ verdict. (lines : List Printed) → IsVerdict self.old (given_as line.entry) (rest schedule.now (record self.old { stage = Stage.Running }) (front (given_as line.entry) lines)) verdict)) }
         ensures nothing { IfOk result (λ v. given_as line.entry ≡ Nothing → IsSome v) }
     {
         if is_limit(refusal) {
@@ -238,17 +327,16 @@ impl Comparison {
                 refusal,
             }));
         }
-        self.stage = Stage::Ending;
-        let stop = Stop {
-            at: self.place,
-            instr,
-            refusal,
-        };
-        let judged = compare_given(alloc, self.counts, line, &Due::Stop(stop))?;
-        Ok(self.settle(judged))
+        match line {
+            Given::Bytes(bytes) => {
+                let line = read_line(alloc, bytes)?;
+                self.take_last(alloc, instr, refusal, &line)
+            }
+            Given::Read(line) => self.take_last(alloc, instr, refusal, line),
+        }
     }
 
-    // The line against that of the instruction at the place.
+    // The line against that of the instruction at the place, which it does not pass over.
     fn take_step(
         &mut self,
         alloc: Global,
@@ -258,6 +346,8 @@ impl Comparison {
     ) -> Result<Option<Verdict>, AllocError>
         requires standing { IsStanding schedule.now (record self.old { stage = Stage.Running }) }
         requires here { slice_get schedule.now.instrs self.old.place ≡ Some instr.now }
+        requires there { given_as line ≡ Nothing → self.old.sparse ≡ false }
+        requires kept { (self.old.sparse && passes_step (self.old.place + 1) (given_as line)) ≡ false }
         ensures goes { IfOk result (λ v. v ≡ None → Goes schedule.now (record self.old { stage = Stage.Running }) (given_as line.entry) self.new) }
         ensures decided { IfOk result (λ v. IfSome v (λ verdict. (lines : List Printed) → IsVerdict self.old (given_as line.entry) (rest schedule.now (record self.old { stage = Stage.Running }) (front (given_as line.entry) lines)) verdict)) }
         ensures nothing { IfOk result (λ v. given_as line.entry ≡ Nothing → IsSome v) }
@@ -267,7 +357,7 @@ impl Comparison {
         let sent = sends(&self.machine, instr);
         let applied = match perform(&mut self.machine, instr) {
             Ok(applied) => applied,
-            Err(refusal) => return self.take_stop(alloc, instr, refusal, line),
+            Err(refusal) => return self.take_refused(alloc, schedule, instr, refusal, line),
         };
         self.stage = Stage::Running;
         self.place += 1;
@@ -285,14 +375,37 @@ impl Comparison {
         Ok(self.settle(judged))
     }
 
-    // The line against that of the instruction at the place, or the end's.
-    fn take_running(
+    // Performs the instructions at the place that the line passes over, up to one that is refused, and says why.
+    fn pass_over(&mut self, schedule: &Schedule, line: &PortLine<'_>) -> Option<Refusal>
+        requires standing { IsStanding schedule.now (record self.old { stage = Stage.Running }) }
+        ensures passes { Passes schedule.now (record self.old { stage = Stage.Running }) (read_as line.now) (record self.new { stage = Stage.Running }) }
+        ensures kept { result ≡ None → (self.new.sparse && passes_step (self.new.place + 1) (read_as line.now)) ≡ true → length schedule.now.instrs ≤ self.new.place }
+        ensures refused { IfSome result (λ refusal. (instr : Instr) × (slice_get schedule.now.instrs self.new.place ≡ Some instr) × IsRefusal (step self.new.machine instr) refusal) }
+    {
+        // For the proof: what every schedule keeps.
+        let _clients = schedule.clients();
+        while let Some(instr) = schedule.get(self.place) {
+            if !self.passes_next(line) {
+                return None;
+            }
+            if let Err(refusal) = perform(&mut self.machine, instr) {
+                return Some(refusal);
+            }
+            self.place += 1;
+        }
+        None
+    }
+
+    // The line against that of the instruction at the place, which it does not pass over, or the end's.
+    fn take_next(
         &mut self,
         alloc: Global,
         schedule: &Schedule,
         line: &PortLine<'_>,
     ) -> Result<Option<Verdict>, AllocError>
-        requires { IsStanding schedule.now (record self.old { stage = Stage.Running }) }
+        requires standing { IsStanding schedule.now (record self.old { stage = Stage.Running }) }
+        requires there { read_as line.now ≡ Nothing → self.old.sparse ≡ false }
+        requires kept { (self.old.sparse && passes_step (self.old.place + 1) (read_as line.now)) ≡ true → length schedule.now.instrs ≤ self.old.place }
         ensures goes { IfOk result (λ v. v ≡ None → Goes schedule.now (record self.old { stage = Stage.Running }) (read_as line.now) self.new) }
         ensures decided { IfOk result (λ v. IfSome v (λ verdict. (lines : List Printed) → IsVerdict self.old (read_as line.now) (rest schedule.now (record self.old { stage = Stage.Running }) (front (read_as line.now) lines)) verdict)) }
         ensures nothing { IfOk result (λ v. read_as line.now ≡ Nothing → IsSome v) }
@@ -306,9 +419,31 @@ impl Comparison {
         self.take_step(alloc, schedule, instr, Given::Read(line))
     }
 
+    // The line against that of the first instruction from the place on which it does not pass over, or the end's.
+    fn take_running(
+        &mut self,
+        alloc: Global,
+        schedule: &Schedule,
+        line: &PortLine<'_>,
+    ) -> Result<Option<Verdict>, AllocError>
+        requires standing { IsStanding schedule.now (record self.old { stage = Stage.Running }) }
+        requires there { read_as line.now ≡ Nothing → self.old.sparse ≡ false }
+        ensures goes { IfOk result (λ v. v ≡ None → Goes schedule.now (record self.old { stage = Stage.Running }) (read_as line.now) self.new) }
+        ensures decided { IfOk result (λ v. IfSome v (λ verdict. (lines : List Printed) → IsVerdict self.old (read_as line.now) (rest schedule.now (record self.old { stage = Stage.Running }) (front (read_as line.now) lines)) verdict)) }
+        ensures nothing { IfOk result (λ v. read_as line.now ≡ Nothing → IsSome v) }
+    {
+        let Some(refusal) = self.pass_over(schedule, line) else {
+            return self.take_next(alloc, schedule, line);
+        };
+        let Some(instr) = schedule.get(self.place) else {
+            unreachable!()
+        };
+        self.take_refused(alloc, schedule, instr, refusal, Given::Read(line))
+    }
+
     // Behind the end no line is due.
     fn take_behind(&self, alloc: Global, line: &PortLine<'_>) -> Result<Verdict, AllocError>
-        ensures { IfOk result (λ verdict. (lines : List Printed) → IsVerdict self.now (read_as line.now) (over self.now.place [] (front (read_as line.now) lines)) verdict) }
+        ensures { IfOk result (λ verdict. (lines : List Printed) → IsVerdict self.now (read_as line.now) (over self.now.sparse self.now.place [] (front (read_as line.now) lines)) verdict) }
     {
         if let PortLine::Nothing = line {
             return Ok(Verdict::Conforms(self.counts));
@@ -316,15 +451,15 @@ impl Comparison {
         Ok(Verdict::Differs(left_over(alloc, self.place, line)?))
     }
 
-    /// Compares the next line of the port, or that it has none left, and says what comes of it, where that is decided. After want of
-    /// memory the comparison is of no use.
-    pub fn take(
+    // The line against the one that is due.
+    fn take_due(
         &mut self,
         alloc: Global,
         schedule: &Schedule,
         line: &PortLine<'_>,
     ) -> Result<Option<Verdict>, AllocError>
-        requires { IsStanding schedule.now self.old }
+        requires standing { IsStanding schedule.now self.old }
+        requires there { read_as line.now ≡ Nothing → self.old.sparse ≡ false }
         ensures goes { IfOk result (λ v. v ≡ None → Goes schedule.now self.old (read_as line.now) self.new) }
         ensures decided { IfOk result (λ v. IfSome v (λ verdict. (lines : List Printed) → IsVerdict self.old (read_as line.now) (rest schedule.now self.old (front (read_as line.now) lines)) verdict)) }
         ensures nothing { IfOk result (λ v. read_as line.now ≡ Nothing → IsSome v) }
@@ -342,6 +477,25 @@ impl Comparison {
         }
     }
 
+    /// Compares the next line of the port, or that it has none left, and says what comes of it, where that is decided. After want of
+    /// memory the comparison is of no use.
+    pub fn take(
+        &mut self,
+        alloc: Global,
+        schedule: &Schedule,
+        line: &PortLine<'_>,
+    ) -> Result<Option<Verdict>, AllocError>
+        requires { IsStanding schedule.now self.old }
+        ensures goes { IfOk result (λ v. v ≡ None → Goes schedule.now self.old (read_as line.now) self.new) }
+        ensures decided { IfOk result (λ v. IfSome v (λ verdict. (lines : List Printed) → IsVerdict self.old (read_as line.now) (rest schedule.now self.old (front (read_as line.now) lines)) verdict)) }
+        ensures nothing { IfOk result (λ v. read_as line.now ≡ Nothing → IsSome v) }
+    {
+        if self.needs_none(line) {
+            return Ok(Some(Verdict::Conforms(self.counts)));
+        }
+        self.take_due(alloc, schedule, line)
+    }
+
     /// The same of the bytes of the port's next counted line, which are read only where they are not those of the line that `steps` prints
     /// of the instruction at the place.
     pub fn take_bytes(
@@ -355,7 +509,7 @@ impl Comparison {
         ensures decided { IfOk result (λ v. IfSome v (λ verdict. (lines : List Printed) → IsVerdict self.old (port_line bytes.now) (rest schedule.now self.old (front (port_line bytes.now) lines)) verdict)) }
     {
         match (self.stage, schedule.get(self.place)) {
-            (Stage::Running, Some(instr)) => {
+            (Stage::Running, Some(instr)) if !self.sparse => {
                 self.take_step(alloc, schedule, instr, Given::Bytes(bytes))
             }
             _ => {

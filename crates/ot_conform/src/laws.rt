@@ -1,6 +1,6 @@
 //! What comes of every run's own lines, as the contracts of functions that do nothing.
 
-ghost use Rattle.ot_conform.specs.Laws.{PlacesAreNotCounted, PrintedStepsConform, StepsAreCounted, StepsConform};
+ghost use Rattle.ot_conform.specs.Laws.{ChosenStepsConform, PlacesAreNotCounted, PrintedChosenStepsConform, PrintedStepsConform, StepsAreCounted, StepsConform};
 
 /// A port whose lines say what the lines of `steps` say of a schedule's run, with or without documents, conforms; where the run is
 /// refused for a limit of the bench alone, the comparison stops there.
@@ -12,6 +12,17 @@ pub fn steps_conform()
 /// conforms.
 pub fn printed_steps_conform()
     ensures { PrintedStepsConform }
+{}
+
+/// A port whose lines say what some of those lines say, whichever, conforms where lines for some instructions alone are allowed. A limit of
+/// the bench counts only where one of them is of where the run ends.
+pub fn chosen_steps_conform()
+    ensures { ChosenStepsConform }
+{}
+
+/// The same of printed bytes: any selection of the lines that `steps` prints of a schedule's run conforms.
+pub fn printed_chosen_steps_conform()
+    ensures { PrintedChosenStepsConform }
 {}
 
 /// A port whose lines say what the lines of `steps` say is never told that nothing is counted.

@@ -15,11 +15,14 @@
 //! - *Lines of `steps`* (`specs/Alike.antt`): where the port's bytes are those of the line that `steps` prints of an instruction, nothing is read
 //!   as JSON. That the answer is the same then is proved of each such line (`step_stands` in proofs/Alike.antt).
 //! - *The first difference* (`specs/Differences.antt`): `field_of` of one line, `outcome` of all.
+//! - *Lines for some instructions* (`specs/Passed.antt`): a sparse comparison passes over what is due until a line's place; each line that is
+//!   there is compared as ever.
 //! - *The answer* (`specs/Answers.antt`, `specs/Counted.antt`): every byte of it, but the digits of a port's floats.
 //! - *The rule of ot.js* (`specs/Ruled.antt`): behind a difference at an instruction stands what `ot_rules` says of it: the method of ot.js that
 //!   makes the value, what that is given, and the first note that is true of what was found.
 //! - *Laws* (`specs/Laws.antt`): [`steps_conform`], that a port with the lines of `steps` conforms, and [`printed_steps_conform`], the same of
-//!   the bytes that `steps` prints. [`steps_are_counted`] and [`places_are_not_counted`]: those lines are never said to show nothing, and
+//!   the bytes that `steps` prints; [`chosen_steps_conform`] and [`printed_chosen_steps_conform`], the same of any selection of those lines
+//!   where the comparison is sparse. [`steps_are_counted`] and [`places_are_not_counted`]: those lines are never said to show nothing, and
 //!   lines with places alone always are.
 //! - *A comparison under way* (`specs/Standing.antt`, `specs/Compared.antt`): [`Comparison`] is a machine that goes along; no run is kept
 //!   whole, so memory is bounded by a line. [`compare_lines`] compares the lines of a reader as they come.
@@ -36,6 +39,7 @@ mod keys;
 mod laws;
 mod lines;
 mod meeting;
+mod passing;
 mod printing;
 mod reading;
 mod ruling;
@@ -47,7 +51,10 @@ pub use comparison::{Comparison, Stage, Verdict};
 pub use counts::Counts;
 pub use due::{Due, Step, Stop};
 pub use keys::{KEYS, Key, found, key_text};
-pub use laws::{places_are_not_counted, printed_steps_conform, steps_are_counted, steps_conform};
+pub use laws::{
+    chosen_steps_conform, places_are_not_counted, printed_chosen_steps_conform,
+    printed_steps_conform, steps_are_counted, steps_conform,
+};
 pub use lines::{PortLine, is_opening_line, read_line};
 pub use meeting::{Field, meet};
 pub use printing::print_verdict;

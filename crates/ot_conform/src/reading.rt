@@ -1,11 +1,11 @@
 //! A comparison over the lines of a reader.
 
-ghost use Rattle.std.specs.Prelude.{◌≡◌, ◌∷◌, [], ℕ, IfErr, IfOk, IfSome, List, None};
+ghost use Rattle.std.specs.Prelude.{◌≡◌, ◌∷◌, [], ℕ, false, IfErr, IfOk, IfSome, List, None};
 ghost use Rattle.line_reader.specs.Lines.{lines_of};
 ghost use Rattle.line_reader.specs.Taken.{before};
 ghost use Rattle.ot_conform.specs.Compared.{IsVerdictOf, Leads, StopsBehind};
 ghost use Rattle.ot_asm.specs.Words.{trimmed};
-ghost use Rattle.ot_conform.specs.Ports.{Nothing, counted_lines, port_line};
+ghost use Rattle.ot_conform.specs.Ports.{Nothing, counted_lines, is_empty, port_line};
 ghost use Rattle.ot_conform.specs.Standing.{IsStanding, IsVerdict, rest};
 
 use crate::comparison::{Comparison, Verdict};
@@ -33,7 +33,7 @@ fn take_bytes(
 ) -> Result<Option<Verdict>, AllocError>
     requires { IsStanding schedule.now comparison.old }
     ensures goes { IfOk result (λ v. v ≡ None → Leads schedule.now comparison.old (counted_lines (line.now ∷ [])) comparison.new) }
-    ensures decided { IfOk result (λ v. IfSome v (λ verdict. (lines : List (List ℕ)) → IsVerdict comparison.old (port_line (trimmed line.now)) (rest schedule.now comparison.old (counted_lines (line.now ∷ lines))) verdict)) }
+    ensures decided { IfOk result (λ v. IfSome v (λ verdict. (is_empty (trimmed line.now) ≡ false) × ((lines : List (List ℕ)) → IsVerdict comparison.old (port_line (trimmed line.now)) (rest schedule.now comparison.old (counted_lines (line.now ∷ lines))) verdict))) }
 {
     let text = trimmed(line);
     if text.is_empty() {
@@ -60,19 +60,20 @@ fn finish(
 }
 
 /// Compares the lines that `ahead` and the reader have left with the schedule's run, as they come, and says what comes of it: what stands
-/// behind the first difference is not read. `earlier` lines stand before these; the number of a line where the comparison stops counts
+/// behind the first difference is not read. Where it is `sparse`, instructions without a line are passed over. `earlier` lines stand before these; the number of a line where the comparison stops counts
 /// them too.
 pub fn compare_lines<R: Read>(
     alloc: Global,
     schedule: &Schedule,
+    sparse: bool,
     ahead: &mut ReadAhead,
     reader: &mut R,
     earlier: u64,
 ) -> Result<Verdict, CompareStop>
-    ensures ok { IfOk result (λ verdict. IfSome (before ahead.old (R.remaining reader.old)) (λ text. IsVerdictOf schedule.now (counted_lines (lines_of text)) verdict)) }
-    ensures err { IfErr result (λ stop. IfSome (before ahead.old (R.remaining reader.old)) (λ text. StopsBehind schedule.now stop earlier (lines_of text))) }
+    ensures ok { IfOk result (λ verdict. IfSome (before ahead.old (R.remaining reader.old)) (λ text. IsVerdictOf sparse schedule.now (counted_lines (lines_of text)) verdict)) }
+    ensures err { IfErr result (λ stop. IfSome (before ahead.old (R.remaining reader.old)) (λ text. StopsBehind sparse schedule.now stop earlier (lines_of text))) }
 {
-    let Ok(mut comparison) = Comparison::new(alloc, schedule) else {
+    let Ok(mut comparison) = Comparison::new(alloc, schedule, sparse) else {
         return Err(CompareStop::Memory(earlier.saturating_add(1)));
     };
     // For the proof: what every reader keeps.

@@ -86,15 +86,16 @@ fn write_verdict<O: Sink, F: Write>(
 fn judge<I: Read, O: Sink, F: Write>(
     alloc: Global,
     schedule: &Schedule,
+    sparse: bool,
     earlier: u64,
     ahead: &mut ReadAhead,
     input: &mut I,
     output: &mut O,
     faults: &mut F,
 ) -> u8
-    ensures { IfSome (before ahead.old (I.remaining input.old)) (λ rest. MayJudge schedule.now (lines_of rest) earlier result (record { output = O.contents output.old; output' = O.contents output.new; broken = O.failed output.new; faults = F.contents faults.old; faults' = F.contents faults.new })) }
+    ensures { IfSome (before ahead.old (I.remaining input.old)) (λ rest. MayJudge sparse schedule.now (lines_of rest) earlier result (record { output = O.contents output.old; output' = O.contents output.new; broken = O.failed output.new; faults = F.contents faults.old; faults' = F.contents faults.new })) }
 {
-    match compare_lines(alloc, schedule, ahead, input, earlier) {
+    match compare_lines(alloc, schedule, sparse, ahead, input, earlier) {
         Ok(verdict) => write_verdict(alloc, schedule, &verdict, output, faults),
         Err(stop) => {
             complain_of_stop(alloc, stop, faults);
@@ -104,19 +105,22 @@ fn judge<I: Read, O: Sink, F: Write>(
 }
 
 /// Reads a schedule's lines as far as the first line `%%`, compares the port's lines behind it with the schedule's run as they come, writes
-/// the answer, and gives the status: 0 where the port conforms; 1 where it differs, where no value is counted, where nothing can be compared for a limit of the
+/// the answer, and gives the status. Where it is `sparse`, instructions without a line are passed over. The status is 0 where the port conforms; 1 where it differs, where no value is counted, where nothing can be compared for a limit of the
 /// bench, for a refused schedule, and for a fault of reading, writing or memory.
 pub fn run_conform<I: Read, O: Sink, F: Write>(
     alloc: Global,
+    sparse: bool,
     input: &mut I,
     output: &mut O,
     faults: &mut F,
 ) -> u8
-    ensures { IfSome (I.remaining input.old) (λ text. Compares text result (record { output = O.contents output.old; output' = O.contents output.new; broken = O.failed output.new; faults = F.contents faults.old; faults' = F.contents faults.new })) }
+    ensures { IfSome (I.remaining input.old) (λ text. Compares sparse text result (record { output = O.contents output.old; output' = O.contents output.new; broken = O.failed output.new; faults = F.contents faults.old; faults' = F.contents faults.new })) }
 {
     let mut ahead = ReadAhead::new();
     match assemble_until_mark(alloc, &mut ahead, input) {
-        Ok((schedule, taken)) => judge(alloc, &schedule, taken, &mut ahead, input, output, faults),
+        Ok((schedule, taken)) => judge(
+            alloc, &schedule, sparse, taken, &mut ahead, input, output, faults,
+        ),
         Err(fault) => {
             complain_of_line(alloc, fault, faults);
             1

@@ -1,6 +1,6 @@
 //! What the debugger is told, and what it answers.
 
-use ot_machine::{Refusal, Snapshot};
+use ot_machine::{Refusal, State};
 
 /// What a watch looks at. Clients are numbered from 0.
 #[derive(Clone, Copy, Debug, PartialEq, Eq)]
@@ -64,7 +64,7 @@ pub enum Reply {
     /// The place.
     Place(usize),
     /// The state.
-    Shown(Snapshot),
+    Shown(State),
     /// Past the schedule's end (`Break`), or without a break (`Clear`).
     NoSuchPlace,
     /// The watch names a client that is not there.

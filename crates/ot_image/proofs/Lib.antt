@@ -11,3 +11,4 @@ pub mod Images
 pub mod Written
 pub mod Examples
 pub mod Past
+pub mod Faults

@@ -33,8 +33,10 @@
 //! is reserved by a count alone.
 //!
 //! The definitions of the contracts: `specs/Spelling.antt` (`bytes1`, `bytes2`, `IsImageOf`: the bytes of a schedule, one
-//! field after the other) and `specs/Reading.antt` (`image_of`: the same from left to right, with the first fault). Begin
-//! reading at `loading.rt`, from its end.
+//! field after the other), `specs/Reading.antt` (`image_of`: the same from left to right, with the first fault) and
+//! `specs/Layout.antt` (`fault_of`: the first fault again, from the fields alone: how wide each is, which values are allowed,
+//! and what comes after it). That the two faults are one is a law, `faults_agree`. Begin reading at `loading.rt`, from its
+//! end.
 #![tactic(auto)]
 
 mod edits;
@@ -45,5 +47,5 @@ mod spot;
 mod writing;
 
 pub use fault::{ImageFault, Kind};
-pub use loading::{images_differ, load};
+pub use loading::{faults_agree, images_differ, load};
 pub use writing::encode;

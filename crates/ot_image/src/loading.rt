@@ -1,9 +1,10 @@
 //! Reading an image: instructions, the head, and the whole.
 
-ghost use Rattle.std.specs.Prelude.{◌≡◌, ◌≤◌, ◌<◌, ◌⊎◌, ◌+◌, [], length, OnOk, IsOk, IfOk, IfErr, Ok, Err, Some};
+ghost use Rattle.std.specs.Prelude.{◌≡◌, ◌≤◌, ◌<◌, ◌⊎◌, ◌+◌, [], length, OnOk, IsOk, IfOk, IfErr, IfSome, Ok, Err, Some, None};
 ghost use Rattle.ot_isa.specs.Program.{Program, client_of, IsForClients, IsProgram};
 ghost use Rattle.ot_image.specs.Reading.{IsRead, Gives, Loads, times, named_at, instr_at, push_instr, head_at, program_at, image_at, image_of, plain_instr, IsWant};
 ghost use Rattle.ot_image.specs.Spelling.{IsImageOf, ImagesDiffer};
+ghost use Rattle.ot_image.specs.Layout.{fault_of, FaultsAgree};
 ghost use Rattle.ot_image.specs.Views.{seen};
 ghost use Rattle.ot_isa.specs.declared.builder.TheConstants.{INSTR_LIMIT};
 
@@ -174,6 +175,9 @@ pub fn load(alloc: Global, bytes: &[u8]) -> Result<Schedule, ImageFault>
     ensures only { (p : Program) → IsImageOf bytes.now p → IfOk result (λ s. s ≡ p) × IfErr result (λ f. f.kind ≡ Kind.Memory) }
     // Which fault it is; or memory ran out, at a field before it.
     ensures fault { IfErr result (λ f. (image_of bytes.now ≡ Err f) ⊎ IsWant bytes.now f) }
+    // The same in the format's words: the fault of the first field that is cut, or whose value is not allowed.
+    ensures field { IfErr result (λ f. (fault_of bytes.now ≡ Some f) ⊎ ((f.kind ≡ Kind.Memory) × IfSome (fault_of bytes.now) (λ g. f.at < g.at))) }
+    ensures no_field { IfOk result (λ _s. fault_of bytes.now ≡ None) }
 {
     loaded(alloc, bytes)
 }
@@ -181,4 +185,9 @@ pub fn load(alloc: Global, bytes: &[u8]) -> Result<Schedule, ImageFault>
 /// No image is a proper front of another, and different schedules have different images.
 pub fn images_differ()
     ensures { ImagesDiffer }
+{}
+
+/// Of all bytes, the loader's fault is that of the first field from the left that is cut, or whose value is not allowed.
+pub fn faults_agree()
+    ensures { FaultsAgree }
 {}

@@ -28,24 +28,24 @@ pub struct Layout<'a> {
     pub events: &'a [Value],
 }
 
-// The number under a key.
-fn number_at(value: &Value, key: &str) -> Option<usize>
+/// The number under a key.
+pub fn number_at(value: &Value, key: &str) -> Option<usize>
     ensures { result ≡ number_at key.now (view value.now) }
 {
     let n = value.get(key)?.as_u64()?;
     Some(n as usize)
 }
 
-// The items of the array under a key.
-fn items_at<'a>(value: &'a Value, key: &str) -> Option<&'a [Value]>
+/// The items of the array under a key.
+pub fn items_at<'a>(value: &'a Value, key: &str) -> Option<&'a [Value]>
     ensures { option_map (λ s. items_view s.now) result ≡ items_at key.now (view value.now) }
 {
     let items = value.get(key)?.as_array()?;
     Some(items.as_slice())
 }
 
-// The items of the array under a key, or none where the key is missing.
-fn items_or_none<'a>(value: &'a Value, key: &str) -> Option<&'a [Value]>
+/// The items of the array under a key, or none where the key is missing.
+pub fn items_or_none<'a>(value: &'a Value, key: &str) -> Option<&'a [Value]>
     ensures { option_map (λ s. items_view s.now) result ≡ items_or_none (get key.now (view value.now)) }
 {
     match value.get(key) {
@@ -57,8 +57,8 @@ fn items_or_none<'a>(value: &'a Value, key: &str) -> Option<&'a [Value]>
     }
 }
 
-// Whether an event is an edit.
-fn kind_of(value: &Value) -> Option<bool>
+/// Whether an event is an edit.
+pub fn kind_of(value: &Value) -> Option<bool>
     ensures { result ≡ kind_of (view value.now) }
 {
     let word = value.get("kind")?.as_str()?;

@@ -19,7 +19,7 @@
 //! deleted, each element once; each inserted element stands at its place; and no two elements stand in one order in
 //! one list and in the other order in another. No order of all elements is asked for.
 //!
-//! `read_trace` reads a trace from JSON, `Trace::new` makes one from its parts (`Trace::from_parts` where they are known
+//! `read_trace` reads a trace from JSON, by the pieces of `layout` and `value`; `Trace::new` makes one from its parts (`Trace::from_parts` where they are known
 //! to be one), and `judge` decides the property or names the first fault. Its answer is exact. It is fast because it
 //! confirms each event from the last one of its replica and from what it newly knows (`confirm.rt`), because it notes once who
 //! deletes each element (`elements.rt`), and because it gives elements places that rise along the lists (`graph.rt`) and checks them.
@@ -39,7 +39,7 @@ mod elements;
 mod falls;
 mod fault;
 mod graph;
-mod layout;
+pub mod layout;
 mod news;
 mod order;
 mod ranks;
@@ -48,13 +48,13 @@ mod search;
 mod seats;
 mod seed;
 mod trace;
-mod value;
+pub mod value;
 mod verdict;
 mod visibility;
 
 pub use decide::judge;
 pub use fault::TraceFault;
 pub use ot_model::Placed;
-pub use reading::read_trace;
+pub use reading::{read_trace, trace_of};
 pub use trace::{Event, MOST_ENTRIES, MOST_EVENTS, Trace};
 pub use verdict::Verdict;

@@ -138,8 +138,8 @@ fn trace_from(alloc: Global, x: &Layout<'_>) -> Result<Trace, TraceFault>
     }
 }
 
-// The trace that a value spells, or its first fault; `Memory` only where the shape and the size are right.
-fn trace_of(alloc: Global, value: &Value) -> Result<Trace, TraceFault>
+/// The trace that a value spells, or its first fault; `NotJson` never comes, and `Memory` only where the shape and the size are right.
+pub fn trace_of(alloc: Global, value: &Value) -> Result<Trace, TraceFault>
     ensures ok { IfOk result (λ t. trace_of_shape (shape_of (view value.now)) ≡ Ok t) }
     ensures err { IfErr result (λ e. (e ≡ TraceFault.Memory) ⊎ (trace_of_shape (shape_of (view value.now)) ≡ Err e)) }
     ensures memory { IfErr result (λ e. e ≡ TraceFault.Memory → IsSomeAnd (shape_of (view value.now)) IsSized) }

@@ -9,8 +9,8 @@ use ot_model::Placed;
 use serde_json::Value;
 use std::alloc::{AllocError, Global};
 
-// A whole number from 0 to `most`.
-fn number_to(value: &Value, most: u64) -> Option<u64>
+/// A whole number from 0 to `most`.
+pub fn number_to(value: &Value, most: u64) -> Option<u64>
     ensures { result ≡ number_to most (view value.now) }
 {
     match value.as_u64() {

@@ -14,7 +14,7 @@ use Rattle.ot_model.specs.Orders.{AreSameShown, awaits}
 use Rattle.ot_model.specs.OrderLaws.{IsTooEarly}
 use Rattle.ot_model.proofs.Reordering.{any_order_runs}
 use Rattle.ot_model.proofs.Runs.{reaches, performed-append, performed-length}
-use Rattle.ot_machine.specs.declared.outcome.Replay.{Replay}
+use Rattle.ot_machine.specs.declared.outcome.Run.{Run}
 use Rattle.ot_machine.specs.Ended.{IsStop, IsStopAt, IsRefusedIn, IsRun, reached}
 use Rattle.ot_machine.specs.Orders.{AreReordered, IsWhole, EndAlike, StopsEarly, IsBeside}
 use Rattle.ot_machine.proofs.RunLaws.{instrs_are}
@@ -113,7 +113,7 @@ unfolding refusal_or
 same_refusal o r early at = ap (refusal_or r) (sym at ∙ early)
 
 -- a stop for any reason but memory is the table's, so that it is the early instruction's
-stopped_early : (t : Program) (other : Replay) (place : ℕ) (r : Refusal) → StopsEarly t → place_at t place ≡ Some (record { state = other.machine; shown = other.shown.items })
+stopped_early : (t : Program) (other : Run) (place : ℕ) (r : Refusal) → StopsEarly t → place_at t place ≡ Some (record { state = other.machine; shown = other.shown.items })
     → (place ≡ done t) × IsRefusedIn t other.machine place r → r ≡ LinkEmpty
 stopped_early t other place r stop at (there, (i, next, refused)) =
     let here : Place = record { state = other.machine; shown = other.shown.items } in
@@ -140,7 +140,7 @@ by_reason P t state place Memory stop table memory = memory
 whole_of : (s t : Program) → EndAlike s t → IsWhole t
 whole_of s t alike = let all = (reaches t (length t.instrs) (omega arith)).1 (subst IsSome (sym alike.at_other) refl) in let most = performed-length t.instrs (opening_of t) in omega (arith, all, most)
 
-beside_alike : (s t : Program) (one other : Replay) → EndAlike s t → place_at s (length s.instrs) ≡ Some (record { state = one.machine; shown = one.shown.items })
+beside_alike : (s t : Program) (one other : Run) → EndAlike s t → place_at s (length s.instrs) ≡ Some (record { state = one.machine; shown = one.shown.items })
     → (stop : Option (ℕ × Refusal)) → place_at t (reached t stop) ≡ Some (record { state = other.machine; shown = other.shown.items }) → IsStop t other.machine stop → IsBeside one other stop
 beside_alike s t one other alike at_one None at_other is =
     same_run (place_at s (length s.instrs)) (record { state = one.machine; shown = one.shown.items }) (record { state = other.machine; shown = other.shown.items }) alike.one alike.other
@@ -150,7 +150,7 @@ beside_alike s t one other alike at_one (Some (place, r)) at_other is =
     (λ x stop. absurd (stopped_whole t other.machine place x (whole_of s t alike) stop))
     (inr refl)
 
-beside_early : (t : Program) (one other : Replay) → StopsEarly t
+beside_early : (t : Program) (one other : Run) → StopsEarly t
     → (stop : Option (ℕ × Refusal)) → place_at t (reached t stop) ≡ Some (record { state = other.machine; shown = other.shown.items }) → IsStop t other.machine stop → IsBeside one other stop
 beside_early t one other early None at_other is = absurd (let within = slice_get_within t.instrs (done t) early.early early.next in omega (arith, within, is))
 beside_early t one other early (Some (place, r)) at_other is =
@@ -158,7 +158,7 @@ beside_early t one other early (Some (place, r)) at_other is =
     (λ x stop. inl (stopped_early t other place x early at_other stop))
     (inr refl)
 
-pub beside : (s t : Program) (one other : Replay) → IsProgram s → AreReordered s t → IsRun s one → IsRun t other → one.stopped ≡ None → IsBeside one other other.stopped
+pub beside : (s t : Program) (one other : Run) → IsProgram s → AreReordered s t → IsRun s one → IsRun t other → one.stopped ≡ None → IsBeside one other other.stopped
 beside s t one other is same first second none =
     let whole : length s.instrs ≡ done s = subst (IsStop s one.machine) none first.stop in
     let at_one = subst (λ (stop : Option (ℕ × Refusal)). place_at s (reached s stop) ≡ Some (record { state = one.machine; shown = one.shown.items })) none first.at in

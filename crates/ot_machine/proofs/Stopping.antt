@@ -11,7 +11,7 @@ use Rattle.ot_model.specs.Table.{State, Place, Outcome, Performed, Refused, NoRo
 use Rattle.ot_model.proofs.States.{drop_entry, take_entry}
 use Rattle.ot_model.specs.Runs.{done, place_at, opening_of}
 use Rattle.ot_machine.specs.Answers.{IsPerformed, IsRefusal}
-use Rattle.ot_machine.specs.declared.outcome.Replay.{Replay}
+use Rattle.ot_machine.specs.declared.outcome.Run.{Run}
 use Rattle.ot_machine.specs.Ended.{IsStopAt, IsRun}
 use Rattle.ot_model.proofs.Runs.{run-append, performed-append}
 
@@ -79,7 +79,7 @@ whole s p q le ge here =
         omega (arith, many, none)
 
 pub stopped_run :
-    (s : Program) (p : ℕ) (q : Place) (i : Instr) (r : Refusal) (ended : Replay)
+    (s : Program) (p : ℕ) (q : Place) (i : Instr) (r : Refusal) (ended : Run)
     → place_at s p ≡ Some q → slice_get s.instrs p ≡ Some i → IsRefusal (step q.state i) r
     → ended.machine ≡ q.state → ended.shown.items ≡ q.shown → ended.stopped ≡ Some (p, r) → IsRun s ended
 stopped_run s p q i r ended here at refused machine shown stopped =
@@ -89,7 +89,7 @@ stopped_run s p q i r ended here at refused machine shown stopped =
     }
 
 pub whole_run :
-    (s : Program) (p : ℕ) (q : Place) (ended : Replay) → length s.instrs ≤ p → p ≤ length s.instrs → place_at s p ≡ Some q
+    (s : Program) (p : ℕ) (q : Place) (ended : Run) → length s.instrs ≤ p → p ≤ length s.instrs → place_at s p ≡ Some q
     → ended.machine ≡ q.state → ended.shown.items ≡ q.shown → ended.stopped ≡ None → IsRun s ended
 whole_run s p q ended le ge here machine shown stopped =
     let fact = whole s p q le ge here in

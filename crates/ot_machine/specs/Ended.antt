@@ -7,7 +7,7 @@ use Rattle.ot_model.specs.declared.shown.Refusal.TheVariants.{Memory}
 use Rattle.ot_model.specs.declared.shown.Shown.{Shown}
 use Rattle.ot_model.specs.Table.{State, step, Refused}
 use Rattle.ot_machine.specs.declared.outcome.Ending.{Ending}
-use Rattle.ot_machine.specs.declared.outcome.Replay.{Replay}
+use Rattle.ot_machine.specs.declared.outcome.Run.{Run}
 use Rattle.ot_model.specs.Runs.{done, place_at}
 
 -- how many instructions were performed
@@ -30,7 +30,7 @@ IsStop s state None = length s.instrs ≡ done s
 IsStop s state (Some stop) = IsStopAt s state stop.0 stop.1
 
 -- the run of the schedule, as far as it went
-pub record IsRun (s : Program) (run : Replay) : Type 0 where
+pub record IsRun (s : Program) (run : Run) : Type 0 where
   pub at : place_at s (reached s run.stopped) ≡ Some (record { state = run.machine; shown = run.shown.items })
   pub stop : IsStop s run.machine run.stopped
 

@@ -7,7 +7,7 @@ use Rattle.ot_model.specs.declared.shown.Refusal.TheVariants.{LinkEmpty, Memory}
 use Rattle.ot_model.specs.Table.{Place, Refused, step}
 use Rattle.ot_model.specs.Runs.{done, place_at}
 use Rattle.ot_model.specs.Orders.{AreSameOrders, AreSameShown, awaits}
-use Rattle.ot_machine.specs.declared.outcome.Replay.{Replay}
+use Rattle.ot_machine.specs.declared.outcome.Run.{Run}
 
 -- the same clients, the same ones present, the same start text, and each machine's instructions in the same order
 pub record AreReordered (first second : Program) : Type 0 where
@@ -40,6 +40,6 @@ pub record StopsEarly (s : Program) : Type 0 where
 
 -- a second run, with its stop, beside a first one that did not stop: it did not stop either, both machines are in one state, and of each
 -- client's reads and the server's the same lists were shown; or it stopped for an empty link, or for want of memory
-abbrev pub IsBeside : Replay → Replay → Option (ℕ × Refusal) → Type 0
+abbrev pub IsBeside : Run → Run → Option (ℕ × Refusal) → Type 0
 IsBeside one other None = (one.machine ≡ other.machine) × AreSameShown one.shown.items other.shown.items
 IsBeside one other (Some stop) = (stop.1 ≡ LinkEmpty) ⊎ (stop.1 ≡ Memory)

@@ -8,7 +8,7 @@ use Rattle.ot_machine.specs.declared.state.Phase.TheVariants.{NotJoined, Synchro
 use Rattle.ot_machine.specs.declared.state.Head.{Head}
 use Rattle.ot_machine.specs.declared.state.Head.TheVariants.{Ack, Op}
 use Rattle.ot_machine.specs.declared.state.ClientView.{ClientView}
-use Rattle.ot_machine.specs.declared.state.Snapshot as shown
+use Rattle.ot_machine.specs.declared.state.State as shown
 
 -- client c is there, and this is its value
 abbrev pub ClientHas : {A : Type 0} → State → ℕ → (Client → A) → A → Type 0
@@ -45,7 +45,7 @@ abbrev pub AreOne : State → Type 0
 AreOne s = (c : ℕ) (x : Client) → slice_get s.clients c ≡ Some x → is_joined x.phase ≡ true → x.list ≡ s.server
 
 -- the state as it is shown
-pub record IsShownState (s : State) (view : shown.Snapshot) : Type 0 where
+pub record IsShownState (s : State) (view : shown.State) : Type 0 where
   pub clients : view.clients.items ≡ map client_view s.clients
   pub server_revision : view.server_revision ≡ length s.log
   pub server : view.server ≡ s.server

@@ -3,7 +3,7 @@ ghost use Rattle.std.specs.Prelude.{◌≡◌, ◌⊎◌, None};
 ghost use Rattle.ot_machine.specs.Ended.{IsRun};
 ghost use Rattle.ot_machine.specs.Orders.{AreReordered, EndAlike, IsBeside, IsWhole, StopsEarly};
 
-use crate::outcome::Replay;
+use crate::outcome::Run;
 use ot_isa::Schedule;
 
 /// Of two schedules with the same clients, present ones and start text, in which each machine (each client's, and the server's) has
@@ -22,7 +22,7 @@ pub fn any_order(first: &Schedule, second: &Schedule)
 /// The same of what [`run`](crate::run) gives for two such schedules, the first run without a stop: where the second has no stop
 /// either, the machines are in one state, and each machine has shown the same lists in the same order; its stop is `LinkEmpty`, or
 /// want of memory.
-pub fn runs_beside(first: &Schedule, second: &Schedule, one: &Replay, other: &Replay)
+pub fn runs_beside(first: &Schedule, second: &Schedule, one: &Run, other: &Run)
     ensures { AreReordered first.now second.now → IsRun first.now one.now → IsRun second.now other.now → one.now.stopped ≡ None → IsBeside one.now other.now other.now.stopped }
 {
     // For the proof: what every schedule keeps.

@@ -5,7 +5,7 @@ use ot_model::{Refusal, Shown};
 
 /// A schedule's run, as far as it went.
 #[derive(Drop)]
-pub struct Replay {
+pub struct Run {
     /// The machine after the performed instructions.
     pub machine: Machine,
     /// The lists that the performed reads showed, in order.

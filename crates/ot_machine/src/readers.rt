@@ -11,7 +11,7 @@ ghost use Rattle.ot_machine.specs.Seats.{client_of, incoming};
 
 use crate::machine::Machine;
 use crate::seat::{self, Seat};
-use crate::state::{ClientView, Head, Phase, Snapshot};
+use crate::state::{ClientView, Head, Phase, State};
 use ot_client::{Client, Sent};
 use ot_isa::Tagged;
 use ot_model::Reader;
@@ -205,12 +205,12 @@ impl Machine {
     }
 
     /// A copy of revisions, phases and lists, and whether all is quiet.
-    pub fn state(&self) -> Result<Snapshot, AllocError>
+    pub fn state(&self) -> Result<State, AllocError>
         ensures { IfOk result (λ view. IsShownState self.now view) }
     {
         let server = self.server_document().copy()?;
         let clients = self.views(server.allocator())?;
-        Ok(Snapshot {
+        Ok(State {
             clients,
             server_revision: self.server_revision(),
             server,

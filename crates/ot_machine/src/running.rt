@@ -11,7 +11,7 @@ ghost use Rattle.ot_machine.specs.Ended.{IsRun};
 ghost use Rattle.ot_machine.specs.Reads.{list_of, IsThere};
 
 use crate::machine::{Machine, STEP_LIMIT};
-use crate::outcome::Replay;
+use crate::outcome::Run;
 use ot_isa::{Instr, Schedule, Tagged};
 use ot_model::{Refusal, Shown};
 use ot_text::Doc;
@@ -115,7 +115,7 @@ impl Machine {
 
 /// Runs the schedule from its opening up to the first instruction that is not performed: one that is refused, one that finds no
 /// memory, or a read whose list cannot be kept. For want of memory at the opening there is no run.
-pub fn run(alloc: Global, schedule: &Schedule) -> Result<Replay, AllocError>
+pub fn run(alloc: Global, schedule: &Schedule) -> Result<Run, AllocError>
     ensures { IfOk result (λ run. IsRun schedule.now run) }
 {
     let clients = schedule.clients();
@@ -126,14 +126,14 @@ pub fn run(alloc: Global, schedule: &Schedule) -> Result<Replay, AllocError>
             unreachable!()
         };
         if let Err(refusal) = machine.keep(instr, &mut shown) {
-            return Ok(Replay {
+            return Ok(Run {
                 machine,
                 shown,
                 stopped: Some((place, refusal)),
             });
         }
     }
-    Ok(Replay {
+    Ok(Run {
         machine,
         shown,
         stopped: None,

@@ -37,7 +37,7 @@ pub struct ClientView {
 
 /// Clients and server as they stand.
 #[derive(Drop)]
-pub struct Snapshot {
+pub struct State {
     /// By client number.
     pub clients: Vec<ClientView>,
     /// How many entries the log has.

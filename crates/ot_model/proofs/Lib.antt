@@ -42,6 +42,9 @@ pub mod Telling
 pub mod Distinct
 pub mod Judging
 pub mod Traced
+pub mod Carrying
+pub mod Lying
+pub mod LyingExamples
 pub mod TraceExamples
 pub mod Readers
 pub mod Ring

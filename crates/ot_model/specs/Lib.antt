@@ -14,3 +14,4 @@ pub mod Events
 pub mod TraceLaws
 pub mod Orders
 pub mod OrderLaws
+pub mod Lying

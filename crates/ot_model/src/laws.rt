@@ -1,7 +1,9 @@
 //! The laws of sessions and of all their runs, each as the contract of a function that does nothing: a proof that calls one has its law.
 
 pub use crate::limits::limits;
-pub use crate::list_laws::{lists_agree, not_one_order, one_has_both, trace_shape, weak_list};
+pub use crate::list_laws::{
+    counts_tell, events_see, lists_agree, not_one_order, one_has_both, trace_shape, weak_list,
+};
 pub use crate::order_laws::{
     any_order, any_order_runs, commute, exchange, same_instructions, same_multiset, too_early_stops,
 };

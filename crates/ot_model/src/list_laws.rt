@@ -1,5 +1,6 @@
 //! The laws of the lists that runs show, each as the contract of a function that does nothing.
 
+ghost use Rattle.ot_model.specs.Lying.{CountsTellWhatLies, EventsSeeWhatLies};
 ghost use Rattle.ot_model.specs.TraceLaws.{ListsAgree, OneHasBoth, OneOrder, TraceShape, WeakList};
 
 /// The trace of every schedule is a trace: at most 65 replicas, no tag inserted twice (the start
@@ -30,4 +31,16 @@ pub fn lists_agree()
 /// both already in the server's list at its revision.
 pub fn one_has_both()
     ensures { OneHasBoth }
+{}
+
+/// At each place of each run, which edits lie in a client's outstanding operation, in its buffer and in each log entry is what
+/// the ledger of the trace counts: the relation over the run, from instruction to instruction, and the counts say the same.
+pub fn counts_tell()
+    ensures { CountsTellWhatLies }
+{}
+
+/// Each event of each trace counts its replica's own earlier edits, and of each other client exactly those that lie in a log
+/// entry that the reader has: a client those below its revision, the server all.
+pub fn events_see()
+    ensures { EventsSeeWhatLies }
 {}

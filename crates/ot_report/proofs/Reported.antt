@@ -16,7 +16,7 @@ use Rattle.ot_model.specs.declared.shown.Refusal.TheVariants.{Memory}
 use Rattle.ot_model.specs.declared.shown.Shown.{Shown}
 use Rattle.ot_model.specs.Table.{State, Place, Outcome, Performed, Refused, NoRow, begin, run, step, with_shown}
 use Rattle.ot_model.specs.Runs.{place_at}
-use Rattle.ot_machine.specs.declared.outcome.Replay.{Replay}
+use Rattle.ot_machine.specs.declared.outcome.Run.{Run}
 use Rattle.ot_machine.specs.Ended.{reached, IsStop}
 use Rattle.ot_report.specs.Printed.{end_lines, read_lines, stop_text, IsEnd}
 use Rattle.ot_report.specs.Written.{GathersReads, IsReportOf, ReadsUpTo, WritesFirstReads, WritesPartOfReport, WritesReport, WritesReportUpTo}
@@ -59,7 +59,7 @@ shown_small s n q limits at =
     omega arith
 
 -- a run that ends in this state, with these lists shown
-abbrev replay : Global → State → (shown : List Shown) → length shown < 2 ^ 63 → Option (ℕ × Refusal) → Replay
+abbrev replay : Global → State → (shown : List Shown) → length shown < 2 ^ 63 → Option (ℕ × Refusal) → Run
 replay heap state shown small stopped =
     record {
       machine = state;
@@ -70,7 +70,7 @@ replay heap state shown small stopped =
 -- it is a run of the schedule, and each text that ends as its state does is its report
 module _ (heap : Global) (s : Program) (limits : IsProgram s) (stopped : Option (ℕ × Refusal)) (place : Place)
     (at : place_at s (reached s stopped) ≡ Some place) (stop : IsStop s place.state stopped) (end : List ℕ) (is_end : IsEnd place.state end) where
-  abbrev its : Replay
+  abbrev its : Run
   its = replay heap place.state place.shown (shown_small s (reached s stopped) place limits at) stopped
 
   abbrev its_report : List ℕ

@@ -7,7 +7,7 @@ use Rattle.ot_model.specs.declared.shown.Reader.TheVariants as reader
 use Rattle.ot_model.specs.declared.shown.Shown.{Shown}
 use Rattle.ot_model.specs.Table.{Client, State, IsQuiet}
 use Rattle.ot_machine.specs.Readers.{phase_name}
-use Rattle.ot_machine.specs.declared.outcome.Replay.{Replay}
+use Rattle.ot_machine.specs.declared.outcome.Run.{Run}
 use Rattle.ot_values.specs.Values.{phase_word, refusal_text, text_of}
 
 abbrev pub line : List ℕ → List ℕ
@@ -65,5 +65,5 @@ stop_text None = []
 stop_text (Some stop) = stop_line stop.0 stop.1
 
 -- the text is that of the run: its reads, its stop and its end
-abbrev pub IsReport : Replay → List ℕ → Type 0
+abbrev pub IsReport : Run → List ℕ → Type 0
 IsReport run text = (end : List ℕ) × IsEnd run.machine end × (text ≡ read_lines run.shown.items ++ stop_text run.stopped ++ end)

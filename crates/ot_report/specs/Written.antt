@@ -7,20 +7,20 @@ use Rattle.ot_model.specs.declared.shown.Refusal.{Refusal}
 use Rattle.ot_model.specs.declared.shown.Shown.{Shown}
 use Rattle.ot_model.specs.Table.{Place, State}
 use Rattle.ot_model.specs.Runs.{done, place_at}
-use Rattle.ot_machine.specs.declared.outcome.Replay.{Replay}
+use Rattle.ot_machine.specs.declared.outcome.Run.{Run}
 use Rattle.ot_machine.specs.Ended.{reached, IsRun, IsStop}
 use Rattle.ot_report.specs.Printed.{read_line, read_lines, IsReport}
 use Rattle.ot_report.specs.declared.writing.ReportFault.{ReportFault}
 use Rattle.ot_report.specs.declared.writing.ReportFault.TheVariants.{Memory, WriteFault}
 
 -- the text is the report of a run of the schedule
-pub record IsReportOf (s : Program) (run : Replay) (text : List ℕ) : Type 0 where
+pub record IsReportOf (s : Program) (run : Run) (text : List ℕ) : Type 0 where
   pub is_run : IsRun s run
   pub is_report : IsReport run text
 
 -- the report of the schedule's run is written, which ended in this way
 pub record WritesReport (s : Program) (stopped : Option (ℕ × Refusal)) (old new : Option (List ℕ)) : Type 0 where
-  pub run : Replay
+  pub run : Run
   pub stopped_is : run.stopped ≡ stopped
   pub text : List ℕ
   pub is : IsReportOf s run text
@@ -28,7 +28,7 @@ pub record WritesReport (s : Program) (stopped : Option (ℕ × Refusal)) (old n
 
 -- a first part of the report of a run of the schedule is written
 pub record WritesPartOfReport (s : Program) (old new : Option (List ℕ)) : Type 0 where
-  pub run : Replay
+  pub run : Run
   pub text : List ℕ
   pub is : IsReportOf s run text
   pub written : WritesPart old new text

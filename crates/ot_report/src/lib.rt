@@ -1,7 +1,7 @@
 //! What is printed of a run, and of the verdicts on it.
 //!
 //! ```text
-//!   Replay ── print_run ──▶ its reads, its stop, and its end (print_end: the state of any machine)
+//!   Run ── print_run ──▶ its reads, its stop, and its end (print_end: the state of any machine)
 //!   Schedule ── write_report ──▶ the same lines as print_run's, written while the run goes
 //!   Schedule ── find ──▶ the stop of its run, whether all is quiet with one list or what is not settled, and the verdict of its trace
 //! ```

@@ -5,7 +5,7 @@ ghost use Rattle.ot_report.specs.Printed.{read_lines, stop_text, IsReport};
 
 use crate::ending::print_end;
 use crate::lines::{print_stop, push_read};
-use ot_machine::Replay;
+use ot_machine::Run;
 use ot_model::{Refusal, Shown};
 use std::alloc::{AllocError, Global};
 
@@ -36,7 +36,7 @@ pub(crate) fn push_stop(
 }
 
 /// A run as it is printed: the reads in order, the stop if an instruction was not performed, and the state where the run ended.
-pub fn print_run(alloc: Global, run: &Replay) -> Result<String, AllocError>
+pub fn print_run(alloc: Global, run: &Run) -> Result<String, AllocError>
     ensures { IfOk result (λ s. IsReport run.now (string_bytes s)) }
 {
     let mut text = reads_text(alloc, run.shown.as_slice())?;

@@ -7,6 +7,8 @@ use Rattle.ot_asm.specs.Numbers.{number}
 use Rattle.ot_generate.specs.Shapes.{shape_if}
 use Rattle.ot_words.specs.declared.words.Form.{Form}
 use Rattle.ot_words.specs.declared.words.Form.TheVariants as form
+use Rattle.ot_words.specs.declared.words.Subject.{Subject}
+use Rattle.ot_words.specs.declared.words.Subject.TheVariants as subject
 use Rattle.ot_words.specs.declared.words.Request.{Request}
 use Rattle.ot_words.specs.declared.words.Request.TheVariants.{Run, Check, Debug, Assemble, Disassemble, Judge, Steps, Explain, Conform, Complete, Generate}
 use Rattle.ot_words.specs.declared.words.Asked.{Asked}
@@ -63,8 +65,8 @@ otbench_app =
     +> plain_app (codes "dis")
     +> plain_app (codes "judge")
     +> flagged_app (codes "steps") (codes "documents")
-    +> plain_app (codes "explain")
-    +> plain_app (codes "conform")
+    +> flagged_app (codes "explain") (codes "trace")
+    +> flagged_app (codes "conform") (codes "sparse")
     +> plain_app (codes "threads")
     +> plain_app (codes "complete")
     +> generate_app
@@ -80,6 +82,10 @@ flag_among id rows = is_true (first_of id rows)
 -- the form of the input
 abbrev pub form_among : List Row → Form
 form_among rows = if flag_among (codes "image") rows then form.Image else form.Text
+
+-- what is explained
+abbrev pub subject_among : List Row → Subject
+subject_among rows = if flag_among (codes "trace") rows then subject.Trace else subject.Schedule
 
 -- the number of an option's text, or this one where there is none
 abbrev pub number_or : ℕ → Option Text → Option ℕ
@@ -126,8 +132,8 @@ request_in_rows p =
     (if bytes_eq p.0 (codes "dis") then Some (Plainly Disassemble) else
     (if bytes_eq p.0 (codes "judge") then Some (Plainly Judge) else
     (if bytes_eq p.0 (codes "steps") then Some (Plainly (Steps (flag_among (codes "documents") p.1))) else
-    (if bytes_eq p.0 (codes "explain") then Some (Plainly Explain) else
-    (if bytes_eq p.0 (codes "conform") then Some (Plainly Conform) else
+    (if bytes_eq p.0 (codes "explain") then Some (Plainly (Explain (subject_among p.1))) else
+    (if bytes_eq p.0 (codes "conform") then Some (Plainly (Conform (flag_among (codes "sparse") p.1))) else
     (if bytes_eq p.0 (codes "threads") then Some Threads else
     (if bytes_eq p.0 (codes "complete") then Some (Plainly Complete) else
     (if bytes_eq p.0 (codes "generate") then generate_among p.1 else None)))))))))))

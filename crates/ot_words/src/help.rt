@@ -72,15 +72,19 @@ The lines: docs/FORMATS.md, 'Steps'.";
 pub const EXPLAIN: &str = "\
 Reads a schedule's text on standard input. Tells its run in words: what each instruction did, with its line of the text and its
 number, why one is refused and what would repair it. Of a text that is no schedule: the column and the cause of its fault.
+With --trace it reads a trace as 'otbench judge' does, and judges it. Of a text that is no trace: where its first fault is, what
+stands there and what is wanted; of one that is no JSON, the line, the column and the cause.
 Example:  printf 'clients 1\\nedit 0 [\"a\"]\\ntake 0\\nack 0\\n' | otbench explain
-Status 0: all instructions were performed. 1: one was refused, or the input was, or a fault of reading, writing or memory.
-The paragraphs: docs/FORMATS.md, 'Explain'.";
+          printf '{\"replicas\":1,\"start\":[[0]],\"events\":[]}' | otbench explain --trace
+Status 0: all instructions were performed, or the trace's property holds. 1: it does not, an instruction was refused, or the
+input was, or a fault of reading, writing or memory. The words: docs/FORMATS.md, 'Explain'.";
 
 /// Of `conform`.
 pub const CONFORM: &str = "\
 Reads a schedule's text, a line '%%', and the lines that a port of ot.js printed while it performed the schedule, in the form of
 'otbench steps'. Says that the port conforms and how much was compared, or the first difference: where, whose, which value, what
-was found and what ot.js has. A key that the port does not print is not compared.
+was found and what ot.js has. A key that the port does not print is not compared. With --sparse an instruction without a line is passed
+over too, so that a line for one instruction is enough; its place says which.
 Example:  printf 'clients 1\\nedit 0 [\"a\"]\\n%%%%\\n{\"at\":1,\"document\":\"a\"}\\n' | otbench conform
 Status 0: conforms. 1: differs, or no value was counted, or nothing can be compared for a limit of otbench, or the schedule was
 refused, or a fault of reading, writing or memory. The lines and the answer: docs/FORMATS.md, 'Conform'.";

@@ -14,4 +14,4 @@
 mod help;
 mod words;
 
-pub use words::{Asked, Form, Request, read_request};
+pub use words::{Asked, Form, Request, Subject, read_request};

@@ -3,7 +3,7 @@
 ghost use Rattle.std.specs.Prelude.{◌≡◌, Some, IfOk, IfErr, IsSome, map, true, option_and_then, option_map, vec_items};
 ghost use Rattle.std.specs.Str.{chars};
 ghost use Rattle.clap.specs.Words.{app_of, found_of, kind_of, rows_of, subcommand_rows_of, takes, with_rule};
-ghost use Rattle.ot_words.specs.Requests.{◌+>◌, IsPlain, chars_among, flag_among, flag_rule, form_among, generate_among, generate_app, number_among, number_if_among, option_rule, otbench_app, plain_app, request_in_rows, request_of, session_among, top_app};
+ghost use Rattle.ot_words.specs.Requests.{◌+>◌, IsPlain, chars_among, flag_among, flag_rule, form_among, generate_among, generate_app, number_among, number_if_among, option_rule, otbench_app, plain_app, request_in_rows, request_of, session_among, subject_among, top_app};
 
 use crate::help;
 use clap::error::ErrorKind;
@@ -18,6 +18,15 @@ use std::convert::AsStr;
 pub enum Form {
     Text,
     Image,
+}
+
+/// What is explained.
+#[derive(Clone, Copy, Debug, PartialEq, Eq)]
+pub enum Subject {
+    /// The run of a schedule's text.
+    Schedule,
+    /// A trace.
+    Trace,
 }
 
 /// A subcommand.
@@ -38,10 +47,10 @@ pub enum Request {
     Judge,
     /// Runs a schedule and prints what each instruction changes, as lines of JSON; whether the documents too.
     Steps(bool),
-    /// Runs a schedule and tells in words what each instruction did.
-    Explain,
-    /// Compares the lines that a port printed with the run of its schedule.
-    Conform,
+    /// Tells in words what each instruction of a schedule did, or why a trace is refused and what its verdict is.
+    Explain(Subject),
+    /// Compares the lines that a port printed with the run of its schedule; whether instructions without a line are passed over.
+    Conform(bool),
     /// Prints a schedule, and behind it what brings its run to quiet.
     Complete,
     /// Prints a session made at random: its seed, and what is asked of it.
@@ -236,19 +245,29 @@ fn command<'a>(alloc: Global) -> Result<Command<'a>, AllocError>
         "Print with each instruction the document of the one that moved",
     )?;
     let program = joined(program, steps)?;
-    let explain = plain(
+    let explain = flagged(
         alloc,
-        "explain",
-        "Run a schedule and tell in words what each instruction did, and why one is refused",
-        help::EXPLAIN,
-    );
+        plain(
+            alloc,
+            "explain",
+            "Run a schedule and tell in words what each instruction did, and why one is refused",
+            help::EXPLAIN,
+        ),
+        "trace",
+        "Read a trace (JSON) in place of a schedule: judge it, and tell why it is refused",
+    )?;
     let program = joined(program, explain)?;
-    let conform = plain(
+    let conform = flagged(
         alloc,
-        "conform",
-        "Compare a port's own run with ot.js: a schedule's text, a line '%%', then the port's lines",
-        help::CONFORM,
-    );
+        plain(
+            alloc,
+            "conform",
+            "Compare a port's own run with ot.js: a schedule's text, a line '%%', then the port's lines",
+            help::CONFORM,
+        ),
+        "sparse",
+        "Pass over the instructions that have no line",
+    )?;
     let program = joined(program, conform)?;
     let threads = plain(
         alloc,
@@ -286,6 +305,17 @@ fn form_in(matches: &ArgMatches<'_>) -> Form
         Form::Image
     } else {
         Form::Text
+    }
+}
+
+// What the matches of `explain` say is explained.
+fn subject_in(matches: &ArgMatches<'_>) -> Subject
+    ensures { result ≡ subject_among (rows_of (found_of matches.now)) }
+{
+    if is_set(matches, "trace") {
+        Subject::Trace
+    } else {
+        Subject::Schedule
     }
 }
 
@@ -377,8 +407,8 @@ fn request_in(alloc: Global, matches: &ArgMatches<'_>) -> Result<Option<Asked>, 
         "dis" => Ok(Some(Asked::Plainly(Request::Disassemble))),
         "judge" => Ok(Some(Asked::Plainly(Request::Judge))),
         "steps" => Ok(Some(Asked::Plainly(Request::Steps(is_set(found, "documents"))))),
-        "explain" => Ok(Some(Asked::Plainly(Request::Explain))),
-        "conform" => Ok(Some(Asked::Plainly(Request::Conform))),
+        "explain" => Ok(Some(Asked::Plainly(Request::Explain(subject_in(found))))),
+        "conform" => Ok(Some(Asked::Plainly(Request::Conform(is_set(found, "sparse"))))),
         "threads" => Ok(Some(Asked::Threads)),
         "complete" => Ok(Some(Asked::Plainly(Request::Complete))),
         "generate" => generate_in(alloc, found),

@@ -17,6 +17,9 @@
 //! `specs/Choosing.antt`, and what a board and its users' actions have to be is `MayShare` in `specs/Sharing.antt`. Only `work` and
 //! `run_workers` may wait; nothing is promised of the order in which threads run, or that they get on.
 //!
+//! Workers stand on the board, so this crate gives the board's names too: who takes it needs no other for sessions on threads. `play` is also a
+//! call on the session, `lent.play(..)`, by the trait [`Play`].
+//!
 //! Begin with `work` in `working.rt`, which is a turn after a turn, and then read `play` in `playing.rt`.
 #![tactic(auto)]
 
@@ -24,6 +27,7 @@ mod choosing;
 mod fault;
 mod gate;
 mod held;
+mod method;
 mod playing;
 mod session_calls;
 mod shared;
@@ -34,6 +38,12 @@ mod working;
 pub use choosing::{Seat, Way, choose};
 pub use fault::WorkFault;
 pub use gate::{Gate, OpenGate};
+pub use method::Play;
+pub use ot_board::{
+    AuditFault, Board, BoardRefusal, ClientState, EditedState, Finished, Lent, Receipt, Replayed,
+    SESSION_LIMIT, Session, SessionRefusal, SettleRefusal, StillOut, audit,
+};
+pub use ot_typing::Typing;
 pub use playing::{Task, play};
 pub use shared::Shared;
 pub use sharing::{ACTION_LIMIT, can_share};

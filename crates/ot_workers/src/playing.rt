@@ -118,6 +118,23 @@ fn look_once(lent: Lent) -> Result<Lent, (WorkFault, Lent)>
     }
 }
 
+// Makes the steps of the turn.
+pub fn make_steps(alloc: Global, lent: Lent, task: Task<'_>) -> (Lent, Option<WorkFault>)
+    requires { MayPlay (session_of lent) task }
+    ensures done { IfNone result.1 (HasMade (session_of lent) (turn_steps (session_of lent) task.entry) (session_of result.0)) }
+    ensures short { IfSome result.1 (λ _. IsCutShort (session_of lent) (turn_steps (session_of lent) task.entry) (session_of result.0)) }
+    ensures fault { IfSome result.1 (λ fault. IsPlayFault (session_of lent) task.entry (session_of result.0) fault) }
+{
+    let played = match task {
+        Task::Enter(action) => hear_and_enter(alloc, lent, action),
+        Task::Read => look_once(lent),
+    };
+    match played {
+        Ok(lent) => (lent, None),
+        Err((fault, lent)) => (lent, Some(fault)),
+    }
+}
+
 /// Tells the gate that the worker holds the session, and then makes the steps of the turn: for `Enter` the first 60 messages of the session's
 /// own part are delivered or acknowledged, each as it is, and then the action is typed, if there is one; for `Read` the list is read once.
 /// The first step that is not made ends it: `Memory` where a growth was refused; else `Refused`, where the session has 64 steps already (a
@@ -137,12 +154,5 @@ pub fn play<G: Gate>(
     ensures fault { IfSome result.1 (λ fault. IsPlayFault (session_of lent) task.entry (session_of result.0) fault) }
 {
     gate.holding(worker, turn);
-    let played = match task {
-        Task::Enter(action) => hear_and_enter(alloc, lent, action),
-        Task::Read => look_once(lent),
-    };
-    match played {
-        Ok(lent) => (lent, None),
-        Err((fault, lent)) => (lent, Some(fault)),
-    }
+    make_steps(alloc, lent, task)
 }

@@ -1,9 +1,9 @@
 //! What a turn does under the lock.
 
-ghost use Rattle.std.specs.Prelude.{◌<◌, IfOk, OnOk, vec_capacity, vec_len};
+ghost use Rattle.std.specs.Prelude.{◌≡◌, ◌<◌, IfOk, OnOk, vec_capacity, vec_len};
 ghost use Rattle.ot_board.specs.Lents.{session_of};
 ghost use Rattle.ot_workers.specs.Choosing.{IsHad};
-ghost use Rattle.ot_workers.specs.Turns.{IsPlay};
+ghost use Rattle.ot_workers.specs.Turns.{EndsAs, IsNextOf, IsPlay, is_any_out, parks, with_typed};
 
 use crate::choosing::{Seat, Way, choose};
 use crate::fault::WorkFault;
@@ -109,7 +109,9 @@ fn have(
 }
 
 // Whether some client is out.
-fn is_any_out(seats: &[Seat]) -> bool {
+fn is_any_out(seats: &[Seat]) -> bool
+    ensures { result ≡ is_any_out seats.now }
+{
     seats.iter().any(|seat| seat.out)
 }
 
@@ -121,7 +123,8 @@ fn begin<'a>(
     worker: usize,
     turn: u64,
 ) -> Result<Next<'a>, WorkFault>
-    ensures { IfOk result (λ next. IsPlay next → vec_len receipts.new < vec_capacity receipts.new) }
+    ensures room { IfOk result (λ next. IsPlay next → vec_len receipts.new < vec_capacity receipts.new) }
+    ensures next { IfOk result (λ next. IsNextOf inside.new.seats.items worker turn next) }
 {
     if inside.stopped {
         return Ok(Next::End(Some(WorkFault::Stopped)));
@@ -151,7 +154,8 @@ pub(crate) fn begin_turn<'a>(
     worker: usize,
     turn: u64,
 ) -> Next<'a>
-    ensures { IsPlay result → vec_len receipts.new < vec_capacity receipts.new }
+    ensures room { IsPlay result → vec_len receipts.new < vec_capacity receipts.new }
+    ensures next { IsNextOf inside.new.seats.items worker turn result }
 {
     match begin(inside, typing, receipts, worker, turn) {
         Ok(next) => next,
@@ -201,6 +205,7 @@ fn leave(
     fault: Option<WorkFault>,
 ) -> Result<Ended, WorkFault>
     requires { vec_len receipts.old < vec_capacity receipts.old }
+    ensures { IfOk result (λ ended. EndsAs parks ended) }
 {
     if let Some(fault) = fault {
         let _ = settle(inside, receipts, lent);
@@ -215,10 +220,20 @@ fn leave(
 }
 
 // Counts one more action of the client.
-fn count_typed(inside: &mut Inside, client: u16) {
-    if let Some(done) = inside.typed.get_mut(usize::from(client)) {
-        *done = done.saturating_add(1);
+fn count_typed(typed: &mut [usize], client: u16)
+    ensures { typed.new ≡ with_typed typed.old client }
+{
+    let place = usize::from(client);
+    if place < typed.len() {
+        typed[place] = typed[place].saturating_add(1);
     }
+}
+
+// Whether the session is parked: in each fourth turn, where it was lent.
+fn parks(turn: u64, task: Task<'_>) -> bool
+    ensures { result ≡ parks turn task.entry }
+{
+    turn % 4 == 3 && matches!(task, Task::Enter(_))
 }
 
 /// The last step of a turn: the session is parked, where it was lent in each fourth turn, or settled, and what was typed is counted; after a
@@ -232,13 +247,13 @@ pub(crate) fn end_turn(
     fault: Option<WorkFault>,
 ) -> Ended
     requires { vec_len receipts.old < vec_capacity receipts.old }
+    ensures { EndsAs (parks turn task.entry) result }
 {
     let client = lent.client();
-    let parks = turn % 4 == 3 && matches!(task, Task::Enter(_));
-    match leave(inside, receipts, parks, lent, fault) {
+    match leave(inside, receipts, parks(turn, task), lent, fault) {
         Ok(ended) => {
             if let Task::Enter(Some(_)) = task {
-                count_typed(inside, client);
+                count_typed(inside.typed.as_mut_slice(), client);
             }
             ended
         }

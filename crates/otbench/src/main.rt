@@ -1,20 +1,10 @@
 //! A proved test bench for ot.js sessions: the program.
 //!
-//! ```text
-//!    words ── ot_words ──▶ Asked ── serving ──▶ ot_commands         run, check, debug, asm, dis, judge, generate, complete
-//!                                    ├──▶ ot_steps_command    steps: a run as lines of JSON
-//!                                    ├──▶ ot_explain_command  explain: a run in words
-//!                                    ├──▶ ot_conform_command  conform: a port's lines against the run
-//!                                    └──▶ ot_threads          threads: a plan that workers on threads type, as the schedule that they record
-//! ```
-//!
-//! [`serve`](serving::serve) does the whole work over any reader and two writers, and says by its clause what it writes and answers
-//! (`specs/Served.antt`); `main` hands it the process's own words and streams.
+//! [`serve`](ot_serve::serve) does the whole work over any reader and two writers, and says by its clause what it writes and answers
+//! (`specs/Served.antt` of `ot_serve`); `main` hands it the process's own words and streams.
 #![tactic(auto)]
 
-mod serving;
-
-use serving::serve;
+use ot_serve::serve;
 use std::process::ExitCode;
 use std::{env, io};
 use streams::Device;

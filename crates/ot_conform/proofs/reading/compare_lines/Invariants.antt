@@ -8,7 +8,7 @@ abbrev pub invariant-taking : goal.invariant-taking
 invariant-taking g l =
     let remaining = g.R.Read.remaining in
     record {
-      way : IsUnderWay l.schedule l.comparison l.taken (before l.fn.ahead (remaining l.fn.reader)) (before l.ahead (remaining l.reader));
+      way : IsUnderWay l.sparse l.schedule l.comparison l.taken (before l.fn.ahead (remaining l.fn.reader)) (before l.ahead (remaining l.reader));
       few : l.taken + may_take l.ahead ≤ may_take l.fn.ahead;
     }
 

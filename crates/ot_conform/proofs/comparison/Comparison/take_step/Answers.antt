@@ -10,7 +10,7 @@ use Rattle.ot_conform.specs.declared.comparison.Comparison.{Comparison}
 use Rattle.ot_conform.specs.declared.comparison.Stage.TheVariants.{Running}
 use Rattle.ot_conform.proofs.Alike.{step_stands}
 use Rattle.ot_conform.proofs.Going.{due_is, goes_step}
-use Rattle.ot_conform.proofs.Settling.{agreed, if_ok, if_some, step_decides, stop_goes, stop_verdict}
+use Rattle.ot_conform.proofs.Settling.{agreed, if_ok, if_some, same_refused, same_verdict, step_decides}
 use Rattle.ot_conform.proofs.comparison.Comparison.take_step.Goals as goal
 
 pub returns-in-Err-clause-goes : goal.returns-in-Err-clause-goes
@@ -18,18 +18,14 @@ returns-in-Err-clause-goes c =
     let here = c.args.self.now in
     let mid : Comparison = record here { machine = c.perform.new.machine } in
     let same : mid ≡ here = ap (λ m. record here { machine = m }) c.in-Err.ensures.unchanged in
-    if_ok c.take_stop.result _ _
-    (λ v went none. stop_goes c.args.schedule.now here mid c.take_stop.new.self (given_as c.args.line) c.args.instr.now c.in-Err.refusal c.requires.standing c.requires.here c.in-Err.ensures.refused same (went none))
-    c.take_stop.ensures.goes
+    if_ok c.take_refused.result _ _ (λ v went none. same_refused c.args.schedule.now here mid c.take_refused.new.self (given_as c.args.line) same (went none)) c.take_refused.ensures.goes
 
 pub returns-in-Err-clause-decided : goal.returns-in-Err-clause-decided
 returns-in-Err-clause-decided c =
     let here = c.args.self.now in
     let mid : Comparison = record here { machine = c.perform.new.machine } in
     let same : mid ≡ here = ap (λ m. record here { machine = m }) c.in-Err.ensures.unchanged in
-    if_ok c.take_stop.result _ _
-    (λ v. if_some v _ _ (λ verdict. stop_verdict c.args.schedule.now here mid (given_as c.args.line) c.args.instr.now c.in-Err.refusal verdict c.requires.here c.in-Err.ensures.refused same))
-    c.take_stop.ensures.decided
+    if_ok c.take_refused.result _ _ (λ v. if_some v _ _ (λ verdict. same_verdict c.args.schedule.now here mid (given_as c.args.line) verdict same)) c.take_refused.ensures.decided
 
 pub compare_step-requires : goal.compare_step-requires
 compare_step-requires c =
@@ -58,7 +54,7 @@ returns-clause-goes c =
     λ none.
     let both = agreed due line here.counts c.in_ok-judged.judged (λ counts. record here { machine = t; place = here.place + 1; stage = Running; counts = counts }) c.settle.new.self
     c.in_ok-judged.ensures (c.settle.ensures.none none) in
-    goes_step c.args.schedule.now here c.settle.new.self line i t performed.0 due c.requires.standing c.requires.here performed.1 is both.0 both.1
+    goes_step c.args.schedule.now here c.settle.new.self line i t performed.0 due c.requires.standing c.requires.here performed.1 is c.requires.kept both.0 both.1
 
 pub returns-clause-decided : goal.returns-clause-decided
 returns-clause-decided c =
@@ -70,4 +66,4 @@ returns-clause-decided c =
     let due = step_due (here.place + 1) i c.sends-sent.result delivered t in
     let performed = c.in-Ok.ensures.done in
     let is = due_is here.place i c.sends-sent.result delivered here.machine t c.sends-sent.ensures (ap (λ (o : Option (Operation Tagged)). option_map plain_operation o) c.operation-delivered.ensures ∙ c.in-Ok.ensures.applied) in
-    step_decides c.args.schedule.now here line i t performed.0 due c.in_ok-judged.judged c.settle.result c.requires.here performed.1 is c.in_ok-judged.ensures c.settle.ensures.some
+    step_decides c.args.schedule.now here line i t performed.0 due c.in_ok-judged.judged c.settle.result c.requires.here performed.1 is c.requires.there c.requires.kept c.in_ok-judged.ensures c.settle.ensures.some

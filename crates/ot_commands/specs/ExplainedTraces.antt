@@ -1,0 +1,37 @@
+-- What `explain --trace` writes and answers.
+use Rattle.std.specs.Prelude.{◌≡◌, ◌≢◌, ◌⊎◌, ℕ, List, Bool, true, Option, Ok, Err}
+use Rattle.std.specs.Io.KnownBytes.{Keeps}
+use Rattle.std.specs.Str.{is_utf8}
+use Rattle.streams.specs.Streams.{WritesPart}
+use Rattle.outcomes.specs.Outcomes.{Streams, GivesUp}
+use Rattle.ot_judge.specs.declared.fault.TraceFault.{TraceFault}
+use Rattle.ot_judge.specs.declared.fault.TraceFault.TheVariants as kind
+use Rattle.ot_model.specs.Trace.{TraceView}
+use Rattle.ot_reasons.specs.Words.{IsReason}
+use Rattle.ot_commands.specs.Judged.{MayGiveVerdict, trace_fault, trace_of_bytes}
+
+-- the words for bytes that are refused with this fault; of bytes that are no text nothing is said of them
+abbrev pub IsReasonOfBytes : List ℕ → TraceFault → List ℕ → Type 0
+IsReasonOfBytes bytes fault words = is_utf8 bytes ≡ true → IsReason bytes fault words
+
+-- the fault's line, and behind it the words, each as far as it could be written
+pub record Tells (line words : List ℕ) (old new : Option (List ℕ)) : Type 0 where
+  pub told : Option (List ℕ)
+  pub first : WritesPart old told line
+  pub behind : WritesPart told new words
+
+-- an input that is no trace: nothing on the output; on the faults the fault's line, and the words that say where it is. A fault other than Memory is
+-- the input's
+pub record TellsFault (bytes : List ℕ) (status : ℕ) (streams : Streams) : Type 0 where
+  pub fault : TraceFault
+  pub words : List ℕ
+  pub named : fault ≢ kind.Memory → trace_of_bytes bytes ≡ Err fault
+  pub reason : fault ≢ kind.Memory → IsReasonOfBytes bytes fault words
+  pub status_is : status ≡ 1
+  pub output : Keeps streams.output streams.output'
+  pub tells : Tells (trace_fault fault) words streams.faults streams.faults'
+
+-- the bytes were not read whole (`unread`: the input has failed), or they are refused, or they are a trace, which is judged
+abbrev pub ExplainsTrace : Bool → List ℕ → ℕ → Streams → Type 0
+ExplainsTrace unread bytes status streams =
+    GivesUp unread status streams ⊎ TellsFault bytes status streams ⊎ ((trace : TraceView) × (trace_of_bytes bytes ≡ Ok trace) × MayGiveVerdict trace status streams)

@@ -1,0 +1,61 @@
+//! `explain --trace`: the verdict of a recorded trace; of an input that is none, where its first fault is, in words.
+
+ghost use Rattle.std.specs.Prelude.{◌≡◌, ◌≢◌, ◌⊎◌, Ok, Err, IfErr, IfOk, IfSome, string_bytes};
+ghost use Rattle.ot_commands.specs.ExplainedTraces.{ExplainsTrace, IsReasonOfBytes, Tells};
+ghost use Rattle.ot_commands.specs.Judged.{trace_fault, trace_of_bytes};
+ghost use Rattle.ot_judge.specs.declared.fault.TraceFault.TheVariants as kind;
+
+use crate::judging::{fault_line, give_verdict};
+use ot_asm::read_text;
+use ot_judge::Trace;
+use ot_reasons::{Reason, no_text, read_or_tell};
+use outcomes::{complain, complain_of_input};
+use std::alloc::Global;
+use std::io::Write;
+use streams::{Sink, Source};
+
+// The trace that the bytes are, or why there is none.
+fn trace_or_reason(alloc: Global, bytes: &[u8]) -> Result<Trace, Reason>
+    ensures ok { IfOk result (λ t. trace_of_bytes bytes.now ≡ Ok t) }
+    ensures err { IfErr result (λ r. r.fault ≢ kind.Memory → trace_of_bytes bytes.now ≡ Err r.fault) }
+    ensures reason { IfErr result (λ r. r.fault ≢ kind.Memory → IsReasonOfBytes bytes.now r.fault (string_bytes r.words)) }
+{
+    match read_text(bytes) {
+        Some(text) => read_or_tell(alloc, text),
+        None => Err(no_text(alloc, bytes)),
+    }
+}
+
+// Writes the line of a fault, and behind it the words.
+fn tell<F: Write>(reason: &Reason, faults: &mut F)
+    ensures { Tells (trace_fault reason.now.fault) (string_bytes reason.now.words) (F.contents faults.old) (F.contents faults.new) }
+{
+    complain(faults, fault_line(reason.fault));
+    complain(faults, reason.words.as_str());
+}
+
+/// Judges the trace that is the input, as `judge_input` does. Of an input that is no trace it writes the fault's line, and below it a line of
+/// words: where the first fault is, what stands there and what is wanted.
+pub fn explain_trace<I: Source, O: Sink, F: Write>(
+    alloc: Global,
+    input: &mut I,
+    output: &mut O,
+    faults: &mut F,
+) -> u8
+    ensures { IfSome (I.remaining input.old) (λ bytes. ExplainsTrace (I.failed input.new) bytes result (record { output = O.contents output.old; output' = O.contents output.new; broken = O.failed output.new; faults = F.contents faults.old; faults' = F.contents faults.new })) }
+{
+    let bytes = match input.read_whole(alloc) {
+        Ok(bytes) => bytes,
+        Err(fault) => {
+            complain_of_input(fault, faults);
+            return 1;
+        }
+    };
+    match trace_or_reason(alloc, bytes.as_slice()) {
+        Ok(trace) => give_verdict(alloc, &trace, output, faults),
+        Err(reason) => {
+            tell(&reason, faults);
+            1
+        }
+    }
+}

@@ -1,0 +1,7 @@
+use Rattle.std.proofs.Common.{◌≡◌, drop}
+use Rattle.serde_json.specs.View.{items_view}
+use Rattle.ot_reasons.specs.Namings.{note_event, note_each}
+use Rattle.ot_reasons.proofs.namings.note_events.Given as goal
+
+abbrev pub invariant-loop-k : goal.invariant-loop-k
+invariant-loop-k l = note_each (note_event l.tag) l.k (items_view (drop l.k l.items)) l.found ≡ note_each (note_event l.tag) 0 (items_view l.items) l.initial.found

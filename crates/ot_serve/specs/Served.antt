@@ -1,0 +1,62 @@
+-- What the program writes and answers.
+use Rattle.std.specs.Prelude.{◌≡◌, ◌⊎◌, ℕ, Bool, true, List, Some, None}
+use Rattle.std.specs.Io.KnownBytes.{Keeps}
+use Rattle.streams.specs.Streams.{WritesPart}
+use Rattle.clap.specs.Words.{Text, takes}
+use Rattle.ot_input.specs.Inputs.{OfText, OfImage}
+use Rattle.outcomes.specs.Outcomes.{Streams, WantsMemory}
+use Rattle.ot_words.specs.Requests.{otbench_app, request_of}
+use Rattle.ot_commands.specs.Ran.{MayReport}
+use Rattle.ot_commands.specs.Completes.{MayComplete}
+use Rattle.ot_commands.specs.Converted.{MayGiveImage, MayGiveText}
+use Rattle.ot_commands.specs.Generated.{Generates}
+use Rattle.ot_commands.specs.Judged.{Judges}
+use Rattle.ot_commands.specs.ExplainedTraces.{ExplainsTrace}
+use Rattle.ot_commands.specs.Checked.{MayFind}
+use Rattle.ot_commands.specs.Debugged.{Debugs}
+use Rattle.ot_steps_command.specs.Stepped.{Steps as DoesSteps}
+use Rattle.ot_explain_command.specs.Explains.{Explains}
+use Rattle.ot_conform_command.specs.Conformed.{Compares}
+use Rattle.ot_threads.specs.Threaded.{Threads as DoesThreads}
+use Rattle.ot_words.specs.declared.words.Form.TheVariants as form
+use Rattle.ot_words.specs.declared.words.Subject.TheVariants as subject
+use Rattle.ot_words.specs.declared.words.Request.{Request}
+use Rattle.ot_words.specs.declared.words.Request.TheVariants.{Run, Check, Debug, Assemble, Disassemble, Judge, Steps, Explain, Conform, Complete, Generate}
+use Rattle.ot_words.specs.declared.words.Asked.{Asked}
+use Rattle.ot_words.specs.declared.words.Asked.TheVariants.{Plainly, Threads}
+
+-- a subcommand that reads nothing
+abbrev pub WithoutInput : (ℕ → Streams → Type 0) → List ℕ → ℕ → Streams → Type 0
+WithoutInput does text = does
+
+-- what a subcommand that needs no handle does with its input; `unread` says that the input has failed
+abbrev pub Serves : Request → Bool → List ℕ → ℕ → Streams → Type 0
+Serves (Run form.Text) unread = OfText MayReport
+Serves (Run form.Image) unread = OfImage MayReport unread
+Serves (Check all) unread = OfText (MayFind all)
+Serves Debug unread = Debugs
+Serves Assemble unread = OfText MayGiveImage
+Serves Disassemble unread = OfImage MayGiveText unread
+Serves Judge unread = Judges unread
+Serves (Steps documents) unread = DoesSteps documents
+Serves (Explain subject.Schedule) unread = Explains unread
+Serves (Explain subject.Trace) unread = ExplainsTrace unread
+Serves (Conform sparse) unread = Compares sparse
+Serves Complete unread = OfText MayComplete
+Serves (Generate seed shape) unread = WithoutInput (Generates shape)
+
+-- what a subcommand does with its input
+abbrev pub ServesAsked : Asked → Bool → List ℕ → ℕ → Streams → Type 0
+ServesAsked (Plainly request) unread = Serves request unread
+ServesAsked Threads unread = DoesThreads unread
+
+-- status 2, nothing on the output, and a text on the faults
+abbrev pub Advises : ℕ → Streams → Type 0
+Advises status streams = (status ≡ 2) × Keeps streams.output streams.output' × ((text : List ℕ) × WritesPart streams.faults streams.faults' text)
+
+-- what the words ask for is done; or, where `clap` does not take them or they ask for nothing, its text is given; or memory for them was wanting
+abbrev pub ServesWords : List Text → Bool → List ℕ → ℕ → Streams → Type 0
+ServesWords words unread input status streams =
+    ((asked : Asked) × (request_of words ≡ Some asked) × ServesAsked asked unread input status streams)
+    ⊎ ((takes otbench_app words ≡ true → request_of words ≡ None) × Advises status streams)
+    ⊎ WantsMemory status streams

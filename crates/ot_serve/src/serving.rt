@@ -1,0 +1,114 @@
+//! The whole program over any streams.
+
+ghost use Rattle.std.specs.Prelude.{◌≡◌, ◌⊎◌, List, ℕ, IfSome, map};
+ghost use Rattle.streams.specs.Streams.{WritesPart};
+ghost use Rattle.clap.specs.Values.{kind_of};
+ghost use Rattle.clap.specs.declared.error.kind.ErrorKind.TheVariants.{OutOfMemory};
+ghost use Rattle.outcomes.specs.Outcomes.{memory_fault};
+ghost use Rattle.ot_serve.specs.Served.{Serves, ServesAsked, ServesWords};
+
+use clap::Error;
+use clap::error::ErrorKind;
+use ot_commands::{
+    assemble, check_text, complete_text, debug_text, disassemble_image, explain_trace,
+    generate_session, judge_input, run_image, run_text,
+};
+use ot_conform_command::run_conform;
+use ot_explain_command::run_explain;
+use ot_steps_command::run_steps;
+use ot_threads::run_threads;
+use ot_words::{Asked, Form, Request, Subject, read_request};
+use outcomes::{complain, complain_of_memory};
+use std::alloc::Global;
+use std::convert::AsStr;
+use std::io::Write;
+use std::sync::Wait;
+use std::thread::Threads;
+use streams::{Sink, Source};
+
+// Writes `clap`'s text where the words gave no subcommand.
+fn no_matches<F: Write>(alloc: Global, error: &Error, faults: &mut F) -> u8
+    ensures text { result ≡ 2 → (text : List ℕ) × WritesPart (F.contents faults.old) (F.contents faults.new) text }
+    ensures memory { ((result ≡ 1) × WritesPart (F.contents faults.old) (F.contents faults.new) memory_fault) ⊎ (result ≡ 2) }
+    ensures kind { kind_of error.now ≡ OutOfMemory → result ≡ 1 }
+{
+    if error.kind() == ErrorKind::OutOfMemory {
+        complain_of_memory(faults);
+        return 1;
+    }
+    match error.to_string(alloc) {
+        Ok(text) => {
+            complain(faults, text.as_str());
+            2
+        }
+        Err(_) => {
+            complain_of_memory(faults);
+            1
+        }
+    }
+}
+
+// Carries out a subcommand that needs no handle.
+fn carry_out<I: Source, O: Sink, F: Write>(
+    alloc: Global,
+    request: Request,
+    input: &mut I,
+    output: &mut O,
+    faults: &mut F,
+) -> u8
+    ensures { IfSome (I.remaining input.old) (λ text. Serves request (I.failed input.new) text result (record { output = O.contents output.old; output' = O.contents output.new; broken = O.failed output.new; faults = F.contents faults.old; faults' = F.contents faults.new })) }
+{
+    match request {
+        Request::Run(Form::Text) => run_text(alloc, input, output, faults),
+        Request::Run(Form::Image) => run_image(alloc, input, output, faults),
+        Request::Check(all) => check_text(alloc, all, input, output, faults),
+        Request::Debug => debug_text(alloc, input, output, faults),
+        Request::Assemble => assemble(alloc, input, output, faults),
+        Request::Disassemble => disassemble_image(alloc, input, output, faults),
+        Request::Judge => judge_input(alloc, input, output, faults),
+        Request::Steps(documents) => run_steps(alloc, documents, input, output, faults),
+        Request::Explain(Subject::Schedule) => run_explain(alloc, input, output, faults),
+        Request::Explain(Subject::Trace) => explain_trace(alloc, input, output, faults),
+        Request::Conform(sparse) => run_conform(alloc, sparse, input, output, faults),
+        Request::Complete => complete_text(alloc, input, output, faults),
+        Request::Generate(seed, shape) => generate_session(alloc, seed, &shape, output, faults),
+    }
+}
+
+// Carries out what was asked for; `threads` alone may wait.
+fn serve_asked<R: Threads + Wait + Sync, I: Source, O: Sink, F: Write>(
+    rt: &R,
+    alloc: Global,
+    asked: Asked,
+    input: &mut I,
+    output: &mut O,
+    faults: &mut F,
+) -> u8
+    ensures { IfSome (I.remaining input.old) (λ text. ServesAsked asked (I.failed input.new) text result (record { output = O.contents output.old; output' = O.contents output.new; broken = O.failed output.new; faults = F.contents faults.old; faults' = F.contents faults.new })) }
+{
+    match asked {
+        Asked::Plainly(request) => carry_out(alloc, request, input, output, faults),
+        Asked::Threads => run_threads(rt, alloc, input, output, faults),
+    }
+}
+
+/// Does what the words ask for (the program's name is the first of them), and answers the status: 0 where it was done; 1 for a refused
+/// input, a refused instruction, a verdict against a trace or a trace that is too large, a bad command, or a fault of reading, writing or
+/// memory, or of a plan's workers; 2 where the words ask for no subcommand, or for help. Only `threads` waits; every other subcommand
+/// returns, whatever its input.
+pub fn serve<
+    'a,
+    R: Alloc<A = Global> + Threads + Wait + Sync,
+    S: AsStr,
+    I: Source,
+    O: Sink,
+    F: Write,
+>(rt: &R, words: &'a [S], input: &mut I, output: &mut O, faults: &mut F) -> u8
+    ensures { IfSome (I.remaining input.old) (λ text. ServesWords (map S.text words.entry.now) (I.failed input.new) text result (record { output = O.contents output.old; output' = O.contents output.new; broken = O.failed output.new; faults = F.contents faults.old; faults' = F.contents faults.new })) }
+{
+    let alloc = rt.alloc();
+    match read_request(alloc, words) {
+        Ok(asked) => serve_asked(rt, alloc, asked, input, output, faults),
+        Err(error) => no_matches(alloc, &error, faults),
+    }
+}
