@@ -27,9 +27,10 @@ export class Debugger {
 
   /** What stands above the first prompt. */
   greeting() {
-    const { opening, difference, cut } = this.recording;
+    const { opening, difference, showsNothing, cut } = this.recording;
     const ends = cut === null ? [] : [`the schedule ends before its logs: ${cut}`];
     const said = difference ? [`the port differs at place ${difference.place}: run stops there`] : [];
+    if (showsNothing) said.push("the port's lines have no value that can be compared");
     return [opening, ...ends, ...said, "help lists the commands"];
   }
 
