@@ -250,6 +250,11 @@ export interface Bench {
   steps(schedule: Text, options?: { documents?: boolean }): Step[];
   /** The run in words. The error of a refused text says its column and cause too. */
   explain(schedule: Text): string;
+  /**
+   * Judges a recorded trace, a value or its JSON, and gives the line that `judge` prints. The error of an input that is no trace says where its first fault
+   * is, what stands there and what is wanted.
+   */
+  explain(trace: object | Text, options: { form: "trace" }): string;
   /** Compares what a port of ot.js printed with the run of the schedule; with `sparse` instructions without a line are passed over. */
   conform(schedule: Text, lines: PortLines, options?: { sparse?: boolean }): Conformance;
   /** Whether all is quiet and one, and whether the trace has the weak list property. */

@@ -13,6 +13,7 @@ export interface WorkerBench {
   run(schedule: Text, options?: { image?: boolean } & Cancelled): Promise<ReturnType<Bench["run"]>>;
   steps(schedule: Text, options?: { documents?: boolean } & Cancelled): Promise<ReturnType<Bench["steps"]>>;
   explain(schedule: Text, options?: Cancelled): Promise<string>;
+  explain(trace: object | Text, options: { form: "trace" } & Cancelled): Promise<string>;
   conform(schedule: Text, lines: PortLines, options?: { sparse?: boolean } & Cancelled): Promise<ReturnType<Bench["conform"]>>;
   check(schedule: Text, options?: { all?: boolean } & Cancelled): Promise<ReturnType<Bench["check"]>>;
   judge(trace: object | Text, options?: Cancelled): Promise<ReturnType<Bench["judge"]>>;
