@@ -207,12 +207,15 @@ class Builds(Programs):
     def test_proving(self):
         status, printed, faults = self.tree.run("--proved", "--jobs", "2")
         self.assertEqual((status, printed), (0, ""))
-        said = ("otbench: proving 1 crates, 2 at a time; out/proving.log has what rt says\n"
+        said = ("otbench: proving 1 crates; out/proving.log has what rt says\n"
+                "otbench: first ot_machine and what lies below it, by 2 processes\n"
+                "otbench: so far: 1 of 1 functions checked [(]after [0-9]+ min [0-9]+ s[)]\n"
+                "otbench: now the other crates, 3 at a time\n"
                 "otbench: 1 of 1 crates done, 0 left, after [0-9]+ min [0-9]+ s: otbench\n"
                 "otbench: building the program over what is proved\n"
                 "otbench: the proved program is crates/otbench/out/otbench\n")
         self.assertRegex(faults, f"^{said}$")
-        self.assertEqual(self.tree.built(), ["all check --jobs 2"])
+        self.assertEqual(self.tree.built(), ["all check --jobs 3"])
         self.assertEqual(self.tree.run("--proved"), (0, "", "otbench: the proved program is crates/otbench/out/otbench\n"))
         self.assertEqual(len(self.tree.built()), 1)
 
