@@ -1,6 +1,6 @@
 """Runs the program once for each growth that it makes, with that growth refused.
 
-Each run must either answer as with all memory, or say that memory was wanting: nothing on the output (of `run` and `steps` the
+Each run must either answer as with all memory, or say that memory ran out: nothing on the output (of `run` and `steps` the
 first lines, of `debug` the first replies) and a fault `Memory` on the other writer, or a stop `Memory` in a report, or `no memory`
 among a debugger's replies, each with status 1. There is no third thing. Prints how many growths were refused in each case, and the first answer that is none of these.
 """
@@ -57,7 +57,7 @@ def cases():
     yield ["threads"], text("two-typists.json")
     yield ["threads"], LATE
 
-# How a subcommand says among its lines that memory was wanting.
+# How a subcommand says among its lines that memory ran out.
 STOP = rb"^stopped at \d+: Memory$"
 SAID = {"run": STOP, "check": STOP, "conform": STOP, "debug": rb"^no memory$", "steps": rb'^\{"at":\d+,"do":.*,"stopped":"Memory"\}$'}
 
@@ -81,7 +81,7 @@ def is_first_part(out, whole):
 
 
 def wants_memory(words, whole, got):
-    """Whether the answer says that memory was wanting, and is the whole answer up to where it says so. What follows a stop or a
+    """Whether the answer says that memory ran out, and is the whole answer up to where it says so. What follows a stop or a
     reply `no memory` is not compared: it depends on the place where the program then stands."""
     status, out, faults = got
     if status != 1 or not re.fullmatch(rb"(otbench: ((line|byte) \d+: )?Memory\n)?", faults):

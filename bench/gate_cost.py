@@ -7,7 +7,7 @@ of them from nothing. This script does the same by the gate's own functions (it 
 on a copy of the repository in FOLDER, and counts the processor time of all processes of a part: that is about the same on a machine that is busy with other work.
 
 What was measured is kept in FOLDER/costs.json under a sum of the sources that it depends on: a run that was stopped goes on where it was, and what has not
-changed is not measured again. Proofs of the crates below those that were asked for are made where they are wanting. With --limit nothing is begun after so
+changed is not measured again. Proofs of the crates below those that were asked for are made where they are missing. With --limit nothing is begun after so
 many minutes. A part that fails is printed as such and counts for nothing, and what was not measured is named: the last lines are of the rest alone.
 
 The last lines say what the whole gate costs, and its longest chain: the proofs of a crate and of those below it, and then its edits, which wait for its tests.
@@ -133,7 +133,7 @@ def size(name):
 
 @functools.lru_cache(maxsize=None)
 def chain_from(name):
-    """How much the longest chain has that begins with this crate: itself and what waits for it, by size."""
+    """How much the longest chain has that begins with this crate: itself and what depends on it, by size."""
     return size(name) + max((chain_from(it.name) for it in crates().values() if name in {dep.name for dep in it.below()}), default=0)
 
 

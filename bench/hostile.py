@@ -134,7 +134,7 @@ def long_cycle(edits=3970, width=990):
     made.add(5, "read", [1, 1, 0, 1, 0, 0, 0, 0], [[1, 0], text[0]])
     shown = list(text)
     for e in range(edits):
-        r, other = (0, 6)[e % 2], (0, 6)[(e + 1) % 2]
+        r = (0, 6)[e % 2]
         seen = [made.counts[0], 0, 0, 0, 0, 0, made.counts[6], 0]
         tag, place = [r, 2000000 + e], 1 + (e * 7919) % (len(shown) - 2)
         gone = [] if len(shown) < width + 10 else [shown.pop(1 + (e * 104729) % (len(shown) - 2))]

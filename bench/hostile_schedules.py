@@ -20,7 +20,7 @@ def edit(client, at, text, gone, length):
 
 
 def typed(client, count, length):
-    """A client that types and takes back one character, taken and acknowledged each time."""
+    """A client that types and deletes one character, taken and acknowledged each time."""
     lines = []
     for k in range(count):
         lines.append(edit(client, 7, "x", 0, length) if k % 2 == 0 else edit(client, 7, "", 1, length + 1))

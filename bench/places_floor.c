@@ -3,7 +3,7 @@
    cc -O2 -o /tmp/places_floor bench/places_floor.c && time /tmp/places_floor
 
    29 clients have a document of 115,000 elements of 12 bytes, in chunks of 512, and as many components of 24 bytes, in sections of 12 that stand in a list. 90,000 times, for each
-   client by turns: a look at the length of each section, and at 288 places all over them one section is written anew with a component changed, and one element is put into its chunk
+   client by turns: a look at the length of each section, and at 288 places all over them one section is rewritten with a component changed, and one element is put into its chunk
    of the document, or taken out. Nothing is parsed, transformed, composed, checked or sent, and no list of changes is made.
 
    Prints a sum, so that nothing is left out. */
@@ -41,7 +41,7 @@ static void begin(void) {
     }
 }
 
-/* One component of the section changes: it is written anew, and the old one goes. */
+/* One component of the section changes: it is rewritten, and the old one goes. */
 static size_t change_section(Section *it, size_t more) {
     Component *next = room(it->count * sizeof(Component));
     size_t sum = 0;

@@ -17,7 +17,6 @@ import os
 import random
 import shutil
 import subprocess
-import sys
 
 from storms import Sim
 
@@ -134,7 +133,7 @@ class Port:
     """The sample port's driver, one process for all schedules."""
 
     def __init__(self, driver):
-        self.process = subprocess.Popen(['node', os.path.join(HERE, 'drive.js'), driver], stdin=subprocess.PIPE, stdout=subprocess.PIPE, text=True, encoding='utf-8')
+        self.process = subprocess.Popen(['node', os.path.join(HERE, 'drive.mjs'), driver], stdin=subprocess.PIPE, stdout=subprocess.PIPE, text=True, encoding='utf-8')
 
     def lines(self, text, short=False, bug=None):
         self.process.stdin.write(json.dumps({'text': text, 'short': short, 'bug': bug}) + '\n')

@@ -40,7 +40,7 @@ class Failures:
             yield kind, len(those), *min(those, key=lambda it: len(it[1].sessions[-1].instructions))
 
     def known_lines(self):
-        """What is said of the known ones; one that did not come is told."""
+        """What is said of the known ones; one that did not come is reported."""
         for kind, count in self.known.items():
             yield f"known: {kind}: {counted(count, 'session')}" if count else f"known, and no longer there: {kind}"
 

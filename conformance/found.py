@@ -62,9 +62,9 @@ def find(differences, fault, sessions):
     return None
 
 
-def fault_names():
-    """The faults that one session can show."""
-    names = "const { bugs, leaks } = require('./faults.js'); console.log(JSON.stringify(Object.keys(bugs).filter((name) => !(name in leaks))))"
+def fault_names(leaking=False):
+    """The faults that one session can show; or those that only several sessions of one process can."""
+    names = f"const {{ bugs, leaks }} = require('./faults.js'); console.log(JSON.stringify(Object.keys(bugs).filter((name) => name in leaks === {json.dumps(leaking)})))"
     return json.loads(subprocess.run(["node", "-e", names], cwd=HERE, check=True, capture_output=True).stdout)
 
 
@@ -106,7 +106,8 @@ that a line of the faulty port is another than ot.js' own.{tried}
             if None in found:
                 missed[fault] = found.count(None)
     said = [f"{fault} with {count} of {words.seeds} seeds" for fault, count in missed.items()]
-    print(f"\nNot found: {', '.join(said) or 'none'}. The corpus finds each fault ([COVERAGE](COVERAGE.md)).")
+    print(f"\nNot found: {', '.join(said) or 'none'}. Not tried, since one session cannot show it: {', '.join(fault_names(leaking=True))}. "
+          "The corpus finds each fault ([COVERAGE](COVERAGE.md)).")
     return 1 if missed else 0
 
 

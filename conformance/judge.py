@@ -11,11 +11,12 @@ import time
 from compared import Compared
 from port import ENDED, Driver, KeptDriver
 from reduce import reduced
+from report import visible
 from utf16 import Translation
 
 TROUBLE = re.compile(r"the driver (ended with status \d+|was ended by signal \d+|was ended: it (?:took|printed) more than [\d.,]+ \w+|ended before the line %%)")
 
-AGREES = ("conforms\n", "nothing counted\n")  # no difference; whether what is needed was compared is told of all sessions together
+AGREES = ("conforms\n", "nothing counted\n")  # no difference; whether what is needed was compared is reported of all sessions together
 
 
 class Refused(Exception):
@@ -34,6 +35,10 @@ class Verdict:
         self.is_limit = said.startswith("stopped at ")
         self.compared = Compared.of(sessions[-1], printed, said) if self.conforms else Compared()
 
+    def is_slow(self):
+        """Whether the driver was ended because of the time that it took."""
+        return self.ended and " took more than " in self.trouble
+
     def kind(self):
         """The method of ot.js and the key in which the port differs, or else what was wrong: the same for failures of one cause, mostly."""
         first = self.said.split("\n", 1)[0]
@@ -47,14 +52,13 @@ class Verdict:
 
     def needed(self):
         """How many instructions of the last session it takes, as far as one knows."""
-        is_whole = self.trouble or self.place is None
-        return len(self.sessions[-1].instructions) if is_whole else min(self.place, len(self.sessions[-1].instructions))
+        count = len(self.sessions[-1].instructions)
+        return count if self.place is None else min(self.place, count)
 
     def text(self):
         """How the driver ended, if otherwise than it should, and the answer; that the lines so far conform is none of a driver that failed."""
-        if self.trouble is None:
-            return self.said
-        return f"{self.trouble}\n" + ("" if self.said.startswith(AGREES) else self.said)
+        said = "" if self.trouble and self.said.startswith(AGREES) else self.said
+        return visible(f"{self.trouble}\n{said}" if self.trouble else said)
 
 
 def fails_likewise(first):

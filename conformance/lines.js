@@ -3,6 +3,8 @@
 const sample = require("../examples/port/driver.js");
 const { drive, inUnits, loadPort } = require("../oracle/scalars.js");
 
+const otjs = loadPort();
+
 const KEYS = "at clients present start do client edit stopped revision state outstanding buffer sent applied appended document end".split(" ");
 const STATE = ["revision", "state", "outstanding", "buffer"];
 const WITH_DOCUMENT = ["read", "join", "read-server"];
@@ -15,12 +17,12 @@ function asStep(line) {
   return JSON.stringify(Object.fromEntries(shown.map((key) => [key, values[key]])));
 }
 
-const stepsOf = (text) => drive(text, loadPort()).map((line) => asStep(line) + "\n").join("");
+const stepsOf = (text) => drive(text, otjs).map((line) => asStep(line) + "\n").join("");
 
 /* A schedule, to be compared: its text in UTF-16 units, and the lines of ot.js. */
 function comparable(text) {
   const given = inUnits(text);
-  return { given, ours: sample.drive(given, loadPort()) };
+  return { given, ours: sample.drive(given, otjs) };
 }
 
 /* The place of the first line that a port prints otherwise than ot.js, or null. */

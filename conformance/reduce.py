@@ -215,7 +215,7 @@ class Reduction:
         return any(map(is_long, self.sessions))
 
     def exhaust(self, way):
-        """Goes one way until nothing on it shows it any more. Behind a success it goes on from there, and then begins anew."""
+        """Goes one way until nothing on it shows it any more. Behind a success it goes on from there, and then begins again."""
         has_moved, passed = False, 0
         while True:
             number = self.try_first(itertools.islice(way(self.sessions), passed, passed + PATIENCE if self.is_long() else None))

@@ -1,6 +1,8 @@
 """What a run says: in words, in the Test Anything Protocol, or as JUnit's XML."""
+import json
 import re
 import sys
+import unicodedata
 import xml.etree.ElementTree as xml
 
 from deviations import counted
@@ -13,6 +15,15 @@ def progress(text):
     if sys.stderr.isatty():
         sys.stderr.write(f"\r\x1b[K{text}")
         sys.stderr.flush()
+
+
+def visible(text):
+    """A text for the eye: characters that show nothing, or that join the one before, stand as JSON escapes them."""
+    return "".join(character if shows(character) else json.dumps(character)[1:-1] for character in text)
+
+
+def shows(character):
+    return character == "\n" or character.isprintable() and unicodedata.category(character)[0] != "M"
 
 
 class Plain:

@@ -4,8 +4,8 @@ import json
 import re
 
 BLANKS = " \t"
-NAMED = re.compile(r"; client ([0-9]{1,9}) is (.+)")
-CLIENT = re.compile(r'"(?:[^"\\\n]|\\.)*"|\bclient ([0-9]{1,9})\b')
+NAMED = re.compile(r";[ \t]*client[ \t]+([0-9]{1,9})[ \t]+is[ \t]+(.+)")
+CLIENT = re.compile(r'"(?:[^"\\\n]|\\.)*"|\bclient ([0-9]{1,9})\b(?! \()')
 
 
 @dataclasses.dataclass(frozen=True)
@@ -15,11 +15,12 @@ class Instruction:
     client: int | None = None
     edit: tuple = ()
 
+    def words(self):
+        return self.word if self.client is None else f"{self.word} {self.client}"
+
     def line(self):
-        if self.client is None:
-            return self.word
         operation = " " + json_of(list(self.edit)) if self.word == "edit" else ""
-        return f"{self.word} {self.client}{operation}"
+        return self.words() + operation
 
     def mover(self):
         """Whose document the instruction's line shows: a client's number, or the word `server`."""
@@ -47,7 +48,7 @@ class Schedule:
 
 
 def named(text, names):
-    """What otbench says, with the names in it: `client 1` becomes `client 1 (ben)`, but not inside of a string."""
+    """What is said, with the names in it: `client 1` becomes `client 1 (ben)`, but not inside of a string, and not where otbench has named the client."""
     called = {str(client): name for client, name in enumerate(names) if name is not None}
     return CLIENT.sub(lambda found: f"{found[0]} ({called[found[1]]})" if found[1] in called else found[0], text)
 
@@ -64,7 +65,7 @@ def read_schedule(text):
         if line == "%%":
             break
         if named := NAMED.fullmatch(line):
-            names.setdefault(int(named[1]), named[2])
+            names[int(named[1])] = named[2]
         if line == "" or line[0] == ";":
             continue
         word, _, rest = re.sub(r"[ \t]+", " ", line, count=1).partition(" ")

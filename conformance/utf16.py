@@ -4,7 +4,7 @@ such a port its edits in units, and turns what it prints back:
 
     schedule, in scalars ── given ──▶ driver ── its lines, in units ── back ──▶ `otbench conform`
 
-Each operation is counted over the text that it goes over in ot.js, which `otbench steps --documents` tells. A length that cuts a
+Each operation is counted over the text that it applies to in ot.js, which `otbench steps --documents` shows. A length that cuts a
 surrogate pair of that text or passes its end, and half of a pair in a text, are no lengths and no text of a schedule: a string
 that says so stands there instead, which `conform` finds to differ.
 """
@@ -88,7 +88,7 @@ def applied(operation, text):
 
 
 class Texts:
-    """The texts that operations go over, while the lines of a session in ot.js are read."""
+    """The texts that operations apply to, while the lines of a session in ot.js are read."""
 
     def __init__(self, opening):
         start = opening["start"]
@@ -98,7 +98,7 @@ class Texts:
         self.outstanding = [[]] * opening["clients"]
 
     def read(self, line):
-        """What each operation of a line goes over, by its key; `sent` is over what the server had."""
+        """What each operation of a line applies to, by its key; `sent` is over what the server had."""
         client = line.get("client")
         if line["do"] == "take":
             self.log.append(line["document"])

@@ -126,9 +126,9 @@ def hostile(sides, *names):
         with tempfile.TemporaryDirectory() as room:
             text, path = make(), pathlib.Path(room, name)
             path.write_text(text, encoding="utf-8")
-            for word in words or words_of(text):
-                del text
-                text = ""
+            tried = words or words_of(text)
+            del text
+            for word in tried:
                 print(sides.hostile(name, word, path), flush=True)
 
 

@@ -69,9 +69,17 @@ export function readJudge(text) {
 
 const DIFFERENCE = /^differs at (\d+): ([^:]*): (.*)$/s;
 
-/** What `conform` prints. */
+const CUT = /^the schedule ends before its logs(?:: (.*))?$/s;
+
+/** What `conform` prints. Where the schedule is cut, nothing conforms, and `cut` has the words of the last line. */
 export function readConform(text) {
-  const [first, ...lines] = linesOf(text);
+  const lines = linesOf(text);
+  const cut = CUT.exec(lines.at(-1));
+  if (!cut) return verdictIn(lines, text);
+  return { ...verdictIn(lines.slice(0, -1), text), conforms: false, cut: cut[1] ?? "" };
+}
+
+function verdictIn([first, ...lines], text) {
   if (first === "conforms") return { verdict: "conforms", conforms: true, compared: countsIn(lines[0]), text };
   if (first === "nothing counted") return { verdict: "nothing", conforms: false, compared: countsIn(lines[0]), text };
   const stopped = stopIn(first);
@@ -88,16 +96,23 @@ function countsIn(line) {
 
 /* The lines under a difference. */
 function detailsIn(lines) {
-  const details = { found: "", otjs: "", place: null, rule: null, given: [], note: null };
+  const details = { found: "", otjs: "", place: null, points: null, rule: null, given: [], note: null };
   for (const line of lines) {
     const [, word, rest] = /^(\S+) (.*)$/s.exec(line);
     if (word === "found") details.found = rest;
     else if (word === "ot.js") details.otjs = rest;
     else if (word === "place") details.place = Number(rest);
+    else if (word === "points") details.points = pointsIn(rest);
     else if (word === "given") details.given.push(givenIn(rest));
     else details[word] = rest;
   }
   return details;
+}
+
+/* "U+0065 U+0301 | U+00E9" */
+function pointsIn(text) {
+  const [found, otjs] = text.split("|").map((points) => points.split(" ").filter(Boolean));
+  return { found, otjs };
 }
 
 function givenIn(text) {

@@ -6,6 +6,7 @@
 
 import { readCheck, readCheckOfAll, readConform, readJudge, readRun, readSteps } from "./answers.mjs";
 import { check, OtbenchError } from "./errors.mjs";
+import { withPlace, withStop } from "./lines.mjs";
 import { bytesOf, joined, markIn, textOf, withRest } from "./text.mjs";
 
 const NOTHING = new Uint8Array(0);
@@ -13,36 +14,49 @@ const NOTHING = new Uint8Array(0);
 /* A call that gives a value of what was printed. */
 const reading = (words, input, read, signal) => ({ words, input, read: (answer) => read(textOf(check(answer).output)), signal });
 
+/* A call whose value names places of a schedule's text: `locate` puts their lines into it. */
+const located = (words, input, read, locate, signal) => reading(words, input, (text) => locate(read(text), input), signal);
+
 const schedule = (given) => bytesOf(given, "the schedule");
+
+/* What is given as a value or as its JSON, with its name. */
+const VALUES = new Map([["trace", "the trace"], ["plan", "the plan"]]);
 
 /* The calls of all functions but `serve`. Each takes `signal` among its options; only the functions of a worker look at it. */
 const calls = {
-  run: (text, { image = false, signal } = {}) => reading(image ? ["run", "--image"] : ["run"], schedule(text), readRun, signal),
+  run(given, { image = false, signal } = {}) {
+    if (!image) return located(["run"], schedule(given), readRun, withStop, signal);
+    return reading(["run", "--image"], schedule(given), (text) => withStop(readRun(text), null), signal);
+  },
 
   steps: (text, { documents = false, signal } = {}) =>
     reading(documents ? ["steps", "--documents"] : ["steps"], schedule(text), readSteps, signal),
 
   /* A form that the program does not know is refused by it. */
   explain: (given, { form, signal } = {}) =>
-    reading(form === undefined ? ["explain"] : ["explain", `--${form}`], form === "trace" ? traceOf(given) : schedule(given), String, signal),
+    reading(form === undefined ? ["explain"] : ["explain", `--${form}`], VALUES.has(form) ? jsonOf(given, VALUES.get(form)) : schedule(given), String, signal),
 
   /* A line `%%` would end the schedule: one that has such a line is refused as `run` refuses it. */
   conform(text, lines, { sparse = false, signal } = {}) {
     const bytes = schedule(text);
     if (markIn(bytes)) return reading(["run"], bytes, readRun, signal);
-    return reading(sparse ? ["conform", "--sparse"] : ["conform"], withRest(bytes, linesOf(lines)), readConform, signal);
+    const words = sparse ? ["conform", "--sparse"] : ["conform"];
+    return reading(words, withRest(bytes, linesOf(lines)), (answer) => withPlace(readConform(answer), bytes), signal);
   },
 
   check: (text, { all = false, signal } = {}) =>
-    reading(all ? ["check", "--all"] : ["check"], schedule(text), all ? readCheckOfAll : readCheck, signal),
+    located(all ? ["check", "--all"] : ["check"], schedule(text), all ? readCheckOfAll : readCheck, withStop, signal),
 
-  judge: (trace, { signal } = {}) => reading(["judge"], traceOf(trace), readJudge, signal),
+  judge: (trace, { signal } = {}) => reading(["judge"], jsonOf(trace, VALUES.get("trace")), readJudge, signal),
 
   assemble: (text, { signal } = {}) => ({ words: ["asm"], input: schedule(text), read: (answer) => check(answer).output, signal }),
 
   disassemble: (image, { signal } = {}) => reading(["dis"], schedule(image), String, signal),
 
-  complete: (text, { signal } = {}) => reading(["complete"], schedule(text), String, signal),
+  complete(text, { signal } = {}) {
+    const bytes = schedule(text);
+    return { words: ["complete"], input: bytes, read: (answer) => textOf(check(answer, bytes).output), signal };
+  },
 
   generate: ({ signal, ...options } = {}) => reading(["generate", ...wordsOf(options)], NOTHING, String, signal),
 };
@@ -56,7 +70,7 @@ function linesOf(lines) {
 
 const isText = (given) => typeof given === "string" || given instanceof Uint8Array;
 
-const traceOf = (trace) => bytesOf(isText(trace) ? trace : JSON.stringify(trace), "the trace");
+const jsonOf = (given, name) => bytesOf(isText(given) ? given : JSON.stringify(given), name);
 
 /* The options of `generate` as its words. A name that the program does not know is refused by it. */
 function wordsOf(options) {

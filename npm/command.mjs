@@ -4,7 +4,8 @@ import { isatty } from "node:tty";
 import { EngineFault, serve } from "../engine/host.mjs";
 import { debug } from "../terminal/debugging.mjs";
 import { edit } from "../terminal/editing.mjs";
-import { FILES, inputOf, readWhole, split, STDIN, Unreadable } from "./files.mjs";
+import { FILES, inputOf, isFile, readWhole, split, STDIN, Unreadable } from "./files.mjs";
+import { hasHints, hintsOf, looksAtOutput } from "./hints.mjs";
 import { engineBytes, release, viewer } from "./parts.mjs";
 import { runOnStreams, writeAll } from "./streams.mjs";
 import { bytesOf, joined, textOf } from "./text.mjs";
@@ -69,9 +70,16 @@ function showHelp([word, ...more]) {
   return USAGE;
 }
 
+const isOnTerminal = () => isatty(STDOUT) && isatty(STDERR);
+
+/* What an option has a command read. */
+const FORMS = { "--image": "IMAGE", "--trace": "TRACE", "--plan": "PLAN" };
+
 /* Says what is awaited where somebody has to type it. */
-function announce(word, files) {
-  const awaited = files.length === 0 ? FILES[word] : FILES[word].filter((_, i) => files[i] === "-");
+function announce(word, flags, files) {
+  const form = FORMS[flags.find((flag) => Object.hasOwn(FORMS, flag))];
+  const all = form ? [form] : FILES[word];
+  const awaited = files.length === 0 ? all : all.filter((_, i) => files[i] === "-");
   if (awaited.length > 0 && isatty(STDIN) && isatty(STDERR))
     complain(`otbench: reading ${awaited.join(", a line '%%', ")} from the terminal; Ctrl-D ends it\n`);
 }
@@ -83,7 +91,7 @@ function view(words) {
     complain(flags.some(isHelp) ? VIEW_HELP : `error: unexpected argument '${unexpected}' found\n${VIEW_HELP}`);
     return USAGE;
   }
-  announce("view", files);
+  announce("view", flags, files);
   const input = joined(inputOf(files).map((part) => (part === STDIN ? readWhole("-") : part)));
   const bytes = engineBytes();
   const module = new WebAssembly.Module(bytes);
@@ -100,8 +108,23 @@ function runOnFiles(word, words) {
   const { flags, files } = split(words);
   const extra = files.slice(FILES[word].length);
   if (extra.length > 0 || flags.some(isHelp)) return runOnStreams(engine(), [word, ...flags, ...extra], []);
-  announce(word, files);
-  return runOnStreams(engine(), [word, ...flags], inputOf(files));
+  announce(word, flags, files);
+  const input = inputOf(files);
+  if (!hasHints(word) || !isOnTerminal()) return runOnStreams(engine(), [word, ...flags], input);
+  return runWithHints(word, { flags, files }, input);
+}
+
+/* The same on a terminal, with the hints below an answer of status 1. */
+function runWithHints(word, { flags, files }, input) {
+  const module = engine();
+  const [read, written] = [[], []];
+  const onRead = (bytes) => void read.push(bytes.slice());
+  const onWrite = looksAtOutput(word) ? (bytes) => void written.push(bytes.slice()) : undefined;
+  const status = runOnStreams(module, [word, ...flags], input, { onRead, onWrite });
+  if (status !== FAULT) return status;
+  const kept = { input: joined(read), output: joined(written) };
+  for (const hint of hintsOf(word, { flags, files }, kept, (words, text) => serve(module, words, text))) complain(`otbench: ${hint}\n`);
+  return status;
 }
 
 /* What the scripts of terminal/ ask: the engine, by words and a text. */
@@ -127,6 +150,8 @@ function run(words) {
   if (Object.hasOwn(FILES, word ?? "")) return runOnFiles(word, rest);
   const status = runOnStreams(engine(), words, [STDIN]);
   if (words.length === 1 && isHelp(word)) complain(MORE_HELP);
+  const isAlone = status === USAGE && word !== "generate" && isFile(word);
+  if (isAlone && isOnTerminal()) complain(`otbench: a command stands in front of a file: otbench run ${word}\n`);
   return status;
 }
 

@@ -1,5 +1,6 @@
 /* What the program refuses, and how a JavaScript error tells it. */
 
+import { withLine } from "./lines.mjs";
 import { textOf } from "./text.mjs";
 
 /** A refused input, words that are not understood, or a fault of memory. docs/FORMATS.md has each kind. */
@@ -7,7 +8,7 @@ export class OtbenchError extends Error {
   /**
    * @param {string} kind the fault's name as the program prints it; "Usage" where the words or options are refused
    * @param {string} message
-   * @param {{ line?: number, byte?: number }} [place] the line of a text, from 1, or the byte of an image, from 0
+   * @param {{ line?: number | null, byte?: number }} [place] the line of a text, from 1, or the byte of an image, from 0
    */
   constructor(kind, message, { line, byte } = {}) {
     super(message);
@@ -21,14 +22,14 @@ export class OtbenchError extends Error {
 const FAULT = /^otbench: (?:line (?<line>\d+): |byte (?<byte>\d+): )?(?<kind>\w+)/;
 
 /* What stands in the way of a completion: an instruction that is refused. */
-const STOP = /^stopped at \d+: (?<kind>\w+)$/;
+const STOP = /^stopped at (?<at>\d+): (?<kind>\w+)$/;
 
-/* The error of what the program printed on standard error. */
-function errorOf({ status, errors }) {
+/* The error of what the program printed on standard error, over a schedule's text if that may have been refused at an instruction. */
+function errorOf({ status, errors }, schedule) {
   const said = textOf(errors).trimEnd();
   if (status === 2) return new OtbenchError("Usage", said.replace(/^error: /, ""));
   const stop = STOP.exec(said);
-  if (stop) return new OtbenchError(stop.groups.kind, said);
+  if (stop) return new OtbenchError(stop.groups.kind, said, withLine({ at: Number(stop.groups.at) }, schedule));
   const { line, byte, kind } = FAULT.exec(said).groups;
   return new OtbenchError(kind, said.slice("otbench: ".length), { line: line && Number(line), byte: byte && Number(byte) });
 }
@@ -37,8 +38,9 @@ function errorOf({ status, errors }) {
  * Throws where the program has printed a fault, or refused its words. A status of 1 alone is none: it is also that of a verdict
  * against, and of a refused instruction.
  * @param {import("./otbench.mjs").Answer} answer
+ * @param {Uint8Array | null} [schedule] the text that it is of, whose lines the error names
  */
-export function check(answer) {
-  if (answer.status === 2 || answer.errors.length > 0) throw errorOf(answer);
+export function check(answer, schedule = null) {
+  if (answer.status === 2 || answer.errors.length > 0) throw errorOf(answer, schedule);
   return answer;
 }

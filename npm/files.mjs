@@ -6,7 +6,7 @@
  *     otbench debug session.ots -               the second one is standard input
  */
 
-import { readFileSync } from "node:fs";
+import { readFileSync, statSync } from "node:fs";
 import { withRest } from "./text.mjs";
 
 /** The files that a subcommand takes; the second one is what stands behind a schedule and a line `%%`. */
@@ -39,6 +39,15 @@ export function readWhole(file) {
     return readFileSync(file === "-" ? STDIN : file);
   } catch (error) {
     throw new Unreadable(file === "-" ? "ReadFault" : `${file}: ${REASONS[error.code] ?? error.message}`);
+  }
+}
+
+/** Whether a word names a file that is there. */
+export function isFile(word) {
+  try {
+    return statSync(word).isFile();
+  } catch {
+    return false;
   }
 }
 

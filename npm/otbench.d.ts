@@ -47,7 +47,7 @@ export type FaultKind =
 export class OtbenchError extends Error {
   readonly name: "OtbenchError";
   readonly kind: FaultKind;
-  /** The line of a refused text, from 1. */
+  /** The line of a refused text, from 1; of `complete` also that of a refused instruction. */
   readonly line: number | null;
   /** The byte of a refused image, from 0. */
   readonly byte: number | null;
@@ -58,9 +58,10 @@ export class EngineFault extends Error {
   name: "EngineFault";
 }
 
-/** A refused instruction: its number, from 0, and why. */
+/** A refused instruction: its number, from 0; its line in the schedule's text, from 1, or null where that is an image; and why. */
 export interface Stop {
   at: number;
+  line: number | null;
   refusal: Refusal;
 }
 
@@ -164,7 +165,10 @@ export interface NothingCounted {
 export interface Differs {
   verdict: "differs";
   conforms: false;
+  /** The place. */
   at: number;
+  /** The line of that instruction in the schedule, from 1; of the end, that of the last instruction performed; null where there is none. */
+  line: number | null;
   /** `opening`, the instruction (`deliver 0`), `end` or `after the end`. */
   what: string;
   /** `line`, or the value, with whose it is: `client 0 buffer`. */
@@ -173,6 +177,8 @@ export interface Differs {
   otjs: string;
   /** How many characters at the front of two texts are equal. */
   place: number | null;
+  /** Where the two may look alike: the code points of both from where they first differ, four at most, as `U+00E9`. */
+  points: { found: string[]; otjs: string[] } | null;
   /** The method of ot.js that makes the value, and what it was given. */
   rule: string | null;
   given: { name: string; value: string }[];
@@ -188,7 +194,14 @@ export interface NotCompared extends Stop {
   text: string;
 }
 
-export type Conformance = Conforms | NothingCounted | Differs | NotCompared;
+/** The schedule's comments say that the recorded session went on after it, so that nothing conforms. */
+export type OfCut = (Omit<Conforms, "conforms"> | Omit<NothingCounted, "conforms"> | Omit<Differs, "conforms"> | Omit<NotCompared, "conforms">) & {
+  conforms: false;
+  /** What they say of it; empty where that is not shown. */
+  cut: string;
+};
+
+export type Conformance = Conforms | NothingCounted | Differs | NotCompared | OfCut;
 
 /** What is not settled: a client that is not synchronized, its message to the server, or messages to it. */
 export interface Waits {
@@ -248,13 +261,15 @@ export interface Bench {
   run(schedule: Text, options?: { image?: boolean }): Run;
   /** The run as values: the opening, each instruction with what it changed, a stop, the end. */
   steps(schedule: Text, options?: { documents?: boolean }): Step[];
-  /** The run in words. The error of a refused text says its column and cause too. */
+  /** The run in words, with the clients' names where comments say them. The error of a refused text says its column and cause too. */
   explain(schedule: Text): string;
   /**
    * Judges a recorded trace, a value or its JSON, and gives the line that `judge` prints. The error of an input that is no trace says where its first fault
    * is, what stands there and what is wanted.
    */
   explain(trace: object | Text, options: { form: "trace" }): string;
+  /** Says in a line what a plan is, a value or its JSON. The error of an input that is no plan says where its first fault is, as that of a trace does. */
+  explain(plan: object | Text, options: { form: "plan" }): string;
   /** Compares what a port of ot.js printed with the run of the schedule; with `sparse` instructions without a line are passed over. */
   conform(schedule: Text, lines: PortLines, options?: { sparse?: boolean }): Conformance;
   /** Whether all is quiet and one, and whether the trace has the weak list property. */

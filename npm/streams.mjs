@@ -29,13 +29,15 @@ export function writeAll(stream, bytes) {
 }
 
 /* Reads parts one behind the other: bytes, or a stream by its number. */
-function readerOf(parts) {
+function readerOf(parts, onRead) {
   let [part, at] = [0, 0];
   return (room) => {
     for (; part < parts.length; part++, at = 0) {
       const count = readPart(parts[part], at, room);
       at += count;
-      if (count > 0) return count;
+      if (count === 0) continue;
+      onRead(room.subarray(0, count));
+      return count;
     }
     return 0;
   };
@@ -48,17 +50,24 @@ function readPart(part, at, room) {
   return piece.length;
 }
 
+const ignored = () => {};
+
 /**
  * Runs the program.
  * @param {WebAssembly.Module} module
  * @param {string[]} words behind the program's name
  * @param {(Uint8Array | number)[]} input parts of what it reads, one behind the other: bytes, or a stream by its number
+ * @param {{ onRead?: (bytes: Uint8Array) => void, onWrite?: (bytes: Uint8Array) => void }} [watch] is called with what it has read, and with what it has printed on
+ *   the output: bytes that are another's as soon as the call returns
  * @returns {number} the status
  */
-export function runOnStreams(module, words, input) {
+export function runOnStreams(module, words, input, { onRead = ignored, onWrite = ignored } = {}) {
   return serveStreams(module, words, {
-    read: readerOf(input),
-    write: (bytes) => writeAll(1, bytes),
+    read: readerOf(input, onRead),
+    write(bytes) {
+      writeAll(1, bytes);
+      onWrite(bytes);
+    },
     error: (bytes) => writeAll(2, bytes),
   });
 }

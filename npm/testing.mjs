@@ -9,6 +9,7 @@
 import { AssertionError } from "node:assert";
 import { setImmediate } from "node:timers/promises";
 import { drive as drivePort } from "../examples/port/driver.js";
+import { lineTold } from "../viewer/src/numbering.mjs";
 import { conform } from "./otbench.mjs";
 import { reduced } from "./reduce.mjs";
 import { valuesOf, withOneUnitEach } from "./schedule.mjs";
@@ -78,6 +79,12 @@ async function reducedCase(driver, schedule, verdict, seconds) {
 
 const countOf = (schedule) => valuesOf(schedule).instructions.length;
 
+/* What conform said over a schedule, and in which line of it that is. */
+function toldOf(answer, schedule) {
+  const line = lineTold(answer, schedule);
+  return answer.text + (line ? `${line}\n` : "");
+}
+
 /* The error of a session over which the driver fails. */
 async function failure(driver, name, schedule, verdict, seconds) {
   const found = await reducedCase(driver, schedule, verdict, seconds);
@@ -86,7 +93,7 @@ async function failure(driver, name, schedule, verdict, seconds) {
     `${name}: ${countOf(schedule)} instructions, here reduced to ${countOf(found.schedule)}`,
     "",
     found.schedule,
-    answer ? answer.text : `the driver threw ${thrown}\n`,
+    answer ? toldOf(answer, found.schedule) : `the driver threw ${thrown}\n`,
   ];
   if (!found.isSteady) lines.push("the driver did not do this each time\n");
   const error = new AssertionError({ message: lines.join("\n"), actual: answer?.found, expected: answer?.otjs, operator: "conforms" });

@@ -4,7 +4,7 @@
  *
  *     schedule, in scalars ── inUnits ──▶ driver ── its lines, in units ── inScalars ──▶ conform
  *
- * Each operation is counted over the text that it goes over in ot.js. A length that cuts a surrogate pair of that text or passes
+ * Each operation is counted over the text that it applies to in ot.js. A length that cuts a surrogate pair of that text or passes
  * its end, and half of a pair in a text, are none of a schedule: a string that says so stands there, which conform finds to differ.
  */
 
@@ -39,7 +39,7 @@ function linesOf(printed) {
   return (typeof printed === "string" ? printed : textOf(printed)).split("\n");
 }
 
-/* By the place of a line of `steps`: the text that each operation of the line goes over, by the operation's key. */
+/* By the place of a line of `steps`: the text that each operation of the line applies to, by the operation's key. */
 function textsOf([opening, ...lines]) {
   const log = [opening.start]; // the server's document at each revision
   const documents = Array.from({ length: opening.clients }, (_, client) => (client < opening.present ? opening.start : ""));

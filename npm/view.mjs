@@ -5,6 +5,12 @@ import { bytesOf, joined, markIn, textOf } from "./text.mjs";
 
 const utf8 = (text) => bytesOf(text, "the text");
 
+/* The fault of a schedule with its column and cause, as `explain` tells it; it tells none where there is no memory for that. */
+function faultOf(serve, schedule, errors) {
+  const told = serve(["explain"], schedule).errors;
+  return told.length > 0 ? told : errors;
+}
+
 /**
  * The lines that the page shows, or null where the schedule is refused: those of `steps`; and behind a line `%%` the port's, and behind
  * another what `conform` answers.
@@ -16,7 +22,7 @@ export function shownOf(serve, input) {
   const mark = markIn(input);
   const schedule = mark ? input.subarray(0, mark.start) : input;
   const { output, errors } = serve(["steps"], schedule);
-  if (!isWhole(output)) return { schedule, lines: null, errors };
+  if (!isWhole(output)) return { schedule, lines: null, errors: faultOf(serve, schedule, errors) };
   const port = mark ? [utf8("%%\n"), input.subarray(mark.end), utf8("\n%%\n"), serve(["conform"], input).output] : [];
   return { schedule, lines: joined([output, ...port]), errors };
 }

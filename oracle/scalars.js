@@ -11,6 +11,8 @@ const { readSchedule } = require("../examples/port/schedule.js");
 const { Session } = require("../examples/port/session.js");
 const { Interner } = require("./otjs.js");
 
+const otjs = sample.loadPort();
+
 /* An escape of JSON: of a surrogate pair, of one surrogate, or another. */
 const ESCAPE = /\\(?:u(d[89ab][0-9a-f]{2})\\u(d[c-f][0-9a-f]{2})|u(d[89a-f][0-9a-f]{2})|[^])/gi;
 const unit = (digits) => String.fromCharCode(parseInt(digits, 16));
@@ -40,7 +42,7 @@ function unitsOf(operation, text) {
 function inUnits(text) {
   if (!/[\ud800-\udfff]/.test(withPairs(text))) return text;
   const schedule = readSchedule(text);
-  const session = new Session(sample.loadPort(), schedule);
+  const session = new Session(otjs, schedule);
   let [next, performs] = [0, true];
   const counted = (line) => {
     const instruction = schedule.instructions[next];

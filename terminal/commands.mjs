@@ -5,7 +5,7 @@ export const COMMANDS = {
   next: { takes: "", does: "goes to behind the same client's next instruction" },
   back: { takes: "[N]", does: "takes one instruction back, or N" },
   run: { takes: "", does: "goes on to the next break, change or difference, or to the end" },
-  rrun: { takes: "", does: "goes back to the last break or change, or to the opening" },
+  rrun: { takes: "", does: "goes back to the last break, change or difference, or to the opening" },
   until: { takes: "WORDS", does: "goes on to behind the next instruction with these first words: until take 0" },
   goto: { takes: "P|end", does: "goes to place P: P instructions are performed there" },
   break: { takes: "[P|line L]", does: "stops at place P, or behind the instruction of line L; alone: lists breaks and watches" },

@@ -14,7 +14,7 @@ export class Debugger {
   constructor(recording) {
     this.recording = recording;
     this.place = 0;
-    this.last = null; // the number of the instruction that was performed or taken back last
+    this.last = null; // the number of the instruction that was performed or undone last
     this.breaks = new Set();
     this.watches = [];
     this.isOver = false;
@@ -29,9 +29,15 @@ export class Debugger {
   greeting() {
     const { opening, difference, showsNothing, cut } = this.recording;
     const ends = cut === null ? [] : [`the schedule ends before its logs: ${cut}`];
-    const said = difference ? [`the port differs at place ${difference.place}: run stops there`] : [];
+    const said = difference ? this.#tellDifference(difference) : [];
     if (showsNothing) said.push("the port's lines have no value that can be compared");
     return [opening, ...ends, ...said, "help lists the commands"];
+  }
+
+  /** That the port differs, and in which line; at the first place, to which no command goes on, with conform's answer. */
+  #tellDifference({ place, line, answer }) {
+    const where = `the port differs at place ${place}${line === null ? "" : `, line ${line}`}`;
+    return place === 0 ? [where, ...answer.split("\n").map((it) => named(it, this.recording.names))] : [`${where}: run stops there`];
   }
 
   /** Carries out a line and answers lines, with the clients' names. @param {string} line @returns {string[]} */
@@ -104,7 +110,7 @@ export class Debugger {
   _run() {
     if (this.place === this.recording.end) return this.#ending();
     for (let p = this.place + 1; p <= this.recording.end; p++) {
-      const stops = [...this.#changes(p), ...this.#breaksAt(p)];
+      const stops = [...this.#changes(p), ...this.#breakAt(p), ...this.#differenceIf((it) => it.place === p)];
       if (stops.length) return [...this.#moveTo(p), ...stops];
     }
     return this.#moveTo(this.recording.end);
@@ -112,7 +118,7 @@ export class Debugger {
 
   _rrun() {
     for (let p = this.place - 1; p >= 0; p--) {
-      const stops = [...this.#changes(p + 1), ...this.#breaksAt(p)];
+      const stops = [...this.#changes(p + 1), ...this.#breakAt(p), ...this.#differenceIf((it) => it.number === p)];
       if (stops.length) return [...this.#moveTo(p), ...stops];
     }
     return this.#moveTo(0);
@@ -231,13 +237,17 @@ export class Debugger {
     return changed.map(({ watch: { what, client }, from, to }) => `${client === null ? "the server's revision" : `client ${client} ${what}`}: ${from} -> ${to}`);
   }
 
-  #breaksAt(p) {
-    const { difference } = this.recording;
-    const differs = difference?.place === p ? difference.answer.split("\n") : [];
-    return this.breaks.has(p) ? [`break at place ${p}`, ...differs] : differs;
+  #breakAt(p) {
+    return this.breaks.has(p) ? [`break at place ${p}`] : [];
   }
 
-  /** Which instruction was performed or taken back last, and which comes next. */
+  /** What conform says of the port's difference, where it is such a one. */
+  #differenceIf(isIt) {
+    const { difference } = this.recording;
+    return difference && isIt(difference) ? difference.answer.split("\n") : [];
+  }
+
+  /** Which instruction was performed or undone last, and which comes next. */
   #mark(number) {
     return number === this.last ? "->" : number === this.place ? " >" : "  ";
   }

@@ -1,9 +1,10 @@
 // A run that can be looked at in every place. All that it knows comes from otbench: `steps` gives the values, `explain` the words, `conform` where a port differs; names stand in comments.
 
 import { fold, SERVER } from "../viewer/src/fold.mjs";
+import { namedIn, numberNamed } from "../viewer/src/numbering.mjs";
 import { documentAt, downAt, logLengthAt, quietAt, stateAt, upAt } from "../viewer/src/places.mjs";
 import { textOf } from "../viewer/src/document.mjs";
-import { commentsOf } from "./names.mjs";
+import { commentsOf, withoutCut } from "./names.mjs";
 
 /** A text that otbench refuses, with what it says of it. */
 export class RefusedText extends Error {}
@@ -30,13 +31,20 @@ function instructionsOf(told) {
   return instructions;
 }
 
-/** What conform says of a port: where it differs, { place, answer } or null; and whether it shows nothing, so that no value was compared. */
-function conformOf(ask, schedule, port) {
+/** A difference that conform tells: its place, and the number and the line of the instruction that it names, -1 and null where it names none. */
+function differenceIn(answer, instructions) {
+  const named = namedIn(answer.split("\n"));
+  const number = numberNamed(named, (of) => instructions[of]?.words);
+  return { place: named.at, number, line: instructions[number]?.line ?? null, answer };
+}
+
+/** What conform says of a port: where it differs, { place, number, line, answer } or null; and whether it shows nothing, so that no value was compared. */
+function conformOf(ask, schedule, port, instructions) {
   if (port === null) return { difference: null, showsNothing: false };
   const { output, errors } = ask(["conform"], `${schedule.replace(/\n?$/, "\n")}%%\n${port}`);
   if (errors) throw new RefusedText(errors);
-  const place = /^differs at (\d+): /.exec(output);
-  return { difference: place && { place: Number(place[1]), answer: output.trimEnd() }, showsNothing: output.startsWith("nothing counted\n") };
+  const difference = output.startsWith("differs at ") ? differenceIn(withoutCut(output).trimEnd(), instructions) : null;
+  return { difference, showsNothing: output.startsWith("nothing counted\n") };
 }
 
 /** A run, with the state at each place. Place p is the one where p instructions are performed. */
@@ -53,7 +61,7 @@ export class Recording {
     Object.assign(this, commentsOf(schedule)); // names and cut
     this.opening = told.output.split("\n", 1)[0];
     this.session = fold(ask(["steps"], schedule).output.split("\n").filter(Boolean));
-    ({ difference: this.difference, showsNothing: this.showsNothing } = conformOf(ask, schedule, port));
+    ({ difference: this.difference, showsNothing: this.showsNothing } = conformOf(ask, schedule, port, this.instructions));
   }
 
   /** The last place. */

@@ -1,4 +1,4 @@
-"""The job file does what the README says of it."""
+"""The job file does what the guide says of it."""
 import os
 import pathlib
 import re
@@ -13,8 +13,8 @@ JOB = (KIT / "ci.yml").read_text(encoding="utf-8")
 
 
 class Shown(unittest.TestCase):
-    def test_the_readme_shows_the_job(self):
-        self.assertIn(textwrap.indent(JOB, "    "), (KIT / "README.md").read_text(encoding="utf-8"))
+    def test_the_guide_shows_the_job(self):
+        self.assertIn(textwrap.indent(JOB, "    "), (KIT.parent / "docs" / "GUIDE.md").read_text(encoding="utf-8"))
 
     def test_the_program_that_it_names_is_one_of_the_repository(self):
         named, = re.findall(r"^ +OTBENCH: otbench/(.*)$", JOB, re.MULTILINE)

@@ -42,6 +42,7 @@ class Kinds(unittest.TestCase):
     def test_of_what_is_said(self):
         rows = [
             ("differs at 7: deliver 0: client 0 buffer\nfound 1\nrule AwaitingWithBuffer.applyServer\n", None, "AwaitingWithBuffer.applyServer: buffer"),
+            ("differs at 1: edit 0: client 0 document\nplace 0\npoints U+0065 U+0301 U+0022 | U+00E9 U+0022\nrule Synchronized.applyClient\n", None, "Synchronized.applyClient: document"),
             ("differs at 7: ack 0: client 0 (Ann B.: x) sent revision\nrule AwaitingWithBuffer.serverAck\n", None, "AwaitingWithBuffer.serverAck: sent revision"),
             ("differs at 12: read-server: server document\nfound 1\n", None, "read-server: document"),
             ("differs at 12: read 3: client 3 document\nfound 1\n", None, "read: document"),
@@ -56,6 +57,12 @@ class Kinds(unittest.TestCase):
         ]
         for said, trouble, kind in rows:
             self.assertEqual(Verdict((SESSION,), said, trouble, b"").kind(), kind)
+
+    def test_how_many_instructions_it_takes(self):
+        slow = "the driver was ended: it took more than 10 s"
+        rows = [("differs at 2: take 0: line\n", slow, 2), ("differs at 2: take 0: line\n", None, 2), ("differs at 7: end: end\n", None, 4), ("conforms\n", slow, 4)]
+        for said, trouble, needed in rows:
+            self.assertEqual(Verdict((SESSION,), said, trouble, b"").needed(), needed)
 
 
 if __name__ == "__main__":

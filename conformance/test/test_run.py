@@ -12,6 +12,7 @@ import xml.etree.ElementTree as xml
 from paths import JUDGE, KIT, PROGRAM, STUB, needs_node, needs_program
 from options import cores
 from port import Driver, KeptDriver
+from report import visible
 from sources import LARGE, corpus
 
 SAMPLE = ["node", str(KIT.parent / "examples" / "port" / "driver.js"), "--faults", str(KIT / "faults.js")]
@@ -84,6 +85,18 @@ class KeptDrivers(unittest.TestCase):
             self.assertIsNone(driver.close())
 
 
+class Shown(unittest.TestCase):
+    def test_characters_that_show_nothing_or_join_another_are_escaped(self):
+        rows = [
+            ('edit 0 ["e\u0301"]\nread 0\n', 'edit 0 ["e\\u0301"]\nread 0\n'),
+            ("\ufeff\u00a0\u2028\u200d\u0085 \r", "\\ufeff\\u00a0\\u2028\\u200d\\u0085 \\r"),
+            ("\U0010ffff\U000e0001", "\\udbff\\udfff\\udb40\\udc01"),
+            ("\u00e9\u4e2d\U0001d4b3 a", "\u00e9\u4e2d\U0001d4b3 a"),
+        ]
+        for text, shown in rows:
+            self.assertEqual(visible(text), shown)
+
+
 class Kit(unittest.TestCase):
     def run_kit(self, driver, *words, judge=JUDGE, need=("--need", "")):
         call = [KIT / "run", "--judge", judge, "--sessions", "5", "--jobs", "2", *need, *words, *driver]
@@ -134,6 +147,13 @@ class Runs(Kit):
         with tempfile.TemporaryDirectory() as room:
             driver = ["sh", "-c", f"if grep -q join && mkdir {room}/seen 2>/dev/null; then echo wrong 99; fi"]
             self.check_is_shown_as_found(driver, "the driver did not do this each time")
+
+    def test_a_port_that_is_slow_once(self):
+        with tempfile.TemporaryDirectory() as room:
+            driver = ["sh", "-c", f"if grep -q join && mkdir {room}/seen 2>/dev/null; then sleep 60; fi"]
+            _, printed, _ = self.run_kit(driver, "--jobs", "1", "--seconds", "5")
+        note = "the driver did not do this each time; on a busy machine --seconds gives it more time"
+        self.assertTrue(printed.endswith(f"\nthe driver was ended: it took more than 5 s\n{note}\n"), printed)
 
     def test_a_port_that_fails_once_in_a_smaller_session_is_shown_as_it_fails_each_time(self):
         with tempfile.TemporaryDirectory() as room:
@@ -395,6 +415,14 @@ class Together(unittest.TestCase):
         self.assertEqual(status, 1, said)
         self.assertRegex(printed, r"^fails: [a-z-]+, ")
         self.assertRegex(printed, r"\ndiffers at 3: edit 0: client 0 buffer\n")
+        self.assertEqual(self.told_place(printed), ("3", "behind", "2", "edit 0"))
+
+    def told_place(self, printed):
+        """What is said of a place: the place, on which side of a line it is, the instruction and its words; these stand in that line of the session that is printed."""
+        told = re.search(r"\nplace ([0-9]+) is (behind|before) line ([0-9]+), instruction ([0-9]+): (.*)\n", printed)
+        line = printed.split("\n\n")[1].split("\n")[int(told[3]) - 1]
+        self.assertTrue(f"{line} ".startswith(f"{told[5]} "), printed)
+        return told[1], told[2], told[4], told[5]
 
     def test_names_of_a_recording_stand_in_what_is_said_of_it(self):
         with tempfile.NamedTemporaryFile("w", suffix=".ots") as file:
@@ -418,6 +446,7 @@ class Together(unittest.TestCase):
         status, printed, said = self.run_kit(*sessions, "--jobs", "1", "--reduce-seconds", "5", "--utf16", "--keep-driver", *leaks)
         self.assertEqual(status, 1, said)
         self.assertRegex(printed, r"^fails: .*/transform-tie.ots, .*; the last of 2 in one process\n\nclients \d\n(.*\n)*take \d\n(.*\n)*%%\nclients \d\n(.*\n)*differs at ")
+        self.told_place(printed)
         status, printed, _ = self.run_kit(*sessions, "--utf16", *SAMPLE, "--bug", "log-shared")
         self.assertEqual((status, printed.split("\n")[0]), (0, "of one's own: 2 sessions conform"))
 

@@ -18,7 +18,7 @@ class Texts(unittest.TestCase):
         self.assertEqual(schedule.text(), 'clients 2\npresent 1\nstart "a b"\nedit 0 [1,"c\\u0000",2]\njoin 1\nread-server\n')
 
     def test_names_stand_in_comments(self):
-        text = "; client 1 is Ben B.\n; client 0 is \"ann \"\n; client 7 is nobody\n; a note\nclients 2\nread 1\n"
+        text = "; client 1 is Bea\n;client  1\tis Ben B.\n; client 0 is \"ann \"\n; client 7 is nobody\n; a note\nclients 2\nread 1\n"
         schedule = read_schedule(text)
         self.assertEqual(schedule.names, ('"ann "', "Ben B."))
         self.assertEqual(schedule.text(), '; client 0 is "ann "\n; client 1 is Ben B.\nclients 2\nread 1\n')
@@ -28,6 +28,7 @@ class Texts(unittest.TestCase):
         wanted = 'differs at 2: edit 1: client 1 (Ben B.) buffer\nfound ["client 1","\\" client 1"]\nclient 0, client 11, and " is open: client 1 (Ben B.)\n'
         self.assertEqual(named(said, (None, "Ben B.")), wanted)
         self.assertEqual(named(said, ()), said)
+        self.assertEqual(named("client 1 (Ben B.) and client 1's", (None, "Ben B.")), "client 1 (Ben B.) and client 1 (Ben B.)'s")
 
     def test_what_stands_behind_a_mark_is_no_schedule(self):
         self.assertEqual(read_schedule('clients 1\nread 0\n %%\t\r\n{"at":1}\n').text(), "clients 1\nread 0\n")

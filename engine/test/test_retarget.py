@@ -177,7 +177,7 @@ class Rewrites(unittest.TestCase):
         )
 
 
-# Each function answers a number that is told by the layout in memory.
+# Each function answers a number that is read from the layout in memory.
 PROGRAM = f"""{HEAD}@text = private constant <{{ ptr, [8 x i8], ptr, [3 x i8] }}> <{{ ptr getelementptr (i8, ptr @text, i64 24), [8 x i8] c"\\02\\00\\00\\00\\00\\00\\00\\00", ptr null, [3 x i8] c"abc" }}>, align 8
 
 ; A pointer is stored over ones, and read as a number: what is above the address?

@@ -44,7 +44,7 @@ function inRoom(use) {
   }
 }
 
-/* An engine's file: one that is built already, or one that is built anew of the proved program. */
+/* An engine's file: one that is built already, or one that is built of the proved program. */
 function engineFile(given, room) {
   const file = given ?? path.join(room, "otbench.wasm");
   if (given === undefined) step(at("engine/build"), file);
@@ -97,7 +97,7 @@ function make(version, given) {
     fs.mkdirSync(dist);
     fs.writeFileSync(command, bundle(engine, shown), { mode: 0o755 });
     if (shown.proved) compare(file, command);
-    step(at("viewer/build-page"), file, path.join(dist, "otbench.html"));
+    step(at("viewer/build-page.mjs"), file, path.join(dist, "otbench.html"));
     seal(dist, { ...shown, sources: sources(), engine: checksum(engine) });
     replaceDist(dist);
   });

@@ -2,9 +2,9 @@
 
 import { spawnSync } from "node:child_process";
 import fs from "node:fs";
-import { createRequire } from "node:module";
 import path from "node:path";
 import { fileURLToPath } from "node:url";
+import { examplesOf, page } from "../../viewer/html.mjs";
 
 export const TOP = fileURLToPath(new URL("../..", import.meta.url));
 
@@ -26,13 +26,14 @@ const HELD = [
   "viewer/src/document.mjs",
   "viewer/src/fold.mjs",
   "viewer/src/input.mjs",
+  "viewer/src/numbering.mjs",
   "viewer/src/places.mjs",
   "viewer/src/schedule.mjs",
 ];
 
 const LEFT_OUT = new Set([
   "conformance/test",
-  "examples/port/port.test.js",
+  "examples/port/port.test.mjs",
   "npm/package.json",
   "npm/README.md",
   "npm/release",
@@ -47,7 +48,6 @@ const COMMONJS = ["conformance", "examples", "oracle", "recorder"];
 
 /* The viewer's page with a place for the engine, which `otbench view` fills. */
 export function viewerPage() {
-  const { page, examplesOf = () => [] } = createRequire(import.meta.url)(path.join(TOP, "viewer/build.js"));
   return page({ host: path.join(TOP, "engine/host.mjs"), module: "/* the module */" }, examplesOf(path.join(TOP, "examples")));
 }
 

@@ -113,7 +113,8 @@ test("view: the viewer's page with the lines, as viewer/view writes it", { skip:
   }
   const [whole] = call(["view", file("s.ots", WEAK), file("l", '{"at":1}\n')]).slice(1);
   assert.equal(whole, call(["view"], `${WEAK}%%\n{"at":1}\n`)[1]);
-  assert.deepEqual(call(["view"], "bogus\n"), [1, "", "otbench: line 1: NoClients\n"]);
+  const [status, page, errors] = call(["view"], "clients 2\nedit 0 [1.5]\n");
+  assert.deepEqual([status, page, errors], [1, "", "otbench: line 2: BadOperation\n  column 10: numbers are whole\n"]);
 });
 
 /* The longest output of these tests, some megabytes. */

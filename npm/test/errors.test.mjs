@@ -77,6 +77,15 @@ test("explain says of a trace where its first fault is", () => {
   refused(() => explain("clients 1\n", { form: "bogus" }), "Usage", {}, /^unexpected argument '--bogus' found/);
 });
 
+test("explain says what a plan is, and of one that is refused where its first fault is", () => {
+  const action = { at: 0, insert: "a" };
+  assert.equal(explain({ clients: 2, workers: 1, typing: [[action], []] }, { form: "plan" }), "a plan: 2 clients, 1 worker, 1 action of typing\n");
+  const told = (plan) => () => explain(plan, { form: "plan" });
+  refused(told({ clients: 1, workers: 1, typing: [[{ ...action, insert: 7 }]] }), "BadShape", {}, /^BadShape\n {2}typing\[0\]\[0\], insert: found 7; wanted a text$/);
+  refused(told({ clients: 1, workers: 9, typing: [[]] }), "BadNumber", {}, /^BadNumber\n {2}workers: found 9; wanted a number from 1 to 8$/);
+  refused(told('{"clients":1,}'), "NotJson", {}, /^NotJson\n {2}line 1, column 14: a key is missing behind the last comma$/);
+});
+
 test("a schedule with a line %% is refused by conform as by run, and takes no line of the port's", () => {
   refused(() => conform("clients 1\n \t%% \r\nread 0\n", []), "UnknownWord", { line: 2 });
   refused(() => conform("bogus\n%%\n", []), "NoClients", { line: 1 });

@@ -3,6 +3,7 @@
 import assert from "node:assert/strict";
 import fs from "node:fs";
 import { test } from "node:test";
+import { readConform } from "../answers.mjs";
 import * as otbench from "../otbench.mjs";
 import { TOP, example } from "./files.mjs";
 
@@ -30,7 +31,7 @@ test("run: reads, a refused instruction, a client that has not joined, texts wit
       { client: 0, document: 'xa\n"\u2028é😀' },
       { client: null, document: 'a\n"\u2028é😀' },
     ],
-    stopped: { at: 3, refusal: "BadBase" },
+    stopped: { at: 3, line: 7, refusal: "BadBase" },
     clients: [
       { revision: 0, state: "awaiting-confirm", document: 'xa\n"\u2028é😀' },
       { revision: 0, state: "synchronized", document: 'a\n"\u2028é😀' },
@@ -93,11 +94,13 @@ test("conform: the first difference", () => {
     verdict: "differs",
     conforms: false,
     at: 7,
+    line: 11,
     what: "deliver 0",
     field: "client 0 buffer",
     found: '["a",-1,1]',
     otjs: '["a",1,-1,1]',
     place: null,
+    points: null,
     rule: "AwaitingWithBuffer.applyServer",
     given: [
       { name: "outstanding", value: '[1,"z"]' },
@@ -113,8 +116,9 @@ test("conform: the first difference", () => {
 });
 
 test("conform: a text that differs, with its place and a character that ends lines elsewhere", () => {
-  const { field, found, otjs, place } = conform('clients 1\nedit 0 ["ab"]\n', [{ at: 1, document: "a\u2028" }]);
+  const { field, found, otjs, place, points } = conform('clients 1\nedit 0 ["ab"]\n', [{ at: 1, document: "a\u2028" }]);
   assert.deepEqual({ field, found, otjs, place }, { field: "client 0 document", found: '"a\u2028"', otjs: '"ab"', place: 1 });
+  assert.deepEqual(points, { found: ["U+2028", "U+0022"], otjs: ["U+0062", "U+0022"] });
 });
 
 test("conform: how much was compared; lines as texts, one text, bytes and values", () => {
@@ -146,11 +150,49 @@ test("conform: lines for some instructions", () => {
   assert.deepEqual(conform(schedule, [{ at: 4, document: "a" }]).found, "4");
 });
 
+test("conform: nothing conforms where the schedule is cut", () => {
+  const cut = 'the schedule ends before its logs: "ann, event 9: ack"\n';
+  const { compared, ...agreed } = readConform(`conforms\ncompared at 1 document 2\n${cut}`);
+  assert.deepEqual([agreed.verdict, agreed.conforms, agreed.cut, compared.document], ["conforms", false, '"ann, event 9: ack"', 2]);
+  const differs = readConform(`differs at 1: edit 0: client 0 (ann) document\nfound "b"\not.js "a"\nplace 0\n${cut}`);
+  assert.deepEqual([differs.field, differs.place, differs.cut], ["client 0 (ann) document", 0, '"ann, event 9: ack"']);
+  assert.equal(readConform("stopped at 3: ClientFull\nthe schedule ends before its logs\n").cut, "");
+  assert.ok(!("cut" in readConform("conforms\ncompared at 1\n")));
+});
+
 test("conform: where a limit of otbench ends the schedule", () => {
   const text = `clients 1\nedit 0 [${JSON.stringify("a".repeat(15_000))}]\nedit 0 [15000,"b"]\n`;
   const lines = [{ at: 1 }, { at: 2 }];
-  const { verdict, conforms, at, refusal } = conform(text, lines);
-  assert.deepEqual({ verdict, conforms, at, refusal }, { verdict: "stopped", conforms: false, at: 1, refusal: "ClientFull" });
+  const { verdict, conforms, at, line, refusal } = conform(text, lines);
+  assert.deepEqual({ verdict, conforms, at, line, refusal }, { verdict: "stopped", conforms: false, at: 1, line: 3, refusal: "ClientFull" });
+});
+
+test("lines: counted with comments, blank lines and the opening, as bytes too, and none in an image", () => {
+  const text = '; a note\r\n\nclients 2\r\n start "a"\n; another\n\tedit  01 [1,"b"]\r\n\ntake 0\n';
+  for (const given of [text, Buffer.from(text)]) {
+    assert.deepEqual(run(given).stopped, { at: 1, line: 8, refusal: "LinkEmpty" });
+    assert.deepEqual(check(given).stopped, { at: 1, line: 8, refusal: "LinkEmpty" });
+    assert.equal(conform(given, [{ at: 1, document: "b" }]).line, 6);
+  }
+  assert.deepEqual(run(assemble(text), { image: true }).stopped, { at: 1, line: null, refusal: "LinkEmpty" });
+});
+
+test("lines: of the opening none, of the end the last one performed, and of a refused instruction its own", () => {
+  const text = 'clients 1\nedit 0 ["a"]\ntake 0\ntake 0\n';
+  const lineOf = (...lines) => {
+    const { at, line, what, field } = conform(text, lines);
+    return [`${at}: ${what}: ${field}`, line];
+  };
+  const [first, second] = [{ at: 1 }, { at: 2 }];
+  const stop = { at: 2, do: "take", stopped: "x" };
+  assert.deepEqual(lineOf({ at: 0, clients: 2 }), ["0: opening: clients", null]);
+  assert.deepEqual(lineOf(first), ["2: take 0: line", 3]);
+  assert.deepEqual(lineOf(first, { at: 2, stopped: "x" }), ["2: take 0: stopped", 3], "ot.js performs the first of them");
+  assert.deepEqual(lineOf(first, second), ["2: take 0: line", 4], "and refuses the second one");
+  assert.deepEqual(lineOf(first, second, { at: 3 }), ["2: take 0: stopped", 4]);
+  assert.deepEqual(lineOf(first, second, stop, { at: 2, end: "quiet" }), ["2: end: end", 3]);
+  assert.deepEqual(lineOf(first, second, stop, { at: 2, end: "not quiet" }, { at: 9 }), ["2: after the end: line", 3]);
+  assert.equal(conform("clients 1\n", [{ at: 0 }, { at: 0, end: "not quiet" }]).line, null);
 });
 
 test("check: quiet, and what is waited for", () => {
@@ -158,10 +200,10 @@ test("check: quiet, and what is waited for", () => {
   const edited = 'clients 2\nedit 0 ["a"]\n';
   assert.deepEqual(check(edited).waits, { what: "client", client: 0 });
   assert.deepEqual(check(`${edited}take 0\nack 0\n`).waits, { what: "down", client: 1 });
-  assert.deepEqual(check(`${edited}join 1\n`).stopped, { at: 1, refusal: "AlreadyJoined" });
+  assert.deepEqual(check(`${edited}join 1\n`).stopped, { at: 1, line: 3, refusal: "AlreadyJoined" });
   const all = check(`${edited}take 0\njoin 1\n`, { all: true });
   const unsettled = [{ what: "client", client: 0 }, { what: "down", client: 0 }, { what: "down", client: 1 }];
-  assert.deepEqual(all, { stopped: { at: 2, refusal: "AlreadyJoined" }, quiet: false, waits: unsettled[0], property: "holds", unsettled });
+  assert.deepEqual(all, { stopped: { at: 2, line: 4, refusal: "AlreadyJoined" }, quiet: false, waits: unsettled[0], property: "holds", unsettled });
   assert.deepEqual(check(example("weak-order.ots"), { all: true }).unsettled, []);
 });
 
@@ -178,7 +220,8 @@ test("judge: each verdict, from a value and from a text", () => {
 test("complete: what brings a session to quiet behind it, or the refusal that stands in the way", () => {
   const text = 'clients 2\nedit 0 ["a"]\n';
   assert.equal(complete(text), `${text}take 0\nack 0\ndeliver 1\n`);
-  assert.throws(() => complete("clients 1\ntake 0\n"), (error) => error.kind === "LinkEmpty" && error.message === "stopped at 0: LinkEmpty");
+  const isRefused = ({ kind, line, message }) => kind === "LinkEmpty" && line === 2 && message === "stopped at 0: LinkEmpty";
+  assert.throws(() => complete("clients 1\ntake 0\n"), isRefused);
 });
 
 test("assemble, disassemble: the image of the documents, and the canonical text", () => {

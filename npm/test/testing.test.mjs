@@ -35,7 +35,10 @@ test("a fault is an AssertionError with a schedule of a few instructions, and co
   assert.ok(steps(error.schedule).length <= 8, error.schedule);
   assert.match(error.message, /^[a-z-]+: \d+ instructions, here reduced to [3-6]\n\nclients 2\n/);
   assert.ok(error.message.includes(`${error.schedule}\ndiffers at `));
-  assert.match(error.message, /\nnote that is what transform gives if the text of its second argument goes first\n$/);
+  const { at, line, what } = error.answer;
+  const place = `place ${at} is behind line ${line}, instruction ${at - 1}: ${what}`;
+  assert.ok(error.message.endsWith(`\nnote that is what transform gives if the text of its second argument goes first\n${place}\n`), error.message);
+  assert.ok(error.schedule.split("\n")[line - 1].startsWith(what), error.message);
   assert.deepEqual([error.actual, error.expected], [error.answer.found, error.answer.otjs]);
   assert.deepEqual(await compare(faulty("tie"), error.schedule), error.answer);
 });

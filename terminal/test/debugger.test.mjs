@@ -4,7 +4,7 @@ import assert from "node:assert/strict";
 import { existsSync, readFileSync } from "node:fs";
 import test from "node:test";
 import { commandOf, nearest } from "../commands.mjs";
-import { named, seen } from "../names.mjs";
+import { named, seen, withoutCut } from "../names.mjs";
 import { Debugger } from "../debugger.mjs";
 import { nativeProgram } from "../program.mjs";
 import { Recording, RefusedText } from "../recording.mjs";
@@ -108,6 +108,34 @@ test("the place where a port differs is a break, with conform's answer", options
   assert.equal(stopped.split("\n")[2], "differs at 7: deliver 0: client 0 buffer");
 });
 
+test("back from the end, rrun stops before the instruction in which the port differs, which explain tells", options, () => {
+  const port = ask(["steps"], WEAK).output.replace('"buffer":["a",1,-1,1],"applied"', '"buffer":["a",-1,1],"applied"');
+  const [, back, told, opening] = answers(["goto end", "rrun", "explain", "rrun"], WEAK, port);
+  assert.equal(back.split("\n")[0], "before line 11, instruction 6: deliver 0");
+  assert.equal(back.split("\n")[1], "differs at 7: deliver 0: client 0 buffer");
+  assert.equal(told.split("\n")[0], "line 11, instruction 6: deliver 0");
+  assert.equal(opening, "before line 5, instruction 0: edit 0");
+  const refused = 'clients 1\nedit 0 ["a"]\ntake 0\ntake 0\n';
+  const [ahead, end, behind] = answers(["run", "run", "rrun"], refused, '{"at":1}\n{"at":2}\n{"at":3}\n');
+  assert.deepEqual(ahead.split("\n").slice(-3), ["differs at 2: take 0: stopped", "found performed", "ot.js LinkEmpty"]);
+  assert.match(end, /^the end: line 4, instruction 2: take 0 is refused\n/);
+  assert.equal(behind, "before line 2, instruction 0: edit 0");
+});
+
+test("the greeting says at which place and line a port differs, and of the first place how", options, () => {
+  const greeting = (schedule, port) => new Debugger(new Recording(ask, schedule, port)).greeting().slice(1, -1);
+  const port = ask(["steps"], WEAK).output.replace('"buffer":["a",1,-1,1],"applied"', '"buffer":["a",-1,1],"applied"');
+  assert.deepEqual(greeting(WEAK, port), ["the port differs at place 7, line 11: run stops there"]);
+  assert.deepEqual(greeting("clients 1\n", '{"at":0,"clients":2}\n'), ["the port differs at place 0", "differs at 0: opening: clients", "found 2", "ot.js 1"]);
+  const twice = 'clients 1\nedit 0 ["a"]\n; again\ntake 0\ntake 0\n';
+  assert.deepEqual(greeting(twice, '{"at":1}\n{"at":2}\n{"at":3}\n'), ["the port differs at place 2, line 5: run stops there"]);
+});
+
+test("values of a port that look like ot.js' are told apart by code points", options, () => {
+  const [stopped] = answers(["run"], 'clients 1\nedit 0 ["\u00e9"]\n', '{"at":1,"edit":["e\u0301"]}\n');
+  assert.deepEqual(stopped.split("\n").slice(4, 7), ['found ["e\u0301"]', 'ot.js ["\u00e9"]', "points U+0065 U+0301 U+0022 U+005D | U+00E9 U+0022 U+005D"]);
+});
+
 test("a port whose lines have no value is said to show nothing", options, () => {
   const greeting = (port) => new Debugger(new Recording(ask, "clients 1\nread 0\n", port)).greeting().slice(1, -1);
   assert.deepEqual(greeting('{"at":1}\n'), ["the port's lines have no value that can be compared"]);
@@ -139,6 +167,7 @@ test("a client's name stands behind its number, and in no string", () => {
   assert.equal(named('client 1 takes client 12\'s operation ["client 1"], client 2', names), 'client 1 (ben) takes client 12 (Ann B.)\'s operation ["client 1"], client 2');
   assert.equal(named('found "{\\"a\\":\\"client 1"', names), 'found "{\\"a\\":\\"client 1"');
   assert.equal(named("client 3", names), 'client 3 ("a\\u202eb\\udb40\\udc01")');
+  assert.equal(named("client 1 (ben) takes client 12's, client 12 (Ann)", names), "client 1 (ben) takes client 12 (Ann B.)'s, client 12 (Ann)");
   assert.deepEqual(["ben", "b\u00a0n", " b", '"b', "\x1b[2J", "\x9b"].map(seen), ["ben", "b\u00a0n", '" b"', '"\\"b"', '"\\u001b[2J"', '"\\u009b"']);
 });
 
@@ -158,6 +187,12 @@ test("where the recorder's logs are cut stands above the first prompt", options,
   const [opening, cut] = new Debugger(new Recording(ask, `${WEAK}; cut: "ann, event 9: deliver of operation 7"\n`)).greeting();
   assert.match(opening, /^the opening: /);
   assert.equal(cut, "the schedule ends before its logs: ann, event 9: deliver of operation 7");
+});
+
+test("what conform says of the cut is not said again where the port differs", () => {
+  assert.equal(withoutCut('differs at 1: edit 0: client 0 state\nfound "x"\nthe schedule ends before its logs: "ann, event 9"\n'), 'differs at 1: edit 0: client 0 state\nfound "x"\n');
+  assert.equal(withoutCut("conforms\ncompared at 1\nthe schedule ends before its logs\n"), "conforms\ncompared at 1\n");
+  assert.equal(withoutCut("conforms\ncompared at 1\n"), "conforms\ncompared at 1\n");
 });
 
 test("completion knows commands, what is watched, and clients", options, () => {

@@ -53,20 +53,34 @@ class Debugging(unittest.TestCase):
         terminal.until(r"\(0/\d+\) ")
         return terminal
 
+    def start_beside_a_port(self):
+        """The session of examples/weak-order.ots, and the lines of a port that does not transform its buffer."""
+        folder = tempfile.TemporaryDirectory()
+        self.addCleanup(folder.cleanup)
+        schedule = TOP / "examples/weak-order.ots"
+        lines = subprocess.run([PROGRAM, "steps"], input=schedule.read_text(), capture_output=True, text=True, check=True).stdout
+        port = pathlib.Path(folder.name, "port.jsonl")
+        port.write_text(lines.replace('"buffer":["a",1,-1,1],"applied"', '"buffer":["a",-1,1],"applied"'))
+        return self.start(str(schedule), "--port", str(port))
+
     def test_a_port_s_fault_is_found_in_three_commands(self):
-        """Of the port that does not transform its buffer: where, what, and what had to be."""
-        with tempfile.TemporaryDirectory() as folder:
-            schedule = (TOP / "examples/weak-order.ots").read_text()
-            lines = subprocess.run([PROGRAM, "steps"], input=schedule, capture_output=True, text=True, check=True).stdout
-            port = pathlib.Path(folder, "port.jsonl")
-            port.write_text(lines.replace('"buffer":["a",1,-1,1],"applied"', '"buffer":["a",-1,1],"applied"'))
-            terminal = self.start(str(TOP / "examples/weak-order.ots"), "--port", str(port))
-            shown = terminal.type("run\r", r"note [^\r]*\r\n\(7/16\) ")
+        """Where, what, and what had to be; in five keys without the full words: r, e, sh 0."""
+        for run, explain, show in (("run", "explain", "show 0"), ("r", "e", "sh 0")):
+            terminal = self.start_beside_a_port()
+            shown = terminal.type(f"{run}\r", r"note [^\r]*\r\n\(7/16\) ")
             self.assertIn("line 11, instruction 6: deliver 0", shown)
             self.assertIn("differs at 7: deliver 0: client 0 buffer", shown)
             self.assertIn("rule AwaitingWithBuffer.applyServer", shown)
-            self.assertIn("transforms it against its outstanding operation", terminal.type("explain\r", r"\(7/16\) $"))
-            self.assertIn('  buffer ["a",1,-1,1]', terminal.type("show 0\r", r"\(7/16\) $"))
+            self.assertIn("transforms it against its outstanding operation", terminal.type(f"{explain}\r", r"\(7/16\) $"))
+            self.assertIn('  buffer ["a",1,-1,1]', terminal.type(f"{show}\r", r"\(7/16\) $"))
+
+    def test_back_from_the_end_to_the_instruction_in_which_a_port_differs(self):
+        terminal = self.start_beside_a_port()
+        terminal.type("goto end\r", r"\(16/16\) $")
+        shown = terminal.type("rrun\r", r"note [^\r]*\r\n\(6/16\) ")
+        self.assertIn("before line 11, instruction 6: deliver 0", shown)
+        self.assertIn("differs at 7: deliver 0: client 0 buffer", shown)
+        self.assertIn("line 11, instruction 6: deliver 0", terminal.type("explain\r", r"\(6/16\) $"))
 
     def test_back_from_a_wrong_document_to_the_instruction_that_made_it(self):
         terminal = self.start(str(TOP / "examples/weak-order.ots"))

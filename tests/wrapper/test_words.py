@@ -39,6 +39,7 @@ class Words(unittest.TestCase):
             (["run", "a.ots", "--image"], "", (0, "proved one: run --image\nclients 1\n", "")),
             (["run", "no end"], "", (0, "proved one: run\nclients 2", "")),
             (["run", str(self.tree.room / "a.ots")], "", (0, "proved one: run\nclients 1\n", "")),
+            (["explain", "--plan", "a.ots"], "", (0, "proved one: explain --plan\nclients 1\n", "")),
             (["steps", "a.ots"], "", (0, '{"end":"quiet"}\n', "")),
             (["conform", "a.ots", "port"], "", (0, 'proved one: conform\nclients 1\n%%\n{"at":0}\n', "")),
             (["conform", "no end", "port"], "", (0, 'proved one: conform\nclients 2\n%%\n{"at":0}\n', "")),
@@ -68,6 +69,7 @@ class Words(unittest.TestCase):
         rows = [
             (["generate", "--seed", "7"], "", (0, "", "")),
             (["run", "a", "b"], "", (2, "", "error: unexpected argument\n")),
+            (["run", "a", "c", "--image", "d"], "input", (0, "proved one: run c --image d\ninput", "")),
             (["threads", "--workers", "2"], "input", (0, "proved one: threads --workers 2\ninput", "")),
             (["run", "--sparse", "a.ots"], "", (0, "proved one: run --sparse\nclients 1\n", "")),
             (["run", "--image", "nosuch.img"], "", (1, "", "otbench: nosuch.img: there is no such file\n")),
@@ -114,11 +116,14 @@ class Terminal(unittest.TestCase):
         self.tree = Tree()
         self.addCleanup(self.tree.remove)
         self.file = self.tree.put("a.ots", "clients 1\n")
+        self.tree.put("port", '{"at":0}\n')
 
-    def run_on_terminal(self, *words, terminal=(0, 1, 2), keys="", **environment):
-        """Status, what the terminal shows, and what the streams that are no terminal (the others of 0, 1, 2) were given."""
+    def run_on_terminal(self, *words, terminal=(0, 1, 2), keys="", given="", **environment):
+        """Status, what the terminal shows, and what the streams that are no terminal (the others of 0, 1, 2) hold: a file, which is what is given at first."""
         master, slave = pty.openpty()
         with open(master, "r+b", buffering=0) as screen, tempfile.TemporaryFile() as other:
+            other.write(given.encode())
+            other.seek(0)
             streams = [slave if it in terminal else other for it in range(3)]
             call = [self.tree.top / "otbench", *words]
             ran = subprocess.Popen(call, cwd=self.tree.room, env={**self.tree.environment, **environment}, stdin=streams[0], stdout=streams[1], stderr=streams[2])
@@ -145,17 +150,20 @@ class Terminal(unittest.TestCase):
     def test_where_to_ask(self):
         self.tree.has_proved()
         program = self.tree.top / "otbench"
+        self.tree.put("an.img", "OTS2\n")
         happened, there = "otbench: what happened, in words: ", "otbench: what ot.js does there, in words: "
         rows = [
             (["run", "a.ots"], f"{happened}{program} explain a.ots\n"),
             (["check", "a.ots"], f"{happened}{program} explain a.ots\n"),
-            (["run", "--image", "a.ots"], f"{happened}{program} dis a.ots | {program} explain\n"),
+            (["run", "--image", "an.img"], f"{happened}{program} dis an.img | {program} explain\n"),
             (["conform", "a.ots"], f"{there}give the schedule to {program} explain\n"),
             (["conform", "a.ots", "a.ots"], f"{there}{program} explain a.ots\n"),
             (["explain", "a.ots"], ""),
-            (["judge", "a.ots"], "otbench: what a trace holds, and what each verdict and fault says: docs/FORMATS.md, Traces\n"),
-            (["threads", "a.ots"], "otbench: what a plan holds, and what each fault says: docs/FORMATS.md, Plans\n"),
-            (["dis", "a.ots"], "otbench: what an image holds, and what each fault says: docs/FORMATS.md, The image of a schedule\n"),
+            (["judge", "a.ots"], "otbench: what each verdict says: docs/FORMATS.md, Traces\n"),
+            (["asm", "a.ots"], f"{happened}{program} explain a.ots\n"),
+            (["complete", "a.ots"], f"{happened}{program} explain a.ots\n"),
+            (["threads", "a.ots"], f"otbench: where the fault is, in words: {program} explain --plan a.ots\n"),
+            (["dis", "an.img"], "otbench: what an image holds, and what each fault says: docs/FORMATS.md, The image of a schedule\n"),
         ]
         for words, said in rows:
             with self.subTest(words=words):
@@ -167,25 +175,98 @@ class Terminal(unittest.TestCase):
         self.assertEqual(self.run_on_terminal("steps", "/dev/null")[1], f"otbench: line 1: NoClients\n{happened}{program} explain /dev/null\n")
         for status in (0, 2):
             self.assertNotIn("otbench:", self.run_on_terminal("run", "a.ots", FAKE_STATUS=str(status))[1])
+        where = "otbench: where the fault is, in words: "
+        self.assertEqual(self.run_on_terminal("judge", "a.ots", FAKE_FAULT="BadShape")[:2], (1, f"otbench: BadShape\n{where}{program} explain --trace a.ots\n"))
+        self.assertEqual(self.run_on_terminal("judge", terminal=(1, 2), FAKE_FAULT="NotJson")[:2], (1, f"otbench: NotJson\n{where}give the trace to {program} explain --trace\n"))
+
+    def test_a_file_in_the_place_of_the_command(self):
+        self.tree.has_proved()
+        said = f"otbench: a command stands in front of a file: {self.tree.top / 'otbench'} run a.ots\n"
+        self.assertEqual(self.run_on_terminal("a.ots", keys="\x04", FAKE_STATUS="2")[1].splitlines(True)[-1], said)
+        self.tree.put("run", "")
+        for words in (["nosuch"], ["run", "--image"], ["folder"]):
+            self.assertNotIn("otbench:", self.run_on_terminal(*words, terminal=(1, 2), FAKE_STATUS="2")[1])
+        self.assertNotIn("otbench:", "".join(self.run_on_terminal("a.ots", terminal=(1,), FAKE_STATUS="2")[1:]))
+
+    def test_what_may_be_wrong_with_the_lines_of_a_port(self):
+        self.tree.has_proved()
+        rows = {
+            "differs at 1: edit 0: line\nfound nothing\not.js {}": "the port has no line there; its lines stand behind the schedule and a line '%%', or in a second file",
+            "differs at 1: edit 0: line\nfound \"x\"\not.js {}": "each line of a port is one JSON object that has at, a number: docs/FORMATS.md, What a port prints",
+            "differs at 1: after the end: line\nfound {}\not.js nothing": "the port has more lines than the schedule has instructions",
+            "differs at 1: end: at\nfound 2\not.js 1": "the port has more lines than the schedule has instructions",
+            "differs at 1: edit 0: at\nfound 0\not.js 1": "at counts performed instructions, and is 1 in the first one's line; conform --sparse skips instructions without a line",
+            "nothing counted\ncompared clients 0": "no line has a value that is counted: docs/FORMATS.md, What a port prints",
+        }
+        for answer, hint in rows.items():
+            self.assertEqual(self.said_on_terminal("conform", "a.ots", "port", FAKE_ANSWER=answer).splitlines()[0], f"otbench: {hint}", answer)
+        for answer in ("differs at 1: edit 0: edit\nfound [1]\not.js [2]\nnote: line", "differs at 1: read 0: client 0 document\nfound \": at\"\not.js \"\""):
+            self.assertEqual(len(self.said_on_terminal("conform", "a.ots", "port", FAKE_ANSWER=answer).splitlines()), 1, answer)
+
+    def said_on_terminal(self, *words, **how):
+        shown = self.run_on_terminal(*words, FAKE_STATUS="1", **how)[1]
+        return "".join(line for line in shown.splitlines(True) if line.startswith("otbench: ") and "NoClients" not in line)
+
+    def test_the_line_of_what_is_named(self):
+        """`explain` of the program that stands here says its input again."""
+        self.tree.has_proved()
+        told = "line 3, instruction 0: edit 0\n  it is sent\nline 7, instruction 1: edit 0\n  refused: BadBase: it fits no text\n"
+        self.tree.put("told", told)
+        explain = f"{self.tree.top / 'otbench'} explain"
+        stopped = f"otbench: instruction 1 is line 7: edit 0\notbench: what happened, in words: {explain} told\n"
+        for word in ("run", "check", "steps", "complete"):
+            self.assertEqual(self.said_on_terminal(word, "told"), stopped, word)
+            self.assertEqual(self.said_on_terminal(word, terminal=(1, 2), given=told), stopped.replace(f"{explain} told", f"give the schedule to {explain}"), word)
+            self.assertEqual(self.said_on_terminal(word, "told", terminal=(0, 1)) + self.said_on_terminal(word, "told", terminal=(0, 2)), "", word)
+        self.assertNotIn("line 7", self.said_on_terminal("run", "--image", "told") + self.said_on_terminal("asm", "told"))
+        rows = [
+            ("differs at 1: edit 0: client 0 document\nfound 1\not.js 2", "place 1 is behind line 3, instruction 0: edit 0"),
+            ("differs at 1: edit 0: stopped\nfound \"x\"\not.js performed", "place 1 is behind line 3, instruction 0: edit 0"),
+            ("differs at 1: edit 0: stopped\nfound performed\not.js BadBase", "place 1 is before line 7, instruction 1: edit 0"),
+            ('differs at 1: edit 0: line\nfound nothing\not.js {"at":1,"do":"edit","client":0,"edit":[1],"stopped":"BadBase"}', "place 1 is before line 7, instruction 1: edit 0"),
+            ("differs at 1: end: end", "place 1 is behind line 3, instruction 0: edit 0"),
+            ("stopped at 1: ClientFull", "instruction 1 is line 7: edit 0"),
+            ("differs at 0: opening: start", None),
+            ("nothing counted\ncompared clients 0", None),
+        ]
+        self.assertEqual(self.said_on_terminal("conform", "told", "a.ots", FAKE_ANSWER="conforms\ncompared clients 0\nthe schedule ends before its logs"), "")
+        for answer, line in rows:
+            with self.subTest(answer=answer):
+                shown = self.run_on_terminal("conform", "told", "a.ots", FAKE_ANSWER=answer, FAKE_STATUS="1")[1]
+                self.assertTrue(shown.startswith(f"{answer}\notbench: {line}\n" if line else f"{answer}\n"), shown)
+                self.assertTrue(shown.endswith(f"otbench: what ot.js does there, in words: {explain} told\n"), shown)
+                self.assertEqual(shown.count("otbench: place ") + shown.count("otbench: instruction "), 1 if line else 0, shown)
+        differs = rows[0][0]
+        self.assertIn("place 1 is behind line 3", self.said_on_terminal("conform", terminal=(1, 2), given=f"{told} %%\t\r\nline 9, instruction 0: edit 0\n", FAKE_ANSWER=differs))
+        self.assertNotIn("place 1", self.said_on_terminal("conform", keys="clients 1\n\x04", FAKE_ANSWER=differs))
+
+    def test_an_input_that_is_something_else(self):
+        self.tree.has_proved()
+        image = "otbench: an image begins with OTS1 or OTS2; the text of a schedule is for asm, and for run without --image\n"
+        order = "otbench: the first file is the schedule, and the second one has the lines of a port\n"
+        self.tree.put("an.img", b"OTS2\x00\x01\n")
+        self.tree.put("short", b"\x00\n")
+        for words, said in ((["dis", "a.ots"], image), (["run", "--image", "a.ots"], image), (["dis", "short"], image), (["dis", "an.img"], ""), (["run", "--image", "an.img"], ""), (["conform", "port", "a.ots"], order), (["conform", "a.ots", "port"], ""), (["run", "port"], "")):
+            self.assertEqual("".join(self.said_on_terminal(*words).splitlines(True)[:-1]), said, words)
 
     def test_a_recording_that_is_cut(self):
         self.tree.has_proved()
         said = 'otbench: cut.ots ends before its logs: "ann, event 9: ack"\n'
         for text in ('clients 1\n; cut: "ann, event 9: ack"\n', ' ;cut: "x"\r\nclients 1\n;\tcut: "ann, event 9: ack" \r\n'):
             self.tree.put("cut.ots", text)
-            for word in ("run", "check", "explain", "complete"):
+            for word in ("run", "check", "complete"):
                 self.assertTrue(self.run_on_terminal(word, "cut.ots")[1].endswith(said), word)
-            for words, streams in ((["explain", "cut.ots"], (0, 1)), (["explain", "cut.ots"], (0, 2)), (["asm", "cut.ots"], (0, 1, 2)), (["run", "--image", "cut.ots"], (0, 2))):
+            for words, streams in ((["check", "cut.ots"], (0, 1)), (["check", "cut.ots"], (0, 2)), (["explain", "cut.ots"], (0, 1, 2)), (["asm", "cut.ots"], (0, 1, 2)), (["run", "--image", "cut.ots"], (0, 2))):
                 status, shown, others = self.run_on_terminal(*words, terminal=streams)
                 self.assertNotIn("otbench:", shown + others)
         self.tree.put("cut.ots", "clients 1\nread 0 ; cut: \"x\"\n; cut: x\n")
-        self.assertNotIn("otbench:", self.run_on_terminal("explain", "cut.ots")[1])
+        self.assertNotIn("otbench:", self.run_on_terminal("check", "cut.ots")[1])
 
     def test_what_it_waits_for(self):
         self.tree.has_proved()
         schedule = "a schedule's text"
         rows = {"run": schedule, "check": schedule, "explain": schedule, "steps": schedule, "asm": schedule, "view": schedule, "run --image": "a schedule's image", "dis": "a schedule's image",
-                "judge": "a trace (JSON)", "explain --trace": "a trace (JSON)", "threads": "a plan (JSON)", "conform": f"{schedule}, a line '%%' and the lines of a port", "debug": f"{schedule}, a line '%%' and commands"}
+                "judge": "a trace (JSON)", "explain --trace": "a trace (JSON)", "explain --plan": "a plan (JSON)", "threads": "a plan (JSON)", "conform": f"{schedule}, a line '%%' and the lines of a port", "debug": f"{schedule}, a line '%%' and commands"}
         for words, awaited in rows.items():
             with self.subTest(words=words):
                 shown = self.run_on_terminal(*words.split(), keys="clients 1\n\x04")[1]

@@ -88,7 +88,7 @@ function testIn(name, openBrowser) {
       await user.click("#paste");
       await user.run(`document.getElementById("pasted").value = ${quoted(drive(text, port).join("\n"))}`);
       await user.click('#pasting button[value="compare"]');
-      await user.until('document.getElementById("conformance").textContent === "differs at 7: deliver 0: client 0 buffer"', "the answer of conform");
+      await user.until('document.getElementById("conformance").textContent === "differs at 7: deliver 0: client 0 buffer (line 9)"', "the answer of conform");
       assert.match(await user.text("#answer"), /note that is what transform gives if the text of its second argument goes first/);
       await user.press("d");
       await user.settled(7);
@@ -195,7 +195,7 @@ function testIn(name, openBrowser) {
       await page.type("ack 0\nread 1");
       await user.until('!document.getElementById("leave-out").hidden', "the refusal");
       assert.match(await user.text("#to-fault"), /^line 12, ack 0: LinkEmpty: /);
-      assert.match(await user.text("#verdict"), /^stopped at 8: LinkEmpty; ends quiet/);
+      assert.match(await user.text("#verdict"), /^stopped at 8: LinkEmpty \(line 12\); ends quiet/);
       await user.click("#leave-out");
       await user.until('document.getElementById("to-fault").hidden', "no refusal");
       assert.match(await user.schedule(), /deliver 0\nread 1$/);

@@ -67,7 +67,7 @@ class Page {
     return new Promise((done, failed) => this.calls.set(id, { done, failed }));
   }
 
-  /* Opens a page anew, and waits until it has drawn. */
+  /* Opens a new page, and waits until it has drawn. */
   async goto(url) {
     for (const next of ["about:blank", url]) {
       const loaded = new Promise((done) => (this.loaded = done));
@@ -77,7 +77,7 @@ class Page {
     await this.drawn();
   }
 
-  /* Loads the page anew, as its user does. */
+  /* Reloads the page, as its user does. */
   async reload() {
     const loaded = new Promise((done) => (this.loaded = done));
     await this.send("Page.reload");

@@ -73,13 +73,13 @@ class Page {
     this.context = context;
   }
 
-  /* Opens a page anew, and waits until it has drawn. */
+  /* Opens a new page, and waits until it has drawn. */
   async goto(url) {
     for (const next of ["about:blank", url]) await this.send("browsingContext.navigate", { context: this.context, url: next, wait: "complete" });
     await this.drawn();
   }
 
-  /* Loads the page anew, as its user does. */
+  /* Reloads the page, as its user does. */
   async reload() {
     await this.send("browsingContext.reload", { context: this.context, wait: "complete" });
     await this.drawn();

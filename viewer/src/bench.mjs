@@ -19,7 +19,7 @@ const linesIn = (bytes) => {
   return lines;
 };
 
-/** The fault that explain tells: { line, column, kind, cause }, line 0 where it is of none, column 0 where none is told. */
+/** The fault that explain reports: { line, column, kind, cause }, line 0 where it is of none, column 0 where none is given. */
 export function readFault(errors) {
   const [first, second = ""] = errors.trim().split("\n");
   const [, line = "0", kind = first] = /^otbench: (?:line (\d+): )?(\w+)$/.exec(first) || [];
@@ -27,7 +27,7 @@ export function readFault(errors) {
   return { line: Number(line), column: Number(column), kind, cause };
 }
 
-/** The refusal that explain's last paragraph tells: { line, reason }; null where it tells none. */
+/** The refusal that explain's last paragraph reports: { line, reason }; null where it reports none. */
 export function readRefusal(told) {
   const line = /^line (\d+), /.exec(told);
   const reason = /^ {2}refused: (.*)$/m.exec(told);
@@ -48,7 +48,7 @@ export class Bench {
   state = emptyState();
   /** @type {Asked | null} */
   engine = null;
-  #session = null; // what the lines that the engine told last have led to
+  #session = null; // what the lines that the engine printed last have led to
   #asked = null; // the text that was asked for last
   #isAsking = false;
   #askedAt = null; // since when the engine works on it

@@ -43,7 +43,7 @@ export class Deck {
     showChange(parent.querySelector(".moved .document"));
   }
 
-  /** A client's card is drawn anew at the next turn, whatever it shows. */
+  /** A client's card is redrawn at the next turn, whatever it shows. */
   forget(client) {
     this.#shown.delete(client);
   }

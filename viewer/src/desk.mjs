@@ -1,4 +1,4 @@
-// The engine behind its worker: it answers words and inputs, and tells of the lines of steps only what has changed.
+// The engine behind its worker: it answers words and inputs, and gives of the lines of steps only what has changed.
 
 /**
  * @typedef {{ status: number, output: Uint8Array, errors: Uint8Array }} Served
@@ -51,12 +51,12 @@ export class Desk {
     return { keep: countLines(output, equal), rest, errors: "", refusal: status ? this.#refusal(input) : "" };
   }
 
-  /* The fault of a text with its column and cause; explain may have none where memory is wanting. */
+  /* The fault of a text with its column and cause; explain may have none where memory runs out. */
   #explained(input, errors) {
     return this.ask(["explain"], input).errors || errors;
   }
 
-  /* The last lines of explain that tell of a refused instruction. */
+  /* The last lines of explain, about a refused instruction. */
   #refusal(input) {
     const told = new TextDecoder().decode(this.ask(["explain"], input).output);
     const from = told.lastIndexOf("\nline ");

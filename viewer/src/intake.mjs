@@ -8,7 +8,7 @@ import { readVerdict } from "./trace.mjs";
 const text = (bytes) => new TextDecoder().decode(bytes);
 const firstLine = (words) => words.trim().split("\n")[0];
 
-/* Whether a schedule that lines tell is the front of a text's. */
+/* Whether a schedule that lines have is the front of a text's. */
 function isFrontOf({ instructions }, state) {
   if (instructions.length === 0 || instructions.length > state.outline.lines.length) return false;
   const lines = state.text.split("\n");

@@ -1,5 +1,5 @@
-// What a user has changed, kept in the browser's tab for when the page is loaded anew there. It belongs to what the page was opened
-// with, which is a link's image or the schedule that stands in the page: where that is another one, nothing is taken back.
+// What a user has changed, kept in the browser's tab for when the page is reloaded there. It belongs to what the page was opened
+// with, which is a link's image or the schedule that stands in the page: where that is another one, nothing is restored.
 
 /** What may be kept of a tab, in characters: browsers allow some five million. */
 const ROOM = 2_500_000;

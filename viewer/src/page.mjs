@@ -382,7 +382,7 @@ const given = (id) => element(id).textContent.replace(/^\n/, "");
 /* What the page was opened with: a link's session, or that which stands in it. */
 const openedWith = () => readAddress(location.hash).image ?? given("schedule");
 
-/* Takes back what was changed before a reload, or before another page was gone to and back; Undo leads to what it was opened with. */
+/* Restores what was changed before a reload, or before another page was gone to and back; Undo restores what it was opened with. */
 function takeBack() {
   isStarted = true;
   const isVisit = performance.getEntriesByType("navigation")[0]?.type === "navigate";

@@ -19,6 +19,9 @@ function readLine(text) {
   return { text };
 }
 
+/* The line in which conform says that the schedule is cut: the page says it by itself. */
+const TELLS_OF_CUT = /^the schedule ends before its logs(: |$)/;
+
 /* What the recorder's last line {"cut":".."} says of why its lines end before its logs do; null where there is none. */
 function cutIn(texts) {
   try {
@@ -57,7 +60,7 @@ export class Port {
     this.memo = new Map();
     this.moves = new Map([SERVER, ...session.members.keys()].map((who) => [who, [0]]));
     session.steps.forEach((step, place) => step && this.lines[place] && this.moves.get(step.moved).push(place));
-    this.answer = answer;
+    this.answer = answer.filter((line) => !TELLS_OF_CUT.test(line));
     this.cut = cutIn(texts);
     this.first = this.#first();
   }

@@ -42,7 +42,7 @@ export function splitSchedule(text) {
   return { schedule: `${lines.slice(0, mark).join("\n")}\n`, port: splitInput(lines.slice(mark).join("\n")).port };
 }
 
-/** The instruction that a line of steps tells, null where it tells none. */
+/** The instruction that a line of steps has, null where it has none. */
 function instructionOf({ do: word, client, edit }) {
   if (typeof word !== "string" || !/^[a-z-]+$/.test(word)) return null;
   if (client !== undefined && !Number.isInteger(client)) return null;
@@ -50,7 +50,7 @@ function instructionOf({ do: word, client, edit }) {
 }
 
 /**
- * The schedule that lines tell, as { opening, instructions }; null where they do not begin with an opening.
+ * The schedule that lines have, as { opening, instructions }; null where they do not begin with an opening.
  * @param {string[]} lines
  */
 export function scheduleOf(lines) {

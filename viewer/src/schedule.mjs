@@ -4,8 +4,8 @@
 import { trimmed } from "./input.mjs";
 
 const OPENING = /^(clients|present|start)(?![^ \t])/;
-const NAME = /^;\s*client (\d{1,9}) is (.+)$/s;
-const CUT = /^;\s*cut: (".*)$/s;
+const NAME = /^;[ \t]*client[ \t]+(\d{1,9})[ \t]+is[ \t]+(.+)$/s;
+const CUT = /^;[ \t]*cut:[ \t]+(".*)$/s;
 
 /* What a comment says, where it stands there as a JSON string. */
 function unquoted(words) {

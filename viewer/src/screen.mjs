@@ -5,6 +5,7 @@ import { Deck } from "./deck.mjs";
 import { element, setText } from "./dom.mjs";
 import { SERVER } from "./fold.mjs";
 import { legendMarkup } from "./legend.mjs";
+import { namedIn, numberNamed } from "./numbering.mjs";
 import { quietAt } from "./places.mjs";
 import { isAnswered, shownPlace } from "./state.mjs";
 import { variablesOf } from "./theme.mjs";
@@ -107,7 +108,7 @@ function showMembers({ members: { length } }, names) {
 
 function showVerdicts(state) {
   const { session, beside, verdicts } = state;
-  const stop = session.stop ? `stopped at ${session.stop.at}: ${session.stop.stopped}; ` : "";
+  const stop = session.stop ? `stopped at ${session.stop.at}: ${session.stop.stopped}${lineOf(state, session.stop.at)}; ` : "";
   const end = session.end === null ? "no end line" : `ends ${session.end}`;
   const [quiet = "", list = ""] = verdicts.filter((line) => !line.startsWith("stopped"));
   const more = quiet.startsWith("not quiet: ") ? ` (${quiet.slice(11)})` : "";
@@ -123,12 +124,25 @@ function showVerdicts(state) {
   const [first] = beside.answer;
   const conforms = first === undefined ? beside.first === null : first === "conforms";
   const marked = beside.first === null ? "the port's lines agree" : `the port's lines differ at ${beside.first}`;
-  setVerdict("conformance", first || marked, conforms ? "good" : "bad");
+  const named = namedIn(beside.answer) ?? { at: (beside.first ?? 0) - 1 };
+  setVerdict("conformance", (first || marked) + lineOf(state, numberNamed(named, wordsIn(session))), conforms ? "good" : "bad");
   element("answer").hidden = conforms || first === undefined;
   setText("answer", answerOf(beside.answer).join("\n"));
 }
 
-/* What conform answered, the values that differ told apart. */
+/* The line of an instruction, behind what is said of it; nothing where there is none of this number, or the text is another one by now. */
+function lineOf(state, number) {
+  const line = state.outline.lines[number];
+  return line === undefined || !isAnswered(state) ? "" : ` (line ${line + 1})`;
+}
+
+/* The words of each instruction of a session, the refused one too. */
+const wordsIn = ({ steps, stop, length }) => (number) => {
+  const line = number === length ? stop : steps[number + 1]?.line;
+  return line ? instructionOf(line) : undefined;
+};
+
+/* What conform answered, the values that differ marked. */
 function answerOf(lines) {
   const [found, ours] = ["found ", "ot.js "].map((word) => lines.findIndex((line) => line.startsWith(word)));
   if (found < 0 || ours < 0) return lines;

@@ -1,5 +1,5 @@
 // The schedule as text: line numbers, the line of the place, and marks where something is wrong. Only the lines in sight are drawn.
-// Of a long text the field has a part, around the place: browsers lay a field of 10,000 lines out anew at each keystroke.
+// Of a long text the field has a part, around the place: browsers lay out all of a field of 10,000 lines at each keystroke.
 
 import { element, setText } from "./dom.mjs";
 import { lineOfPlace, placeOfLine } from "./schedule.mjs";

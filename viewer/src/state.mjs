@@ -15,7 +15,7 @@ import { outlineOf, placeOfLine, withInstructions, withName, withoutInstruction 
  * @property {number} place the place that is looked at
  * @property {string[]} asked the instructions that were played and that the engine has not answered yet
  * @property {number | null} stood the place that is shown until it has, the one that they were played at
- * @property {object[]} past what undo leads back to: { text, port, place, title, tag }
+ * @property {object[]} past what undo restores: { text, port, place, title, tag }
  * @property {object[]} future what redo leads on to
  * @property {string | null} answered the text that the session is of
  * @property {import("./fold.mjs").Session | null} session

@@ -1,4 +1,4 @@
-// The engine behind its worker: what it tells of a text, and what of that has changed.
+// The engine behind its worker: what it says of a text, and what of that has changed.
 
 import assert from "node:assert/strict";
 import { test } from "node:test";

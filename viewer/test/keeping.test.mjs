@@ -1,4 +1,4 @@
-// What was changed and not saved is there again when the page is loaded anew.
+// What was changed and not saved is there again when the page is reloaded.
 
 import assert from "node:assert/strict";
 import { test } from "node:test";

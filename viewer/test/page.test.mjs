@@ -3,11 +3,11 @@
 import assert from "node:assert/strict";
 import fs from "node:fs";
 import { test } from "node:test";
-import viewer from "../build.js";
+import * as viewer from "../html.mjs";
 
 const page = fs.readFileSync(new URL("../viewer.html", import.meta.url), "utf8");
 
-test("viewer.html is what build.js makes", () => {
+test("viewer.html is what build.mjs makes", () => {
   assert.equal(page, viewer.page());
 });
 

@@ -12,6 +12,11 @@ const session = fold(linesOf(example("weak-order")));
 const beside = (lines, answer = []) => new Port(session, lines, answer);
 const ofBug = (name) => portLinesOf(example("weak-order"), bugs[name]);
 
+test("the line of conform's answer that tells of the cut is left out: the page tells of it", () => {
+  const answer = ["conforms", "compared at 1", 'the schedule ends before its logs: "ann, event 9"'];
+  assert.deepEqual(beside([], answer).answer, answer.slice(0, 2));
+});
+
 test("a port that is ot.js differs nowhere", () => {
   const lines = portLinesOf(example("weak-order"));
   assert.equal(beside(lines).first, null);

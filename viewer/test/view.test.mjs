@@ -15,14 +15,15 @@ const top = fileURLToPath(new URL("../..", import.meta.url));
 const folder = fs.mkdtempSync(path.join(os.tmpdir(), "otbench view "));
 after(() => fs.rmSync(folder, { recursive: true }));
 
-/* Answers `steps` by the driver of examples/port, `conform` with two lines, and anything else with its words and input. */
+/* Answers `steps` by the driver of examples/port, `conform` with two lines, `explain` with the fault of a text that begins with `edti`, and anything else with its words and input. */
 const PROGRAM = `#!/usr/bin/env node
 import("${new URL("sessions.mjs", import.meta.url)}").then(({ linesOf }) => {
   const [word, ...more] = process.argv.slice(2);
   const input = require("node:fs").readFileSync(0, "utf8");
   const isSchedule = /^(;.*\\n)*clients/.test(input) && !input.includes("%%");
   process.exitCode = word === "conform" || (word === "steps" && !isSchedule) ? 1 : 0;
-  if (word === "conform") console.log('differs at 7: deliver 0: client 0 buffer\\nfound "<b>"');
+  if (word === "explain" && input.startsWith("edti")) console.error("otbench: line 1: NoClients\\n  column 1: of a text without clients");
+  else if (word === "conform") console.log('differs at 7: deliver 0: client 0 buffer\\nfound "<b>"');
   else if (word !== "steps") process.stdout.write([word, ...more].join(" ") + "\\n" + input);
   else if (isSchedule) console.log(linesOf(input).join("\\n"));
   else console.error("otbench: line 1: NoClients");
@@ -112,9 +113,10 @@ test("a port's lines and what conform answers stand behind", () => {
   assert.deepEqual(answer, ["differs at 7: deliver 0: client 0 buffer", 'found "\\u003cb>"']);
 });
 
-test("a schedule that is refused gives its fault and no page", () => {
-  const { stdout, stderr, status } = call(["view"], "take 0\n");
-  assert.deepEqual([stdout, stderr, status], ["", "otbench: line 1: NoClients\n", 1]);
+test("a schedule that is refused gives its fault and no page, with the column and the cause that explain tells", () => {
+  const { stdout, stderr, status } = call(["view"], "edti 0\n");
+  assert.deepEqual([stdout, stderr, status], ["", "otbench: line 1: NoClients\n  column 1: of a text without clients\n", 1]);
+  assert.equal(call(["view"], "take 0\n").stderr, "otbench: line 1: NoClients\n", "where explain tells none");
 });
 
 test("the page of a session is the page and nothing else", () => {

@@ -138,7 +138,7 @@ impl ReadAhead {
         ensures err { OnErr result (LosesPiece (before self.old (R.remaining reader.old)) (before self.new (R.remaining reader.new))) }
         ensures read_fault { IsErrOf result LineFault.ReadFault → self.new.held ≡ [] }
     {
-        // For the proof: what every reader keeps.
+        // For the proof: the invariant of every reader.
         let _ = &self.bytes;
         line.clear();
         while self.has_more(reader)? {

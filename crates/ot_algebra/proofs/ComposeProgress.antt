@@ -1,4 +1,4 @@
--- What the loop of compose keeps: what is built, and the composition of what is left, make the composition.
+-- The invariant of the loop of compose: what is built, and the composition of what is left, make the composition.
 use Rattle.std.proofs.Common.{◌≡◌, ℕ, suc, zero, ◌+◌, ◌-◌, ◌<◌, ◌≤◌, List, [], ◌∷◌, ◌++◌, length, take, drop, map, max, min, refl, sym, ap, subst, Option, Some, None, ◌∙◌, arith, length-append, length-take, length-drop, append_assoc, append-nil}
 use Rattle.std.proofs.lemmas.List.{map-append, length-map}
 use Rattle.std.proofs.lemmas.List.Elements.{filter_map-append}

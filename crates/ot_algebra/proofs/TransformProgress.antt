@@ -1,4 +1,4 @@
--- What the loop of transform keeps: what is built, and the merge of what is left, make the transformed operations.
+-- The invariant of the loop of transform: what is built, and the merge of what is left, make the transformed operations.
 use Rattle.std.proofs.Common.{◌≡◌, ℕ, suc, zero, ◌+◌, ◌-◌, ◌≤◌, List, [], ◌∷◌, ◌++◌, length, map, max, refl, sym, ap, subst, ◌∙◌, arith, length-append, append_assoc, append-nil}
 use Rattle.std.proofs.lemmas.List.{length-map}
 use Rattle.ot_text.specs.Operation.{Operation, IsOperation, news, Old, New, olds, apply, invert, empty}

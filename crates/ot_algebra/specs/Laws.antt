@@ -26,7 +26,7 @@ ComposeFits A =
     (a b : Operation A) → IsOperation a → IsOperation b → b.base ≡ length a.image
     → IsOperation (compose a b) × ((compose a b).base ≡ a.base) × (length (compose a b).image ≡ length b.image)
 
--- two operations on one base, each after the other, are one operation
+-- two operations on one base, each after the other, are the same operation in either order
 abbrev pub TransformMeets : Type 0 → Type 0
 TransformMeets A = (a b : Operation A) → a.base ≡ b.base → compose a (second_after a b) ≡ compose b (first_after a b)
 
@@ -44,7 +44,7 @@ TransformFits A =
     × (length (first_after a b).image ≡ length (second_after a b).image)
     × (length (first_after a b).image ≤ a.base + length (news a.image) + length (news b.image))
 
--- two operations on one document, each after the other, make one document
+-- two operations on one document, each after the other, make the same document in either order
 abbrev pub TransformConverges : Type 0 → Type 0
 TransformConverges A =
     (a b : Operation A) (document : List A)
@@ -89,7 +89,7 @@ ComposeKeepsNews A =
     (test : A → Bool) (a b : Operation A) → IsOperation b
     → count_by test (news (compose a b).image) ≤ count_by test (news a.image) + count_by test (news b.image)
 
--- an operation and then its inverse give the document back
+-- an operation and then its inverse restore the document
 abbrev pub InvertGivesBack : Type 0 → Type 0
 InvertGivesBack A =
     (op : Operation A) (document : List A) → IsOperation op → op.base ≡ length document

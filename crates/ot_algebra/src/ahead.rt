@@ -22,7 +22,7 @@ pub(crate) const MANY: usize = 16;
 // Of how many components the other operation may be for any to stay, however few there are.
 const PLACES: usize = 32;
 
-// How many there have to be for each component of another operation that has more: a part of its own costs about as much as to write so many anew.
+// How many there have to be for each component of another operation that has more: a part of its own costs about as much as to rewrite so many.
 const EACH: usize = 8;
 
 // How many of them have to stay for the rest to be written as a part of its own.
@@ -51,8 +51,8 @@ pub(crate) struct Stay<'a, T> {
     pub(crate) behind: Cursor<'a, T>,
 }
 
-/// May any of `count` components stay, where the other operation has `others`? Not where it has many, and there are few for each of them: then all is written
-/// anew.
+/// May any of `count` components stay, where the other operation has `others`? Not where it has many, and there are few for each of them: then all is
+/// rewritten.
 pub(crate) fn may_stay(count: usize, others: usize) -> bool {
     others <= PLACES || others <= count / EACH
 }

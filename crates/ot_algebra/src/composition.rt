@@ -34,7 +34,7 @@ pub fn compose<T: Element>(
 }
 
 /// The composition, as a change of `a`. Where `b` has few components (`ahead::may_stay`), long runs of components whose elements it keeps stay where they lie:
-/// they cost a look each. Where it has more, all is written anew: then it costs the components of both, and the text that is inserted.
+/// they cost a look each. Where it has more, all is rewritten: then it costs the components of both, and the text that is inserted.
 pub(crate) fn composed<T: Element>(
     alloc: Global,
     a: &TextOp<T>,

@@ -23,7 +23,7 @@ pub fn compose_keeps_news<T: Element>()
     ensures { ComposeKeepsNews T }
 {}
 
-/// Two operations on one base, each after the other, are one operation.
+/// Two operations on one base, each after the other, are the same operation in either order.
 pub fn transform_meets<T: Element>()
     ensures { TransformMeets T }
 {}
@@ -39,7 +39,7 @@ pub fn transform_fits<T: Element>()
     ensures { TransformFits T }
 {}
 
-/// Two operations on one document, each after the other, make one document.
+/// Two operations on one document, each after the other, make the same document in either order.
 pub fn transform_converges<T: Element>()
     ensures { TransformConverges T }
 {}
@@ -64,7 +64,7 @@ pub fn apply_keeps_order<T: Element>()
     ensures { ApplyKeepsOrder T }
 {}
 
-/// An operation and then its inverse give the document back.
+/// An operation and then its inverse restore the document.
 pub fn invert_gives_back<T: Element>()
     ensures { InvertGivesBack T }
 {}

@@ -9,7 +9,7 @@
 //!   `a` after `b` is that merge with everything that stands in `b`'s image as `Old` of its place there, and `b` after `a`
 //!   likewise over `a`'s.
 //!
-//! The code never looks at a character for itself, and makes no document. It goes over the components of both operations
+//! The code never looks at a character for itself, and makes no document. It walks over the components of both operations
 //! with two cursors, each at what is left of one component, and adds runs to what it builds:
 //!
 //! ```text
@@ -21,14 +21,14 @@
 //!                    done     │ at_b: Delete 4, rest: none
 //! ```
 //!
-//! Each turn of a loop ends a component of `a` or `b`, so a loop costs no more than the components of both and the text
+//! Each iteration of a loop ends a component of `a` or `b`, so a loop costs no more than the components of both and the text
 //! that is inserted: nothing is paid for each character that is kept or deleted.
 //!
 //! Where `b` keeps much of an `a` of many components, long runs of these stay where they lie (`ahead`), and only what `b` touches is written: the result
 //! is a change of `a`, made of `ot_text::Rewrite`. `transform` does not even look at the components behind the last place that `b` changes. A change is a list
 //! of parts, and to put it in place costs what is written and, where parts change the number of components, a move of all those behind them, once for each of a
-//! few parts, and once in all for many. A part costs about as much as to write eight components anew: so nothing stays where `b` has more than 32 components and
-//! `a` fewer than eight for each of them. Then everything is written anew, and the cost is that of the components of both again.
+//! few parts, and once in all for many. A part costs about as much as to rewrite eight components: so nothing stays where `b` has more than 32 components and
+//! `a` fewer than eight for each of them. Then everything is rewritten, and the cost is that of the components of both again.
 //!
 //! Most operations of a session are short, and change one place that lies within what a retain of the other one keeps. Then what the first becomes is itself
 //! with another count in that retain, which is all that `transform_first` writes (`one_place`).

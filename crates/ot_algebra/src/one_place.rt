@@ -7,7 +7,7 @@
 //!     a after b    retain 7   | insert "x"  | retain 301
 //! ```
 //!
-//! Nearly all operations of a session are such changes of one another: none is written anew then. Where `b` inserts at the border of two components of `a`
+//! Nearly all operations of a session are such changes of one another: none is rewritten then. Where `b` inserts at the border of two components of `a`
 //! its text lies in what `a` keeps behind the border, since an insertion of `a` comes first; what it inserts at the end of the document lies in the last
 //! component of `a`, where that is a retain.
 
@@ -23,7 +23,7 @@ ghost use Rattle.ot_text.specs.declared.TheConstants.{LIMIT};
 use crate::ahead::lengths;
 use ot_text::{Component, Element, TextOp};
 
-// What an operation does that changes one place: how many elements stay before it, come and go there.
+// What an operation does that changes one place: how many elements are retained before it, inserted and deleted there.
 #[derive(Clone, Copy)]
 struct Change {
     before: usize,

@@ -1,4 +1,4 @@
-//! One operation after another, where what becomes of one of the two is not wanted.
+//! One result of `transform`, where the other one is not needed.
 
 ghost use Rattle.std.specs.Prelude.{◌≡◌, ◌+◌, ◌≤◌, length, IfOk};
 ghost use Rattle.ot_text.specs.Operation.{news};
@@ -12,11 +12,11 @@ use crate::transformation::{SPLIT, add_part, changed, rewritten};
 use ot_text::{Component, Element, TextOp, only_memory};
 use std::alloc::AllocError;
 
-/// What `a` becomes after `b`: the first result of `transform`, under its conditions, for an `a` that is no longer wanted, as a server needs it that
-/// carries an operation over its log. Where `a` has fewer than 16 components and `b` changes one place, within what one retain of `a` keeps, the count of this
-/// retain changes where it lies: no memory is taken, nothing moves, and it costs a look at the components up to that retain. Else, and where `b` has more than
-/// 32 components and `a` fewer than eight for each of them, the texts of `a` move, and it costs the components of both. Where `a` has 16 or more and `b` no more
-/// than these, the components of `a` that `b` touches are made anew, and the others stay as they are: it costs a look at those before the last that
+/// What `a` becomes after `b`: the first result of `transform`, under its conditions, for an `a` that is no longer needed, as a server needs it to
+/// transform an operation against its log. Where `a` has fewer than 16 components and `b` changes one place, within what one retain of `a` keeps, the count of
+/// this retain changes where it lies: no memory is taken, nothing moves, and it costs a look at the components up to that retain. Else, and where `b` has more
+/// than 32 components and `a` fewer than eight for each of them, the texts of `a` move, and it costs the components of both. Where `a` has 16 or more and `b` no
+/// more than these, the components of `a` that `b` touches are rebuilt, and the others stay as they are: it costs a look at those before the last that
 /// `b` touches, and for each of a few places at which their number changes a move of those behind, or for many such places one move of all.
 ///
 /// `Err` comes only where memory was refused, and `a` is gone then; `b` is only read.

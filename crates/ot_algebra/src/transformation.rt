@@ -23,7 +23,7 @@ pub(crate) const SPLIT: usize = 2;
 ///
 /// Both take one document: `a.base_len() == b.base_len()`, in scalars. The base and all insertions together are at most
 /// 1,000,000, so that neither result is too long. Where both insert at one place, the text of `a` comes first. What both
-/// delete is deleted by neither result. Equal characters are not told apart by value: what the other inserted is kept.
+/// delete is deleted by neither result. Equal characters are distinct elements: what the other inserted is kept.
 ///
 /// `Err` comes only where memory was refused; `a` and `b` are only read.
 pub fn transform<T: Element>(
@@ -56,7 +56,7 @@ pub(crate) fn changed<T: Element>(op: TextOp<T>, change: Patch<T>) -> Result<Tex
 }
 
 /// What `a` becomes after `b`, as a change of it, and what `b` becomes after `a`. Where `b` has few components (`ahead::may_stay`), long runs of components that
-/// it keeps stay where they lie: they cost a look each, and those behind all that `b` changes cost nothing. Where it has more, all is written anew:
+/// it keeps stay where they lie: they cost a look each, and those behind all that `b` changes cost nothing. Where it has more, all is rewritten:
 /// then it costs the components of both, and the text that is inserted.
 pub(crate) fn rewritten<T: Element>(
     alloc: Global,

@@ -1,4 +1,4 @@
--- A start text by its length, and what want of memory hides on the line of an edit.
+-- A start text by its length, and what running out of memory hides on the line of an edit.
 use Rattle.std.proofs.Common.{◌≡◌, ◌<◌, ◌≤◌, ℕ, List, length, Bool, true, false, nat_le, nat_lt, Option, Some, Result, Ok, Err, refl, if◌then◌else◌}
 use Rattle.std.proofs.lemmas.Bool.{lt-ltb, le-ltb}
 use Rattle.serde_json.specs.Data.{Data}

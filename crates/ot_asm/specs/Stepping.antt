@@ -182,7 +182,7 @@ outcome text = outcome_of_lines (lines_of text)
 abbrev pub IsFaultlessBefore : List (List ℕ) → ℕ → Type 0
 IsFaultlessBefore lines line = (line ≤ length lines + 1) × IsOk (run 1 None (take (line - 1) lines))
 
--- a fault that only the JSON text of such a line tells, or the number of instructions, which is looked at behind it
+-- a fault of the JSON text of such a line, or of the number of instructions, which is checked after it
 abbrev pub IsBehindJson : Keyword → Kind → Type 0
 IsBehindJson word.Start BadText = Unit {0}
 IsBehindJson word.Start TooLong = Unit {0}
@@ -191,12 +191,12 @@ IsBehindJson word.Edit TooLong = Unit {0}
 IsBehindJson word.Edit TooMany = Unit {0}
 IsBehindJson keyword kind = ⊥
 
--- want of memory hides no fault but these, on a line of that keyword
+-- running out of memory hides no fault but these, on a line of that keyword
 abbrev pub HidesOnlyJson : {A : Type 0} → Keyword → Result A Kind → Type 0
 HidesOnlyJson keyword (Ok x) = Unit {0}
 HidesOnlyJson keyword (Err kind) = IsBehindJson keyword kind
 
--- memory ran out in line number `line`: no line before it has a fault, and it has none but one that only its JSON text tells
+-- memory ran out in line number `line`: no line before it has a fault, and it has none itself, except perhaps in its JSON text
 pub record WantsMemoryIn (lines : List (List ℕ)) (line : ℕ) : Type 0 where
   pub draft : Option BodyView
   pub before : run 1 None (take (line - 1) lines) ≡ Ok draft

@@ -35,7 +35,7 @@ pub fn finished(body: Option<Body>, line: u64) -> Result<Schedule, AsmFault>
     match body {
         Some(body) => {
             let schedule = body.finish();
-            // For the proof: what every schedule keeps.
+            // For the proof: the invariant of every schedule.
             let _clients = schedule.clients();
             Ok(schedule)
         }
@@ -70,7 +70,7 @@ fn assembled(alloc: Global, text: &str) -> Result<Schedule, AsmFault>
 }
 
 /// The schedule that a text spells, or the fault of its first faulty line. `Memory` names the line for which a growth was refused: no
-/// line before it has a fault, nor has it one itself, save one that only its JSON text tells.
+/// line before it has a fault, nor has it one itself, except perhaps in its JSON text.
 pub fn assemble(alloc: Global, text: &str) -> Result<Schedule, AsmFault>
     ensures ok { IfOk result (λ s. outcome text.now ≡ Ok s) }
     ensures spells { IfOk result (λ s. Spells text.now s) }

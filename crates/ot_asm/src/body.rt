@@ -24,7 +24,7 @@ use serde_json::Value;
 use std::alloc::Global;
 use std::marker::Model;
 
-/// The schedule so far, and where the next line stands; and memory for the JSON texts of the lines, kept from one to the next.
+/// The schedule so far, and where the next line stands; and memory for the JSON texts of the lines, reused from one to the next.
 #[derive(Drop)]
 pub struct Body {
     section: Section,

@@ -49,7 +49,7 @@ fn assemble_part<R: Read>(
     ensures memory { IfErr result (λ f. f.kind ≡ Kind.Memory → IfSome (before ahead.old (R.remaining reader.old)) (λ text. WantsMemoryIn (lines_before marked (lines_of text)) f.line) ⊎ StopsIn (before ahead.old (R.remaining reader.old)) (before ahead.new (R.remaining reader.new)) f.line) }
     ensures stop { IfErr result (λ f. f.kind ≡ Kind.ReadFault → StopsIn (before ahead.old (R.remaining reader.old)) (R.remaining reader.new) f.line) }
 {
-    // For the proof: what every reader keeps.
+    // For the proof: the invariant of every reader.
     let _most = ahead.may_take();
     let mut piece = Vec::new(alloc);
     let mut body: Option<Body> = None;
@@ -100,7 +100,7 @@ pub fn assemble_from<R: Read>(alloc: Global, reader: &mut R) -> Result<Schedule,
     let mut ahead = ReadAhead::new();
     match assemble_part(alloc, &mut ahead, reader, false) {
         Ok((schedule, _)) => {
-            // For the proof: what every schedule keeps.
+            // For the proof: the invariant of every schedule.
             let _clients = schedule.clients();
             Ok(schedule)
         }
@@ -119,7 +119,7 @@ pub fn assemble_until_mark<R: Read>(
     ensures part { IfOk result (λ p. TakesPart true (before ahead.old (R.remaining reader.old)) (before ahead.new (R.remaining reader.new)) p.1) }
     ensures err { IfErr result (λ f. f.kind ≢ Kind.Memory → f.kind ≢ Kind.ReadFault → IfSome (before ahead.old (R.remaining reader.old)) (λ text. outcome_of_lines (lines_before true (lines_of text)) ≡ Err f)) }
     ensures faultless { IfErr result (λ f. IfSome (before ahead.old (R.remaining reader.old)) (λ text. IsFaultlessBefore (lines_before true (lines_of text)) f.line)) }
-    // Want of memory names a line that has no fault but one of its JSON text, or one that was not read to its end.
+    // Out of memory names a line that has no fault but one of its JSON text, or one that was not read to its end.
     ensures memory { IfErr result (λ f. f.kind ≡ Kind.Memory → IfSome (before ahead.old (R.remaining reader.old)) (λ text. WantsMemoryIn (lines_before true (lines_of text)) f.line) ⊎ StopsIn (before ahead.old (R.remaining reader.old)) (before ahead.new (R.remaining reader.new)) f.line) }
     ensures stop { IfErr result (λ f. f.kind ≡ Kind.ReadFault → StopsIn (before ahead.old (R.remaining reader.old)) (R.remaining reader.new) f.line) }
 {

@@ -134,7 +134,7 @@ waiting_set : (out : List Bool) (parked : List (Option Session)) (c : ℕ) (o : 
 waiting_set out parked c o all here d x at =
     each_set (IsWaitingAt out) parked c o (λ e v h z is. all e z (h ∙ ap Some is)) here d (Some x) at x refl
 
--- who is out and what waits, with the record and the machine as they were
+-- who is out and which sessions are parked, with the record and the machine as they were
 pub kept_same :
     (b : BoardView) (out : List Bool) (parked : List (Option Session)) → IsBoard b → length b.recorded.instrs + 64 * outside out ≤ 100000
     → length out ≡ length b.out → length parked ≡ length b.parked → AreWaiting out parked

@@ -1,4 +1,4 @@
--- Lists of receipts, gone over from the front.
+-- Lists of receipts, walked over from the front.
 use Rattle.std.proofs.Common.{◌≡◌, ℕ, zero, suc, [], ◌∷◌, drop, ◌+◌, ◌-◌, ◌<◌, ◌≤◌, List, length, take, refl, sym, ap, ◌∙◌, subst, arith, Some}
 use Rattle.std.proofs.lemmas.List.{take_all, length-map}
 use Rattle.std.proofs.lemmas.List.Sums.{sum_by_more}
@@ -104,7 +104,7 @@ block_at (x ∷ xs) (y ∷ ys) (suc n) (suc i) same below = block_at xs ys n i (
 at_in : {X : Type 0} (P : X → Type 0) (xs : List X) (i : ℕ) (x : X) → All P xs → slice_get xs i ≡ Some x → P x
 at_in P xs i x all is = subst P (get_or_from_slice_get xs i x x is) (all i x (slice_get_within xs i x is))
 
--- where receipts tile a record, nothing but want of memory is found
+-- where receipts tile a record, no fault is found but out of memory
 pub tiled_fault : (log : List Instr) (workers : List (List Receipt)) → IsTiling log workers → (f : AuditFault) → IsFault log workers f → f ≡ Memory
 tiled_fault log workers tiles (Missing w i) first =
     let missing = first.bad in

@@ -1,4 +1,4 @@
--- What a board keeps, and what its calls make of it.
+-- What a board is, and what its calls make of it.
 use Rattle.std.specs.Prelude.{◌≡◌, ℕ, ◌+◌, ◌*◌, ◌<◌, ◌≤◌, Bool, true, false, List, ◌++◌, length, map, set, take, replicate, slice_get, count_by, Option, Some, None}
 use Rattle.std.specs.Option.{option_map}
 use Rattle.ot_isa.specs.declared.instruction.Instr.{Instr}
@@ -45,7 +45,7 @@ outside out = count_by (λ b. b) out
 abbrev pub AreWaiting : List Bool → List (Option Session) → Type 0
 AreWaiting out parked = (c : ℕ) (x : Session) → slice_get parked c ≡ Some (Some x) → (slice_get out c ≡ Some true) × (x.start.number ≡ c)
 
--- what the type of boards keeps: the machine is the table's run of the recorded instructions from the opening, and there is room in the
+-- the type invariant of boards: the machine is the table's run of the recorded instructions from the opening, and there is room in the
 -- record for 64 steps of each client that is out
 pub record IsBoard (b : BoardView) : Type 0 where
   pub replays : RunsTo (opening_of b.recorded) b.recorded.instrs b.state
@@ -91,7 +91,7 @@ HasRoomFor b count = length b.recorded.instrs + SESSION_LIMIT * outside b.out + 
 abbrev pub IsJoined : BoardView → ℕ → Bool → Type 0
 IsJoined b c on = ClientHas b.state c (λ x. is_joined x.phase) on
 
--- why a take or a join is not recorded; memory is wanting only where it would be
+-- why a take or a join is not recorded; out of memory only where it would be
 abbrev pub IsTakeRefusal : BoardView → ℕ → BoardRefusal → Type 0
 IsTakeRefusal b c NoSuchClient = b.recorded.clients ≤ c
 IsTakeRefusal b c NotJoined = IsJoined b c false
@@ -146,7 +146,7 @@ abbrev pub IsReplayRefusal : BoardView → Session → SettleRefusal → Type 0
 IsReplayRefusal b x settle.Stranger = IsAwaited b x → ⊥
 IsReplayRefusal b x settle.Memory = IsAwaited b x
 
--- the machine's refusal of a step: want of memory, or the table's
+-- the machine's refusal of a step: out of memory, or the table's
 abbrev pub stop_of : Refusal → SettleRefusal
 stop_of table.NoSuchClient = settle.Stranger
 stop_of table.StepsFull = settle.Stranger
@@ -158,7 +158,7 @@ stop_of table.LinkEmpty = settle.Stranger
 stop_of table.WrongHead = settle.Stranger
 stop_of table.Memory = settle.Memory
 
--- the steps from one on are not performed: the table refuses it, or would perform it and memory was wanting
+-- the steps from one on are not performed: the table refuses it, or would perform it and memory ran out
 abbrev pub IsStopAt : State → List Instr → ℕ → SettleRefusal → Type 0
 IsStopAt s steps count settle.Stranger = (i : Instr) × (r : Refusal) × (slice_get steps count ≡ Some i) × (step s i ≡ Refused r)
 IsStopAt s steps count settle.Memory = (i : Instr) × (slice_get steps count ≡ Some i) × IsPerformed (step s i)
@@ -201,11 +201,11 @@ pub record IsFinished (b : BoardView) (schedule : Program) (machine : State) : T
   pub replays : RunsTo (opening_of schedule) schedule.instrs machine
   pub nobody : AreIn b.out
 
--- where a run of a schedule ends that only want of memory stops before its end
+-- where a run of a schedule ends that stops before its end only if memory runs out
 abbrev pub EndsIn : Option (ℕ × Refusal) → State → State → Type 0
 EndsIn None reached state = reached ≡ state
 EndsIn (Some stop) reached state = stop.1 ≡ table.Memory
 
--- each run of the schedule ends in this state, or for want of memory before it
+-- each run of the schedule ends in this state, or before it if memory runs out
 abbrev pub RunsEndIn : Program → State → Type 0
 RunsEndIn s state = (run : Run) → IsRun s run → EndsIn run.stopped run.machine state

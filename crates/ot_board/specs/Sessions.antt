@@ -61,7 +61,7 @@ IsPartPerformed (PartPerformed p shown) = Unit {0}
 IsPartPerformed (PartRefused r) = ⊥
 IsPartPerformed PartNoRow = ⊥
 
--- why an edit is not made: as on the part, and then for want of a 65th step; memory is wanting only where it would be made
+-- why an edit is not made: as on the part, and then since there is no 65th step; out of memory only where it would be made
 abbrev pub IsEditRefusal : Session → Instr → SessionRefusal → Type 0
 IsEditRefusal x i BadBase = part_row x.now i ≡ PartRefused table.BadBase
 IsEditRefusal x i ClientFull = part_row x.now i ≡ PartRefused table.ClientFull
@@ -70,7 +70,7 @@ IsEditRefusal x i LinkEmpty = ⊥
 IsEditRefusal x i WrongHead = ⊥
 IsEditRefusal x i Memory = IsPartPerformed (part_row x.now i) × (length x.steps < SESSION_LIMIT)
 
--- why another step is not made: for want of a 65th step, and then as on the part; memory is wanting only where it would be made
+-- why another step is not made: since there is no 65th step, and then as on the part; out of memory only where it would be made
 abbrev pub IsStepRefusal : Session → Instr → SessionRefusal → Type 0
 IsStepRefusal x i BadBase = ⊥
 IsStepRefusal x i ClientFull = ⊥

@@ -1,4 +1,4 @@
-//! The board: what it lends, what it takes back, and what it records.
+//! The board: what it lends, what is returned to it, and what it records.
 
 ghost use Rattle.std.specs.Prelude.{◌≡◌, ◌≢◌, ◌+◌, ◌*◌, ◌<◌, ◌≤◌, ◌↔◌, true, false, None, Some, length, map, replicate, set, slice_get, take, [], ◌∷◌, ◌++◌, IfErr, IfNone, IfOk, IfSome, IsTrue, OnErr, OnOk};
 ghost use Rattle.ot_isa.specs.Program.{with_instr, AreClients, IsForClients};
@@ -391,8 +391,8 @@ impl Board {
     /// Has the machine perform the session's steps, one after the other at this moment, and records those that it performs. What the session
     /// made off the machine is dropped, so nothing is compared. Refused at once, in order: `Stranger` where the session's client is not out
     /// here, or is parked, and `Memory` where the record or the copies of the steps find no room; the session then comes back. Else the client
-    /// is in again, and the answer says which steps were performed and why no more: none of a session that is as `settle` wants it is refused,
-    /// want of memory aside.
+    /// is in again, and the answer says which steps were performed and why no more: none of a session that is as `settle` requires it is refused,
+    /// unless memory runs out.
     pub fn replay(&mut self, lent: Lent) -> Result<Replayed, (SettleRefusal, Lent)>
         ensures ok { IfOk result (λ r. IsReplayed self.old (session_of lent) self.new r) }
         ensures awaited { OnOk result (IsAwaited self.old (session_of lent)) }
@@ -439,7 +439,7 @@ impl Board {
     }
 
     /// The recorded schedule and the machine that it leads to, where no client is out; else the least client that is out, and the board back.
-    /// `ot_machine::run` of the schedule gives a machine in the same state, want of memory aside. It takes no memory.
+    /// `ot_machine::run` of the schedule gives a machine in the same state, unless memory runs out. It takes no memory.
     pub fn finish(self) -> Result<Finished, (StillOut, Board)>
         ensures ok { IfOk result (λ finished. IsFinished self finished.schedule finished.machine) }
         ensures runs { IfOk result (λ finished. RunsEndIn finished.schedule finished.machine) }
@@ -514,7 +514,7 @@ fn copy_out(alloc: Global, machine: &Machine, client: u16) -> Result<Lent, Alloc
     requires { ClientHas machine.now client (λ x. is_joined x.phase) true }
     ensures { IfOk result (λ lent. IsBegun machine.now client (session_of lent)) }
 {
-    // For the proof: what every machine keeps.
+    // For the proof: the invariant of every machine.
     let _sound = machine.clients();
     let steps = Vec::with_capacity(alloc, SESSION_LIMIT)?;
     let start = machine.part(client)?;

@@ -10,7 +10,7 @@
 //!                               a receipt: where the steps stand in the record
 //! ```
 //!
-//! - The type of [`Board`] keeps that its machine is the table's run of the recorded instructions from the opening, and that the record has
+//! - The type invariant of [`Board`] says that its machine is the table's run of the recorded instructions from the opening, and that the record has
 //!   room for 64 steps of each client that is out (`IsBoard` of specs/Boards.antt). So what a lock round it guards can always be replayed.
 //! - `take` and `join` record one instruction at once, `take` also of a client that is out. `lend`, `park`, `hold` and `pick_up` record none.
 //!   `settle` appends a session's steps as they are: by `ot_model::laws::session_block` and `session_waits` the table performs them one
@@ -20,13 +20,13 @@
 //!   machine perform the session's steps once more, and records those that it performs (`IsReplayed`). What the session made off the machine is
 //!   dropped, so nothing of it has to be believed; and of a session that `settle` would take, the table refuses no step.
 //! - A [`Session`] has its client's state as a type, one of the three of `ot_client`; a call consumes it and gives the session in the next
-//!   state, or hands it back with the refusal. Its type keeps that it is allowed (`IsAllowed` of `ot_model`'s specs/Session.antt): a start that
-//!   is a client's part in a sound state, and rows that lead from it by the steps to the present. [`Lent`] is a session in whichever state.
+//!   state, or hands it back with the refusal. Its type invariant says that it is allowed (`IsAllowed` of `ot_model`'s specs/Session.antt): a start
+//!   that is a client's part in a sound state, and rows that lead from it by the steps to the present. [`Lent`] is a session in whichever state.
 //! - `finish` gives the recorded schedule and the machine; `ot_machine::run` of the one gives the state of the other.
 //! - [`audit`] says whether the receipts of all workers account for a record, each step exactly once (specs/Tiling.antt).
 //!
 //! The states are those of ot.js' `Client`. Begin reading at `Board::lend`, `Board::settle` and `Board::replay` in board.rt, then at `Session::deliver` in
-//! session.rt; specs/Sessions.antt and specs/Boards.antt have what these calls promise.
+//! session.rt; specs/Sessions.antt and specs/Boards.antt have what these calls ensure.
 #![tactic(auto)]
 
 mod auditing;

@@ -17,6 +17,6 @@ pub struct Receipt {
 pub struct Replayed {
     /// Where the steps that were performed stand, all or the first ones of the session's.
     pub receipt: Receipt,
-    /// Why the next step was not performed, where not all were: `Memory` for want of memory, `Stranger` where the table refuses the step.
+    /// Why the next step was not performed, where not all were: `Memory` if memory runs out, `Stranger` where the table refuses the step.
     pub stopped: Option<SettleRefusal>,
 }

@@ -94,7 +94,7 @@ impl<S: ClientState> Session<S> {
         &self.start
     }
 
-    // Why the edit is not made, want of memory aside.
+    // Why the edit is not made, other than out of memory.
     fn edit_refusal(&self, op: &TextOp<char>) -> Option<SessionRefusal>
         ensures some { IfSome result (λ r. IsEditRefusal self.now (Edit self.now.start.number op.now) r) }
         ensures none { IfNone result (MayEdit self.now op.now) }

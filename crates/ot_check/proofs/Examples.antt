@@ -27,7 +27,7 @@ shorter = refl
 other : first_difference (start_list (97 ∷ 99 ∷ 98 ∷ []) ∷ []) (start_list (97 ∷ 98 ∷ 98 ∷ [])) ≡ Some (0, 1)
 other = refl
 
--- client 0 of two types "a"; the server takes it, and both hear of it; a third client joins before client 1 has heard
+-- client 0 of two types "a"; the server takes it, and both receive it; a third client joins before client 1 has received it
 typed : Program
 typed = schedule 3 2 [] (Edit 0 (op (Add (97 ∷ []) ∷ [])) ∷ Take 0 ∷ Acknowledge 0 ∷ Join 2 ∷ Deliver 1 ∷ [])
 

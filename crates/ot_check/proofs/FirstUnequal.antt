@@ -1,4 +1,4 @@
--- Where two lists first are not one.
+-- Where two lists first differ.
 use Rattle.std.proofs.Common.{◌≡◌, ℕ, zero, suc, ◌+◌, ◌<◌, List, [], ◌∷◌, length, refl, sym, ap, ◌∙◌, cond, arith, Bool, true, inl, inr, min, eq-eqb}
 use Rattle.std.specs.Prelude.{Option, Some, None, slice_get, ◌==◌}
 use Rattle.std.specs.Option.{option_map}
@@ -26,7 +26,7 @@ pub first_unequal-refl : (xs : List Tagged) → first_unequal xs xs ≡ None
 first_unequal-refl [] = refl
 first_unequal-refl (x ∷ xs) = ap (λ (b : Bool). picked b (first_unequal xs xs)) (same-refl x) ∙ ap (option_map suc) (first_unequal-refl xs)
 
--- what is one below a place, and not one there
+-- lists that are equal below a place, and differ there
 pub first_unequal-at : (xs ys : List Tagged) (k : ℕ) → ((i : ℕ) → i < k → slice_get xs i ≡ slice_get ys i) → k < length xs → k < length ys → (slice_get xs k ≡ slice_get ys k → ⊥) → first_unequal xs ys ≡ Some k
 first_unequal-at [] ys k below a b other = absurd (omega arith)
 first_unequal-at (x ∷ xs) [] k below a b other = absurd (omega arith)
@@ -39,7 +39,7 @@ first_unequal-at (x ∷ xs) (y ∷ ys) (suc k) below a b other =
     ap (λ (b : Bool). picked b (first_unequal xs ys)) (ap (same x) (sym one) ∙ same-refl x)
     ∙ ap (option_map suc) (first_unequal-at xs ys k (λ i lt. below (suc i) (omega arith)) (omega arith) (omega arith) other)
 
--- lists that are one up to the end of the shorter, and not one
+-- lists that are equal up to the end of the shorter, and not as long
 pub first_unequal-end : (xs ys : List Tagged) (k : ℕ) → k ≡ min (length xs) (length ys) → ((i : ℕ) → i < k → slice_get xs i ≡ slice_get ys i) → (xs ≡ ys → ⊥) → first_unequal xs ys ≡ Some k
 first_unequal-end [] [] k is below other = absurd (other refl)
 first_unequal-end [] (y ∷ ys) k is below other = ap Some (sym (is ∙ omega arith))

@@ -1,4 +1,4 @@
--- Whether all is quiet and all lists are one, and what comes first against it.
+-- Whether all is quiet and all lists are equal, and what comes first against it.
 use Rattle.std.specs.Prelude.{ℕ, suc, List, [], ◌∷◌, ◌++◌, length, Bool, true, false, not, ◌==◌, ◌&&◌, Option, Some, None, is_some, if◌then◌else◌}
 use Rattle.std.specs.Option.{option_map}
 use Rattle.ot_isa.specs.declared.elements.Tagged.{Tagged}
@@ -26,11 +26,11 @@ all_from at k (x ∷ xs) = at k x ++ all_from at (suc k) xs
 
 -- ---- lists
 
--- two elements are one: the same character with the same tag
+-- two elements are equal: the same character with the same tag
 abbrev pub same : Tagged → Tagged → Bool
 same x y = (x.ch == y.ch) && same_tag x.tag y.tag
 
--- the first place at which two lists are not one; where one is the beginning of the other, the shorter length
+-- the first place at which two lists are not equal; where one is the beginning of the other, the shorter length
 abbrev pub first_unequal : List Tagged → List Tagged → Option ℕ
 first_unequal [] [] = None
 first_unequal [] (y ∷ ys) = Some 0

@@ -6,15 +6,15 @@ ghost use Rattle.ot_check.specs.Convergence.{first_difference, first_unequal};
 use ot_isa::Tagged;
 use ot_text::Doc;
 
-// The two lists have one element there, or none.
+// The two lists have the same element there, or none.
 fn same_at(a: &Doc<Tagged>, b: &Doc<Tagged>, place: usize) -> bool
     ensures { IsTrue result ↔ (slice_get a.now place ≡ slice_get b.now place) }
 {
     a.get(place) == b.get(place)
 }
 
-// The first place at which two lists are not one, in elements; where one is the beginning of the other, the shorter
-// length. Lists that are one are compared in one pass.
+// The first place at which two lists are not equal, in elements; where one is the beginning of the other, the shorter
+// length. Equal lists are compared in one pass.
 pub(crate) fn first_unequal(a: &Doc<Tagged>, b: &Doc<Tagged>) -> Option<usize>
     ensures { result ≡ first_unequal a.now b.now }
 {

@@ -166,7 +166,7 @@ fn insertions(
     requires { first + length (news op.now.image) ≤ INSERTED_LIMIT }
     ensures { IfOk result (λ v. v.items ≡ insertions_from 0 (tagged_operation op.now origin first).image) }
 {
-    // For the proof: what every operation keeps.
+    // For the proof: the invariant of every operation.
     let _base = op.base_len();
     let _target = op.target_len();
     insertions_of(alloc, op.components(), origin, first)

@@ -2,8 +2,8 @@
 
 ghost use Rattle.ot_check.specs.Laws.{JudgeAccepts};
 
-/// Of every schedule, late joiners included, the verdict of its trace is `Holds`: so `judge` answers nothing else of it,
-/// want of memory aside.
+/// The verdict on the trace of every schedule, late joiners included, is `Holds`: so `judge` answers nothing else,
+/// unless memory runs out.
 pub fn judge_accepts()
     ensures { JudgeAccepts }
 {}

@@ -1,4 +1,4 @@
-//! What is decided of a session: whether all its lists are one, and whether its trace has the weak list property.
+//! What is decided of a session: whether all its lists are equal, and whether its trace has the weak list property.
 //!
 //! ```text
 //!   machine  ----- convergence ---->  quiet | not quiet: client, up or down | differs: client, place

@@ -11,7 +11,7 @@ pub enum Unsettled {
     Down(u16),
 }
 
-/// Whether all is quiet, and whether then all lists are one.
+/// Whether all is quiet, and whether then all lists are equal.
 #[derive(Clone, Copy, Debug, PartialEq, Eq)]
 pub enum Convergence {
     /// No message is under way, every joined client is synchronized, and each one's list is the server's, tags included.

@@ -1,4 +1,4 @@
-//! Whether a machine is quiet with one list everywhere.
+//! Whether a machine is quiet with equal lists everywhere.
 
 ghost use Rattle.std.specs.Prelude.{◌≡◌, ◌<◌, ◌↔◌, ◌++◌, [], ℕ, None, is_some, length, not, slice_get, ◌==◌, IfOk, OnOk};
 ghost use Rattle.ot_model.specs.Table.{downlink, IsQuiet};
@@ -72,7 +72,7 @@ fn first_astray(machine: &Machine) -> Option<(u16, usize)>
 
 /// Whether all is quiet, or what is the first against it: `NotQuiet` with the first that is not settled, by the number of
 /// the joined client and then in the order of `Unsettled`; else `Differs` with the first joined client whose list is not
-/// the server's; else `Quiet`. `Differs` never comes: of every run, wherever all is quiet, all lists are one. Takes no
+/// the server's; else `Quiet`. `Differs` never comes: of every run, wherever all is quiet, all lists are equal. Takes no
 /// memory.
 pub fn convergence(machine: &Machine) -> Convergence
     ensures exact { result ≡ convergence_of machine.now }

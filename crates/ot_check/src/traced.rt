@@ -39,7 +39,7 @@ pub(crate) enum Followed {
 fn follow_schedule(alloc: Global, schedule: &Schedule) -> Result<Followed, AllocError>
     ensures { IfOk result (IsFollowed schedule.now) }
 {
-    // For the proof: what every schedule keeps.
+    // For the proof: the invariant of every schedule.
     let _clients = schedule.clients();
     let mut tracer = Tracer::new(alloc, schedule)?;
     for place in 0..schedule.len() {

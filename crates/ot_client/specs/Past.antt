@@ -1,4 +1,4 @@
--- What a client waited for before a step, kept over what it waits for after it.
+-- Undo records: a client's pending operations before a step, recorded as changes of those after it.
 use Rattle.std.specs.Prelude.{◌≡◌, length}
 use Rattle.ot_text.specs.Patch.{patched, LeadsFrom}
 use Rattle.ot_client.specs.State.{Phase, Synchronized, AwaitingConfirm, AwaitingWithBuffer}
@@ -18,7 +18,7 @@ phase_before (kept.Confirmed o) Synchronized = AwaitingConfirm o
 phase_before (kept.Confirmed o) (AwaitingConfirm b) = AwaitingWithBuffer o b
 phase_before past phase = phase
 
--- the record is over this phase: what is kept fits on its operations, and the buffer is over what the outstanding operation makes
+-- the record is over this phase: what is recorded fits on its operations, and the buffer is over what the outstanding operation makes
 abbrev pub FitsPhase : {A : Type 0} → Past A → Phase A → Type 0
 FitsPhase kept.Nothing Synchronized = Unit {0}
 FitsPhase kept.Nothing (AwaitingConfirm o) = Unit {0}

@@ -1,4 +1,4 @@
--- A client: what it waits for, and what edits, deliveries and acknowledgements do to it.
+-- A client: its pending operations, and what edits, deliveries and acknowledgements do to it.
 use Rattle.std.specs.Prelude.{◌≡◌, ℕ, suc, ◌+◌, ◌≤◌, length, Option, Some, None}
 use Rattle.ot_text.specs.Operation.{Operation, news}
 use Rattle.ot_algebra.specs.Compose.{compose}
@@ -11,7 +11,7 @@ pub data Phase (A : Type 0) : Type 0 where
   AwaitingConfirm : Operation A → Phase A
   AwaitingWithBuffer : Operation A → Operation A → Phase A
 
--- a client: how many entries of the server's log it has, and what it waits for
+-- a client: how many entries of the server's log it has, and its pending operations
 pub record State (A : Type 0) : Type 0 where
   pub revision : ℕ
   pub phase : Phase A
@@ -31,7 +31,7 @@ phase_edited (AwaitingWithBuffer outstanding buffer) op = AwaitingWithBuffer out
 abbrev pub edited : {A : Type 0} → State A → Operation A → State A
 edited state op = record { revision = state.revision; phase = phase_edited state.phase op }
 
--- another's operation from the server: what waits goes after it
+-- another's operation from the server: the pending operations are transformed against it
 abbrev pub phase_delivered : {A : Type 0} → Phase A → Operation A → Phase A
 phase_delivered Synchronized op = Synchronized
 phase_delivered (AwaitingConfirm outstanding) op = AwaitingConfirm (first_after outstanding op)
@@ -42,7 +42,7 @@ phase_delivered (AwaitingWithBuffer outstanding buffer) op =
 abbrev pub delivered : {A : Type 0} → State A → Operation A → State A
 delivered state op = record { revision = suc state.revision; phase = phase_delivered state.phase op }
 
--- what the client applies: the operation after all that waits
+-- what the client applies: the operation transformed against all that is pending
 abbrev pub carried : {A : Type 0} → Phase A → Operation A → Operation A
 carried Synchronized op = op
 carried (AwaitingConfirm outstanding) op = second_after outstanding op

@@ -13,12 +13,12 @@ pub record Step (A : Type 0) : Type 0 where
   pub after : State A
   pub sent : Option (Message A)
 
--- a step back: the client as it is, and the one before the step that is taken back
+-- a step back: the client as it is, and the one before the step that is undone
 pub record Back (A : Type 0) : Type 0 where
   pub later : State A
   pub earlier : State A
 
--- what waits before and after, in the program's words
+-- the pending operations before and after, in the program's words
 abbrev pub phase_from : {A : Type 0} → Waiting A → Phase A
 phase_from waiting.Nothing = Synchronized
 phase_from (waiting.First op) = Synchronized

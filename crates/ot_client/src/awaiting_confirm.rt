@@ -54,7 +54,7 @@ impl<T: Element> AwaitingConfirm<T> {
         &self.outstanding
     }
 
-    /// A client equal to this one, or want of memory.
+    /// A client equal to this one, or out of memory.
     pub fn copy(&self) -> Result<AwaitingConfirm<T>, AllocError>
         ensures { IfOk result (λ client. client ≡ self.now) }
     {
@@ -72,9 +72,9 @@ impl<T: Element> AwaitingConfirm<T> {
         AwaitingWithBuffer::new(self.revision, self.outstanding, Held::new(op))
     }
 
-    /// The client after the next entry of the server's log, an operation of another client over the base of the outstanding one, which goes
-    /// after it; and what the document is to be changed by. The revision, below 1,000,000, rises by 1. The base and what both insert are at
-    /// most 1,000,000 items together. The client and the operation are only read: `Err` comes where memory was refused, and nothing is copied.
+    /// The client after the next entry of the server's log, an operation of another client over the base of the outstanding one, which is
+    /// transformed against it; and what the document is to be changed by. The revision, below 1,000,000, rises by 1. The base and what both insert
+    /// are at most 1,000,000 items together. The client and the operation are only read: `Err` comes where memory was refused, and nothing is copied.
     pub fn deliver(&self, op: &TextOp<T>) -> Result<(AwaitingConfirm<T>, TextOp<T>), AllocError>
         requires revision { self.now.revision < REVISION_LIMIT }
         requires base { op.now.base ≡ self.now.outstanding.base }
@@ -115,7 +115,7 @@ impl<T: Element> AwaitingConfirm<T> {
         self.outstanding
     }
 
-    // The step of `edit`, over an edit that is only read. For want of memory the client comes back.
+    // The step of `edit`, over an edit that is only read. If memory runs out, the client comes back.
     pub(crate) fn prepare_edit(self, op: &TextOp<T>) -> Result<PreparedStep<T>, AwaitingConfirm<T>>
         requires { op.now.base ≡ length self.outstanding.image }
         ensures step { IfOk result (λ step. step ≡ record { before = confirming self; after = edited (confirming self) op.now; sent = None }) }
@@ -132,7 +132,7 @@ impl<T: Element> AwaitingConfirm<T> {
         })
     }
 
-    // The step of `deliver`, with what the document is to be changed by, where `kept` says whether its past will be asked for. For want of memory the
+    // The step of `deliver`, with what the document is to be changed by, where `kept` asks for an undo record. If memory runs out, the
     // client comes back.
     pub(crate) fn prepare_deliver(
         self,

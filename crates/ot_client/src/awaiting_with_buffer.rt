@@ -36,7 +36,7 @@ impl<T> Model for AwaitingWithBuffer<T> {
 }
 
 impl<T: Element> AwaitingWithBuffer<T> {
-    // The client that has sent this operation and keeps these edits.
+    // The client that has sent this operation and has these edits in its buffer.
     pub(crate) fn new(revision: u32, outstanding: Held<T>, buffer: Held<T>) -> AwaitingWithBuffer<T>
         requires { buffer.base ≡ length outstanding.image }
         ensures { result ≡ record { revision = revision; outstanding = outstanding; buffer = buffer } }
@@ -70,7 +70,7 @@ impl<T: Element> AwaitingWithBuffer<T> {
         &self.buffer
     }
 
-    /// A client equal to this one, or want of memory.
+    /// A client equal to this one, or out of memory.
     pub fn copy(&self) -> Result<AwaitingWithBuffer<T>, AllocError>
         ensures { IfOk result (λ client. client ≡ self.now) }
     {
@@ -82,7 +82,7 @@ impl<T: Element> AwaitingWithBuffer<T> {
     }
 
     /// Takes the user's edit, over what the buffer makes: it is composed into the buffer, at the cost of the
-    /// components that it touches. For want of memory the client and the edit come back.
+    /// components that it touches. If memory runs out, the client and the edit come back.
     pub fn edit(
         self,
         op: TextOp<T>,
@@ -100,9 +100,9 @@ impl<T: Element> AwaitingWithBuffer<T> {
     }
 
     /// The client after the next entry of the server's log, an operation of another client over the base of the outstanding one: the outstanding
-    /// operation goes after it, and the buffer after what that leaves of it; and what the document is to be changed by. The revision, below 1,000,000,
-    /// rises by 1. The base and what all three insert are at most 1,000,000 items together. The client and the operation are only read: `Err` comes
-    /// where memory was refused, and nothing is copied.
+    /// operation is transformed against it, and the buffer against what that leaves of it; and what the document is to be changed by. The revision,
+    /// below 1,000,000, rises by 1. The base and what all three insert are at most 1,000,000 items together. The client and the operation are only
+    /// read: `Err` comes where memory was refused, and nothing is copied.
     pub fn deliver(&self, op: &TextOp<T>) -> Result<(AwaitingWithBuffer<T>, TextOp<T>), AllocError>
         requires revision { self.now.revision < REVISION_LIMIT }
         requires base { op.now.base ≡ self.now.outstanding.base }
@@ -110,7 +110,7 @@ impl<T: Element> AwaitingWithBuffer<T> {
         ensures state { IfOk result (λ given. buffering given.0 ≡ delivered (buffering self.now) op.now) }
         ensures applied { IfOk result (λ given. given.1 ≡ carried (buffering self.now).phase op.now) }
     {
-        // For the proof: what every operation keeps.
+        // For the proof: the invariant of every operation.
         let _operation = self.outstanding.base_len();
         let _operation = op.base_len();
         let (outstanding, passed) = self.outstanding.transform(op)?;
@@ -130,7 +130,7 @@ impl<T: Element> AwaitingWithBuffer<T> {
         requires fits { op.now.base + length (news self.now.outstanding.image) + length (news self.now.buffer.image) + length (news op.now.image) ≤ LIMIT }
         ensures { IfOk result (λ applied. applied ≡ carried (buffering self.now).phase op.now) }
     {
-        // For the proof: what every operation keeps.
+        // For the proof: the invariant of every operation.
         let _operation = self.outstanding.base_len();
         let _operation = op.base_len();
         let passed = self.outstanding.carry(op)?;
@@ -138,7 +138,7 @@ impl<T: Element> AwaitingWithBuffer<T> {
     }
 
     /// Takes the confirmation of the operation that was sent: the revision, below 1,000,000, rises by 1, and the buffer is sent with the risen
-    /// revision and outstanding from now on. For want of memory the client comes back.
+    /// revision and outstanding from now on. If memory runs out, the client comes back.
     pub fn acknowledge(self) -> Result<(AwaitingConfirm<T>, Sent<T>), AwaitingWithBuffer<T>>
         requires { self.revision < REVISION_LIMIT }
         ensures state { IfOk result (λ given. given.0 ≡ record { revision = self.revision + 1; outstanding = self.buffer }) }
@@ -177,7 +177,7 @@ impl<T: Element> AwaitingWithBuffer<T> {
         (self.outstanding, self.buffer)
     }
 
-    // The step of `edit`, over an edit that is only read, where `kept` says whether its past will be asked for. For want of memory the client comes back.
+    // The step of `edit`, over an edit that is only read, where `kept` asks for an undo record. If memory runs out, the client comes back.
     pub(crate) fn prepare_edit(
         self,
         op: &TextOp<T>,
@@ -200,7 +200,7 @@ impl<T: Element> AwaitingWithBuffer<T> {
         }
     }
 
-    // The step of `deliver`, with what the document is to be changed by, where `kept` says whether its past will be asked for. For want of memory the
+    // The step of `deliver`, with what the document is to be changed by, where `kept` asks for an undo record. If memory runs out, the
     // client comes back.
     pub(crate) fn prepare_deliver(
         self,
@@ -214,7 +214,7 @@ impl<T: Element> AwaitingWithBuffer<T> {
         ensures applied { IfOk result (λ given. given.1 ≡ carried (buffering self).phase op.now) }
         ensures back { IfErr result (λ client. client ≡ self) }
     {
-        // For the proof: what every operation keeps.
+        // For the proof: the invariant of every operation.
         let _operation = self.outstanding.base_len();
         let _operation = op.base_len();
         let revision = self.revision;

@@ -56,10 +56,10 @@ impl<T: Element> Client<T> {
         }
     }
 
-    /// Prepares the client to take the user's edit, which is in the user's document already; the edit is only read. Of what waits only the buffer
-    /// changes, at the components that the edit touches; beyond that it costs a copy of the edit where that waits from now on, and a second one
-    /// where it is sent. Where what leads back will be asked for (`kept`), the buffer is one list of components from now on. For want of memory the client
-    /// comes back.
+    /// Prepares the client to take the user's edit, which is in the user's document already; the edit is only read. Of the pending operations only the
+    /// buffer changes, at the components that the edit touches; beyond that it costs a copy of the edit where that is pending from now on, and a second
+    /// one where it is sent. Where an undo record will be asked for (`kept`), the buffer is one list of components from now on. If memory runs out, the
+    /// client comes back.
     pub fn prepare_edit(self, op: &TextOp<T>, kept: bool) -> Result<PreparedStep<T>, Client<T>>
         requires { MayEdit (state_of self).phase op.now }
         ensures step { IfOk result (λ step. step ≡ record { before = state_of self; after = edited (state_of self) op.now; sent = message_edited (state_of self).revision (state_of self).phase op.now }) }
@@ -83,8 +83,8 @@ impl<T: Element> Client<T> {
 
     /// Prepares the client to take the next entry of the server's log, an operation of another client, under the conditions of `deliver`, with what
     /// the document is to be changed by; `None` there where that is the operation as it came, as for a synchronized client. The operation is only
-    /// read, and what waits changes at the components that it touches. Where what leads back will be asked for (`kept`), each operation that waits is one
-    /// list of components from now on. For want of memory the client comes back.
+    /// read, and the pending operations change at the components that it touches. Where an undo record will be asked for (`kept`), each pending operation
+    /// is one list of components from now on. If memory runs out, the client comes back.
     pub fn prepare_deliver(
         self,
         op: &TextOp<T>,
@@ -110,7 +110,7 @@ impl<T: Element> Client<T> {
     }
 
     /// Takes the confirmation of the operation that was sent, by the rules of the two states in which one is: the client after it, what it sends
-    /// then, if anything, and what leads back, into which the confirmed operation moves. For want of memory the client comes back.
+    /// then, if anything, and the undo record, into which the confirmed operation moves. If memory runs out, the client comes back.
     pub fn acknowledge(self) -> Result<(Client<T>, Option<Sent<T>>, Past<T>), Client<T>>
         requires awaiting { IsAwaiting (state_of self).phase }
         requires revision { (state_of self).revision < REVISION_LIMIT }
@@ -152,7 +152,7 @@ impl<T: Element> Client<T> {
         }
     }
 
-    /// A client equal to this one, or want of memory.
+    /// A client equal to this one, or out of memory.
     pub fn copy(&self) -> Result<Client<T>, AllocError>
         ensures { IfOk result (λ client. state_of client ≡ state_of self.now) }
     {

@@ -11,21 +11,21 @@
 //! ```
 //!
 //! An edit and an acknowledgement take the state by value and give the next one, so what was sent is never sent or confirmed twice, and
-//! an acknowledgement of nothing does not compile; where memory is wanting, the state and the operation come back as they were. `deliver`
-//! brings another's operation in, and only reads the state and the operation: what waits goes after it by the first result of `transform`,
-//! so the next state is made anew, and so is what the document is to be changed by.
+//! an acknowledgement of nothing does not compile; where memory runs out, the state and the operation come back as they were. `deliver`
+//! receives another's operation, and only reads the state and the operation: each pending operation becomes the first result of `transform`,
+//! so the next state is a fresh one, and so is what the document is to be changed by.
 //! [`Client::prepare_edit`] and [`Client::prepare_deliver`] take the same steps in two moves, at the cost of what changes: all memory that the step
 //! takes is there in a [`PreparedStep`], which then gives the client after it (`commit`) or the one before it (`roll_back`) and cannot fail. So a
-//! caller can change more than the client, or nothing. What leads back from the client after a step is a [`Past`], and [`Past::prepare_back`] goes
-//! back so, at the cost of what is kept.
-//! What waits is held by `ot_sections` (`Held`), as one list of components or, where it has many, in sections: a small step then costs what it touches and
-//! a look at each section. A step whose past will be asked for holds one list, which a [`Past`] is over.
+//! caller can change more than the client, or nothing. The undo record of a step is a [`Past`], and [`Past::prepare_back`] undoes the step,
+//! at the cost of what is recorded.
+//! Pending operations are held by `ot_sections` (`Held`), each as one list of components or, where it has many, in sections: a small step then costs what
+//! it touches and a look at each section. A step whose undo record will be asked for holds one list, to which the [`Past`] refers.
 //! These are the functions `applyClient`, `applyServer` and `serverAck` of the three states in ot.js' `Client`.
 //!
 //! Contracts see a state as `State` of `specs/State.antt`: a revision and a `Phase`. `edited` and `delivered` are two of the rules, `carried` what a
 //! delivery applies; what an acknowledgement leaves, and what is sent, each call's clause says itself. The types' own values are a revision, a
 //! `Confirming` and a `Buffering`; `synchronized`, `confirming` and `buffering` give each as a `State`, and `state_of` of `specs/Client.antt` a [`Client`].
-//! A prepared step is the client before, the client after and what is sent (`specs/Step.antt`); `specs/Past.antt` has what leads back.
+//! A prepared step is the client before, the client after and what is sent (`specs/Step.antt`); `specs/Past.antt` has the undo records.
 //!
 //! Begin reading at the rules in `specs/State.antt`, then at [`AwaitingConfirm`].
 #![tactic(auto)]

@@ -1,4 +1,4 @@
-//! What a client waited for before a step, kept over what it waits for after it.
+//! Undo records: a client's pending operations before a step, recorded as changes of those after it.
 
 ghost use Rattle.std.specs.Prelude.{◌≡◌, length, IfErr, IfOk};
 ghost use Rattle.ot_text.specs.Patch.{patched, LeadsFrom};
@@ -13,16 +13,16 @@ use ot_sections::{Held, PreparedHeld};
 use ot_text::{Element, Patch};
 use std::alloc::AllocError;
 
-/// What a client waited for before a step, by the kind of the step. What the step leaves as it was is not kept.
+/// A client's pending operations before a step, by the kind of the step. What the step leaves as it was is not recorded.
 #[derive(Drop)]
 pub enum Past<T> {
-    /// Nothing: an edit was sent, or another's operation came to a client that waits for nothing.
+    /// Nothing: an edit was sent, or another's operation came to a client without pending operations.
     Nothing,
-    /// One operation, which went after another's.
+    /// One operation, which was transformed against another's.
     Outstanding(Patch<T>),
     /// One operation, which is still outstanding: an edit began the buffer.
     Unbuffered,
-    /// Both operations, the outstanding one and the buffer, which went after another's.
+    /// Both operations, the outstanding one and the buffer, which were transformed against another's.
     Both(Box<(Patch<T>, Patch<T>)>),
     /// The outstanding operation, which still is, and the buffer, into which an edit was composed.
     Buffer(Patch<T>),
@@ -30,7 +30,7 @@ pub enum Past<T> {
     Confirmed(Held<T>),
 }
 
-// Prepares an operation that waits to become the one from which the patch leads, both as one list of components. For want of memory it comes back.
+// Prepares a pending operation to become what the patch makes of it, both as one list of components. If memory runs out, it comes back.
 fn prepare_back<T: Element>(patch: &Patch<T>, op: Held<T>) -> Result<PreparedHeld<T>, Held<T>>
     requires { LeadsFrom patch.now op }
     ensures before { IfOk result (λ change. change.before ≡ op) }
@@ -44,8 +44,8 @@ fn prepare_back<T: Element>(patch: &Patch<T>, op: Held<T>) -> Result<PreparedHel
 }
 
 impl<T: Element> Past<T> {
-    /// Prepares the client after the step to become the one before it, at that one's revision. Costs what is kept, which is copied, and where an operation
-    /// that changes is held in sections, to make one list of it. For want of memory the client comes back.
+    /// Prepares the client after the step to become the one before it, at that one's revision. Costs what is recorded, which is copied, and where an
+    /// operation that changes is held in sections, to make one list of it. If memory runs out, the client comes back.
     pub fn prepare_back(
         &self,
         client: Client<T>,
@@ -88,7 +88,7 @@ impl<T: Element> Past<T> {
         })
     }
 
-    // The step back where nothing waits now.
+    // The step back where nothing is pending now.
     fn over_nothing(&self) -> Result<Waiting<T>, AllocError>
         requires { FitsPhase self.now state.Synchronized }
         ensures { IfOk result (λ waiting. LeadsBack self.now state.Synchronized waiting) }

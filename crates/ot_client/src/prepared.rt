@@ -55,8 +55,8 @@ impl<T: Element> PreparedStep<T> {
         self.waiting.roll_back(self.from)
     }
 
-    /// What leads from what the client will wait for back to what it waits for, in memory of `alloc`. Costs the components that change where the step
-    /// was prepared to be `kept`, else all that waits. `AllocError` where a growth was refused.
+    /// The undo record of the step, in memory of `alloc`. Costs the components that change where the step
+    /// was prepared to be `kept`, else all pending operations. `AllocError` where a growth was refused.
     pub fn past(&self, alloc: Global) -> Result<Past<T>, AllocError>
         ensures phase { IfOk result (λ past. phase_before past self.now.after.phase ≡ self.now.before.phase) }
         ensures fits { IfOk result (λ past. FitsPhase past self.now.after.phase) }
@@ -76,7 +76,7 @@ impl<T: Element> PreparedStep<T> {
     }
 }
 
-/// A client that is about to go back over a step. All memory that this takes is there already: it is done by [`PreparedBack::commit`], or the client
+/// A client that is about to undo a step. All memory that this takes is there already: it is done by [`PreparedBack::commit`], or the client
 /// comes back as it was by [`PreparedBack::roll_back`], and neither fails.
 #[derive(Drop)]
 pub struct PreparedBack<T> {
@@ -96,7 +96,7 @@ impl<T> Model for PreparedBack<T> {
 }
 
 impl<T: Element> PreparedBack<T> {
-    /// The client before the step that is taken back. It takes no memory.
+    /// The client before the step that is undone. It takes no memory.
     pub fn commit(self) -> Client<T>
         ensures { state_of result ≡ self.earlier }
     {

@@ -14,7 +14,7 @@ pub struct Sent<T> {
 }
 
 impl<T: Element> Sent<T> {
-    /// A message equal to this one, or want of memory.
+    /// A message equal to this one, or out of memory.
     pub fn copy(&self) -> Result<Sent<T>, AllocError>
         ensures { IfOk result (λ sent. message_of sent ≡ message_of self.now) }
     {

@@ -48,8 +48,8 @@ impl Synchronized {
         Synchronized::new(self.revision)
     }
 
-    /// Takes the user's edit, which is in the user's document already: it is sent with the client's revision, and outstanding from now on. For want
-    /// of memory the client and the edit come back.
+    /// Takes the user's edit, which is in the user's document already: it is sent with the client's revision, and outstanding from now on. If memory
+    /// runs out, the client and the edit come back.
     pub fn edit<T: Element>(
         self,
         op: TextOp<T>,

@@ -1,4 +1,4 @@
-//! What waits before a step, forth or back, and after it.
+//! The pending operations before a step, forth or back, and after it.
 
 ghost use Rattle.std.specs.Prelude.{◌≡◌};
 ghost use Rattle.ot_client.specs.Client.{state_of};
@@ -8,26 +8,26 @@ use crate::{AwaitingConfirm, AwaitingWithBuffer, Client, Synchronized};
 use ot_sections::{Held, PreparedHeld};
 use ot_text::Element;
 
-// What waits before a step and after it, each operation once.
+// The pending operations before a step and after it, each once.
 #[derive(Drop)]
 pub(crate) enum Waiting<T> {
     // Nothing, before and after.
     Nothing,
     // Nothing, and then the edit that is sent.
     First(Held<T>),
-    // The outstanding operation, which goes after another's.
+    // The outstanding operation, which is transformed against another's.
     Outstanding(PreparedHeld<T>),
     // The outstanding operation, and then the edit that begins the buffer too.
     Second(Held<T>, Held<T>),
-    // The outstanding operation and the buffer, which go after another's.
+    // The outstanding operation and the buffer, which are transformed against another's.
     Both(PreparedHeld<T>, PreparedHeld<T>),
     // The outstanding operation, and the buffer with an edit composed into it.
     Buffer(Held<T>, PreparedHeld<T>),
-    // An edit that was sent, and then nothing: the edit is taken back.
+    // An edit that was sent, and then nothing: the edit is undone.
     Unsent(Held<T>),
-    // The outstanding operation and the edit that began the buffer, which is taken back.
+    // The outstanding operation and the edit that began the buffer, which is undone.
     Unbuffered(Held<T>, Held<T>),
-    // Of these two the second, and then both: the confirmation of the first is taken back.
+    // Of these two the second, and then both: the confirmation of the first is undone.
     Unconfirmed(Held<T>, Held<T>),
 }
 

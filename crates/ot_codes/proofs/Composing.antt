@@ -1,4 +1,4 @@
--- What the loop of compose keeps, over codes whose insertions are filled with the places of their own text.
+-- The invariant of the loop of compose, over codes whose insertions are filled with the places of their own text.
 use Rattle.std.proofs.Common.{◌≡◌, ℕ, zero, suc, ◌+◌, ◌-◌, ◌<◌, ◌≤◌, List, [], ◌∷◌, ◌++◌, length, map, max, take, drop, nat_eq, if◌then◌else◌, Some, None, Bool, true, false, refl, sym, ap, subst, ◌∙◌, arith, append-nil}
 use Rattle.std.proofs.lemmas.List.{length-map}
 use borrow.Author.Tests.{eq-eqb, ne_eqb}

@@ -1,4 +1,4 @@
--- The text of a composition: the text of the first operation with cuts, in which elements go and others come from the text of the second.
+-- The text of a composition: the text of the first operation with cuts, in which elements are deleted and others inserted from the text of the second.
 use Rattle.std.specs.Prelude.{◌≡◌, ℕ, zero, suc, ◌+◌, ◌-◌, ◌≤◌, List, [], ◌∷◌, ◌++◌, length, take, drop, Bool, ◌&&◌, nat_eq, if◌then◌else◌}
 use Rattle.ot_text.specs.Operation.{Operation, news}
 use Rattle.ot_algebra.specs.Compose.{compose}

@@ -18,7 +18,7 @@ ShapeKeepsLengths A =
 abbrev pub FilledGivesBack : Type 0 → Type 0
 FilledGivesBack A = (op : Operation A) → filled (shape op) (news op.image) ≡ op
 
--- two operations of one shape that insert the same are one
+-- two operations of one shape that insert the same are equal
 abbrev pub SameShape : Type 0 → Type 0
 SameShape A = (a b : Operation A) → shape a ≡ shape b → news a.image ≡ news b.image → a ≡ b
 

@@ -1,4 +1,4 @@
--- The shape of an operation: how much it keeps, inserts and deletes, and not what. An operation is its shape and its news.
+-- The shape of an operation: how much it keeps, inserts and deletes, and not what. An operation is its shape and its new elements.
 use Rattle.std.specs.Prelude.{List, [], ◌∷◌, map}
 use Rattle.ot_text.specs.Operation.{Item, Old, New, Operation}
 

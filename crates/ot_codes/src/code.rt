@@ -6,11 +6,11 @@ ghost use Rattle.ot_codes.specs.Codes.{added, counted, joined, keeps, length_of,
 /// A component without its elements: what it does, and with how many of them (1 to 1,000,000 in an operation).
 #[derive(Clone, Copy)]
 pub enum Code {
-    /// The next elements stay.
+    /// The next elements are retained.
     Retain(u32),
-    /// Elements come in.
+    /// Elements are inserted.
     Insert(u32),
-    /// The next elements go.
+    /// The next elements are deleted.
     Delete(u32),
 }
 

@@ -8,7 +8,7 @@ ghost use Rattle.ot_codes.specs.Splice.{HasDeleted, HasInserted, HasKept};
 use ot_text::Element;
 use std::alloc::{AllocError, Global};
 
-/// In a text `gone` elements go, from place `at` on, and `put` elements of another text come there, from its place `from` on.
+/// In a text `gone` elements are deleted, from place `at` on, and `put` elements of another text are inserted there, from its place `from` on.
 #[derive(Clone, Copy)]
 pub struct Cut {
     pub at: u32,
@@ -63,7 +63,7 @@ impl Splice {
         }
     }
 
-    /// The next `count` elements of the first text stay.
+    /// The next `count` elements of the first text are retained.
     pub(crate) fn keep(&mut self, count: u32)
         requires { self.old.at + count ≤ LIMIT }
         ensures { HasKept self.old self.new count }
@@ -71,7 +71,7 @@ impl Splice {
         self.at += count;
     }
 
-    /// The next `count` elements of the first text go.
+    /// The next `count` elements of the first text are deleted.
     pub(crate) fn delete(&mut self, count: u32) -> Result<(), AllocError>
         requires within { AreWithin 0 self.old.cuts.items self.old.at self.old.from }
         requires fits { self.old.at + count ≤ LIMIT }
@@ -89,7 +89,7 @@ impl Splice {
         Ok(())
     }
 
-    /// The next `count` elements of the second text come.
+    /// The next `count` elements of the second text are inserted.
     pub(crate) fn insert(&mut self, count: u32) -> Result<(), AllocError>
         requires within { AreWithin 0 self.old.cuts.items self.old.at self.old.from }
         requires fits { self.old.at ≤ LIMIT }
@@ -129,8 +129,8 @@ fn add_cut(cuts: &mut Vec<Cut>, cut: Cut) -> Result<(), AllocError>
     Ok(())
 }
 
-/// The text that cuts make of two texts, with memory from `alloc`: the first one, in which elements go and others come from the second. `AllocError` where memory
-/// was refused.
+/// The text that cuts make of two texts, with memory from `alloc`: the first one, in which elements are deleted and others inserted from the second. `AllocError`
+/// where memory was refused.
 pub fn carry<T: Element>(
     alloc: Global,
     cuts: &[Cut],
@@ -150,7 +150,7 @@ pub fn carry<T: Element>(
     Ok(text)
 }
 
-// Adds what stays before a cut, from place `at` of the first text on, and what comes there.
+// Adds what is retained before a cut, from place `at` of the first text on, and what is inserted there.
 fn add_part<T: Element>(
     text: &mut Vec<T>,
     cut: Cut,

@@ -13,7 +13,7 @@ pub fn filled_gives_back<T: Element>()
     ensures { FilledGivesBack T }
 {}
 
-/// Two operations of one shape with the same elements are one.
+/// Two operations of one shape with the same elements are equal.
 pub fn same_shape<T: Element>()
     ensures { SameShape T }
 {}

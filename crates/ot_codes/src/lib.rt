@@ -14,7 +14,7 @@
 //!
 //! - An operation is its shape, filled with its text. Two operations of one shape with one text are equal.
 //! - `transform` changes no text. What `a` becomes after `b` has the text of `a`, and what `b` becomes after `a` has the text of `b`.
-//! - `compose` cuts the text of `a`: elements that `b` deletes go, and elements that `b` inserts come.
+//! - `compose` cuts the text of `a`: elements that `b` deletes are removed, and elements that `b` inserts are added.
 //!
 //! ```text
 //!     a           retain 1 | insert "xyz" | retain 1        text  x y z
@@ -31,9 +31,9 @@
 //! ```
 //!
 //! They are read through a [`Cursor`] and written by a [`Pen`] alone, each of which a contract sees as a value: what is left, and what is written. [`Cursor::run`] reads
-//! codes of one leaf at once, as many as fit into a length; of a whole leaf it looks at the sum alone. [`Pen::append`] writes them, and joins only what has to be
-//! joined. `transform` does so where codes of one operation lie in a retain of the other: they stay as they are, and the other retains what they make.
-//! Else `transform`, and always `compose`, go code by code: each turn of a loop ends a code of one operation at least, so they cost the codes of both, whatever is inserted.
+//! codes of one leaf at once, as many as fit into a length; of a whole leaf it looks at the sum alone. [`Pen::append`] writes them, and joins only what has to be joined.
+//! `transform` does so where codes of one operation lie in a retain of the other: they stay as they are, and the other retains what they make. Else `transform`, and always
+//! `compose`, go code by code: each iteration of a loop ends a code of one operation at least, so they cost the codes of both, whatever is inserted.
 //!
 //! Contracts: `specs/Shape.antt` (shapes, and how they are filled), `specs/Codes.antt` (codes as runs of `ot_text` over the unit type), `specs/Cuts.antt` (the text of a
 //! composition, and what carrying out its cuts gives), `specs/Laws.antt` (the laws, each the contract of a function in [`laws`]). `specs/Splice.antt` serves the loop of `compose` alone, `specs/Runs.antt` says what is

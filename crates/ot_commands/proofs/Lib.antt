@@ -1,3 +1,4 @@
 mod Talked
 mod Ran
 mod Told
+mod ToldPlans

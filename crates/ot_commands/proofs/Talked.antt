@@ -1,4 +1,4 @@
--- A talk behind a mark, from its parts.
+-- A command loop behind a mark, from its parts.
 use Rattle.std.proofs.Common.{◌≡◌, ◌-◌, ◌++◌, ℕ, Bool, true, List, [], Option, Some, None, Ok, length, refl, ap, arith, inl, inr}
 use Rattle.std.specs.Prelude.{IfSome}
 use Rattle.std.specs.Io.KnownBytes.{prepend_known}
@@ -27,7 +27,7 @@ converses schedule before after faulted (Some rest) earlier old new faults broke
       gives = (inl (refl, said.written), Keeps-refl faults);
     })
 
--- the talk broke off
+-- the command loop broke off
 pub breaks_off : (schedule : Program) (before after : Session) (stop : TalkStop) (input left : Option (List ℕ)) (earlier : ℕ) (old new faults faults' : Option (List ℕ)) (broken : Bool)
     → before ≡ started schedule → TalksPart stop earlier before after input left old new → IsCaused stop broken → TellsStop stop faults faults'
     → IfSome input (λ rest. MayConverse schedule (lines_of rest) earlier 1 (record { output = old; output' = new; broken = broken; faults = faults; faults' = faults' }))
@@ -50,7 +50,7 @@ breaks_off schedule before after stop (Some rest) (Some behind) earlier old new 
       status_is = refl;
     }))
 
--- the lines before the mark, and the talk behind it
+-- the lines before the mark, and the command loop behind it
 pub debugged : (held : List ℕ) (known rest : Option (List ℕ)) (schedule : Program) (taken status : ℕ) (streams : Streams) → held ≡ []
     → TakesPart true (prepend_known held known) rest taken
     → IfSome (prepend_known held known) (λ text. outcome_of_lines (lines_before true (lines_of text)) ≡ Ok schedule)

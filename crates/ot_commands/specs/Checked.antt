@@ -20,6 +20,6 @@ pub record Finds (all : Bool) (schedule : Program) (status : ℕ) (streams : Str
   pub is_ending : IsEnding schedule ending
   pub gives : Gives (check_status (is_full (trace_of schedule)) ending.stopped) (findings all schedule ending) status streams
 
--- what is found, or want of memory for it
+-- what is found, or out of memory
 abbrev pub MayFind : Bool → Program → ℕ → Streams → Type 0
 MayFind all schedule status streams = Finds all schedule status streams ⊎ WantsMemory status streams

@@ -27,6 +27,6 @@ pub record LeavesIncomplete (schedule : Program) (status : ℕ) (streams : Strea
   pub is_incomplete : IsIncomplete schedule fault
   pub refuses : Refuses (incomplete_line fault) status streams
 
--- the completion, or why there is none, or want of memory
+-- the completion, or why there is none, or out of memory
 abbrev pub MayComplete : Program → ℕ → Streams → Type 0
 MayComplete schedule status streams = GivesCompletion schedule status streams ⊎ LeavesIncomplete schedule status streams ⊎ WantsMemory status streams

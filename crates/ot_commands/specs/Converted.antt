@@ -5,10 +5,10 @@ use Rattle.ot_asm.specs.Canonical.{canonical}
 use Rattle.ot_image.specs.Spelling.{bytes2}
 use Rattle.outcomes.specs.Outcomes.{Streams, Gives, WantsMemory}
 
--- the image, or want of memory for it
+-- the image, or out of memory
 abbrev pub MayGiveImage : Program → ℕ → Streams → Type 0
 MayGiveImage schedule status streams = Gives 0 (bytes2 schedule) status streams ⊎ WantsMemory status streams
 
--- the canonical text, or want of memory for it
+-- the canonical text, or out of memory
 abbrev pub MayGiveText : Program → ℕ → Streams → Type 0
 MayGiveText schedule status streams = Gives 0 (canonical schedule) status streams ⊎ WantsMemory status streams

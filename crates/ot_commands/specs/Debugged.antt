@@ -25,14 +25,14 @@ pub record Converses (schedule : Program) (lines : List (List ℕ)) (status : �
   pub talks : Talks (started schedule) lines after text faulted
   pub gives : Gives (talk_status faulted) text status streams
 
--- the fault's line of a talk that breaks off; none where writing failed
+-- the fault's line of a command loop that breaks off; none where writing failed
 abbrev pub TellsStop : TalkStop → Option (List ℕ) → Option (List ℕ) → Type 0
 TellsStop (stop.ReadFault number) old new = Complains (line_fault (record { line = number; kind = line.ReadFault })) old new
 TellsStop (stop.Memory number) old new = Complains (line_fault (record { line = number; kind = line.Memory })) old new
 TellsStop stop.WriteFault old new = Keeps old new
 
--- a talk that breaks off: the first lines are answered, and the next one could not be read, or, only where a write failed, a reply is not written whole.
--- The fault's line counts the lines before the talk too
+-- a command loop that breaks off: the first lines are answered, and the next one could not be read, or, only where a write failed, a reply is not
+-- written whole. The fault's line counts the lines before the commands too
 pub record BreaksOff (schedule : Program) (lines : List (List ℕ)) (earlier : ℕ) (status : ℕ) (streams : Streams) : Type 0 where
   pub stop : TalkStop
   pub answered : List (List ℕ)
@@ -48,7 +48,7 @@ pub record BreaksOff (schedule : Program) (lines : List (List ℕ)) (earlier : �
   pub tells : TellsStop stop streams.faults streams.faults'
   pub status_is : status ≡ 1
 
--- a talk about the schedule, a first part of one, or want of memory for it
+-- a command loop about the schedule, a first part of one, or out of memory
 abbrev pub MayConverse : Program → List (List ℕ) → ℕ → ℕ → Streams → Type 0
 MayConverse schedule lines earlier status streams =
     Converses schedule lines status streams ⊎ BreaksOff schedule lines earlier status streams ⊎ WantsMemory status streams

@@ -14,6 +14,6 @@ pub record GivesSession (shape : ShapeView) (status : ℕ) (streams : Streams) :
   pub generated : IsGenerated shape schedule
   pub gives : Gives 0 (canonical schedule) status streams
 
--- a session, or want of memory for it
+-- a session, or out of memory
 abbrev pub Generates : ShapeView → ℕ → Streams → Type 0
 Generates shape status streams = GivesSession shape status streams ⊎ WantsMemory status streams

@@ -40,7 +40,7 @@ pub record GivesVerdict (trace : TraceView) (status : ℕ) (streams : Streams) :
   pub is_verdict : IsVerdict trace verdict
   pub gives : Gives (verdict_status verdict) (verdict_line verdict) status streams
 
--- the verdict, or want of memory for it
+-- the verdict, or out of memory
 abbrev pub MayGiveVerdict : TraceView → ℕ → Streams → Type 0
 MayGiveVerdict trace status streams = GivesVerdict trace status streams ⊎ WantsMemory status streams
 

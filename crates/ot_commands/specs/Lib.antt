@@ -3,6 +3,7 @@ pub mod Converted
 pub mod Generated
 pub mod Judged
 pub mod ExplainedTraces
+pub mod ExplainedPlans
 pub mod Checked
 pub mod Debugged
 pub mod Completes

@@ -22,11 +22,11 @@ pub record Reports (schedule : Program) (status : ℕ) (streams : Streams) : Typ
   pub is_report : IsReport run text
   pub gives : Gives (stop_status run.stopped) text status streams
 
--- memory was wanting: status 1, the lines of the first reads, which were written by then, and on the faults that it was
+-- memory ran out: status 1, the lines of the first reads, which were written by then, and on the faults that it was
 abbrev pub StopsAmongReads : Program → ℕ → Streams → Type 0
 StopsAmongReads schedule status streams =
     (status ≡ 1) × WritesFirstReads schedule streams.output streams.output' × WritesPart streams.faults streams.faults' memory_fault
 
--- a run, or want of memory for it
+-- a run, or out of memory
 abbrev pub MayReport : Program → ℕ → Streams → Type 0
 MayReport schedule status streams = Reports schedule status streams ⊎ StopsAmongReads schedule status streams

@@ -41,7 +41,7 @@ fn give_completion<O: Sink, F: Write>(
 {
     match complete(alloc, schedule) {
         Ok(completion) => {
-            // For the proof: what every schedule keeps.
+            // For the proof: the invariant of every schedule.
             let _limits = completion.clients();
             give_text(alloc, &completion, output, faults)
         }

@@ -16,7 +16,7 @@ use std::alloc::Global;
 use std::io::{Read, Write};
 use streams::Sink;
 
-// Writes why a talk broke off.
+// Writes why the command loop broke off.
 fn complain_of_stop<F: Write>(alloc: Global, stop: TalkStop, faults: &mut F)
     ensures { TellsStop stop (F.contents faults.old) (F.contents faults.new) }
 {
@@ -41,7 +41,7 @@ fn complain_of_stop<F: Write>(alloc: Global, stop: TalkStop, faults: &mut F)
     }
 }
 
-// The status of a talk.
+// The status of a command loop.
 fn talk_status(faulted: bool) -> u8
     ensures { result ≡ talk_status faulted }
 {

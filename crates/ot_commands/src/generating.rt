@@ -22,7 +22,7 @@ pub fn generate_session<O: Sink, F: Write>(
 {
     match generate(alloc, seed as u64, shape) {
         Ok(schedule) => {
-            // For the proof: what every schedule keeps.
+            // For the proof: the invariant of every schedule.
             let _limits = schedule.clients();
             give_text(alloc, &schedule, output, faults)
         }

@@ -7,18 +7,20 @@
 //!    converting   asm, dis: between a schedule's text and its image
 //!    judging      judge: whether a recorded trace has the weak list property
 //!    explaining   explain --trace: its verdict, or in words where its first fault is
+//!    describing   explain --plan: what a plan is, or in words where its first fault is
 //!    generating   generate: a session made at random
 //!    completing   complete: a schedule, and behind it what brings its run to quiet
 //! ```
 //!
 //! Each call answers the program's status, and says by its clause what it writes: `specs/` has a file for each module (`Ran`, `Checked`,
-//! `Debugged`, `Converted`, `Judged`, `ExplainedTraces`, `Generated`, `Completes`), over the streams of `outcomes`. Begin with [`run_text`].
+//! `Debugged`, `Converted`, `Judged`, `ExplainedTraces`, `ExplainedPlans`, `Generated`, `Completes`), over the streams of `outcomes`. Begin with [`run_text`].
 #![tactic(auto)]
 
 mod checking;
 mod completing;
 mod converting;
 mod debugging;
+mod describing;
 mod explaining;
 mod generating;
 mod judging;
@@ -28,6 +30,7 @@ pub use checking::check_text;
 pub use completing::complete_text;
 pub use converting::{assemble, disassemble_image};
 pub use debugging::debug_text;
+pub use describing::explain_plan;
 pub use explaining::explain_trace;
 pub use generating::generate_session;
 pub use judging::judge_input;

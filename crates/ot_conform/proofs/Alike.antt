@@ -1,4 +1,4 @@
--- A port's line that is a line of `steps`, byte for byte, agrees with the one that is due, and tells the values that it has.
+-- A port's line that is a line of `steps`, byte for byte, agrees with the one that is due, and has the values that it has.
 use Rattle.std.proofs.Common.{◌≡◌, ℕ, suc, ◌+◌, Bool, true, Option, Some, None, refl, sym, ap, ◌∙◌, subst, add-one}
 use Rattle.std.specs.Prelude.{slice_get, is_some, option_map}
 use Rattle.serde_json.specs.Data.{Data}

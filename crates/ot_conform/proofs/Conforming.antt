@@ -294,7 +294,7 @@ stop_agrees_at at s i r ports false limit say =
     ∙ first_agrees at (stop_due at i r) (ending at s) (stop_line at i r) (all_shown (stop_line at i r)) (end_line at (is_quiet s) ∷ []) ports Conforms (λ left others. end_agrees at at s left others) say
     ∙ rw limit refl
 
--- an instruction that is refused for another reason than want of memory is refused by the table
+-- an instruction that is refused for another reason than out of memory is refused by the table
 pub refused_by_table : (s : Program) (state : State) (place : ℕ) (r : Refusal) → (r ≡ refusal.Memory → ⊥) → IsStopAt s state place r → IsRefusedIn s state place r
 refused_by_table s state place refusal.NoSuchClient table stop = stop.1
 refused_by_table s state place refusal.StepsFull table stop = stop.1

@@ -41,7 +41,7 @@ is_something c some =
     let there : (c.clients == 0) ≡ false = not_zero c.clients (c.clients == 0) refl some in
     rw there refl
 
--- ---- the opening's line tells how many clients there are
+-- ---- the opening's line says how many clients there are
 
 opening_counts : (s : Program) (d : Data) → Says (opening_line s) d → HasClients (with_line no_counts d)
 opening_counts s d saying =

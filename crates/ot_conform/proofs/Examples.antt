@@ -1,4 +1,4 @@
--- A printed line, read back; and lines for some instructions alone.
+-- A printed line, read back; lines for some instructions alone; and code points.
 use Rattle.std.proofs.Common.{◌≡◌, ℕ, List, [], ◌∷◌, negsuc, true, false, refl, Some}
 use Rattle.std.specs.Prelude.{codes}
 use Rattle.std.specs.Fmt.{digits}
@@ -15,11 +15,12 @@ use Rattle.ot_isa.specs.declared.instruction.Instr.TheVariants as instr
 use Rattle.ot_conform.specs.Differences.{Ahead, Wanted, Conforms, Differs, LeftOver, first_key, over}
 use Rattle.ot_conform.specs.Due.{DueLine, Instruction, end_due}
 use Rattle.ot_conform.specs.Laws.{place_alone}
+use Rattle.ot_conform.specs.Points.{points_rows}
 use Rattle.ot_conform.specs.Ports.{PortLine, Told}
 use Rattle.ot_conform.specs.declared.keys.Key.TheVariants.{At}
 use Rattle.ot_conform.specs.declared.meeting.Field.TheVariants.{Key}
 
--- a message is taken, carried over what the log has gained
+-- a message is taken, transformed against what the log has gained
 abbrev taken : Line
 taken = record (bare 6) { word = Some Take; client = Some 0; revision = Some 2; appended = Some (operation_of (Keep 2 ∷ Add (34 ∷ []) ∷ Skip 1 ∷ [])) }
 
@@ -85,3 +86,27 @@ ends = refl
 behind_the_end : over true 0 three (ended 3 ∷ place_alone 4 ∷ []) ≡ LeftOver 3 (place_alone 4)
 unfolding first_key digits encode escape_byte
 behind_the_end = refl
+
+-- ---- values that may look alike
+
+-- a letter with its accent, in two characters and in one
+two_forms : points_rows (34 ∷ 101 ∷ 769 ∷ 34 ∷ []) (34 ∷ 233 ∷ 34 ∷ []) ≡ codes "points U+0065 U+0301 U+0022 | U+00E9 U+0022\n"
+unfolding digits
+two_forms = refl
+
+-- a blank without a width is missing
+not_seen : points_rows (codes "\"ab\"") (34 ∷ 97 ∷ 8203 ∷ 98 ∷ 34 ∷ []) ≡ codes "points U+0062 U+0022 | U+200B U+0062 U+0022\n"
+unfolding digits
+not_seen = refl
+
+-- four are told of each, from where they differ
+four_of_each : points_rows (codes "[1,\"abcdef\"]") (91 ∷ 49 ∷ 44 ∷ 34 ∷ 97 ∷ 128512 ∷ 34 ∷ 93 ∷ []) ≡ codes "points U+0062 U+0063 U+0064 U+0065 | U+1F600 U+0022 U+005D\n"
+unfolding digits
+four_of_each = refl
+
+-- characters of ASCII are seen, and so is the end
+both_seen : points_rows (codes "[\"a\",1]") (codes "[\"b\",1]") ≡ []
+both_seen = refl
+
+end_seen : points_rows (codes "1") (codes "12") ≡ []
+end_seen = refl

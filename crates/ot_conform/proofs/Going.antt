@@ -1,6 +1,6 @@
 -- A line that agrees leads to the rest of the lines.
 use Rattle.std.proofs.Common.{◌≡◌, ℕ, suc, ◌+◌, ◌≤◌, List, [], ◌∷◌, length, drop, Bool, true, false, Option, Some, None, refl, sym, ap, ◌∙◌, subst, add-one, arith, inl, inr}
-use Rattle.std.specs.Prelude.{slice_get, ◌&&◌, ◌⊎◌}
+use Rattle.std.specs.Prelude.{slice_get, ◌&&◌}
 use Rattle.ot_isa.specs.Program.{Program}
 use Rattle.ot_isa.specs.declared.instruction.Instr.{Instr}
 use Rattle.ot_model.specs.declared.shown.Refusal.{Refusal}

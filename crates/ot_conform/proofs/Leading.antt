@@ -16,7 +16,7 @@ use Rattle.ot_conform.specs.Counted.{counted}
 use Rattle.ot_conform.specs.Answers.{IsDifferenceOf}
 use Rattle.ot_conform.specs.Differences.{Outcome}
 use Rattle.ot_conform.specs.Ports.{PortLine, Nothing, counted_lines, front, is_empty, port_line, told_or_other}
-use Rattle.ot_conform.specs.Standing.{Goes, IsPassed, IsStanding, IsVerdict, begun, rest}
+use Rattle.ot_conform.specs.Standing.{Goes, IsStanding, IsVerdict, begun, rest}
 use Rattle.ot_conform.proofs.Going.{front_there}
 use Rattle.ot_conform.proofs.Outcomes.{IsThere}
 use Rattle.ot_conform.specs.declared.comparison.Comparison.{Comparison}
@@ -255,7 +255,7 @@ stops_behind sparse s c count earlier (Some text) left stop way number = go left
 none_compared : (sparse : Bool) (s : Program) (earlier : ℕ) (input : Option (List ℕ)) (stop : CompareStop) → IsNumber stop (earlier + 0) → IfSome input (λ text. StopsBehind sparse s stop earlier (lines_of text))
 none_compared sparse s earlier input stop number = stops_behind sparse s (begun sparse s) 0 earlier input input stop (is_begun sparse s (begun sparse s) input refl) number
 
--- for want of memory
+-- if memory runs out
 pub memory_at_first : (sparse : Bool) (s : Program) (earlier number : ℕ) (input : Option (List ℕ)) → number ≡ min (earlier + 1) (2 ^ 64 - 1) → IfSome input (λ text. StopsBehind sparse s (Memory number) earlier (lines_of text))
 memory_at_first sparse s earlier number input is =
     let same : earlier ≡ earlier + 0 = omega arith in

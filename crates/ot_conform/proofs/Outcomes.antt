@@ -14,7 +14,7 @@ use Rattle.ot_conform.specs.Answers.{IsCompared, IsDifferenceOf}
 use Rattle.ot_conform.specs.Differences as differences
 use Rattle.ot_conform.specs.Differences.{Ahead, Wanted, Limit, Outcome, ahead_from, ending, field_of, is_limit, over, stopping}
 use Rattle.ot_conform.specs.Due.{DueLine, What, Opening, Instruction, End, step_due, stop_due}
-use Rattle.ot_conform.specs.Passed.{passes, passes_step}
+use Rattle.ot_conform.specs.Passed.{passes}
 use Rattle.ot_conform.specs.Ports.{PortLine, Told, OtherForm, NoText, Nothing, front}
 use Rattle.ot_conform.specs.Standing.{IsVerdict}
 use Rattle.ot_conform.specs.declared.comparison.Comparison.{Comparison}
@@ -120,7 +120,7 @@ ahead_refused at s i is r here e = ap (ahead_from at s) (at_place is at i here) 
 pub ahead_past : (at : ℕ) (s : State) (is : List Instr) → length is ≤ at → ahead_from at s (drop at is) ≡ ending at s
 ahead_past at s is past = ap (ahead_from at s) (drop_all at is past)
 
--- ---- refusals: the table's, or want of memory
+-- ---- refusals: the table's, or out of memory
 
 pub table_or_memory : (s : State) (i : Instr) (r : Refusal) → IsRefusal (step s i) r → (step s i ≡ Refused r) ⊎ (r ≡ Memory)
 table_or_memory s i NoSuchClient is = inl is
@@ -148,7 +148,7 @@ stops_all last at s i r (line ∷ lines) limit = rw limit refl
 pub goes_on : (at : ℕ) (s : State) (i : Instr) (r : Refusal) → is_limit r ≡ false → stopping at s i r ≡ Wanted (stop_due at i r) ∷ ending at s
 goes_on at s i r none = rw none refl
 
--- a verdict where the table has another outcome, and memory was wanting
+-- a verdict where the table has another outcome, and memory ran out
 pub for_memory : (c : Comparison) (line : PortLine) (o : Outcome) (v : Verdict) → IsVerdict c line (differences.Stopped c.place Memory) v → IsVerdict c line o v
 for_memory c line o (Conforms counts) is = absurd (let e : differences.Stopped c.place Memory ≡ differences.Conforms = is.0 in cc)
 for_memory c line o (Differs d) is = absurd is

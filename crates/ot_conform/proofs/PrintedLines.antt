@@ -1,4 +1,4 @@
--- The printed lines as a port's: each stands on a line of its own, with nothing to drop, and is told.
+-- The printed lines as a port's: each stands on a line of its own, with nothing to drop, and is read as an object.
 use Rattle.std.proofs.Common.{◌≡◌, ◌<◌, ◌^◌, ◌==◌, ◌&&◌, not, ℕ, List, [], ◌∷◌, ◌++◌, true, nat_lt, Some, decimal, refl, sym, ap, ◌∙◌, arith, append_assoc}
 use Rattle.std.specs.Prelude.{codes}
 use Rattle.std.specs.Str.{IsUtf8, encode_utf8_all, is_utf8}
@@ -110,7 +110,7 @@ line_first line others h =
     ap lines_of (ends_line (fields_text (fields line)) (lines_text others) (decimal line.at))
     ∙ lines_piece (body_text line) (lines_text others) (no_end (body_text line) (body_solid line h))
 
--- it is told, where the object has a place
+-- it is one, where the object has a place
 told : (bytes : List ℕ) (d : Data) (n : ℕ) → is_utf8 bytes ≡ true → read bytes ≡ Some d → get (codes "at") d ≡ Some (number (unsigned n)) → port_line bytes ≡ Told d
 told bytes d n text reads place = rw (text, reads, place) refl
 

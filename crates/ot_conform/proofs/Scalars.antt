@@ -201,7 +201,7 @@ taken_scalars start chars s c x m sound all at sent =
 same_news : (a b : Operation Tagged) → news a ≡ news b → InsertsScalars b → InsertsScalars a
 same_news a b e h = ap (λ (xs : List Tagged). all_scalars (chars_of xs)) e ∙ h
 
--- what waits and what is applied, after another's operation
+-- what is pending and what is applied, after another's operation
 pub record DeliveryScalars (phase : Phase) (h : Operation Tagged) : Type 0 where
   pub waits : PhaseScalars (phase_delivered phase h)
   pub applies : InsertsScalars (carried phase h)

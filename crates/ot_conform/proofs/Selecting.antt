@@ -59,7 +59,7 @@ none_said : (lines : List Line) → Say lines [] → lines ≡ []
 none_said [] say = refl
 none_said (line ∷ lines) say = absurd say
 
--- ---- what a line tells
+-- ---- what a line says
 
 told_at : (line : Line) (d : Data) → Says line d → number_at (codes "at") d ≡ Some line.at
 told_at line d says = let at : get (codes "at") d ≡ Some (number (unsigned line.at)) = says.under key.At in rw at refl

@@ -1,6 +1,6 @@
 -- What comes of a line once it is compared.
 use Rattle.std.proofs.Common.{◌≡◌, ℕ, suc, List, [], ◌∷◌, drop, Bool, true, false, Option, Some, None, refl, sym, ap, ◌∙◌, subst, inl, inr, arith}
-use Rattle.std.specs.Prelude.{slice_get, ◌⊎◌, ◌≤◌, ◌<◌, ◌+◌, ◌&&◌, length, IfOk, IfSome, IsSome, Result, Ok, Err}
+use Rattle.std.specs.Prelude.{slice_get, ◌⊎◌, ◌≤◌, ◌<◌, ◌+◌, ◌&&◌, IfOk, IfSome, IsSome, Result, Ok, Err}
 use Rattle.ot_isa.specs.Program.{Program}
 use Rattle.ot_isa.specs.declared.instruction.Instr.{Instr}
 use Rattle.ot_model.specs.declared.shown.Refusal.{Refusal}
@@ -11,14 +11,13 @@ use Rattle.ot_machine.specs.Answers.{IsRefusal}
 use Rattle.ot_steps.specs.Steps.{applies, is_quiet, sends}
 use Rattle.ot_conform.specs.Alike.{IsJudged}
 use Rattle.ot_conform.specs.Counted.{with_port_line}
-use Rattle.ot_conform.specs.Differences.{Ahead, Wanted, Outcome, ahead_from, ending, field_of, is_limit, over, stopping}
-use Rattle.ot_conform.specs.Differences as differences
+use Rattle.ot_conform.specs.Differences.{Ahead, Wanted, Outcome, ahead_from, ending, field_of, is_limit, over}
 use Rattle.ot_conform.specs.Due.{DueLine, end_due, step_due, stop_due}
 use Rattle.ot_conform.specs.Passed.{passes, passes_step, passes_stop}
 use Rattle.ot_conform.specs.Ports.{PortLine, Told, OtherForm, NoText, Nothing, front, is_nothing}
 use Rattle.ot_conform.specs.Read.{read_as}
 use Rattle.ot_conform.specs.Standing.{AgreesAt, EndsAt, Goes, IsStanding, IsVerdict, rest, rest_at}
-use Rattle.ot_conform.proofs.Outcomes.{IsNeeded, IsThere, ahead_performed, ahead_refused, for_memory, goes_on, is_difference, never, over_passes, stops, table_or_memory}
+use Rattle.ot_conform.proofs.Outcomes.{IsNeeded, IsThere, ahead_performed, ahead_refused, goes_on, is_difference, never, over_passes, stops, table_or_memory}
 use Rattle.ot_conform.proofs.Going.{ahead_of, front_there, goes_last, passed_next, rest_passed, running}
 use Rattle.ot_conform.specs.declared.answers.Difference.{Difference}
 use Rattle.ot_conform.specs.declared.counts.Counts.{Counts}

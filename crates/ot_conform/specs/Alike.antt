@@ -14,12 +14,12 @@ use Rattle.ot_conform.specs.declared.counts.Counts.{Counts}
 abbrev pub IsPrinted : Line → List ℕ → Type 0
 IsPrinted line bytes = bytes ++ 10 ∷ [] ≡ line_text line
 
--- a port's line with these bytes agrees with the one that is due, and tells the values that the line of `steps` has
+-- a port's line with these bytes agrees with the one that is due, and has the values that the line of `steps` has
 pub record StandsFor (due : DueLine) (printed : Line) : Type 0 where
   pub agrees : (bytes : List ℕ) → IsPrinted printed bytes → field_of due.line (port_line bytes) ≡ None
   pub counts : (bytes : List ℕ) (c : Counts) → IsPrinted printed bytes → with_port_line c (port_line bytes) ≡ with_printed c printed
 
--- a line agrees with the one that is due, and these are the counts with what it tells; or this is the difference
+-- a line agrees with the one that is due, and these are the counts with what it says; or this is the difference
 abbrev pub IsJudged : Counts → DueLine → PortLine → Result Counts Difference → Type 0
 IsJudged counts due line (Ok counts') = IsCompared due line None × (counts' ≡ with_port_line counts line)
 IsJudged counts due line (Err d) = IsCompared due line (Some d)

@@ -163,7 +163,7 @@ front_at f line (OtherForm bytes) = None
 front_at f line NoText = None
 front_at f line Nothing = None
 
--- whether a line tells the operation that an instruction applied
+-- whether a line has the operation that an instruction applied
 abbrev pub tells_operation : PortLine → Bool
 tells_operation (Told d) = tells key.Edit d || (tells key.Applied d || tells key.Appended d)
 tells_operation (OtherForm bytes) = false

@@ -22,7 +22,7 @@ pub record Leads (s : Program) (c : Comparison) (lines : List PortLine) (c' : Co
   pub counts_are : (more : List PortLine) → counted c.counts (lines ++ more) ≡ counted c'.counts more
   pub sparse_is : c'.sparse ≡ c.sparse
 
--- the first lines agree, and at the place where they lead, or up to which the next line passes over the instructions, memory was wanting for
+-- the first lines agree, and at the place where they lead, or up to which the next line passes over the instructions, memory ran out for
 -- the instruction
 pub record WantsMemory (sparse : Bool) (s : Program) (lines : List PortLine) (place : ℕ) (refusal : Refusal) : Type 0 where
   pub agreed : List PortLine

@@ -33,7 +33,7 @@ no_counts =
 abbrev pub one_more : Bool → ℕ → ℕ
 one_more told n = if told then min (n + 1) (2 ^ 64 - 1) else n
 
--- each value that is told counts; of a message, its operation
+-- each value that is given counts; of a message, its operation
 abbrev pub with_values : (Key → Bool) → Counts → Counts
 with_values told c =
     record {
@@ -54,7 +54,7 @@ with_values told c =
       end = one_more (told key.End) c.end;
     }
 
--- a port's line tells values
+-- a port's line has values
 abbrev pub tells : Key → Data → Bool
 tells k d = is_told (found_at k d)
 

@@ -19,7 +19,7 @@ use Rattle.ot_conform.specs.declared.due.Step.{Step}
 use Rattle.ot_conform.specs.declared.due.Due.{Due}
 use Rattle.ot_conform.specs.declared.due.Due.TheVariants as due
 
--- the client whose place an instruction tells; none where it tells the server's
+-- the client whose state an instruction's line has; none where it has the server's
 abbrev pub placed_client : Instr → Option ℕ
 placed_client (Edit c op) = Some c
 placed_client (Take c) = None
@@ -127,7 +127,7 @@ due_of (due.End at quiet) = end_due at quiet
 abbrev pub printed_line : Bool → Step → Line
 printed_line documents step = line_after documents step.at step.instr.now step.sent (option_map plain_operation (option_copied step.delivered)) step.machine.now
 
--- the client whose state and operations that line tells; reads move nobody
+-- the client whose state and operations that line has; reads move nobody
 abbrev pub moved_client : Instr → Option ℕ
 moved_client (Edit c op) = Some c
 moved_client (Take c) = None

@@ -58,7 +58,7 @@ abbrev pub outcome_at : Option (ℕ × Refusal) → Outcome
 outcome_at None = Conforms
 outcome_at (Some stop) = if is_limit stop.1 then Stopped stop.0 stop.1 else Conforms
 
--- memory was not wanting
+-- memory did not run out
 abbrev pub IsOfTable : Option (ℕ × Refusal) → Type 0
 IsOfTable None = Unit {0}
 IsOfTable (Some stop) = stop.1 ≢ Memory
@@ -109,7 +109,7 @@ PrintedChosenStepsConform =
     → IsProgram s → AreRunLines documents s stopped lines → IsOfTable stopped
     → outcome true s (counted_lines (lines_of (lines_text (chosen which lines)))) ≡ outcome_of_chosen stopped (chosen which lines)
 
--- the lines of `steps` tell values, so that for them the answer is never that nothing is counted
+-- the lines of `steps` have values, so that for them the answer is never that nothing is counted
 abbrev pub StepsAreCounted : Type 0
 StepsAreCounted =
     (documents : Bool) (s : Program) (stopped : Option (ℕ × Refusal)) (lines : List Line) (ports : List PortLine)

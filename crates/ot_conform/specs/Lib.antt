@@ -7,6 +7,7 @@ pub mod Values
 pub mod Passed
 pub mod Differences
 pub mod Answers
+pub mod Points
 pub mod Alike
 pub mod Standing
 pub mod Compared

@@ -3,13 +3,12 @@ use Rattle.std.specs.Prelude.{ℕ, Bool, false, ◌==◌, ◌&&◌, ◌||◌, Op
 use Rattle.serde_json.specs.Data.{Data}
 use Rattle.serde_json.specs.Find.{get}
 use Rattle.json_fields.specs.Fields.{number_at}
-use Rattle.ot_isa.specs.declared.instruction.Instr.{Instr}
 use Rattle.ot_model.specs.declared.shown.Refusal.{Refusal}
 use Rattle.ot_conform.specs.Due.{DueLine, What, Opening, Instruction, End}
 use Rattle.ot_conform.specs.Keys.{is_told}
 use Rattle.ot_conform.specs.Ports.{PortLine, Told, OtherForm, NoText, Nothing}
 
--- whether a place that is told lies behind one, or is that one and something else holds too
+-- whether a place that is given lies behind one, or is that one and something else holds too
 abbrev pub is_past : ℕ → Option ℕ → Bool → Bool
 is_past at None too = false
 is_past at (Some n) too = nat_lt at n || (n == at && too)

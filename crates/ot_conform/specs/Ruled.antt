@@ -7,6 +7,7 @@ use Rattle.ot_rules.specs.Explained.{Explains}
 use Rattle.ot_rules.specs.declared.field.Field as rules
 use Rattle.ot_rules.specs.declared.field.Field.TheVariants as value
 use Rattle.ot_conform.specs.Answers.{agreement_text, difference_text}
+use Rattle.ot_conform.specs.Points.{difference_points}
 use Rattle.ot_conform.specs.declared.answers.Difference.{Difference}
 use Rattle.ot_conform.specs.declared.comparison.Verdict.{Verdict}
 use Rattle.ot_conform.specs.declared.comparison.Verdict.TheVariants.{Conforms, Differs, Stopped}
@@ -50,11 +51,11 @@ abbrev pub AreRules : Program → Option ℕ → explained.Difference → List �
 AreRules s None d text = text ≡ []
 AreRules s (Some number) d text = Explains s number d text
 
--- the rows of a difference, and behind them what the rules say
+-- the rows of a difference, the code points of what may look alike, and behind them what the rules say
 pub record IsDifferenceText (s : Program) (d : Difference) (text : List ℕ) : Type 0 where
   pub rules : List ℕ
   pub said : AreRules s d.number (asked d) rules
-  pub is : text ≡ difference_text d ++ rules
+  pub is : text ≡ difference_text d ++ (difference_points d ++ rules)
 
 -- the lines of the answer
 abbrev pub IsAnswer : Program → Verdict → List ℕ → Type 0

@@ -48,7 +48,7 @@ fn is_written(alloc: Global, value: &Value, text: &str) -> Result<bool, AllocErr
     Ok(written.as_str() == text)
 }
 
-/// Whether a printed value agrees with the text of what the run has there, if it has something; want of memory for writing it down.
+/// Whether a printed value agrees with the text of what the run has there, if it has something; out of memory for writing it down.
 pub(crate) fn agrees(
     alloc: Global,
     value: &Value,

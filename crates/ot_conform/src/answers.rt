@@ -36,7 +36,7 @@ pub struct Difference {
     pub wanted: String,
     /// For two texts, how many scalars at the front are equal.
     pub front: Option<usize>,
-    /// Whether the port's line tells the operation that the instruction applied.
+    /// Whether the port's line has the operation that the instruction applied.
     pub tells_operation: bool,
     /// The number of the instruction that was performed there, counted from 0.
     pub number: Option<usize>,
@@ -196,8 +196,8 @@ fn wanted_text(alloc: Global, due: &Due<'_>, field: Field) -> Result<String, All
     }
 }
 
-// How many characters at the front are equal.
-fn same_front(found: &[char], wanted: &[char]) -> usize
+/// How many characters at the front are equal.
+pub(crate) fn same_front(found: &[char], wanted: &[char]) -> usize
     ensures { result ≡ same_front found.now wanted.now }
 {
     for (same, letter) in found.iter().enumerate() {
@@ -218,8 +218,8 @@ fn text_at(line: &Value, key: Key) -> Option<&str>
     found(line, key)?.as_str()
 }
 
-// Its characters.
-fn letters(alloc: Global, text: &str) -> Result<Vec<char>, AllocError>
+/// The characters of a text.
+pub(crate) fn letters(alloc: Global, text: &str) -> Result<Vec<char>, AllocError>
     ensures { IfOk result (λ v. v.items ≡ chars text.now) }
 {
     let letters: Vec<char> = text.chars().collect(alloc)?;
@@ -261,7 +261,7 @@ fn front(
     }
 }
 
-// Whether the line tells the operation that an instruction applied.
+// Whether the line has the operation that an instruction applied.
 fn tells_operation(line: &PortLine<'_>) -> bool
     ensures { result ≡ tells_operation (read_as line.now) }
 {

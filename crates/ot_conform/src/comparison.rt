@@ -169,7 +169,7 @@ impl Comparison {
     ghost use Rattle.ot_conform.specs.Read.{given_as, read_as};
     ghost use Rattle.ot_conform.specs.Standing.{AgreesAt, EndsAt, Goes, IsStanding, IsVerdict, Passes, begun, rest};
 
-    /// A comparison with the schedule's run that stands at its opening; want of memory for the machine. Where it is `sparse`, an instruction
+    /// A comparison with the schedule's run that stands at its opening; or out of memory, for the machine. Where it is `sparse`, an instruction
     /// that a line passes over needs none of its own, and none is missing behind the last one.
     pub fn new(alloc: Global, schedule: &Schedule, sparse: bool) -> Result<Comparison, AllocError>
         ensures { IfOk result (λ c. c ≡ begun sparse schedule.now) }
@@ -352,7 +352,7 @@ impl Comparison {
         ensures decided { IfOk result (λ v. IfSome v (λ verdict. (lines : List Printed) → IsVerdict self.old (given_as line.entry) (rest schedule.now (record self.old { stage = Stage.Running }) (front (given_as line.entry) lines)) verdict)) }
         ensures nothing { IfOk result (λ v. given_as line.entry ≡ Nothing → IsSome v) }
     {
-        // For the proof: what every schedule keeps.
+        // For the proof: the invariant of every schedule.
         let _clients = schedule.clients();
         let sent = sends(&self.machine, instr);
         let applied = match perform(&mut self.machine, instr) {
@@ -382,7 +382,7 @@ impl Comparison {
         ensures kept { result ≡ None → (self.new.sparse && passes_step (self.new.place + 1) (read_as line.now)) ≡ true → length schedule.now.instrs ≤ self.new.place }
         ensures refused { IfSome result (λ refusal. (instr : Instr) × (slice_get schedule.now.instrs self.new.place ≡ Some instr) × IsRefusal (step self.new.machine instr) refusal) }
     {
-        // For the proof: what every schedule keeps.
+        // For the proof: the invariant of every schedule.
         let _clients = schedule.clients();
         while let Some(instr) = schedule.get(self.place) {
             if !self.passes_next(line) {
@@ -477,8 +477,8 @@ impl Comparison {
         }
     }
 
-    /// Compares the next line of the port, or that it has none left, and says what comes of it, where that is decided. After want of
-    /// memory the comparison is of no use.
+    /// Compares the next line of the port, or that it has none left, and says what comes of it, where that is decided. After running out
+    /// of memory the comparison is of no use.
     pub fn take(
         &mut self,
         alloc: Global,

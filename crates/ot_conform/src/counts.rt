@@ -29,7 +29,7 @@ pub struct Counts {
     pub end: u64,
 }
 
-// One more where a value is told.
+// One more where a value is given.
 fn one_more(told: bool, count: u64) -> u64
     ensures { result ≡ one_more told count }
 {

@@ -59,7 +59,7 @@ pub enum Due<'a> {
     End { at: usize, quiet: bool },
 }
 
-/// The client whose place an instruction tells; none where it tells the server's.
+/// The client whose state an instruction's line has; none where it has the server's.
 pub(crate) fn placed_client(instr: &Instr) -> Option<u16>
     ensures value { result ≡ placed_client instr.now }
     ensures there { (clients : ℕ) → IsForClients clients instr.now → IfSome result (λ c. c < clients) }
@@ -159,7 +159,7 @@ fn option_text(alloc: Global, op: Option<&TextOp<Tagged>>) -> Result<Option<Stri
     }
 }
 
-// So of an operation that waits.
+// The same of a pending operation.
 fn held_text(alloc: Global, op: Option<&Held<Tagged>>) -> Result<Option<String>, AllocError>
     ensures { IfOk result (λ o. option_map string_bytes o ≡ option_map text_of_operation (option_map plain_operation (option_copied op.entry))) }
 {
@@ -172,7 +172,7 @@ fn held_text(alloc: Global, op: Option<&Held<Tagged>>) -> Result<Option<String>,
     }
 }
 
-// What the client waits for.
+// The client's pending operations.
 fn outstanding(machine: &Machine, client: u16) -> Option<&Held<Tagged>>
     requires { client < length machine.now.clients }
     ensures { option_map plain_operation (option_copied result) ≡ outstanding_of (client_in machine.now client).phase }
@@ -380,7 +380,7 @@ impl<'a> Step<'a> {
         )
     }
 
-    // How many components the client waits with.
+    // How many components the client's pending operations have.
     fn waiting_components(&self) -> usize
         requires { IsForClients (length self.now.machine.now.clients) self.now.instr.now }
     {
@@ -392,8 +392,8 @@ impl<'a> Step<'a> {
         }
     }
 
-    /// A number of bytes that this line has at least: two for each component that the client waits with, its comma or bracket among them, and one for
-    /// each character of a document that the line has in any case. It says when the line need not be printed, and no more hangs on it.
+    /// A number of bytes that this line has at least: two for each component of the client's pending operations, its comma or bracket among them, and
+    /// one for each character of a document that the line has in any case. It says when the line need not be printed, and no more hangs on it.
     pub(crate) fn least_length(&self) -> usize
         requires { IsForClients (length self.now.machine.now.clients) self.now.instr.now }
     {
@@ -407,7 +407,7 @@ impl<'a> Step<'a> {
             .saturating_add(document)
     }
 
-    // Whether that line has what the client waits for.
+    // Whether that line has the client's pending operations.
     fn prints_outstanding(&self) -> bool
         requires { IsForClients (length self.now.machine.now.clients) self.now.instr.now }
         ensures { result ≡ is_some (outstanding_at self.now.machine.now (moved_client self.now.instr.now)) }
@@ -541,7 +541,7 @@ fn number_before(at: usize) -> Option<usize>
 }
 
 impl Due<'_> {
-    /// The text of what the run has under a key, if it has something; want of memory for it.
+    /// The text of what the run has under a key, if it has something; or out of memory.
     pub fn text(&self, alloc: Global, key: Key) -> Result<Option<String>, AllocError>
         requires { IsOfMachine self.now }
         ensures { IfOk result (λ o. option_map string_bytes o ≡ text_at key (due_of self.now).line) }

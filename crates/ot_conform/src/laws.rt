@@ -25,12 +25,12 @@ pub fn printed_chosen_steps_conform()
     ensures { PrintedChosenStepsConform }
 {}
 
-/// A port whose lines say what the lines of `steps` say is never told that nothing is counted.
+/// A port whose lines say what the lines of `steps` say never gets the answer that nothing is counted.
 pub fn steps_are_counted()
     ensures { StepsAreCounted }
 {}
 
-/// A port whose lines are places alone is told so, wherever they agree.
+/// A port whose lines are places alone gets that answer, wherever they agree.
 pub fn places_are_not_counted()
     ensures { PlacesAreNotCounted }
 {}

@@ -18,6 +18,7 @@
 //! - *Lines for some instructions* (`specs/Passed.antt`): a sparse comparison passes over what is due until a line's place; each line that is
 //!   there is compared as ever.
 //! - *The answer* (`specs/Answers.antt`, `specs/Counted.antt`): every byte of it, but the digits of a port's floats.
+//! - *Values that may look alike* (`specs/Points.antt`): their code points, from where they first differ.
 //! - *The rule of ot.js* (`specs/Ruled.antt`): behind a difference at an instruction stands what `ot_rules` says of it: the method of ot.js that
 //!   makes the value, what that is given, and the first note that is true of what was found.
 //! - *Laws* (`specs/Laws.antt`): [`steps_conform`], that a port with the lines of `steps` conforms, and [`printed_steps_conform`], the same of
@@ -40,6 +41,7 @@ mod laws;
 mod lines;
 mod meeting;
 mod passing;
+mod points;
 mod printing;
 mod reading;
 mod ruling;

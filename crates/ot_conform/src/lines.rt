@@ -31,7 +31,7 @@ pub(crate) enum Given<'a, 'b> {
     Read(&'a PortLine<'b>),
 }
 
-/// The line that the bytes of a counted line are; want of memory only for its JSON value.
+/// The line that the bytes of a counted line are; out of memory only for its JSON value.
 pub fn read_line<'a>(alloc: Global, bytes: &'a [u8]) -> Result<PortLine<'a>, AllocError>
     ensures { IfOk result (λ line. read_as line ≡ port_line bytes.now) }
 {

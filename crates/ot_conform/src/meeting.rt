@@ -73,7 +73,7 @@ fn told_field(alloc: Global, line: &Value, due: &Due<'_>) -> Result<Option<Field
 }
 
 /// Where a port's line differs from the one that is due, if it does: first whether both stop or none does, then the keys in their
-/// order. Want of memory for the texts of values.
+/// order. Out of memory for the texts of values.
 pub fn meet(alloc: Global, line: &PortLine<'_>, due: &Due<'_>) -> Result<Option<Field>, AllocError>
     requires { IsOfMachine due.now }
     ensures { IfOk result (λ f. f ≡ field_of (due_of due.now).line (read_as line.now)) }

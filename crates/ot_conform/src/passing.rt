@@ -10,7 +10,7 @@ use crate::lines::PortLine;
 use json_fields::number_at;
 use serde_json::Value;
 
-// Whether a place that is told lies behind one, or is that one and something else holds too.
+// Whether a place that is given lies behind one, or is that one and something else holds too.
 fn is_past(at: usize, told: Option<u64>, too: bool) -> bool
     ensures { result ≡ is_past at told too }
 {

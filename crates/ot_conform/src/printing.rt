@@ -1,6 +1,7 @@
 //! The answer, as lines.
 
 ghost use Rattle.std.specs.Prelude.{◌≡◌, ◌++◌, IfOk, OnOk, string_bytes};
+ghost use Rattle.ot_conform.specs.Points.{difference_points};
 ghost use Rattle.ot_conform.specs.Ruled.{IsAnswer, IsDifferenceText};
 ghost use Rattle.ot_conform.specs.Answers.{agreement_head, agreement_text, count_text, difference_text, first_counts, found_row, front_rows, head_row, other_counts, wanted_row};
 
@@ -8,6 +9,7 @@ use crate::answers::Difference;
 use crate::comparison::Verdict;
 use crate::counts::Counts;
 use crate::meeting::Field;
+use crate::points::points_rows;
 use crate::ruling::rules_of;
 use ot_isa::Schedule;
 use ot_report::print_stop;
@@ -121,7 +123,14 @@ fn print_agreement(alloc: Global, counts: &Counts) -> Result<String, AllocError>
     Ok(text)
 }
 
-// The lines of a difference, and behind them what the rules of ot.js say of it.
+// The code points of the two values of a difference, where they may look alike.
+fn print_points(alloc: Global, difference: &Difference) -> Result<String, AllocError>
+    ensures { IfOk result (λ s. string_bytes s ≡ difference_points difference.now) }
+{
+    points_rows(alloc, difference.found.as_str(), difference.wanted.as_str())
+}
+
+// The lines of a difference, the code points of what may look alike, and behind them what the rules of ot.js say of it.
 fn print_explained(
     alloc: Global,
     schedule: &Schedule,
@@ -130,16 +139,18 @@ fn print_explained(
     ensures { IfOk result (λ s. IsDifferenceText schedule.now difference.now (string_bytes s)) }
 {
     let mut text = print_difference(alloc, difference)?;
+    let points = print_points(alloc, difference)?;
     let rules = rules_of(alloc, schedule, difference)?;
+    text.push_str(points.as_str())?;
     text.push_str(rules.as_str())?;
     Ok(text)
 }
 
 /// The lines of a verdict on a port's lines for the schedule: `conforms` with how much was compared, or `nothing counted` where no value
 /// was; the first difference with what was
-/// found, what ot.js has, for two texts how much of them is equal, and where an instruction was performed which rule of ot.js makes the
-/// value, what that is given, and the first note that is true of what was found; or where the run stopped for a limit of the bench. For
-/// the rules the schedule is run again up to the difference.
+/// found, what ot.js has, for two texts how much of them is equal, the code points of what may look alike, and where an instruction was
+/// performed which rule of ot.js makes the value, what that is given, and the first note that is true of what was found; or where the run
+/// stopped for a limit of the bench. For the rules the schedule is run again up to the difference.
 pub fn print_verdict(
     alloc: Global,
     schedule: &Schedule,

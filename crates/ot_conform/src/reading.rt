@@ -76,7 +76,7 @@ pub fn compare_lines<R: Read>(
     let Ok(mut comparison) = Comparison::new(alloc, schedule, sparse) else {
         return Err(CompareStop::Memory(earlier.saturating_add(1)));
     };
-    // For the proof: what every reader keeps.
+    // For the proof: the invariant of every reader.
     let _most = ahead.may_take();
     let mut line = Vec::new(alloc);
     let mut taken = 0u64;

@@ -47,7 +47,7 @@ fn ruled_field(field: Field) -> Ruled
 }
 
 /// The lines that the rules of ot.js say of a difference in the schedule's run: the rule, what it is given, and the first note that is
-/// true. None where no instruction was performed. Want of memory is for the run up to there, and for the lines.
+/// true. None where no instruction was performed. Out of memory comes from the run up to there, or from the lines.
 pub(crate) fn rules_of(
     alloc: Global,
     schedule: &Schedule,

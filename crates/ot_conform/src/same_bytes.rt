@@ -1,6 +1,6 @@
 //! A port's line that is the line of `steps`, byte for byte.
 //!
-//! Such a line need not be read: what it tells is known, and agrees (specs/Alike.antt).
+//! Such a line need not be read: what it says is known, and agrees (specs/Alike.antt).
 
 ghost use Rattle.std.specs.Prelude.{◌≡◌, ◌++◌, ◌∷◌, [], length, IfSome};
 ghost use Rattle.std.specs.Bool.{OnTrue};

@@ -1,1 +1,3 @@
+mod Faults
 mod Judged
+mod Keeping

@@ -8,23 +8,28 @@
 //!
 //! [`run_conform`] does the whole work over any reader and two writers; `specs/Conformed.antt` says what it writes and answers, over the
 //! verdicts of `ot_conform` (specs/Compared.antt there). Nothing that a port prints is a fault of the input: it is a difference. What stands
-//! behind the first difference is not read.
+//! behind the first difference is not read. The schedule's lines are kept as a text (`part.rt`), since their comments name the clients of
+//! the answer and say whether the schedule is cut (`ot_names`).
 #![tactic(auto)]
 
-ghost use Rattle.std.specs.Prelude.{◌≡◌, IfSome};
+mod part;
+
+ghost use Rattle.std.specs.Prelude.{◌≡◌, IfOk, IfSome};
 ghost use Rattle.line_reader.specs.Lines.{lines_of};
 ghost use Rattle.line_reader.specs.Taken.{before};
 ghost use Rattle.outcomes.specs.Outcomes.{Gives, WantsMemory};
 ghost use Rattle.ot_conform.specs.Compared.{verdict_status};
-ghost use Rattle.ot_conform_command.specs.Conformed.{Compares, MayJudge, MayWrite, TellsStop};
+ghost use Rattle.ot_conform_command.specs.Conformed.{Compares, IsTold, MayJudge, MayWrite, TellsStop, answer_status, with_names};
 
+use crate::part::read_part;
 use line_reader::ReadAhead;
-use ot_asm::{AsmFault, Kind, assemble_until_mark};
+use ot_asm::{AsmFault, Kind};
 use ot_conform::{CompareStop, Verdict, compare_lines, print_verdict};
 use ot_input::complain_of_line;
 use ot_isa::Schedule;
+use ot_names::{Comments, comments_of, named, push_cut};
 use outcomes::{complain_of_memory, give};
-use std::alloc::Global;
+use std::alloc::{AllocError, Global};
 use std::io::{Read, Write};
 use streams::Sink;
 
@@ -63,18 +68,62 @@ fn verdict_status(verdict: &Verdict) -> u8
     }
 }
 
+// The status of a verdict on a schedule whose comments tell this.
+fn answer_status(comments: &Comments, verdict: &Verdict) -> u8
+    ensures { result ≡ answer_status comments.now verdict.now }
+{
+    if comments.is_cut() {
+        1
+    } else {
+        verdict_status(verdict)
+    }
+}
+
+// The lines of a verdict: of a difference with the clients' names. In the others a number behind `client` is a count.
+fn with_names(
+    alloc: Global,
+    comments: &Comments,
+    verdict: &Verdict,
+    text: &[u8],
+) -> Result<Vec<u8>, AllocError>
+    ensures { IfOk result (λ v. v.items ≡ with_names comments.now verdict.now text.now) }
+{
+    if let Verdict::Differs(_) = verdict {
+        return named(alloc, text, comments);
+    }
+    let mut bytes = Vec::new(alloc);
+    bytes.extend_from_slice(text)?;
+    Ok(bytes)
+}
+
+// These lines, and behind them what tells of the cut.
+fn answer_text(
+    alloc: Global,
+    comments: &Comments,
+    schedule: &Schedule,
+    verdict: &Verdict,
+) -> Result<Vec<u8>, AllocError>
+    ensures { IfOk result (λ v. IsTold comments.now schedule.now verdict.now v.items) }
+{
+    let text = print_verdict(alloc, schedule, verdict)?;
+    let mut bytes = with_names(alloc, comments, verdict, text.as_bytes())?;
+    push_cut(&mut bytes, comments)?;
+    Ok(bytes)
+}
+
 // Writes a verdict on lines for the schedule.
 fn write_verdict<O: Sink, F: Write>(
     alloc: Global,
+    comments: &Comments,
     schedule: &Schedule,
     verdict: &Verdict,
     output: &mut O,
     faults: &mut F,
 ) -> u8
-    ensures { MayWrite schedule.now verdict.now result (record { output = O.contents output.old; output' = O.contents output.new; broken = O.failed output.new; faults = F.contents faults.old; faults' = F.contents faults.new }) }
+    ensures { MayWrite comments.now schedule.now verdict.now result (record { output = O.contents output.old; output' = O.contents output.new; broken = O.failed output.new; faults = F.contents faults.old; faults' = F.contents faults.new }) }
 {
-    match print_verdict(alloc, schedule, verdict) {
-        Ok(text) => give(text.as_bytes(), verdict_status(verdict), output),
+    match answer_text(alloc, comments, schedule, verdict) {
+        Ok(bytes) => give(bytes.as_slice(), answer_status(comments, verdict), output),
         Err(_) => {
             complain_of_memory(faults);
             1
@@ -85,6 +134,7 @@ fn write_verdict<O: Sink, F: Write>(
 // Compares the lines that are left with the schedule's run. So many lines stand before them.
 fn judge<I: Read, O: Sink, F: Write>(
     alloc: Global,
+    comments: &Comments,
     schedule: &Schedule,
     sparse: bool,
     earlier: u64,
@@ -93,10 +143,10 @@ fn judge<I: Read, O: Sink, F: Write>(
     output: &mut O,
     faults: &mut F,
 ) -> u8
-    ensures { IfSome (before ahead.old (I.remaining input.old)) (λ rest. MayJudge sparse schedule.now (lines_of rest) earlier result (record { output = O.contents output.old; output' = O.contents output.new; broken = O.failed output.new; faults = F.contents faults.old; faults' = F.contents faults.new })) }
+    ensures { IfSome (before ahead.old (I.remaining input.old)) (λ rest. MayJudge sparse comments.now schedule.now (lines_of rest) earlier result (record { output = O.contents output.old; output' = O.contents output.new; broken = O.failed output.new; faults = F.contents faults.old; faults' = F.contents faults.new })) }
 {
     match compare_lines(alloc, schedule, sparse, ahead, input, earlier) {
-        Ok(verdict) => write_verdict(alloc, schedule, &verdict, output, faults),
+        Ok(verdict) => write_verdict(alloc, comments, schedule, &verdict, output, faults),
         Err(stop) => {
             complain_of_stop(alloc, stop, faults);
             1
@@ -105,8 +155,10 @@ fn judge<I: Read, O: Sink, F: Write>(
 }
 
 /// Reads a schedule's lines as far as the first line `%%`, compares the port's lines behind it with the schedule's run as they come, writes
-/// the answer, and gives the status. Where it is `sparse`, instructions without a line are passed over. The status is 0 where the port conforms; 1 where it differs, where no value is counted, where nothing can be compared for a limit of the
-/// bench, for a refused schedule, and for a fault of reading, writing or memory.
+/// the answer, and gives the status. Where it is `sparse`, instructions without a line are passed over. The answer has the names that the
+/// schedule's comments give the clients; where the schedule is cut, its last line says so. The status is 0 where the port conforms; 1 where
+/// it differs, where no value is counted, where the schedule is cut, where nothing can be compared for a limit of the bench, for a refused
+/// schedule, and for a fault of reading, writing or memory.
 pub fn run_conform<I: Read, O: Sink, F: Write>(
     alloc: Global,
     sparse: bool,
@@ -117,10 +169,17 @@ pub fn run_conform<I: Read, O: Sink, F: Write>(
     ensures { IfSome (I.remaining input.old) (λ text. Compares sparse text result (record { output = O.contents output.old; output' = O.contents output.new; broken = O.failed output.new; faults = F.contents faults.old; faults' = F.contents faults.new })) }
 {
     let mut ahead = ReadAhead::new();
-    match assemble_until_mark(alloc, &mut ahead, input) {
-        Ok((schedule, taken)) => judge(
-            alloc, &schedule, sparse, taken, &mut ahead, input, output, faults,
-        ),
+    let mut text = Vec::new(alloc);
+    match read_part(alloc, &mut ahead, input, &mut text) {
+        Ok((schedule, taken)) => {
+            let Ok(comments) = comments_of(alloc, text.as_slice()) else {
+                complain_of_memory(faults);
+                return 1;
+            };
+            judge(
+                alloc, &comments, &schedule, sparse, taken, &mut ahead, input, output, faults,
+            )
+        }
         Err(fault) => {
             complain_of_line(alloc, fault, faults);
             1

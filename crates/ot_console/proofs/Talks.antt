@@ -1,4 +1,4 @@
--- A talk, turn by turn.
+-- The command loop, line by line.
 use Rattle.std.proofs.Common.{◌≡◌, ◌+◌, ℕ, List, [], ◌∷◌, ◌++◌, length, length-append, Bool, true, false, ◌||◌, Option, Some, None, refl, sym, ap, ◌∙◌, subst, append_assoc, append-nil}
 use Rattle.std.specs.Prelude.{IfSome, ⊤}
 use Rattle.std.proofs.Math.Bool.{false-or, or-false, or_assoc}
@@ -35,7 +35,7 @@ takes_more (Some text) (Some rest) None lines line taken more = absurd more
 takes_more (Some text) (Some rest) (Some behind) lines line taken more =
     taken ∙ ap (λ ls. lines ++ ls) more ∙ sym (append_assoc lines (line ∷ []) (lines_of behind))
 
--- one turn more
+-- one iteration more
 talks_more : (before now after : Session) (lines : List (List ℕ)) (line text reply : List ℕ) (faulted fault : Bool) → Talks before lines now text faulted → IsTurn now line after reply fault → Talks before (lines ++ line ∷ []) after (text ++ reply) (faulted || fault)
 talks_more before now after [] line text reply faulted fault talks turn =
     let is : IsTurn before line after reply fault = subst (λ (s : Session). IsTurn s line after reply fault) talks.0 turn in (

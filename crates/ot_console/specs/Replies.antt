@@ -58,7 +58,7 @@ is_refused why.End = false
 is_refused (why.Refused refusal) = true
 is_refused why.Count = false
 
--- a reply for which a session ends with status 1: a refused instruction, or want of memory
+-- a reply for which a session ends with status 1: a refused instruction, or out of memory
 abbrev pub is_fault : Reply → Bool
 is_fault (Stopped at reason) = is_refused reason
 is_fault Done = false

@@ -1,4 +1,4 @@
--- A talk: lines of commands, and what they are answered with.
+-- The command loop: lines of commands, and what they are answered with.
 use Rattle.std.specs.Prelude.{◌≡◌, ◌⊎◌, ◌+◌, ◌-◌, ◌^◌, ◌||◌, min, ℕ, Bool, true, false, List, [], ◌∷◌, ◌++◌, length, Option, Some, None, ⊤, IfSome, MatchBool}
 use Rattle.std.specs.Io.KnownBytes.{Appends}
 use Rattle.streams.specs.Streams.{WritesPart}
@@ -12,7 +12,7 @@ use Rattle.ot_console.specs.Replies.{IsReplyText, IsMade, is_fault, no_memory, b
 use Rattle.ot_console.specs.declared.talking.TalkStop.{TalkStop}
 use Rattle.ot_console.specs.declared.talking.TalkStop.TheVariants as stop
 
--- what is printed of a reply: its text; or, where that had to be made and memory was wanting, `no memory`
+-- what is printed of a reply: its text; or, where that had to be made and memory ran out, `no memory`
 abbrev pub IsPrinted : Session → Reply → List ℕ → Bool → Type 0
 IsPrinted session reply text faulted =
     (IsReplyText session reply text × (faulted ≡ is_fault reply)) ⊎ (IsMade reply × (text ≡ no_memory) × (faulted ≡ true))
@@ -56,7 +56,7 @@ StopsBehind None new lines = ⊤
 StopsBehind (Some text) None lines = ⊥
 StopsBehind (Some text) (Some rest) lines = (piece : List ℕ) × (lacks piece ≡ true) × (lines_of text ≡ lines ++ lines_of (piece ++ rest))
 
--- a whole talk: each line of the input is answered, and nothing else is written
+-- a whole command loop: each line of the input is answered, and nothing else is written
 pub record TalksAll (before after : Session) (faulted : Bool) (input old new : Option (List ℕ)) : Type 0 where
   pub lines : List (List ℕ)
   pub all : IfSome input (λ text. lines_of text ≡ lines)
@@ -87,8 +87,8 @@ IsNumber (stop.ReadFault number) taken = number ≡ min (taken + 1) (2 ^ 64 - 1)
 IsNumber (stop.Memory number) taken = number ≡ min (taken + 1) (2 ^ 64 - 1)
 IsNumber stop.WriteFault taken = ⊤
 
--- a talk that stopped: the lines that were taken are answered, and that is written as far as the stop says.
--- Its number counts these lines and those before the talk
+-- a command loop that stopped: the lines that were taken are answered, and that is written as far as the stop says.
+-- Its number counts these lines and those before the commands
 pub record TalksPart (stop : TalkStop) (earlier : ℕ) (before after : Session) (input left old new : Option (List ℕ)) : Type 0 where
   pub lines : List (List ℕ)
   pub taken : StopsBehind input left lines

@@ -1,4 +1,4 @@
-//! The debugger's commands as lines of text, its replies as printed lines, and the talk between the two.
+//! The debugger's commands as lines of text, its replies as printed lines, and the command loop over the two.
 //!
 //! ```text
 //!    line ── trimmed, split into words ──▶ Command ──▶ Stepper  ──▶ Reply ──▶ line
@@ -10,7 +10,7 @@
 //! reply before it reads the next one, over any reader and writer.
 //!
 //! The contracts' words: `specs/Commands.antt` (`command_of`, the command that a line is), `Replies.antt` (`IsReplyText`,
-//! the lines of a reply), `Talking.antt` (`IsTurn`, what one line is answered with; `Talks`, the whole talk as a walk over
+//! the lines of a reply), `Talking.antt` (`IsTurn`, what one line is answered with; `Talks`, the whole command loop as a walk over
 //! the lines and the sessions between them). Begin with [`read_command`] in `commands.rt`, then [`print_reply`] and
 //! [`talk`].
 #![tactic(auto)]

@@ -63,7 +63,7 @@ pub fn print_reply(
     }
 }
 
-/// Whether an instruction was refused, or memory was wanting.
+/// Whether an instruction was refused, or memory ran out.
 pub(crate) fn is_fault(reply: &Reply) -> bool
     ensures { result ≡ is_fault reply.now }
 {

@@ -1,4 +1,4 @@
-//! The talk with a debugger, line by line.
+//! The command loop of a debugger, line by line.
 
 ghost use Rattle.std.specs.Prelude.{◌≡◌, true, [], IfErr, IfOk, OnErr, OnOk};
 ghost use Rattle.std.specs.Io.KnownBytes.{IsAtEnd};
@@ -12,7 +12,7 @@ use std::alloc::Global;
 use std::io::Read;
 use streams::{Sink, WriteFault};
 
-/// Why a talk stopped before the end of its lines.
+/// Why a command loop stopped before the end of its lines.
 #[derive(Clone, Copy, Debug, PartialEq, Eq)]
 pub enum TalkStop {
     /// A read failed, or 2^50 bytes were read, in the line of this number, counted from 1.
@@ -44,7 +44,7 @@ fn answer<W: Sink>(
 /// Answers each line that `ahead` and the reader have left, before the next one is read, and says whether a fault was
 /// among the replies: `bad command`, a refused instruction or `no memory`.
 ///
-/// `earlier` lines stand before these; the number of a line where the talk stops counts them too, and is at most
+/// `earlier` lines stand before these; the number of a line where the loop stops counts them too, and is at most
 /// `u64::MAX`. The lines before that one were answered, and what they were answered with is written. Where writing
 /// failed (and only there, as the writer says itself), a first part is written of what the lines, the last one that was taken included, were answered with. In each
 /// case the debugger is as the answered lines leave it.
@@ -62,7 +62,7 @@ pub fn talk<R: Read, W: Sink>(
     ensures cause { IfErr result (λ stop. IsCaused stop (W.failed writer.new)) }
     ensures read_fault { IfErr result (λ stop. IsReadFault stop → ahead.new.held ≡ []) }
 {
-    // For the proof: what every reader keeps.
+    // For the proof: the invariant of every reader.
     let _most = ahead.may_take();
     let mut line = Vec::new(alloc);
     let mut taken = 0u64;

@@ -54,8 +54,8 @@ fn perform(alloc: Global, debugger: &mut Stepper, command: Option<Command>) -> R
 }
 
 /// Performs the command that a line is, and says what is printed. An empty line is passed over, and one that is no
-/// command is answered with `bad command`; both leave the debugger as it is. Where memory for the lines of a reply is
-/// wanting, `no memory` is printed in their place, and the command was performed.
+/// command is answered with `bad command`; both leave the debugger as it is. Where memory for the lines of a reply
+/// runs out, `no memory` is printed in their place, and the command was performed.
 pub fn respond(alloc: Global, debugger: &mut Stepper, line: &[u8]) -> Response
     ensures { IsTurn debugger.old line.now debugger.new (cow_str_bytes result.text) result.faulted }
 {

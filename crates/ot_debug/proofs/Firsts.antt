@@ -135,7 +135,7 @@ among_here ws ns w v i number are here at same =
 pub among_none : (ws : List Watched) (ns : List ℕ) (w : Watched) (i last : ℕ) → length ns ≤ i → NoneUpTo ws ns w i → IsAmong ws ns last w → ⊥
 among_none ws ns w i last past none is = let e = slice_get_within ns is.place is.number is.listed in none is.place is.number (omega (arith, e, past)) is.listed is.is
 
--- ---- what they are told
+-- ---- what is known of them
 
 -- the watches with the numbers before this place see no change
 abbrev pub UnchangedUpTo : Outcome → State → List Watched → List ℕ → ℕ → Type 0
@@ -190,7 +190,7 @@ none_told o s ws ns i firsts past are number v found =
     let e = slice_get_within ns among.place among.number among.listed in
     told_among o s ws ns i number v are among (omega (arith, e, past))
 
--- ---- what was told is so
+-- ---- what was found is so
 
 module _ (x y : Session) (i : Instr) (here : slice_get x.schedule.instrs x.position ≡ Some i) (session : IsSession x) (later : IsSession y) (on : Advances x y) where
   next : place_at x.schedule (suc x.position) ≡ Some y.place

@@ -185,7 +185,7 @@ pub left_some : (state t : State) (undos records : Recent) (leaves : Bool) → l
 left_some state t undos records true is_left on = pushed_some on.0.undo (undos_in undos) (undos_in records) on.0.more
 left_some state t undos records false is_left on = absurd (cc)
 
--- it is so too where the same records are kept in another way afterwards
+-- it is so too where the same records are held in another way afterwards
 pub go_on_later : (state t : State) (undos records later : Recent) (leaves : Bool) → IsAsBefore records later → GoOn leaves state t undos records → GoOn leaves state t undos later
 go_on_later state t undos records later true same on = (subst (λ us. OneMore state t (undos_in undos) us) (sym same.0) on.0, same.1 ∙ on.1)
 go_on_later state t undos records later false same on = (same.0 ∙ on.0, same.1 ∙ on.1)
@@ -291,7 +291,7 @@ pub shown_next :
 shown_next s p q state t i list at here performed next =
     ap (shown_at s) next ∙ shown_is s (suc p) (record { state = t; shown = with_shown (shown_at s p) list }) (place_at-next s p (record { state = state; shown = shown_at s p }) i t list at here performed)
 
--- those that are kept, one instruction on
+-- those that are recorded, one instruction on
 pub lists_forth :
     (kept : Bool) (shown later lists more : List Shown) (given list : Option Shown) → AreLists kept shown lists → MatchBool kept (given ≡ list) (given ≡ None) → later ≡ with_shown shown list → more ≡ with_shown lists given
     → AreLists kept later more

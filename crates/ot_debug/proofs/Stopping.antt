@@ -175,7 +175,7 @@ stop_memory x y z place way same =
       λ q reason stop. let not_less : ¬ (q < place) = λ less. way.least q reason stop.onward less stop.is in omega arith,
     )
 
--- the next instruction is not performed, for want of memory or because the table refuses it
+-- the next instruction is not performed, because memory runs out or the table refuses it
 is_memory : (r : Refusal) → (r ≡ refusal.Memory) ⊎ (r ≢ refusal.Memory)
 is_memory refusal.NoSuchClient = inr (λ e. absurd (cc))
 is_memory refusal.StepsFull = inr (λ e. absurd (cc))

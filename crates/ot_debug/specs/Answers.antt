@@ -27,7 +27,7 @@ with_watch x watch = record x { watches = x.watches ++ watch ∷ [] }
 abbrev pub without_watches : Session → Session
 without_watches x = record x { watches = [] }
 
--- it has moved to a stop; or for want of memory it stands somewhere from its old place on, and not past any stop
+-- it has moved to a stop; or if memory runs out, it stands somewhere from its old place on, and not past any stop
 abbrev pub MovesForth : (Session → ℕ → Why → Type 0) → Session → Reply → Session → Type 0
 MovesForth IsStop x (reply.Stopped at reason) y = Keeps x y × (y.position ≡ at) × IsStop x at reason
 MovesForth IsStop x reply.Memory y = Keeps x y × (x.position ≤ y.position) × ((q : ℕ) (reason : Why) → IsStop x q reason → y.position ≤ q)
@@ -37,7 +37,7 @@ MovesForth IsStop x (reply.Shown view) y = ⊥
 MovesForth IsStop x reply.NoSuchPlace y = ⊥
 MovesForth IsStop x reply.NoSuchClient y = ⊥
 
--- it has moved n instructions back, or to the opening; or for want of memory it stands between
+-- it has moved n instructions back, or to the opening; or if memory runs out, it stands between
 abbrev pub MovesBack : ℕ → Session → Reply → Session → Type 0
 MovesBack n x (reply.Stopped at reason) y = Keeps x y × (y.position ≡ at) × (at ≡ x.position - n) × (reason ≡ why.Count)
 MovesBack n x reply.Memory y = Keeps x y × (x.position - n ≤ y.position) × (y.position ≤ x.position)
@@ -81,7 +81,7 @@ AddsWatch watch x reply.NoSuchPlace y = ⊥
 abbrev pub RemovesWatches : Session → Reply → Session → Type 0
 RemovesWatches x answer y = (answer ≡ reply.Done) × (y ≡ without_watches x)
 
--- the place is told
+-- the place is given
 abbrev pub TellsPlace : Session → Reply → Session → Type 0
 TellsPlace x answer y = (answer ≡ reply.Place x.position) × (y ≡ x)
 

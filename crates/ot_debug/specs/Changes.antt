@@ -1,4 +1,4 @@
--- What an instruction would change, told before it is performed, and which of the watches have to be looked at.
+-- What an instruction would change, determined before it is performed, and which of the watches have to be looked at.
 use Rattle.std.specs.Prelude.{◌≡◌, ◌≢◌, ◌<◌, ◌≤◌, ℕ, length, List, Bool, true, false, slice_get, Some, MatchBool}
 use Rattle.ot_isa.specs.declared.elements.Tagged.{Tagged}
 use Rattle.ot_text.specs.Operation.{Operation, apply}

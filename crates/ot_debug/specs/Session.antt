@@ -26,7 +26,7 @@ IsOfClients clients watched.ServerRevision = Unit {0}
 abbrev pub IsBreak : Session → ℕ → Type 0
 IsBreak x q = slice_get x.breaks q ≡ Some true
 
--- what the type of debuggers keeps: the limits of schedules; the place is the run's after as many instructions
+-- the type invariant of debuggers: the limits of schedules; the place is the run's after as many instructions
 pub record IsSession (x : Session) : Type 0 where
   pub limits : IsProgram x.schedule
   pub at : place_at x.schedule x.position ≡ Some x.place

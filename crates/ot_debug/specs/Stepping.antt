@@ -1,4 +1,4 @@
--- What a debugger keeps to step back, and what one step does.
+-- The undo records of a debugger, and what one step does.
 use Rattle.std.specs.Prelude.{◌≡◌, ◌≢◌, ◌<◌, ◌≤◌, ℕ, suc, ◌+◌, ◌-◌, List, [], ◌∷◌, ◌++◌, Bool, true, false, length, slice_get, take, unwrap_or, Option, Some, None, MatchBool}
 use Rattle.std.specs.Option.{option_map}
 use Rattle.ot_isa.specs.Program.{Program}
@@ -23,11 +23,11 @@ session_of schedule position state shown breaks watches =
 abbrev pub shown_at : Program → ℕ → List Shown
 shown_at s p = unwrap_or (option_map (λ (q : Place). q.shown) (place_at s p)) []
 
--- these are all of them where lists are kept, and else none
+-- these are all of them where lists are recorded, and else none
 abbrev pub AreLists : Bool → List Shown → List Shown → Type 0
 AreLists kept shown lists = MatchBool kept (lists ≡ shown) (lists ≡ [])
 
--- the table performs the instruction; what it shows is given where lists are kept, and else nothing
+-- the table performs the instruction; what it shows is given where lists are recorded, and else nothing
 abbrev pub Gives : Bool → State → Instr → State → Option Shown → Type 0
 Gives kept s i t given = (shown : Option Shown) × (step s i ≡ Performed t shown) × MatchBool kept (given ≡ shown) (given ≡ None)
 
@@ -47,7 +47,7 @@ pub record AreLast (s : Program) (position : ℕ) (undos : List Undo) : Type 0 w
   pub many : first + length undos ≡ position
   pub back : AreUndos s first undos
 
--- what the debugger keeps
+-- the invariant of the debugger
 pub record IsKept (schedule : Program) (position : ℕ) (state : State) (shown : List Shown) (undos : Recent) (breaks : List Bool) (watches : List Watched) : Type 0 where
   pub session : IsSession (session_of schedule position state shown breaks watches)
   pub last : AreLast schedule position (undos_in undos)
@@ -63,7 +63,7 @@ pub record IsPushed (undo : Undo) (undos records : List Undo) : Type 0 where
   pub were : undos ≡ gone ++ rest
   pub are : records ≡ rest ++ undo ∷ []
 
--- such a record, which takes a step back that led from the earlier state to this one
+-- such a record, which undoes a step that led from the earlier state to this one
 pub record OneMore (earlier s : State) (undos records : List Undo) : Type 0 where
   pub undo : Undo
   pub more : IsPushed undo undos records

@@ -53,7 +53,7 @@ pub record ChangesFirst (x : Session) (q number : ℕ) : Type 0 where
   pub changes : ChangesWatch x q number
   pub first : (less : ℕ) → less < number → ¬ ChangesWatch x q less
 
--- the table refuses instruction q for this reason, which is never want of memory
+-- the table refuses instruction q for this reason, which is never out of memory
 pub record IsRefusedAt (s : Program) (q : ℕ) (refusal : Refusal) : Type 0 where
   pub place : Place
   pub instr : Instr

@@ -6,7 +6,7 @@ ghost use Rattle.ot_debug.specs.Changes.{ChangesList};
 use ot_isa::Tagged;
 use ot_text::{Component, Doc, TextOp};
 
-// The two are one element, or none.
+// The two are the same element, or none.
 fn is_same(a: Option<Tagged>, b: Option<Tagged>) -> bool
     ensures { IsTrue result ↔ (a ≡ b) }
 {
@@ -54,7 +54,7 @@ fn has_text(list: &Doc<Tagged>, to: usize, text: &[Tagged]) -> bool
     true
 }
 
-/// Whether the operation, which is over the list, makes another list of it. Goes over the operation, and over the list only from the
+/// Whether the operation, which is over the list, makes another list of it. Walks over the operation, and over the list only from the
 /// first place on that is touched, up to the first element that differs: that is the first one, where no tag stands twice.
 pub(crate) fn changes(op: &TextOp<Tagged>, list: &Doc<Tagged>) -> bool
     requires { op.now.base ≡ length list.now }

@@ -1,4 +1,4 @@
-//! What the debugger is told, and what it answers.
+//! The commands of the debugger, and what it answers.
 
 use ot_machine::{Refusal, State};
 
@@ -21,8 +21,8 @@ pub enum Command {
     Run,
     /// Performs this many instructions, or those before the first refused one, or all that are left; breaks and watches do not count.
     Step(u32),
-    /// Takes this many instructions back, or all, by the records that they left: the last 16 before a stop, all of them from the first `Back` on until the
-    /// opening is reached. That costs what it takes back. Where it goes beyond them it performs the schedule once more, up to the place where it goes, which leaves the
+    /// Undoes this many instructions, or all, by the undo records that they left: the last 16 before a stop, all of them from the first `Back` on until the
+    /// opening is reached. That costs what it undoes. Where it goes beyond them it performs the schedule once more, up to the place where it goes, which leaves the
     /// records of the instructions before it. Where these would be too large together, those of the last ones alone are kept. To the opening that is nothing.
     Back(u32),
     /// Sets a break at a place, 0 to the schedule's length.
@@ -50,7 +50,7 @@ pub enum Why {
     End,
     /// The next instruction is refused for this reason, which is never `Memory`.
     Refused(Refusal),
-    /// As many instructions as were asked for were performed or taken back.
+    /// As many instructions as were asked for were performed or undone.
     Count,
 }
 

@@ -1,7 +1,7 @@
-//! What a record costs beside its instruction.
+//! What an undo record costs beside its instruction.
 //!
-//! An operation of many components that waits is held in sections, of which an instruction touches a few. What takes the instruction back speaks of places in one list: so where a record
-//! is left the sections become one list first, and all components are gone over.
+//! A pending operation of many components is held in sections, of which an instruction touches a few. The undo record refers to places in one list: so where one is left
+//! the sections become one list first, and all components are visited.
 
 ghost use Rattle.std.specs.Prelude.{◌≡◌, ◌<◌, length, true};
 ghost use Rattle.ot_machine.specs.Readers.{ClientHas};
@@ -15,7 +15,7 @@ use ot_sections::{Held, is_long};
 // An operation in sections had so many components when it was cut. It may have fewer by now.
 const LONG: usize = 32_768;
 
-// How many components are gone over where a change of the operation leaves a record, and are not where it leaves none. (One list that is short is gone over either way.) Where it
+// How many components are visited where a change of the operation leaves a record, and are not where it leaves none. (One list that is short is walked over either way.) Where it
 // would be more than `most`, sections are not counted.
 fn gone_over(op: &Held<Tagged>, most: usize) -> usize {
     match op.whole() {
@@ -54,8 +54,8 @@ fn is_present(machine: &Machine, client: u16) -> bool
     client < machine.clients() && machine.joined(client)
 }
 
-/// How many components a record of the instruction, the machine's next one, goes over that the instruction itself does not: a hundred take about a microsecond. 0 where it costs little.
-/// Where an operation is in sections it takes a look at each, but none where `most` is below 32,768: then it is said to be more.
+/// How many components an undo record of the instruction, the machine's next one, visits that the instruction itself does not: a hundred take about a microsecond. 0 where it costs
+/// little. Where an operation is in sections it takes a look at each, but none where `most` is below 32,768: then it is said to be more.
 pub(crate) fn cost(machine: &Machine, instr: &Instr, most: usize) -> usize {
     match instr {
         Instr::Edit(client, _) if is_present(machine, *client) => {

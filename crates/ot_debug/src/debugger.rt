@@ -13,8 +13,8 @@ use std::alloc::{AllocError, Global};
 use std::marker::Model;
 
 /// A schedule, and a machine that stands after some of its instructions. Its value is a session: wherever commands have led, the machine
-/// and the shown lists are those of the schedule's run after as many instructions. The lists themselves are kept where `LISTS` is 1; where it is 0, none is,
-/// nor is one copied for a read.
+/// and the shown lists are those of the schedule's run after as many instructions. The lists themselves are recorded where `LISTS` is 1; where it is 0, none
+/// is, nor is one copied for a read.
 #[derive(Drop)]
 pub struct Debugging<const LISTS: u8> {
     pub(crate) schedule: Schedule,
@@ -22,7 +22,7 @@ pub struct Debugging<const LISTS: u8> {
     pub(crate) machine: Machine,
     // the lists that the performed reads showed, or none
     pub(crate) shown: Vec<Shown>,
-    // the records of the last performed instructions
+    // the undo records of the last performed instructions
     pub(crate) undos: Recent,
     pub(crate) breaks: Vec<bool>,
     pub(crate) watches: Vec<Watched>,
@@ -44,11 +44,11 @@ impl<const LISTS: u8> Model for Debugging<LISTS> {
     ghost invariant = { λ d. IsKept d.schedule d.position d.machine (shown_at d.schedule d.position) d.undos d.breaks.items d.watches.items × AreFirsts d.watches.items d.firsts.items × AreLists (LISTS == 1) (shown_at d.schedule d.position) d.shown.items };
 }
 
-/// A debugger that keeps the lists which the performed reads showed.
+/// A debugger that records the lists which the performed reads showed.
 pub type Debugger = Debugging<1>;
 
-/// A debugger that keeps none of these lists: it takes the memory of the machine, of what takes the last performed instructions back, which is bounded, and, where
-/// somebody goes back beyond these, of another machine meanwhile.
+/// A debugger that records none of these lists: it takes the memory of the machine, of the undo records of the last performed instructions, which is bounded, and,
+/// where somebody goes back beyond these, of another machine meanwhile.
 pub type Stepper = Debugging<0>;
 
 /// The machine at the schedule's opening.
@@ -60,7 +60,7 @@ pub(crate) fn opening(alloc: Global, schedule: &Schedule) -> Result<Machine, All
 }
 
 impl<const LISTS: u8> Debugging<LISTS> {
-    /// At the opening of the schedule, without breaks and watches. For want of memory the schedule comes back.
+    /// At the opening of the schedule, without breaks and watches. If memory runs out, the schedule comes back.
     pub fn new(alloc: Global, schedule: Schedule) -> Result<Self, Schedule>
         ensures ok { IfOk result (λ debugger. debugger ≡ started schedule) }
         ensures err { IfErr result (λ back. back ≡ schedule) }
@@ -105,7 +105,7 @@ impl<const LISTS: u8> Debugging<LISTS> {
         &self.machine
     }
 
-    /// The schedule. The call also tells its caller what every debugger keeps.
+    /// The schedule. The call also gives its caller the type invariant of debuggers.
     pub fn schedule(&self) -> &Schedule
         ensures value { result.now ≡ self.now.schedule }
         ensures kept { IsSession self.now }

@@ -10,31 +10,31 @@
 //! ```
 //!
 //! - A [`Debugger`], and a [`Stepper`], is seen by contracts as a `Session` (specs/Session.antt): the schedule, the position, which is the number of
-//!   performed instructions, the state and the shown lists there, breaks and watches. Its type keeps that the state and the lists are
+//!   performed instructions, the state and the shown lists there, breaks and watches. Its type invariant says that the state and the lists are
 //!   those of the schedule's run after as many instructions (`place_at` of `ot_model`), whatever commands came before.
-//! - The two are one type, [`Debugging`]. A `Debugger` keeps the lists that reads showed, and gives them by [`Debugger::shown`]; a `Stepper`
-//!   keeps none, and copies none for a read: its memory is that of the machine and of the records, and of a second machine while a `Back` performs again.
+//! - The two are one type, [`Debugging`]. A `Debugger` records the lists that reads showed, and gives them by [`Debugger::shown`]; a `Stepper` records
+//!   none, and copies none for a read: its memory is that of the machine and of the undo records, and of a second machine while a `Back` performs again.
 //! - [`Debugging::command`] performs one [`Command`] and answers with a [`Reply`]; specs/Answers.antt says what each command answers
 //!   and what it leaves, specs/Stops.antt where a `Run` or a `Step` stops and why.
-//! - What watches see of an instruction is told before it is performed (specs/Changes.antt): so no list is copied or compared for them.
+//! - What watches see of an instruction is determined before it is performed (specs/Changes.antt): so no list is copied or compared for them.
 //!   Of equal watches the first alone is looked at.
 //! - [`laws`] says that stops are exact: a run has one stop at most, for one reason.
-//! - Going forth costs what a run costs: only the last 16 instructions before a place where a command stops leave records (`Machine::perform_kept`), where that place is the end of the
-//!   schedule, a break before a `Run`, or the last instruction of a `Step`, and the one that a watch stops at; what is performed behind that place without one lets them go. So the
-//!   first few steps back take no time.
+//! - Going forth costs what a run costs: only the last 16 instructions before a place where a command stops leave undo records (`Machine::perform_kept`), where that place is the end
+//!   of the schedule, a break before a `Run`, or the last instruction of a `Step`, and the one that a watch stops at; what is performed behind that place without one lets them go. So
+//!   the first few steps back take no time.
 //!   Where `Back` is to go further and there are no records, another machine performs the schedule once more, from the opening up to the place where one goes, and leaves a
 //!   record of each instruction that does not cost too much; then it takes the place of the first one. To the opening that is nothing.
 //!   The records are a stack: `Back` takes them off one by one, and once somebody has gone back all that is performed adds its own, if that does not cost too much, until the
 //!   opening is reached.
-//! - Where an operation of 32,768 components or more waits, an instruction touches a few of them, and a record of it goes over all (costs.rt). So such records are left within
+//! - Where an operation of 32,768 components or more is pending, an instruction touches a few of them, and its undo record visits all (costs.rt). So such records are left within
 //!   bounds: going forth as long as there is credit, to which other instructions and steps back add; and where the schedule is performed once more by the last instructions alone,
-//!   over some 64 million components in all, or twice as many as were taken back since (recent.rt).
+//!   over some 64 million components in all, or twice as many as were undone since (recent.rt).
 //! - The records together have a budget. Beyond it the oldest go, so they are those of the last performed instructions, of half a budget's worth at least where they were more.
 //!   So the memory that they take is bounded, and a `Back` performs once more at most, however far it goes.
 //! - What grows does so before anything is changed. After `Memory` the debugger stands after a whole number of instructions,
 //!   between its old place and the one to which the command would have gone.
 //!
-//! Begin reading at `Debugging` in debugger.rt, then stepping.rt (one instruction forth, and back), records.rt (what takes one back), costs.rt (what these cost), recent.rt
+//! Begin reading at `Debugging` in debugger.rt, then stepping.rt (one instruction forth, and back), records.rt (the undo records), costs.rt (what these cost), recent.rt
 //! (their stack), watching.rt (what watches see), changing.rt (whether an operation changes a list) and moving.rt (the commands that move); settings.rt has the others.
 #![tactic(auto)]
 

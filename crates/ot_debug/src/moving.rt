@@ -54,7 +54,7 @@ impl<const LISTS: u8> Debugging<LISTS> {
             self.stop_ahead(place)
         };
         self.forward(stop)?;
-        // For the proof: what every debugger keeps.
+        // For the proof: the invariant of every debugger.
         let _kept = self.schedule();
         Ok(changed)
     }
@@ -131,7 +131,7 @@ impl<const LISTS: u8> Debugging<LISTS> {
         }
     }
 
-    /// Takes so many instructions back, or all.
+    /// Undoes so many instructions, or all.
     pub(crate) fn back(&mut self, count: u32) -> Reply
         ensures { MovesBack count self.old result self.new }
     {

@@ -1,4 +1,4 @@
-//! The records of the last instructions: a stack that forgets its oldest records where it grows too large.
+//! The undo records of the last instructions: a stack that forgets its oldest records where it grows too large.
 //!
 //! ```text
 //!     older           newer
@@ -17,8 +17,8 @@ use ot_machine::Undo;
 use std::alloc::{AllocError, Global};
 use std::mem;
 
-/// How large the records of a debugger may be in all, counted as `Undo::size` counts: a unit takes 24 bytes, and up to 230 where many clients wait for much, so they
-/// stay below 1 GB. 100,000 instructions of thirty components each are within it.
+/// How large the records of a debugger may be in all, counted as `Undo::size` counts: a unit takes 24 bytes, and up to 230 where many clients have much pending, so
+/// they stay below 1 GB. 100,000 instructions of thirty components each are within it.
 pub(crate) const BUDGET: usize = 4_000_000;
 
 // Records of instructions that follow one another, and their size in all.
@@ -39,13 +39,13 @@ impl Half {
     }
 }
 
-// For so many components that a record goes over it takes 1 of the credit, and each instruction that leaves no such record adds 1: as measured these take about as long.
+// For so many components that a record visits it takes 1 of the credit, and each instruction that leaves no such record adds 1: as measured these take about as long.
 const PRICED: usize = 1_000;
 
 // The most credit that there is, and what there is at first: for some 33 million components, a third of a second.
 const CREDIT: usize = 32_768;
 
-// Where the schedule is performed once more, the last records may go over so many components in all, or over twice as many as were taken back since that was done last.
+// Where the schedule is performed once more, the last records may visit so many components in all, or twice as many as were undone since that was done last.
 const REACH: usize = 64_000_000;
 
 /// The records of the last instructions, in two halves of which the older one is forgotten where the newer one is full.
@@ -55,7 +55,7 @@ pub(crate) struct Recent {
     limit: usize,
     // whether all that is performed leaves records, where these do not cost too much: from where somebody goes back, until the opening is reached
     pub kept: bool,
-    // for records that cost much, and how many components those went over that were taken off, since the schedule was last performed once more
+    // for records that cost much, and how many components those visited that were taken off, since the schedule was last performed once more
     credit: usize,
     taken: usize,
     older: Half,
@@ -135,8 +135,8 @@ impl Recent {
         self.taken = 0;
     }
 
-    /// What they are told where somebody has gone back, over a record that went over `cost` components: from then on all that is performed leaves some, unless it costs too much; at the
-    /// opening no more are wanted, until somebody goes back again. What the record took of the credit is there again: who goes back and forth by turns loses none.
+    /// Notes that somebody has gone back, by a record that visited `cost` components: from then on all that is performed leaves some, unless it costs too much; at the
+    /// opening no more are needed, until somebody goes back again. What the record took of the credit is there again: who goes back and forth by turns loses none.
     pub(crate) fn went_back_to(&mut self, position: usize, cost: usize)
         ensures same { undos_in self.new ≡ undos_in self.old }
         ensures limit { self.new.limit ≡ self.old.limit }
@@ -147,7 +147,7 @@ impl Recent {
         self.taken = self.taken.saturating_add(cost);
     }
 
-    /// How many components the last records may go over in all, where the schedule is performed once more.
+    /// How many components the last records may visit in all, where the schedule is performed once more.
     pub(crate) fn reach(&self) -> usize {
         self.taken.saturating_mul(2).max(REACH)
     }
@@ -159,7 +159,7 @@ impl Recent {
         self.kept || stop.is_some()
     }
 
-    /// How many components a record of the next instruction may go over at most, whatever comes behind it.
+    /// How many components a record of the next instruction may visit at most, whatever comes behind it.
     pub(crate) fn most(&self, stop: Option<usize>) -> usize {
         if self.wants(stop) {
             self.credit.saturating_mul(PRICED)
@@ -168,7 +168,7 @@ impl Recent {
         }
     }
 
-    /// Whether the next instruction leaves a record: where all do, or the next stop is near, so many instructions from here. One that goes over `cost` components leaves one only where
+    /// Whether the next instruction leaves a record: where all do, or the next stop is near, so many instructions from here. One that visits `cost` components leaves one only where
     /// there is credit for as many of them as there are up to the stop; where that is not near, for sixteen.
     pub(crate) fn leaves(&self, stop: Option<usize>, cost: usize) -> bool
         ensures cheap { cost ≡ 0 → result ≡ (self.now.kept || is_some stop) }

@@ -1,4 +1,4 @@
-//! Instructions performed with and without records, and once more where somebody goes back beyond these.
+//! Instructions performed with and without undo records, and once more where somebody goes back beyond these.
 
 ghost use Rattle.std.specs.Prelude.{◌≡◌, ◌≢◌, ◌≤◌, ◌==◌, IfErr, IfOk, OnErr, OnOk};
 ghost use Rattle.ot_model.specs.declared.shown.Refusal.TheVariants.{Memory};
@@ -30,7 +30,7 @@ fn perform_plain<const LISTS: u8>(
     Ok(None)
 }
 
-// So it does, and gives what takes it back too.
+// So it does, and gives the undo record too.
 fn perform_kept<const LISTS: u8>(
     machine: &mut Machine,
     instr: &Instr,
@@ -91,7 +91,7 @@ pub(crate) fn perform<const LISTS: u8>(
 }
 
 /// Performs so many of the schedule's instructions once more, from the opening on. Gives another machine, which stands after them, and the records of
-/// the last ones, of one at least where there is one: an instruction leaves none where its record, and as many like it as there are up to the last one, would go over more than `reach`
+/// the last ones, of one at least where there is one: an instruction leaves none where its record, and as many like it as there are up to the last one, would visit more than `reach`
 /// components.
 pub(crate) fn perform_again(
     alloc: Global,

@@ -15,7 +15,7 @@ use ot_isa::{Instr, Schedule};
 use ot_machine::{Refusal, Shown};
 use std::alloc::AllocError;
 
-// Makes room for one more list, where lists are kept.
+// Makes room for one more list, where lists are recorded.
 fn reserve_shown<const LISTS: u8>(shown: &mut Vec<Shown>) -> Result<(), AllocError>
     ensures same { shown.new.items ≡ shown.old.items }
     ensures room { OnOk result (IsTrue (LISTS == 1) → vec_len shown.new < vec_capacity shown.new) }
@@ -26,7 +26,7 @@ fn reserve_shown<const LISTS: u8>(shown: &mut Vec<Shown>) -> Result<(), AllocErr
     Ok(())
 }
 
-// What the instruction showed is kept; where it showed a list there is room for it.
+// What the instruction showed is recorded; where it showed a list there is room for it.
 fn keep_shown(shown: &mut Vec<Shown>, list: Option<Shown>)
     requires { IsSome list → vec_len shown.old < vec_capacity shown.old }
     ensures { shown.new.items ≡ with_shown shown.old.items list }
@@ -81,7 +81,7 @@ impl<const LISTS: u8> Debugging<LISTS> {
         Ok(())
     }
 
-    // Stands at the place, by performing once more what comes before it. For want of memory all is as it was.
+    // Stands at the place, by performing once more what comes before it. If memory runs out, all is as it was.
     fn go_again(&mut self, place: usize) -> Result<(), AllocError>
         requires { place ≤ self.old.position }
         ensures keeps { OnOk result (Keeps self.old self.new) }
@@ -99,7 +99,7 @@ impl<const LISTS: u8> Debugging<LISTS> {
         Ok(())
     }
 
-    // Takes the last instruction back where its record is there, and else goes all the way to the target. For want of memory all is as it was.
+    // Undoes the last instruction where its record is there, and else goes all the way to the target. If memory runs out, all is as it was.
     pub(crate) fn backward(&mut self, target: usize) -> Result<(), AllocError>
         requires { target < self.old.position }
         ensures keeps { OnOk result (Keeps self.old self.new) }

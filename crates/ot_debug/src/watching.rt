@@ -1,4 +1,4 @@
-//! What watches see of an instruction. It is told before the instruction is performed: so nothing is kept of the state before it, and no
+//! What watches see of an instruction. It is determined before the instruction is performed: so nothing of the state before it is recorded, and no
 //! list is copied, nor compared as a whole.
 
 ghost use Rattle.std.specs.Prelude.{ℕ, ◌<◌, ◌↔◌, length, IfOk, IsTrue, MatchOption, false};
@@ -29,7 +29,7 @@ fn edit_changes(
     if u32::from(own) != client {
         return Ok(false);
     }
-    // For the proof: what every machine keeps.
+    // For the proof: the invariant of every machine.
     let _sound = machine.clients();
     let list = machine.document(own);
     let first = machine.inserted(own);
@@ -78,7 +78,7 @@ fn changes_list(machine: &Machine, instr: &Instr, client: u32) -> Result<bool, A
     }
 }
 
-// The client's edit leads the client that is watched to another state. It does not where a buffer waits already.
+// The client's edit leads the client that is watched to another state. It does not where there is a buffer already.
 fn edit_moves(machine: &Machine, own: u16, client: u32) -> bool
     requires { client < length machine.now.clients }
     ensures { (op : Operation ℕ) → Foretells (step machine.now (Edit own op)) machine.now (Watched.State client) result }

@@ -1,4 +1,4 @@
--- Codes taken back.
+-- Codes undone.
 use Rattle.std.proofs.Common.{◌≡◌, ◌+◌, ◌≤◌, List, [], ◌∷◌, map, length, take, drop, true, false, refl, ap, arith, length-append}
 use Rattle.std.proofs.lemmas.List.{length-take-le, length-drop, take_at, drop_at, take-append-drop}
 use Rattle.ot_codes.specs.declared.code.Code.{Code}
@@ -42,7 +42,7 @@ length-changed (Insert n ∷ codes) text d h fits =
     rw (length-append, length-take-le n text (omega arith), length-changed codes (drop n text) d (omega (arith, length-drop n text)) fits) refl
 length-changed (Delete n ∷ codes) text d h fits = length-changed codes text (drop n d) h (omega (arith, length-drop n d))
 
--- with what was removed they lead back to the document
+-- with what was removed they restore the document
 pub back : {A : Type 0} (codes : List Code) (text d : List A) → put_by codes ≤ length text → taken_by codes ≡ length d → changed (map turned codes) (deleted codes d) (changed codes text d) ≡ d
 back [] text [] h fits = refl
 back [] text (x ∷ d) h fits = absurd (omega arith)

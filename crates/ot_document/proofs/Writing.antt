@@ -14,7 +14,7 @@ use Rattle.ot_document.specs.Places.{IsInside}
 use Rattle.ot_document.specs.Steps.{directed, changed, deleted, Fit}
 use Rattle.ot_document.specs.Writing.{left_of, IsWriter, HasWritten}
 
--- whole leaves gone over
+-- whole leaves walked over
 
 leaves_split : {A : Type 0} (leaves : List (List A)) (from to : ℕ) → from ≤ to → concatenated (drop from leaves) ≡ concatenated (take (to - from) (drop from leaves)) ++ concatenated (drop to leaves)
 leaves_split {A} leaves from to order =

@@ -1,4 +1,4 @@
--- What a change removes from a document, and what takes it back.
+-- What a change removes from a document, and its inverse.
 use Rattle.std.specs.Prelude.{◌≡◌, List, length}
 use Rattle.ot_text.specs.Operation.{Operation, news, apply, invert}
 use Rattle.ot_codes.specs.Shape.{filled}

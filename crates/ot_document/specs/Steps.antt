@@ -1,15 +1,15 @@
--- What codes make of a document, step by step: how a change goes over them.
+-- What codes make of a document, step by step: how a change walks over them.
 use Rattle.std.specs.Prelude.{◌≡◌, ℕ, ◌+◌, List, [], ◌∷◌, ◌++◌, length, take, drop, Bool, true, false}
 use Rattle.ot_codes.specs.declared.code.Code.{Code}
 use Rattle.ot_codes.specs.declared.code.Code.TheVariants.{Retain, Insert, Delete}
 
--- the code that takes one back
+-- the inverse of a code
 abbrev pub turned : Code → Code
 turned (Retain count) = Retain count
 turned (Insert count) = Delete count
 turned (Delete count) = Insert count
 
--- a code as it is, or the one that takes it back
+-- a code as it is, or its inverse
 abbrev pub directed : Bool → Code → Code
 directed false code = code
 directed true code = turned code

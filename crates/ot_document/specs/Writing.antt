@@ -14,7 +14,7 @@ pub record IsWriter {T S : Type 0} (cap : ℕ) (total : List T → S) (old : Lis
   pub inside : IsInside old writer.place.leaf writer.place.offset
   pub behind : place_of writer.draft ≤ writer.place.leaf
 
--- it has written a text, and gone over so many of the old elements
+-- it has written a text, and passed so many of the old elements
 pub record HasWritten {T S : Type 0} (cap : ℕ) (total : List T → S) (old : List (List T)) (before after : Writer T S) (text : List T) (count : ℕ) : Type 0 where
   pub writer : IsWriter cap total old after
   pub text_is : written old after.draft ≡ written old before.draft ++ text

@@ -85,7 +85,7 @@ impl<T: Element + Item> Doc<T> {
         self.list.leaf_count()
     }
 
-    /// The element at a place, counted from 0, or `None` past the end. Goes over the sums of the leaves before it, and not over their elements.
+    /// The element at a place, counted from 0, or `None` past the end. Reads the sums of the leaves before it, and not their elements.
     pub fn get(&self, place: usize) -> Option<T>
         ensures { result ≡ slice_get self.now place }
     {
@@ -135,7 +135,7 @@ impl<T: Element + Item> Doc<T> {
         })
     }
 
-    /// The two documents are one list; how it lies in leaves does not count.
+    /// The two documents are equal as lists; how they lie in leaves does not count.
     pub fn equals(&self, other: &Doc<T>) -> bool
         ensures { IsTrue result ↔ (self.now ≡ other.now) }
     {
@@ -160,8 +160,8 @@ impl<T: Element + Item> Doc<T> {
         Ok(gone)
     }
 
-    /// Takes the change by an operation of these codes back, with the elements that it removed: the document is then as it was before it. What the operation inserted
-    /// goes, whatever it was.
+    /// Undoes the change by an operation of these codes, with the elements that it removed: the document is then as it was before it. What the operation inserted is
+    /// deleted, whatever it was.
     ///
     /// `AllocError` where a growth was refused: the document is then as it was.
     pub fn change_back(&mut self, codes: &Codes, gone: &[T]) -> Result<(), AllocError>
@@ -175,7 +175,7 @@ impl<T: Element + Item> Doc<T> {
         Ok(())
     }
 
-    // Makes of this document, which then has `count` elements, what codes make of it with a text, or, if they are taken back, what those make that do so. Gives what goes.
+    // Makes of this document, which then has `count` elements, what codes make of it with a text, or, to undo them, what their inverse makes of it. Gives what is deleted.
     fn rewrite(
         &mut self,
         codes: Cursor<'_>,
@@ -209,7 +209,7 @@ fn same_items<T: Element>(a: &[T], b: &[T]) -> bool
     a == b
 }
 
-// Are lists of `count` items one list?
+// Are lists of `count` items equal?
 fn same_lists<T: Element + Item>(a: &List<T>, b: &List<T>, count: usize) -> bool
     requires a_count { length (concatenated a.now) ≡ count }
     requires b_count { length (concatenated b.now) ≡ count }

@@ -22,8 +22,8 @@
 //! takes no memory and cannot fail. What an operation inserts is known by the operation; so what it removed is all that it takes to change the document back.
 //!
 //! What an operation does is said by `apply` and `invert` of `ot_text`, at the codes' shape, filled with the text (`ot_codes`). `specs/Change.antt` adds what is removed
-//! and what leads back; `specs/Places.antt`, `specs/Steps.antt` and `specs/Writing.antt` serve the loops alone. To read: `document.rt`, `place.rt` (reading), `writer.rt`
-//! (the draft of a change), `pieces.rt`.
+//! and the inverse of a change; `specs/Places.antt`, `specs/Steps.antt` and `specs/Writing.antt` serve the loops alone. To read: `document.rt`, `place.rt` (reading),
+//! `writer.rt` (the draft of a change), `pieces.rt`.
 #![tactic(auto)]
 
 mod document;

@@ -38,7 +38,7 @@ impl Place {
         &leaf[self.offset..]
     }
 
-    // Goes over items of one leaf.
+    // Skips items of one leaf.
     pub fn advance<T: Item>(&mut self, list: &List<T>, count: usize)
         requires within { count ≤ length (rest_at list.now self.old.leaf self.old.offset) }
         requires there { self.old.leaf < length list.now }

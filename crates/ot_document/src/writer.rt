@@ -13,7 +13,7 @@ use ot_codes::{Code, Cursor};
 use ot_list::{Draft, Item, List};
 use std::alloc::{AllocError, Global};
 
-// The code as it is, or the one that takes it back.
+// The code as it is, or its inverse.
 fn directed(code: Code, back: bool) -> Code
     ensures { result ≡ directed back code }
 {
@@ -95,7 +95,7 @@ impl<T: Item> Writer<T> {
         Ok(())
     }
 
-    // Writes what comes.
+    // Writes what is inserted.
     fn insert(&mut self, old: &List<T>, text: &[T]) -> Result<(), AllocError>
         requires { IsWriter T.CAP T.total old.now self.old }
         ensures { OnOk result (HasWritten T.CAP T.total old.now self.old self.new text.now 0) }
@@ -104,7 +104,7 @@ impl<T: Item> Writer<T> {
         Ok(())
     }
 
-    // Goes over the next elements, which go: they are copied to the end of `gone`.
+    // Skips the next elements, which are deleted: they are copied to the end of `gone`.
     fn delete(&mut self, old: &List<T>, count: usize, gone: &mut Vec<T>) -> Result<(), AllocError>
         requires writer { IsWriter T.CAP T.total old.now self.old }
         requires within { count ≤ length (left_of old.now self.old) }
@@ -115,7 +115,7 @@ impl<T: Item> Writer<T> {
         Ok(())
     }
 
-    // Writes what codes make of the old document with a text, or, if they are taken back, what those make that do so. What goes is copied to the end of `gone`.
+    // Writes what codes make of the old document with a text, or, to undo them, what their inverse makes of it. What is deleted is copied to the end of `gone`.
     pub fn write(
         &mut self,
         old: &List<T>,

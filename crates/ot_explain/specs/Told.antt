@@ -1,4 +1,4 @@
--- What an instruction did, in words: what the state before it tells, and then what the state after it tells.
+-- What an instruction did, in words: what the state before it says, and then what the state after it says.
 use Rattle.std.specs.Prelude.{ℕ, List, [], ◌++◌, ◌-◌, ◌==◌, length, slice_get, Option, Some, None, codes, decimal, if◌then◌else◌}
 use Rattle.ot_isa.specs.Program.{Program, client_of}
 use Rattle.ot_isa.specs.declared.instruction.Instr.{Instr}
@@ -13,7 +13,7 @@ use Rattle.ot_steps.specs.Steps.{delivers, last_of}
 use Rattle.ot_steps.specs.Text.{word_text}
 use Rattle.ot_explain.specs.Words.{document_text, entry_text, list_text, made_text, of_client, operation_text, operation_words}
 
--- ---- what the state before it tells
+-- ---- what the state before it says
 
 -- where an edit goes: to the server, or into the buffer
 abbrev pub edit_goes : ℕ → shown.Phase → List ℕ
@@ -84,7 +84,7 @@ before (Join c) s = join_words c
 before (Read c) s = []
 before ReadServer s = []
 
--- ---- what the state after it tells
+-- ---- what the state after it says
 
 abbrev pub waiting : Phase → List ℕ
 waiting NotJoined = codes " has not joined"
@@ -148,7 +148,7 @@ opening_words s =
 
 -- ---- for private clauses
 
--- what the state before a delivery tells, up to what is applied
+-- what the state before a delivery says, up to what is applied
 abbrev pub start_text : ℕ → List ℕ → List ℕ → List ℕ
 start_text c entry against = codes "  client " ++ (decimal c ++ (codes " takes " ++ (entry ++ (against ++ codes " and applies "))))
 

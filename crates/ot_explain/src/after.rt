@@ -1,4 +1,4 @@
-//! What the state after an instruction tells of it.
+//! What the state after an instruction says of it.
 
 ghost use Rattle.std.specs.Prelude.{◌≡◌, ◌++◌, ◌<◌, length, IfOk, OnOk, string_bytes};
 ghost use Rattle.ot_client.specs.Client.{state_of};
@@ -17,7 +17,7 @@ use ot_machine::Machine;
 use ot_steps::push_decimal;
 use std::alloc::{AllocError, Global};
 
-// What a client that has joined waits for.
+// The pending operations of a client that has joined.
 fn push_waiting_state(
     alloc: Global,
     text: &mut String,
@@ -116,7 +116,7 @@ fn server_words(alloc: Global, machine: &Machine) -> Result<String, AllocError>
     format!(in alloc; "  the server's document is {document}\n")
 }
 
-/// Adds what the state after the instruction tells of it. For want of memory the text holds a part of it.
+/// Adds what the state after the instruction says of it. If memory runs out, the text holds a part of it.
 pub(crate) fn push_after(
     alloc: Global,
     text: &mut String,

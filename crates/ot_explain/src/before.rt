@@ -1,4 +1,4 @@
-//! What the state before an instruction tells of it.
+//! What the state before an instruction says of it.
 
 ghost use Rattle.std.specs.Prelude.{◌≡◌, ◌++◌, ◌<◌, ◌-◌, length, IfOk, OnOk, string_bytes};
 ghost use Rattle.std.specs.Option.{option_copied, option_map};
@@ -234,7 +234,7 @@ fn push_join(text: &mut String, client: u16) -> Result<(), AllocError>
     Ok(())
 }
 
-/// Adds what the state before the instruction tells of it, but for what a delivery applies: the step itself gives that. For want of memory the text holds a
+/// Adds what the state before the instruction says of it, but for what a delivery applies: the step itself gives that. If memory runs out, the text holds a
 /// part of it.
 pub(crate) fn push_before(
     alloc: Global,
@@ -264,7 +264,7 @@ pub(crate) fn push_before(
     }
 }
 
-/// Adds what the instruction applied by a delivery, behind what [`push_before`] adds. For want of memory the text holds a part of it.
+/// Adds what the instruction applied by a delivery, behind what [`push_before`] adds. If memory runs out, the text holds a part of it.
 pub(crate) fn push_applied(
     alloc: Global,
     text: &mut String,

@@ -7,7 +7,7 @@ ghost use Rattle.ot_model.specs.Table as table;
 ghost use Rattle.ot_steps.specs.Steps as steps;
 ghost use Rattle.ot_explain.specs.Told.{heading, opening_words};
 ghost use Rattle.ot_explain.specs.Reasons.{refused_paragraph, tried};
-ghost use Rattle.ot_explain.specs.Explained.{IsMove, end_words, last_text, line_at, stop_text};
+ghost use Rattle.ot_explain.specs.Explained.{IsMove, end_text, end_words, last_text, line_at, stop_text};
 
 use crate::after::push_after;
 use crate::before::{edit_text, push_applied, push_before};
@@ -15,6 +15,7 @@ use crate::reasons::reason;
 use crate::values::letters_text;
 use ot_isa::{Instr, Schedule};
 use ot_machine::{Machine, Refusal};
+use ot_names::{Comments, named, push_cut};
 use ot_steps::word;
 use ot_values::refusal_name;
 use std::alloc::{AllocError, Global};
@@ -144,17 +145,34 @@ fn end_words(quiet: bool) -> &'static str
     }
 }
 
-/// The paragraphs of a run's stop, if there was one, and of its end.
-pub(crate) fn last_words(
+// The paragraphs of a run's stop, if there was one, and of its end.
+fn end_text(
     alloc: Global,
     machine: &Machine,
     lines: &[u64],
     schedule: &Schedule,
     stopped: Option<(usize, Refusal)>,
 ) -> Result<String, AllocError>
-    ensures { IfOk result (λ s. string_bytes s ≡ last_text lines.now schedule.now machine.now stopped) }
+    ensures { IfOk result (λ s. string_bytes s ≡ end_text lines.now schedule.now machine.now stopped) }
 {
     let mut text = stop_words(alloc, machine, lines, schedule, stopped)?;
     text.push_str(end_words(is_quiet(machine)))?;
     Ok(text)
+}
+
+/// These paragraphs with the clients' names, and behind them what tells of the cut.
+pub(crate) fn last_words(
+    alloc: Global,
+    machine: &Machine,
+    lines: &[u64],
+    comments: &Comments,
+    schedule: &Schedule,
+    stopped: Option<(usize, Refusal)>,
+) -> Result<Vec<u8>, AllocError>
+    ensures { IfOk result (λ v. v.items ≡ last_text lines.now comments.now schedule.now machine.now stopped) }
+{
+    let text = end_text(alloc, machine, lines, schedule, stopped)?;
+    let mut last = named(alloc, text.as_bytes(), comments)?;
+    push_cut(&mut last, comments)?;
+    Ok(last)
 }

@@ -44,7 +44,7 @@ fn add_line(found: &mut Vec<u64>, line: &[u8], number: u64) -> Result<(), AllocE
     Ok(())
 }
 
-/// The lines at which the instructions of a schedule's text stand, in order, counted from 1; or want of memory.
+/// The lines at which the instructions of a schedule's text stand, in order, counted from 1; or out of memory.
 pub fn places(alloc: Global, text: &[u8]) -> Result<Vec<u64>, AllocError>
     ensures { IfOk result (λ v. v.items ≡ places text.now) }
 {

@@ -32,7 +32,7 @@ fn is_short<T: Element>(op: &TextOp<T>) -> bool
     op.components().len() <= FEW_COMPONENTS && op.inserted() <= FEW_INSERTED
 }
 
-// Whether an operation of so many components that waits is shown whole.
+// Whether a pending operation of so many components is shown whole.
 fn is_held_short<T: Element>(op: &Held<T>, count: usize) -> bool
     requires { count ≡ length (normal_runs op.now) }
     ensures { result ≡ is_short op.now }
@@ -59,7 +59,7 @@ fn push_size<T: Element>(alloc: Global, text: &mut String, op: &TextOp<T>) -> Re
     text.push_str(size.as_str())
 }
 
-// Adds an operation of so many components that waits by its size.
+// Adds a pending operation of so many components by its size.
 fn push_held_size<T: Element>(
     alloc: Global,
     text: &mut String,
@@ -103,7 +103,7 @@ pub(crate) fn push_operation(
     }
 }
 
-// Adds an operation that waits without its tags, whole. Where it is held in sections it is copied.
+// Adds a pending operation without its tags, whole. Where it is held in sections it is copied.
 fn push_held_array(alloc: Global, text: &mut String, op: &Held<Tagged>) -> Result<(), AllocError>
     ensures { OnOk result (string_bytes text.new ≡ string_bytes text.old ++ text_of_operation (plain_operation op.now)) }
 {
@@ -113,7 +113,7 @@ fn push_held_array(alloc: Global, text: &mut String, op: &Held<Tagged>) -> Resul
     }
 }
 
-/// Adds an operation that waits without its tags, whole where it is short, else by its size. One in sections is copied only where it is short.
+/// Adds a pending operation without its tags, whole where it is short, else by its size. One in sections is copied only where it is short.
 pub(crate) fn push_held(
     alloc: Global,
     text: &mut String,

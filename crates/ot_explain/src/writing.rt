@@ -8,6 +8,7 @@ ghost use Rattle.ot_explain.specs.Explained.{MovesUpTo, WritesMoves, WritesRun, 
 use crate::paragraphs::{last_words, opening_words, perform};
 use ot_isa::Schedule;
 use ot_machine::{Machine, Refusal};
+use ot_names::{Comments, named};
 use ot_steps::StepsFault;
 use std::alloc::Global;
 use streams::Sink;
@@ -17,12 +18,13 @@ fn write_moves<W: Sink>(
     alloc: Global,
     machine: &mut Machine,
     lines: &[u64],
+    comments: &Comments,
     schedule: &Schedule,
     output: &mut W,
 ) -> Result<Option<(usize, Refusal)>, StepsFault>
     requires { machine.old ≡ opening_of schedule.now }
-    ensures ok { IfOk result (λ stopped. WritesMoves lines.now schedule.now stopped machine.new (W.contents output.old) (W.contents output.new)) }
-    ensures err { IfErr result (λ f. MovesUpTo f lines.now schedule.now (W.contents output.old) (W.contents output.new)) }
+    ensures ok { IfOk result (λ stopped. WritesMoves lines.now comments.now schedule.now stopped machine.new (W.contents output.old) (W.contents output.new)) }
+    ensures err { IfErr result (λ f. MovesUpTo f lines.now comments.now schedule.now (W.contents output.old) (W.contents output.new)) }
     ensures cause { IfErr result (λ f. IsCaused f (W.failed output.new)) }
 {
     let mut paragraph = String::new(alloc);
@@ -31,7 +33,10 @@ fn write_moves<W: Sink>(
             unreachable!()
         };
         match perform(alloc, &mut paragraph, machine, lines, number, instr)? {
-            Ok(()) => output.put(paragraph.as_bytes())?,
+            Ok(()) => {
+                let words = named(alloc, paragraph.as_bytes(), comments)?;
+                output.put(words.as_slice())?;
+            }
             Err(refusal) => return Ok(Some((number, refusal))),
         }
     }
@@ -39,28 +44,30 @@ fn write_moves<W: Sink>(
 }
 
 /// Runs the schedule and writes its run in words while it goes: the opening, a paragraph for each performed instruction, the stop if an
-/// instruction was not performed (refused, or for want of memory), and the end. Says whether one was not performed. `lines` are the lines
-/// of the instructions, as [`places`](crate::places) of the schedule's text; an instruction without one has line 0.
+/// instruction was not performed (refused, or out of memory), and the end. Says whether one was not performed. `lines` are the lines
+/// of the instructions, as [`places`](crate::places) of the schedule's text; an instruction without one has line 0. `comments` are what the
+/// text's comments tell: where they name a client, its name stands behind its number; where the schedule is cut, the last line says so.
 ///
-/// After a fault a first part of the text is written; for want of memory whole paragraphs. `WriteFault` is said only where a write has
+/// After a fault a first part of the text is written; whole paragraphs if memory ran out. `WriteFault` is said only where a write has
 /// failed, as the output says itself. Memory does not grow with the text: each
 /// paragraph is written before the next instruction is performed, and no more is kept than one paragraph.
 pub fn explain<W: Sink>(
     alloc: Global,
     schedule: &Schedule,
     lines: &[u64],
+    comments: &Comments,
     output: &mut W,
 ) -> Result<bool, StepsFault>
-    ensures ok { IfOk result (λ refused. WritesRun lines.now schedule.now refused (W.contents output.old) (W.contents output.new)) }
-    ensures err { IfErr result (λ f. WritesUpTo f lines.now schedule.now (W.contents output.old) (W.contents output.new)) }
+    ensures ok { IfOk result (λ refused. WritesRun lines.now comments.now schedule.now refused (W.contents output.old) (W.contents output.new)) }
+    ensures err { IfErr result (λ f. WritesUpTo f lines.now comments.now schedule.now (W.contents output.old) (W.contents output.new)) }
     ensures cause { IfErr result (λ f. IsCaused f (W.failed output.new)) }
 {
     let clients = schedule.clients();
     let mut machine = Machine::with_present(alloc, clients, schedule.present(), schedule.start())?;
     let opening = opening_words(alloc, schedule)?;
     output.put(opening.as_bytes())?;
-    let stopped = write_moves(alloc, &mut machine, lines, schedule, output)?;
-    let last = last_words(alloc, &machine, lines, schedule, stopped)?;
-    output.put(last.as_bytes())?;
+    let stopped = write_moves(alloc, &mut machine, lines, comments, schedule, output)?;
+    let last = last_words(alloc, &machine, lines, comments, schedule, stopped)?;
+    output.put(last.as_slice())?;
     Ok(stopped.is_some())
 }

@@ -7,7 +7,7 @@
 //!
 //! [`run_explain`] does the whole work over any reader and two writers; `specs/Explains.antt` says what it writes and answers, over the
 //! paragraphs of `ot_explain` (specs/Told.antt, specs/Reasons.antt and specs/Explained.antt there). The text is read whole, since an
-//! instruction is shown with its line, and a fault with its column.
+//! instruction is shown with its line, and a fault with its column; comments anywhere in it name clients (`ot_names`).
 #![tactic(auto)]
 
 ghost use Rattle.std.specs.Prelude.{IfSome};
@@ -18,23 +18,25 @@ use ot_asm::{AsmFault, assemble_from};
 use ot_explain::{explain, fault_words, places};
 use ot_input::complain_of_line;
 use ot_isa::Schedule;
+use ot_names::{Comments, comments_of};
 use ot_steps::StepsFault;
 use outcomes::{complain, complain_of_input, complain_of_memory};
 use std::alloc::Global;
 use std::io::Write;
 use streams::{Sink, Source};
 
-// Writes the schedule's run in words; its instructions stand at these lines.
+// Writes the schedule's run in words; its instructions stand at these lines, and the comments of its text tell this.
 fn write_words<O: Sink, F: Write>(
     alloc: Global,
     lines: &[u64],
+    comments: &Comments,
     schedule: &Schedule,
     output: &mut O,
     faults: &mut F,
 ) -> u8
-    ensures { MayExplain lines.now schedule.now result (record { output = O.contents output.old; output' = O.contents output.new; broken = O.failed output.new; faults = F.contents faults.old; faults' = F.contents faults.new }) }
+    ensures { MayExplain lines.now comments.now schedule.now result (record { output = O.contents output.old; output' = O.contents output.new; broken = O.failed output.new; faults = F.contents faults.old; faults' = F.contents faults.new }) }
 {
-    match explain(alloc, schedule, lines, output) {
+    match explain(alloc, schedule, lines, comments, output) {
         Ok(true) => 1,
         Ok(false) => 0,
         Err(StepsFault::WriteFault) => 1,
@@ -67,7 +69,18 @@ fn explain_text<O: Sink, F: Write>(alloc: Global, text: &[u8], output: &mut O, f
                 complain_of_memory(faults);
                 return 1;
             };
-            write_words(alloc, lines.as_slice(), &schedule, output, faults)
+            let Ok(comments) = comments_of(alloc, text) else {
+                complain_of_memory(faults);
+                return 1;
+            };
+            write_words(
+                alloc,
+                lines.as_slice(),
+                &comments,
+                &schedule,
+                output,
+                faults,
+            )
         }
         Err(fault) => {
             complain_of_text(alloc, text, fault, faults);

@@ -36,7 +36,7 @@ fn is_edit(
     requires { length ≤ LIMIT }
     ensures { IfOk result (λ b. IsTrue b ↔ (op.now ≡ edit_of (action_view action.now) length)) }
 {
-    // For the proof: what every operation keeps, so that one past the limits is another.
+    // For the proof: the invariant of every operation, so that one past the limits is another.
     let _base = op.base_len();
     let _target = op.target_len();
     match action.edit(alloc, length) {

@@ -11,7 +11,7 @@ use Rattle.ot_generate.specs.Left.{in_transit, in_buffer, work, left, owed}
 use Rattle.ot_generate.specs.declared.choice.Move.{Move}
 use Rattle.ot_generate.specs.Walks.{WalkView, IsAtRest, IsOffered, IsPossible, IsWalk, HasSpare}
 
--- a client without a message, that has received all, waits for nothing
+-- a client without a message, that has received all, has nothing pending
 phase_rests : (c : ℕ) (phase : Phase) (start list : List Tagged) (seen : List Entry) → is_joined phase ≡ true → IsPhaseSound c phase start seen [] list None → phase ≡ Synchronized
 phase_rests c NotJoined start list seen on sound = absurd (cc)
 phase_rests c Synchronized start list seen on sound = refl

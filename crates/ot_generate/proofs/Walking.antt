@@ -1,4 +1,4 @@
--- A session keeps what its type says.
+-- A session keeps its type invariant.
 use Rattle.std.proofs.Common.{◌≡◌, ℕ, suc, ◌≤◌, List, [], ◌∷◌, ◌++◌, length, replicate, ◌-◌, refl, sym, ap, ◌∙◌, subst, arith, Bool}
 use Rattle.std.proofs.lemmas.List.{length_push, length-append, length-replicate}
 use Rattle.ot_isa.specs.declared.instruction.Instr.{Instr}

@@ -85,7 +85,7 @@ pub record IsTooLong (p : Program) : Type 0 where
   pub unsettled : next_of end ≢ None
   pub full : length p.instrs + length more ≡ INSTR_LIMIT
 
--- why a schedule was not completed; memory may be wanting at any time
+-- why a schedule was not completed; memory may run out at any time
 abbrev pub IsIncomplete : Program → Incomplete → Type 0
 IsIncomplete p (incomplete.Refused place refusal) = IsRefusedAt p place refusal
 IsIncomplete p incomplete.TooMany = IsTooLong p

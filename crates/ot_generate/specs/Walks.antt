@@ -1,4 +1,4 @@
--- A session that grows: what its type keeps, and what may be done next.
+-- A session that grows: its type invariant, and what may be done next.
 use Rattle.std.specs.Prelude.{if◌then◌else◌, ◌≡◌, ◌⊎◌, ℕ, ◌+◌, ◌≤◌, Bool, true, List, [], ◌∷◌, ◌++◌, length, drop, slice_get, Option, Some, None, IsSome}
 use Rattle.ot_isa.specs.declared.instruction.Instr.{Instr}
 use Rattle.ot_isa.specs.declared.instruction.Instr.TheVariants.{Read}
@@ -23,7 +23,7 @@ pub record WalkView : Type 0 where
   pub room : ℕ
   pub is_open : Bool
 
--- what the type keeps: the machine is the table's run of the recorded instructions, what is owed to the end has room, and the state is sound
+-- the type invariant: the machine is the table's run of the recorded instructions, what is owed to the end has room, and the state is sound
 pub record IsWalk (w : WalkView) : Type 0 where
   pub replays : RunsTo (opening_of w.recorded) w.recorded.instrs w.state
   pub counted : w.state.steps ≡ length w.recorded.instrs

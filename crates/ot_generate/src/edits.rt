@@ -9,8 +9,8 @@ use ot_text::{OpRefusal, TextOp, only_memory};
 use rand_pcg::Pcg32;
 use std::alloc::{AllocError, Global};
 
-/// What an edit does at one place: it keeps so many characters, so many come in, and so many go. What is not there is neither kept nor
-/// deleted.
+/// What an edit does at one place: it retains so many characters, so many are inserted, and so many deleted. What is not there is neither retained
+/// nor deleted.
 #[derive(Clone, Copy)]
 struct Stroke {
     keep: usize,

@@ -124,11 +124,11 @@ impl Walk {
         })
     }
 
-    /// Tells the caller what the type keeps.
+    /// Gives the caller the type invariant.
     pub fn keeps(&self)
         ensures { IsWalk self.now }
     {
-        // For the proof: what every walk keeps.
+        // For the proof: the invariant of every walk.
         let _room = self.room;
     }
 
@@ -299,7 +299,7 @@ impl Walk {
             Ok(_reader) => {}
             Err(_) => return Err(AllocError),
         }
-        // For the proof: what every machine keeps.
+        // For the proof: the invariant of every machine.
         let _sound = self.machine.clients();
         append(&mut self.recorded, instr);
         Ok(())
@@ -435,7 +435,7 @@ impl Walk {
         self.recorded.reserve(1)?;
         let copy = instr.copy()?;
         let _reader = self.machine.perform(instr)?;
-        // For the proof: what every machine keeps.
+        // For the proof: the invariant of every machine.
         let _sound = self.machine.clients();
         append(&mut self.recorded, copy);
         Ok(())

@@ -62,7 +62,7 @@ fn filled<'a>(
     requires place { at < spot.at }
     ensures { Gives (λ x. (record { last = x.0; op = op.new }, seen x.1)) result (filled_at code count op.old (seen spot.entry)) }
 {
-    // For the proof: what every operation keeps.
+    // For the proof: the invariant of every operation.
     let _base = op.base_len();
     let _target = op.target_len();
     if code == 16 {

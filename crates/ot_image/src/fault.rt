@@ -53,7 +53,7 @@ pub struct ImageFault {
     pub kind: Kind,
 }
 
-/// A fault of the bytes, or want of memory at a field.
+/// A fault of the bytes, or out of memory at a field.
 #[derive(Clone, Copy, Debug, PartialEq, Eq)]
 pub enum ReadError {
     Memory(usize),

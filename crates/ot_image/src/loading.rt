@@ -152,7 +152,7 @@ fn loaded(alloc: Global, bytes: &[u8]) -> Result<Schedule, ImageFault>
 {
     match schedule_of(alloc, bytes) {
         Ok(schedule) => {
-            // For the proof: what every schedule keeps.
+            // For the proof: the invariant of every schedule.
             let _clients = schedule.clients();
             Ok(schedule)
         }
@@ -171,7 +171,7 @@ fn loaded(alloc: Global, bytes: &[u8]) -> Result<Schedule, ImageFault>
 pub fn load(alloc: Global, bytes: &[u8]) -> Result<Schedule, ImageFault>
     // What is loaded has these bytes as an image.
     ensures found { IfOk result (λ s. IsImageOf bytes.now s) }
-    // Of what these bytes are an image, that is loaded, unless memory runs out.
+    // The schedule of which these bytes are an image is loaded, unless memory runs out.
     ensures only { (p : Program) → IsImageOf bytes.now p → IfOk result (λ s. s ≡ p) × IfErr result (λ f. f.kind ≡ Kind.Memory) }
     // Which fault it is; or memory ran out, at a field before it.
     ensures fault { IfErr result (λ f. (image_of bytes.now ≡ Err f) ⊎ IsWant bytes.now f) }
@@ -187,7 +187,7 @@ pub fn images_differ()
     ensures { ImagesDiffer }
 {}
 
-/// Of all bytes, the loader's fault is that of the first field from the left that is cut, or whose value is not allowed.
+/// The loader's fault of any bytes is that of the first field from the left that is cut, or whose value is not allowed.
 pub fn faults_agree()
     ensures { FaultsAgree }
 {}

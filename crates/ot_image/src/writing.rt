@@ -62,7 +62,7 @@ fn put_components(out: &mut Vec<u8>, parts: &[Component<char>]) -> Result<(), Al
 fn put_op(out: &mut Vec<u8>, op: &TextOp<char>) -> Result<(), AllocError>
     ensures { OnOk result (out.new.items ≡ out.old.items ++ components (normal_runs op.now)) }
 {
-    // For the proof: what every operation keeps.
+    // For the proof: the invariant of every operation.
     let _base = op.base_len();
     let _target = op.target_len();
     let parts = op.components();
@@ -128,7 +128,7 @@ pub fn encode(alloc: Global, schedule: &Schedule) -> Result<Vec<u8>, AllocError>
     ensures bytes { IfOk result (λ v. v.items ≡ bytes2 schedule.now) }
     ensures image { IfOk result (λ v. IsImageOf v.items schedule.now) }
 {
-    // For the proof: what every schedule keeps.
+    // For the proof: the invariant of every schedule.
     let _clients = schedule.clients();
     written(alloc, schedule)
 }

@@ -55,7 +55,7 @@ pub record RefusesLines (lines : List (List ℕ)) (status : ℕ) (streams : Stre
   pub is_fault : IsLineFault lines fault
   pub refuses : Refuses (line_fault fault) status streams
 
--- an image that is refused, for its first bad field or for want of memory at a field before that: nothing on the output, and the fault's line
+-- an image that is refused, for its first bad field, or out of memory at a field before that: nothing on the output, and the fault's line
 pub record RefusesImage (bytes : List ℕ) (status : ℕ) (streams : Streams) : Type 0 where
   pub fault : ImageFault
   pub is_fault : (image_of bytes ≡ Err fault) ⊎ IsWant bytes fault

@@ -1,4 +1,4 @@
--- What takes back an operation that changes one place.
+-- The inverse of an operation that changes one place.
 use Rattle.std.proofs.Common.{◌≡◌, ℕ, ◌+◌, ◌≤◌, List, [], ◌∷◌, ◌++◌, map, length, take, drop, refl, sym, ap, ◌∙◌, arith, length-append, Option, Some, None}
 use Rattle.std.proofs.lemmas.List.{length-map, length-take, length-drop}
 use Rattle.ot_text.specs.Texts.{Text}

@@ -1,4 +1,4 @@
--- An operation that changes one place of a document, and what takes it back.
+-- An operation that changes one place of a document, and its inverse.
 use Rattle.std.specs.Prelude.{◌≡◌, ℕ, ◌+◌, ◌≤◌, List, [], ◌∷◌, length, Option, Some, None}
 use Rattle.ot_text.specs.Texts.{Text}
 use Rattle.ot_text.specs.Operation.{Operation, empty, with_retain, with_insert, with_delete}
@@ -23,7 +23,7 @@ pub record BeginsWithText {A : Type 0} (rs : List (Run A)) (come : ℕ) (rest : 
   pub long : length (text_of text) ≡ come
   pub same : SpellSame rs (Add (text_of text) ∷ rest)
 
--- a change of one place: elements stay, a text comes, elements go, and the others stay
+-- a change of one place: elements are retained, a text is inserted, elements are deleted, and the others retained
 abbrev pub change_at : {A : Type 0} → ℕ → List A → ℕ → ℕ → List (Run A)
 change_at before text gone behind = Keep before ∷ Add text ∷ Skip gone ∷ Keep behind ∷ []
 
@@ -37,7 +37,7 @@ pub record ChangesPlace {A : Type 0} (rs : List (Run A)) (change : Change) : Typ
 abbrev pub operation_at : {A : Type 0} → ℕ → ℕ → List A → ℕ → Operation A
 operation_at before gone text behind = with_retain (with_insert (with_delete (with_retain empty before) gone) text) behind
 
--- what is kept as an operation
+-- what is stored as an operation
 abbrev pub operation_in : {A : Type 0} → Form A → Operation A
 operation_in (Whole op) = op.value
 operation_in (OnePlace before gone behind text) = operation_at before gone text.items behind

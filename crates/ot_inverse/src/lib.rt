@@ -1,4 +1,4 @@
-//! What takes an operation back from the document that it makes, in few numbers.
+//! The inverse of an operation, over the document that it makes, in few numbers.
 //!
 //! Nearly all operations of a session change one place of the document, and most of these only insert there. The inverse of such a one needs no list of
 //! components: the lengths of what stays, comes and goes say it, and the elements that went, which come back.
@@ -8,11 +8,11 @@
 //!     inverse      retain 7 | delete 3     | insert .. | retain 9      kept as 7, 3, 9 and the two elements that went
 //! ```
 //!
-//! So to keep the inverse of an insertion takes no memory, and of one place where elements go one block. The operation is built when it is
-//! wanted. Where an operation changes several places its inverse is kept whole, as [`TextOp::invert`] makes it.
+//! So to store the inverse of an insertion takes no memory, and of one place where elements go one block. The operation is built when it is
+//! needed. Where an operation changes several places its inverse is stored whole, as [`TextOp::invert`] makes it.
 //!
 //! A contract sees an [`Inverse`] as the operation that it stands for: that of `Inverse::of` is `invert` of the operation over the document
-//! (`ot_text/specs/Operation.antt`). `specs/Inverses.antt` says which runs change one place, and which operation takes them back (`operation_at`).
+//! (`ot_text/specs/Operation.antt`). `specs/Inverses.antt` says which runs change one place, and their inverse (`operation_at`).
 //!
 //! Begin reading at [`Inverse::of`], then at `one_place` of `place.rt`.
 #![tactic(auto)]
@@ -28,7 +28,7 @@ use std::alloc::AllocError;
 use std::marker::Model;
 
 // An inverse as an operation, or by the numbers of its one place: how many elements stay before it, go, and stay behind it, and those that come back.
-// They lie beside the tag, so that an inverse is 40 bytes; an operation, which is seldom kept, lies in a box.
+// They lie beside the tag, so that an inverse is 40 bytes; an operation, which is seldom stored, lies in a box.
 #[derive(Drop)]
 enum Form<T> {
     Whole(Box<TextOp<T>>),
@@ -40,7 +40,7 @@ enum Form<T> {
     },
 }
 
-/// What takes an operation back from the document that it makes. Where it changes one place only the numbers and the deleted elements are kept.
+/// The inverse of an operation, over the document that it makes. Where it changes one place only the numbers and the deleted elements are stored.
 #[derive(Drop)]
 pub struct Inverse<T> {
     form: Form<T>,
@@ -58,7 +58,7 @@ impl<T> Model for Inverse<T> {
 }
 
 impl<T: Element> Inverse<T> {
-    /// What takes the operation back, which has to fit the document. Costs the elements that it deletes, which are copied, and the walk to them;
+    /// The inverse of the operation, which has to fit the document. Costs the elements that it deletes, which are copied, and the walk to them;
     /// where it changes several places what `TextOp::invert` costs. `AllocError` where a growth was refused; an insertion at one place takes
     /// no memory.
     pub fn of(op: &TextOp<T>, document: &Doc<T>) -> Result<Inverse<T>, AllocError>
@@ -82,8 +82,8 @@ impl<T: Element> Inverse<T> {
         })
     }
 
-    /// About how much it keeps, counted in components and elements, 1 at least: 1 and the elements that come back where it changes one place, else 1
-    /// and the components of the operation and the elements that it inserts. A look-up.
+    /// About how much it stores, counted in components and elements, 1 at least: 1 and the elements that come back where it changes one place, else
+    /// 1 and the components of the operation and the elements that it inserts. A look-up.
     pub fn size(&self) -> usize
         ensures more { length (news self.now.image) < result }
         ensures most { result ≤ 1 + length (normal_runs self.now) + length (news self.now.image) }

@@ -9,7 +9,7 @@ ghost use Rattle.ot_inverse.specs.Inverses.{operation_at, BeginsWithText, Change
 use ot_text::{Component, Doc, Element, TextOp, only_memory};
 use std::alloc::{AllocError, Global};
 
-/// What an operation does that changes one place: how many elements stay before it, come, go and stay behind it.
+/// What an operation does that changes one place: how many elements are retained before it, inserted, deleted and retained behind it.
 #[derive(Clone, Copy)]
 pub(crate) struct Change {
     pub before: usize,
@@ -67,7 +67,7 @@ pub(crate) fn one_place<T: Element>(components: &[Component<T>]) -> Option<Chang
     })
 }
 
-// So many elements of the document from a place on. Where none is wanted it is not gone over.
+// So many elements of the document from a place on. Where none is needed the document is not walked over.
 pub(crate) fn elements<T: Element>(
     document: &Doc<T>,
     from: usize,

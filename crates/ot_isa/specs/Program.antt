@@ -1,4 +1,4 @@
--- What a schedule says: clients, a start text and instructions, and the limits that its type keeps.
+-- What a schedule says: clients, a start text and instructions, and the limits of its type invariant.
 use Rattle.std.specs.Prelude.{◌≡◌, ◌⊎◌, ℕ, ◌<◌, ◌≤◌, List, [], ◌∷◌, ◌++◌, length, true, Option, Some, None, IfSome}
 use Rattle.std.specs.List.{All}
 use Rattle.std.specs.Str.{all_scalars}
@@ -61,7 +61,7 @@ HasScalars ReadServer = Unit {0}
 abbrev pub IsInstr : ℕ → Instr → Type 0
 IsInstr clients instr = IsForClients clients instr × IsOfLimits instr
 
--- what the type of schedules keeps
+-- the type invariant of schedules
 pub record IsProgram (program : Program) : Type 0 where
   pub clients_from : 1 ≤ program.clients
   pub clients_to : program.clients ≤ CLIENT_LIMIT

@@ -147,7 +147,7 @@ impl Builder {
         self.instrs.capacity() - self.instrs.len()
     }
 
-    /// The instructions so far, at most 100,000. The call also tells its caller all that schedules keep.
+    /// The instructions so far, at most 100,000. The call also gives its caller the type invariant of schedules.
     pub fn instrs(&self) -> &[Instr]
         ensures value { result.now ≡ self.now.program.instrs }
         ensures limits { IsProgram self.now.program }

@@ -1,4 +1,4 @@
-//! Characters, each told from all others by who made it.
+//! Characters, each distinguished from all others by who made it.
 
 use ot_text::Element;
 

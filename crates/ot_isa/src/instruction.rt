@@ -17,7 +17,7 @@ pub enum Instr {
     Take(u16),
     /// The client gets the next operation of another client: ot.js' `Client.applyServer`.
     Deliver(u16),
-    /// The client hears that its own operation was taken: ot.js' `Client.serverAck`.
+    /// The client receives the acknowledgement of its own operation: ot.js' `Client.serverAck`.
     Acknowledge(u16),
     /// The client's document is shown.
     Read(u16),
@@ -28,15 +28,15 @@ pub enum Instr {
 }
 
 impl Instr {
-    /// The client that the instruction names; none for `ReadServer`. The call also tells its caller that an edit's
-    /// operation keeps its limits.
+    /// The client that the instruction names; none for `ReadServer`. The call also gives its caller that an edit's
+    /// operation is within its limits.
     pub fn client(&self) -> Option<u16>
         ensures value { result ≡ client_of self.now }
         ensures limits { IsOfLimits self.now }
     {
         match self {
             Instr::Edit(client, op) => {
-                // For the proof: what every operation keeps.
+                // For the proof: the invariant of every operation.
                 let _base = op.base_len();
                 let _target = op.target_len();
                 Some(*client)

@@ -16,7 +16,7 @@
 //! ```
 //!
 //! A `Builder` takes instructions one at a time and refuses those that no schedule has; `finish` gives the schedule. So
-//! the type `Schedule` keeps all limits (`IsProgram`).
+//! the type invariant of `Schedule` has all limits (`IsProgram`).
 //!
 //! To tell one character from another in a run, each carries a `Tag`: who made it, and its number among all that its
 //! maker made. The start text "xy" and the edit above, tagged as client 0's first, make
@@ -26,8 +26,8 @@
 //! ```
 //!
 //! The definitions of the contracts: `specs/Tagging.antt` (tags, documents and operations over tagged characters) and
-//! `specs/Program.antt` (`Program`, the value of a schedule; `BuilderView`, that of a builder; `IsProgram`, what schedules
-//! keep). `proofs/Examples.antt` has examples of the first. Begin reading at `instruction.rt`, then `builder.rt`.
+//! `specs/Program.antt` (`Program`, the value of a schedule; `BuilderView`, that of a builder; `IsProgram`, the invariant of
+//! schedules). `proofs/Examples.antt` has examples of the first. Begin reading at `instruction.rt`, then `builder.rt`.
 #![tactic(auto)]
 
 mod builder;

@@ -28,7 +28,7 @@ impl Model for Schedule {
 }
 
 impl Schedule {
-    /// How many clients there are, 1 to 64. The call also tells its caller all that schedules keep.
+    /// How many clients there are, 1 to 64. The call also gives its caller the type invariant of schedules.
     pub fn clients(&self) -> u16
         ensures value { result ≡ self.now.clients }
         ensures limits { IsProgram self.now }

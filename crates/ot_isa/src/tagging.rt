@@ -78,7 +78,7 @@ pub fn tagged(
     requires { first + length (news op.now.image) ≤ INSERTED_LIMIT }
     ensures { IfOk result (λ t. t ≡ tagged_operation op.now origin first) }
 {
-    // For the proof: what every operation keeps.
+    // For the proof: the invariant of every operation.
     let _base = op.base_len();
     let _target = op.target_len();
     tagged_components(alloc, op.components(), origin, first)

@@ -47,7 +47,7 @@ json_other : (d : Option Data) → IsOther (operation_of_json d)
 json_other None = tt
 json_other (Some d) = data_other d
 
--- want of memory is no fault of a text
+-- out of memory is no fault of a text
 pub never_memory : (d : Option Data) → operation_of_json d ≡ Err Memory → ⊥
 never_memory d e = by (operation_of_json d) e (json_other d)
   where

@@ -11,8 +11,8 @@
 //!
 //! `serde_json` reads and writes the JSON values. The contracts' words: `specs/Reading.antt` (`operation_of_text`, the
 //! operation of a text or its fault) and `specs/Writing.antt` (`text_of_operation`). Begin with `reading.rt`; `building.rt`
-//! has the one pass, and a second one without memory which finds whether a fault stands behind a want of memory. `plain.rt` reads
-//! what a program writes, arrays of strings and integers, with memory that is kept from text to text.
+//! has the one pass, and a second one without memory which finds whether a fault stands behind a refused growth. `plain.rt` reads
+//! what a program writes, arrays of strings and integers, with memory that is reused from text to text.
 #![tactic(auto)]
 
 mod building;

@@ -1,4 +1,4 @@
-//! Operations of plain texts, which are read with kept memory.
+//! Operations of plain texts, which are read with reused memory.
 
 ghost use Rattle.std.specs.Prelude.{◌≡◌, true, false, pos, int_lt, Some, Ok, IfSome, option_map, option_and_then};
 ghost use Rattle.fast_float.specs.Text.{scan};
@@ -84,8 +84,8 @@ fn build_plain(alloc: Global, items: &[Value<'_>]) -> Option<TextOp<char>>
 }
 
 /// The operation that a text is, where it is a plain one: an array of strings and of integers within 64 bits. It is read with the
-/// kept memory of `scratch`, and no text or number of the array takes any but the operation's own. `None` says nothing of the
-/// text: `read_op` reads it then, and tells its fault.
+/// reused memory of `scratch`, and no text or number of the array takes any but the operation's own. `None` says nothing of the
+/// text: `read_op` reads it then, and reports its fault.
 pub fn read_plain(alloc: Global, text: &str, scratch: &mut Scratch) -> Option<TextOp<char>>
     ensures { IfSome result (λ op. operation_of_text text.now ≡ Ok op) }
 {

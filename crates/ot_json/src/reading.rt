@@ -11,7 +11,7 @@ use serde_json::Value;
 use std::alloc::Global;
 
 /// The operation that a JSON value is: the builder's result over the array from left to right, or the first faulty
-/// component. Want of memory is answered only where the value has no fault.
+/// component. Out of memory is answered only where the value has no fault.
 pub fn op_of_value(alloc: Global, value: &Value) -> Result<TextOp<char>, OpFault>
     ensures ok { IfOk result (λ op. operation_of_data (view value.now) ≡ Ok op) }
     ensures err { IfErr result (λ e. (e ≡ OpFault.Memory) ⊎ (operation_of_data (view value.now) ≡ Err e)) }

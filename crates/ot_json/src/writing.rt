@@ -45,7 +45,7 @@ pub fn write_op(alloc: Global, op: &TextOp<char>) -> Result<String, AllocError>
     ensures text { IfOk result (λ s. string_bytes s ≡ text_of_operation op.now) }
     ensures reads_back { IfOk result (λ s. operation_of_text (string_bytes s) ≡ Ok op.now) }
 {
-    // For the proof: what every operation keeps.
+    // For the proof: the invariant of every operation.
     let _base = op.base_len();
     let _target = op.target_len();
     let array = array_of_components(alloc, op.components())?;

@@ -89,7 +89,7 @@ take-gone old gone a h = taken-none old (λ q. same_tag q a && not (gone q)) (λ
   | inr not_met ↦ ap (λ (b : Bool). b && not (gone q)) not_met
 ])
 
--- what is left after all that is wanted was taken is nothing
+-- what is left after all that is required was taken is nothing
 pub exactly-from : (list : List Tag) (s m e held inserted gone : Tag → Bool) → ((q : Tag) → StandsOnce list q (s q)) → IsTaken s m (λ q. held q && not (gone q)) → IsTaken m e (λ q. inserted q && not (gone q)) → ((q : Tag) → e q ≡ false) → HoldsExactly list (λ q. (held q || inserted q) && not (gone q))
 exactly-from list s m e held inserted gone once first then empty = λ q.
     let wanted : Tag → Bool = λ q. (held q || inserted q) && not (gone q) in

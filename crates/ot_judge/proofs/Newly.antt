@@ -92,7 +92,7 @@ reads-give events part reads none d read = elim (cases_lt d (length events)) [
   | inr past ↦ ap part (get_or_past events d no_event past) ∙ none
 ]
 
--- what an event knows gives what the last one knew gives, and the news
+-- what an event knows gives what the last one knew gives, and what is newly known
 pub known-split : (events : List EventView) (e : ℕ) (last : Option ℕ) (news : List ℕ) (part : EventView → List Tag) (q : Tag) → e < length events → IsLastOf events e (event_at events e).replica last → SeesRightly events e → AreNews events e last news → ((d : ℕ) → (event_at events d).edit ≡ false → part (event_at events d) ≡ [])
     → contains (from_known events e part) q ≡ (contains (given_before events part last) q || contains (given events part news) q)
 known-split events e last news part q within lastof visible are reads =
@@ -199,7 +199,7 @@ news-all events e n last news long known own rest = record {
   ];
 }
 
--- news stand among the events
+-- newly known events stand among the events
 pub news-within : (events : List EventView) (e n : ℕ) (last : Option ℕ) (news slice : List ℕ) → length events ≡ n → slice ≡ news → AreNews events e last news → All (λ d. d < n) slice
 news-within events e n last news slice long same are =
     subst (λ (ds : List ℕ). All (λ d. d < n) ds) (sym same) (All-weaker (IsKnown events e) (λ d. d < n) (λ d h. omega (arith, h.within, long)) news are.known)

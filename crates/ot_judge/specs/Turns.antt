@@ -78,11 +78,11 @@ pub record StandsOnce (list : List Tag) (q : Tag) (here : Bool) : Type 0 where
   pub same : here ≡ contains list q
   pub few : occurrences q list ≤ 1
 
--- a list holds each tag that is wanted once, and no other
+-- a list holds each required tag once, and no other
 abbrev pub HoldsExactly : List Tag → (Tag → Bool) → Type 0
 HoldsExactly list wanted = (q : Tag) → occurrences q list ≡ (if wanted q then 1 else 0)
 
--- what is wanted was there, and the rest is left
+-- what is required was there, and the rest is left
 pub record IsTaken (old new wanted : Tag → Bool) : Type 0 where
   pub left : (q : Tag) → new q ≡ (old q && not (wanted q))
   pub had : (q : Tag) → wanted q ≡ true → old q ≡ true

@@ -94,7 +94,7 @@ fn actors_of(alloc: Global, events: &[Event]) -> Result<Vec<usize>, AllocError> 
 }
 
 /// The verdict of a trace: `Holds` exactly where it has the weak list property, else the first fault of the least event
-/// that has one, else two elements in both orders. Answers an error only for want of memory.
+/// that has one, else two elements in both orders. Answers an error only if memory runs out.
 ///
 /// Its time grows with the entries of all lists, the elements of the start, the insertions and the deletions, each of which takes
 /// a few looks into a hash table; with the elements of the start and the insertions, times the replicas, in steps along tables;

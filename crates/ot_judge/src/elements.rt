@@ -1,5 +1,5 @@
 //! The elements of a trace by number, the start's first and then those that the events insert, and who deletes each. An event
-//! knows an element as deleted where it knows one of the element's deleters. Of each replica only the first one is kept: what
+//! knows an element as deleted where it knows one of the element's deleters. Of each replica only the first one is recorded: what
 //! knows a later edit of a replica knows the earlier ones.
 
 ghost use Rattle.std.specs.Prelude.{◌≡◌, ◌<◌, ◌≤◌, ◌⊎◌, ◌+◌, ◌++◌, ℕ, IfOk, IfErr, OnOk, IsTrue, List, length, map, All};
@@ -24,7 +24,7 @@ use std::alloc::{AllocError, Global};
 use std::collections::HashMap;
 
 /// An element and its deleters, of which nearly all have one or none: the one of the greatest replica, and the others sorted by
-/// their replicas. Nothing is promised of that order, which makes them quick to find.
+/// their replicas. No contract speaks of that order, which makes them quick to find.
 #[derive(Drop)]
 pub struct Element {
     pub tag: Tag,
@@ -32,8 +32,8 @@ pub struct Element {
     pub others: Vec<usize>,
 }
 
-/// The elements by number, the number of each tag, and by event the number of the first element that it inserts. Nothing is
-/// promised of the numbers: who reads an element checks its tag.
+/// The elements by number, the number of each tag, and by event the number of the first element that it inserts. No contract
+/// speaks of the numbers: who reads an element checks its tag.
 #[derive(Drop)]
 pub struct Elements {
     pub all: Vec<Element>,

@@ -1,7 +1,7 @@
 //! Ranks and places for the elements of lists, made from the neighbours in the lists. Elements have one rank where they are on
 //! a cycle together (a strongly connected component, found by two walks as Kosaraju and Sharir do), and ranks follow the
 //! lists. Places go by rank, and among equal ranks by one chain into which each element is put behind its neighbour in the
-//! list that has it first. Nothing is promised of either: the search checks them.
+//! list that has it first. No contract speaks of either: the search checks them.
 
 use crate::news::entry;
 use crate::seed::Seed;

@@ -21,7 +21,7 @@ fn empty_rows(alloc: Global, count: usize) -> Result<Vec<Vec<usize>>, AllocError
     Ok(rows)
 }
 
-/// By replica, where its edits stand among the events. Nothing is promised of it: who reads it checks it.
+/// By replica, where its edits stand among the events. No contract speaks of it: who reads it checks it.
 pub fn edits_of(
     alloc: Global,
     replicas: usize,

@@ -1,5 +1,5 @@
 //! Seats of elements in the lists of one replica: one order for all that ever stood in them, and for how long each stood there. An element that
-//! is met for the first time is put behind the one that stands before it. Nothing is promised of that: what rests on seats checks that its lists are seated.
+//! is met for the first time is put behind the one that stands before it. No contract speaks of that: what rests on seats checks that its lists are seated.
 
 ghost use Rattle.std.specs.Prelude.{◌≡◌, ◌<◌, ℕ, IsTrue, None, false, length, map, slice_index_or};
 ghost use Rattle.ot_model.specs.WeakList.{nth};

@@ -103,7 +103,7 @@ impl<M: Drop> Downlink<M> {
         self.messages.is_empty()
     }
 
-    /// Takes the message at the end back, if there is one, as if it had not been pushed. Its place is room again.
+    /// Removes the message at the end, if there is one, as if it had not been pushed. Its place is room again.
     pub fn take_back(&mut self) -> Option<M>
         ensures value { result ≡ slice_get self.old.items (length self.old.items - 1) }
         ensures rest { self.new.items ≡ take (length self.old.items - 1) self.old.items }

@@ -14,7 +14,7 @@
 //! - [`Downlink`] is a queue: contracts see `Queue` of `specs/Queue.antt`, the list of its messages and the `room`, which is how many
 //!   more messages it takes without growing. Only `reserve_one` asks for memory; a change that needs several links at once makes
 //!   the room of each first, and then pushes to each, which cannot fail.
-//! - `take_back` and `put_back` are the undoing of `push` and of `pop`.
+//! - `take_back` and `put_back` undo `push` and `pop`.
 //!
 //! Begin reading at `Downlink::reserve_one` and `Downlink::push`.
 #![tactic(auto)]

@@ -1,4 +1,4 @@
--- Whole leaves that are gone over, and a leaf that is changed where it lies.
+-- Whole leaves that are walked over, and a leaf that is changed where it lies.
 use Rattle.std.proofs.Common.{◌≡◌, ℕ, zero, suc, ◌+◌, ◌-◌, ◌<◌, ◌≤◌, List, [], ◌∷◌, ◌++◌, map, length, take, drop, set, get_or, refl, sym, ap, ◌∙◌, arith, append_assoc, length-append, get_or-set_same, get_or-set_other}
 use Rattle.std.specs.Prelude.{Vec, Result, Ok, Err, OnErr}
 use Rattle.std.specs.declared.alloc.Global.{Global}

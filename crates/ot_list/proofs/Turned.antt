@@ -1,4 +1,4 @@
--- Spans taken back, and carried out on what is made of each item.
+-- Spans undone, and carried out on what is made of each item.
 use Rattle.std.proofs.Common.{◌≡◌, ℕ, zero, suc, ◌+◌, ◌-◌, min, ◌≤◌, List, [], ◌∷◌, ◌++◌, length, take, drop, map, inl, inr, refl, sym, ap, ◌∙◌, arith, append_assoc, length-append}
 use Rattle.std.specs.Prelude.{All, ◌⊎◌}
 use Rattle.std.proofs.lemmas.List.{length-take-le, nil_from_length, length-drop, drop-drop, take_at, drop_at, take-append-drop, map-append, take-map, drop-map}

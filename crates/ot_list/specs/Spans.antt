@@ -32,7 +32,7 @@ abbrev pub taken : {A : Type 0} → List Span → List A → List A
 taken [] old = []
 taken (s ∷ ss) old = take s.gone (drop s.kept old) ++ taken ss (drop (s.kept + s.gone) old)
 
--- the span that takes this one back
+-- the inverse span
 abbrev pub turned : Span → Span
 turned s = record { kept = s.kept; gone = s.put; put = s.gone }
 

@@ -55,7 +55,7 @@ impl<E: Item> Draft<E> {
         })
     }
 
-    /// Begins anew, over any list: nothing is written. The room stays.
+    /// Starts over, on any list: nothing is written. The room stays.
     pub fn begin(&mut self)
         ensures draft { (old : ListOf (ListOf E)) → IsDraft E.CAP E.total old self.new }
         ensures empty { (old : ListOf (ListOf E)) → written old self.new ≡ [] }
@@ -309,7 +309,7 @@ impl<E: Item> Draft<E> {
         Ok(())
     }
 
-    /// Takes the last item back. After an error the draft is abandoned.
+    /// Removes the last item. After an error the draft is abandoned.
     pub fn pop(&mut self, old: &List<E>) -> Result<E, AllocError>
         requires draft { IsDraft E.CAP E.total old.now self.old }
         requires some { 0 < length (written old.now self.old) }

@@ -7,7 +7,7 @@ ghost use Rattle.ot_list.specs.Change.{patched, IsOf};
 
 use crate::{Item, List, Patch};
 
-/// A patch carried out and taken back is nothing: what `swap` leaves in the patch is a patch of the new list, which leads to the list as it was, and leaves
+/// A patch carried out and undone is nothing: what `swap` leaves in the patch is a patch of the new list, which leads to the list as it was, and leaves
 /// the patch as it was.
 pub fn taken_back<E: Item>(_list: &List<E>, _patch: &Patch<E>)
     requires { IsOf _list.now _patch.now }

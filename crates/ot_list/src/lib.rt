@@ -15,19 +15,19 @@
 //!
 //! A contract sees a `List` as the list of its leaves; `concatenated` is the list that these make together. It sees a `Patch` as a `Change`: its spans, its
 //! new leaves, and how much room it has. A span says how many leaves of the old list are kept from where the span before ends, how many go then, and how many
-//! new ones come in their place: so spans need no other numbers when they are taken back. Of a `Draft` it says what is `written` over the old leaves, and
+//! new ones come in their place: so spans need no other numbers when they are undone. Of a `Draft` it says what is `written` over the old leaves, and
 //! up to which `place_of` it they are done with.
 //!
 //! - `Draft::begin`, then `keep`, `push`, `extend`, `pop`, and `finish`, which makes the patch; or `list`, where there is no old list. The old list is only
 //!   read. After an error the draft is abandoned: `begin` makes it one in which nothing is written. Its room is kept from one use to the next.
 //! - `Draft::last_sum` and `Draft::unfinished` say how what is written ends, by the sum of the last whole leaf and the items behind it.
-//! - `List::find` goes over leaves by their sums; `List::copy` copies a list. `List::replace_in_leaf` changes one leaf where it lies, if the rule on leaves still holds
-//!   then.
+//! - `List::find` walks over leaves by their sums; `List::copy` copies a list. `List::replace_in_leaf` changes one leaf where it lies, if the rule on leaves still
+//!   holds then.
 //! - `List::push`, `extend`, `set_last` and `set_last_but_one` change the end of a list where it lies; where memory is refused, it is as it was.
 //! - `List::prepare` makes room in the patch; that may fail, and changes no value.
 //! - `List::swap` exchanges leaves: it takes no memory, cannot fail, and moves only the headers of leaves. Where as many go as come at each place, it touches
-//!   these alone; else it goes over all headers once.
-//! - `taken_back` says that a patch carried out and taken back is nothing; `leaves_are_few` bounds the number of leaves by that of items.
+//!   these alone; else it moves all headers once.
+//! - `taken_back` says that a patch carried out and undone is nothing; `leaves_are_few` bounds the number of leaves by that of items.
 #![tactic(auto)]
 
 mod draft;

@@ -89,8 +89,8 @@ impl<E: Item> List<E> {
         E::count(self.sums[place])
     }
 
-    /// Goes over whole leaves, from one on, as long as they have at most `count` items together. Says before which leaf it stops, and how many items of the
-    /// count are left: fewer than that leaf has, if there is one. It reads sums alone.
+    /// Walks over whole leaves, from one on, as long as they have at most `count` items together. Says before which leaf it stops, and how many items of
+    /// the count are left: fewer than that leaf has, if there is one. It reads sums alone.
     pub fn find(&self, from: usize, count: usize) -> (usize, usize)
         requires { from ≤ length self.now }
         ensures order { from ≤ result.0 }

@@ -1,4 +1,4 @@
-//! What leads from one list to another, and back.
+//! Patches: the changes from one list to another, and back.
 
 ghost use Rattle.std.specs.Prelude.{◌≡◌, ◌<◌, ◌^◌, ◌+◌, ◌≤◌, ℕ, List as ListOf, map, length, [], All, OnOk, OnErr, ◌++◌, ◌∷◌};
 ghost use Rattle.ot_list.specs.Leaves.{AreLeaves};
@@ -43,7 +43,7 @@ fn count_gone(spans: &[Span]) -> usize
     gone
 }
 
-// The spans that take these back.
+// The inverse spans.
 fn turn(spans: &mut [Span])
     ensures { spans.new ≡ map turned spans.old }
 {
@@ -137,7 +137,7 @@ impl<E: Item> List<E> {
         Ok(())
     }
 
-    /// Exchanges the patch's leaves for some of the list's. The patch is then the one that brings the list back as it was. It takes no memory and
+    /// Exchanges the patch's leaves for some of the list's. The patch is then the one that restores the list. It takes no memory and
     /// cannot fail.
     pub fn swap(&mut self, patch: &mut Patch<E>)
         requires of { IsOf self.old patch.old }

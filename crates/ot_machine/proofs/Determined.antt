@@ -19,7 +19,7 @@ set_there [] c x y at = absurd (cc)
 set_there (z ∷ xs) zero x y at = refl
 set_there (z ∷ xs) (suc c) x y at = set_there xs c x y at
 
--- the clients before one of them was changed, where the change tells what it was
+-- the clients before one of them was changed, where the change determines what it was
 clients_back :
     (now xs ys : List Client) (c : ℕ) (x y i j : Client)
     → slice_get xs c ≡ Some x → slice_get ys c ≡ Some y → now ≡ set xs c i → now ≡ set ys c j → (i ≡ j → x ≡ y) → xs ≡ ys
@@ -70,7 +70,7 @@ with_message x y rest message = λ i. record { revision = (rest i).revision; pha
 history : State → History Tagged
 history s = record { document = s.server; log = s.log }
 
--- the inverse and the history after the Take tell the history before it
+-- the inverse and the history after the Take determine the history before it
 histories : (c : ℕ) (message : Sent Tagged) (inverse : Operation Tagged) (s earlier other : State) → IsTaken c message inverse earlier s → IsTaken c message inverse other s → history earlier ≡ history other
 unfolding history
 histories c message inverse s earlier other one two =

@@ -1,4 +1,4 @@
--- Where a run ends of which no list is kept.
+-- Where a run ends of which no list is recorded.
 use Rattle.std.proofs.Common.{◌≡◌, ℕ, ◌≤◌, length, Some, None}
 use Rattle.std.specs.Prelude.{slice_get}
 use Rattle.ot_isa.specs.Program.{Program}

@@ -21,7 +21,7 @@ use Rattle.ot_machine.proofs.Joining.{absent_of}
 use Rattle.ot_machine.proofs.RowLaws.{client_at, joined_of, state_changed}
 use Rattle.ot_machine.proofs.Taking.{IsSender, sender_done, take_is, the_message}
 
--- what is performed leads to one state
+-- what is performed leads to a single state
 state_after : Outcome → State → State
 state_after (Performed s shown) other = s
 state_after (Refused r) other = other
@@ -47,7 +47,7 @@ client_record server seats steps c seat new before s is_kept here value restores
       };
     }
 
--- so where it is kept
+-- so where it is recorded
 pub kept_client :
     (server : History Tagged) (seats : List Seat) (steps c : ℕ) (seat new : Seat) (before : Option Before) (s : State)
     → IsKept server seats steps → slice_get seats c ≡ Some seat → state_from server seats steps ≡ s → IsSomeAnd before (λ b. Restores b (client_of seat) (client_of new))
@@ -122,7 +122,7 @@ take_record server after seats left steps c seat message inverse s is is_receive
       };
     }
 
--- so where it is kept
+-- so where it is recorded
 pub kept_take :
     (server after : History Tagged) (seats left : List Seat) (steps c : ℕ) (seat : Seat) (message : Sent Tagged) (inverse : Option (Operation Tagged)) (s : State)
     → IsSender server seats steps c seat → after ≡ received_from server c (outstanding_at (map view_of seats) c)

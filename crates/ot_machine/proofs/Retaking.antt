@@ -21,7 +21,7 @@ use Rattle.ot_machine.proofs.RowLaws.{client_at}
 use Rattle.ot_machine.proofs.Taking.{clients_of}
 use Rattle.ot_machine.proofs.Reverting.{Undone, same_state, set_back, set_here, queues_set, length_set}
 
--- a Take taken back
+-- a Take undone
 quiet : Client → Client
 quiet x = record { revision = x.revision; phase = x.phase; list = x.list; count = x.count; message = None }
 
@@ -198,6 +198,6 @@ take_back server after seats mid steps c seat up message inverse earlier s is_ke
     take_undone server after seats mid steps c seat (seat_with seat up) message inverse earlier s is_kept value is returned views here
     (ap (λ (u : Option (Sent Tagged)). client_of (seat_with seat u)) is_up) refl
 
--- what takes a step back takes it back from an equal state
+-- what undoes a step undoes it from an equal state
 pub again : (earlier s t : State) (undo : Undo) → Undoes earlier s undo → t ≡ s → Undoes earlier t undo
 again earlier s t undo is same = subst (λ u. Undoes earlier u undo) (sym same) is

@@ -151,7 +151,7 @@ queue_right before was x n queue is inside right =
     let joined : is_joined was.phase ≡ true = ap (λ (y : Client). is_joined y.phase) (sym is.back) ∙ kept_joined before.past x.phase is.joined in
     revision_right before was x n queue before.received refl (ap (λ (y : Client). y.revision) (sym is.back)) joined is.revision inside (right ∙ rw is.joined refl)
 
--- a step at a client taken back
+-- a step at a client undone
 pub client_undone :
     (server : History Tagged) (seats : List Seat) (steps c : ℕ) (seat new : Seat) (before : Before) (earlier s : State)
     → IsKept server seats steps → slice_get seats c ≡ Some seat → state_from server seats steps ≡ s → IsRecord earlier s (ClientStep c before)
@@ -200,7 +200,7 @@ seats_same seats c seat new here same =
     set_same (w ∷ vs) zero v at = ap (λ u. u ∷ vs) (sym (same_Some w v at))
     set_same (w ∷ vs) (suc c) v at = ap (λ us. w ∷ us) (set_same vs c v at)
 
--- a Join taken back
+-- a Join undone
 pub join_undone :
     (server : History Tagged) (seats : List Seat) (steps c : ℕ) (new : Seat) (earlier s : State)
     → IsKept server seats steps → state_from server seats steps ≡ s → IsRecord earlier s (Joined c) → view_of new ≡ idle absent
@@ -215,7 +215,7 @@ join_there server seats steps c earlier s value is = step_seat server seats step
 pub join_counted : (server : History Tagged) (seats : List Seat) (steps c : ℕ) (earlier s : State) → state_from server seats steps ≡ s → IsRecord earlier s (Joined c) → 0 < steps
 join_counted server seats steps c earlier s value is = step_counted server seats steps c is.step.is earlier (value ∙ is.step.led)
 
--- a read taken back
+-- a read undone
 pub read_undone :
     (server : History Tagged) (seats : List Seat) (steps : ℕ) (earlier s : State)
     → IsKept server seats steps → state_from server seats steps ≡ s → IsRecord earlier s Read → Undone server seats (steps - 1) earlier

@@ -166,7 +166,7 @@ edit_done server seats steps c seat new op tagged_op is_kept at below on rises b
 pub tagged_inserts : (c k : ℕ) (op : Operation ℕ) → inserted (tag_operation c k op) ≡ inserted op
 tagged_inserts c k op = length-news-tag_items c k op.image
 
--- want of memory, where the row performs
+-- out of memory, where the row performs
 pub wanting : {X : Type 0} (result : Result X Refusal) (outcome : Outcome) → IsErrAnd result (λ e. e ≡ Memory) → IsPerformed outcome → IfErr result (λ r. IsRefusal outcome r)
 wanting (Ok x) outcome is performs = absurd is
 wanting (Err e) outcome is performs = subst (λ r. IsRefusal outcome r) (sym is) performs

@@ -36,7 +36,7 @@ pub record Led (was now : Client) (received : Bool) : Type 0 where
   pub joined : is_joined now.phase ≡ true
   pub revision : now.revision ≡ (if received then suc was.revision else was.revision)
 
--- what was kept of the client before is a record of the step
+-- what was recorded of the client before is a record of the step
 restored : (before : Before) (was now : Client) (received : Bool) → Led was now received → IsBefore before was now.phase now.list received → Restores before was now
 restored before was now received led is =
     let message : (if before.unsent then None else now.message) ≡ was.message = message_back before.unsent was.message now.message is.unsent led.message in

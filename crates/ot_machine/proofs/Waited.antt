@@ -1,4 +1,4 @@
--- What a record tells of what its client waited for.
+-- What a record has of its client's pending operations.
 use Rattle.std.proofs.Common.{◌≡◌, ℕ, ap, subst}
 use Rattle.ot_model.specs.Table.{Client, State}
 use Rattle.ot_machine.specs.declared.kept.Before.{Before}

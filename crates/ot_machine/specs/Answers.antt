@@ -10,7 +10,7 @@ IsPerformed (Performed s shown) = Unit {0}
 IsPerformed (Refused r) = ⊥
 IsPerformed NoRow = ⊥
 
--- the table refuses for this reason; memory is wanting only where the table performs
+-- the table refuses for this reason; out of memory only where the table performs
 abbrev pub IsRefusal : Outcome → Refusal → Type 0
 IsRefusal outcome NoSuchClient = outcome ≡ Refused NoSuchClient
 IsRefusal outcome StepsFull = outcome ≡ Refused StepsFull

@@ -8,7 +8,7 @@ use Rattle.ot_model.specs.Operation.{Operation}
 use Rattle.ot_model.specs.Table.{Client, Entry, Phase, State, absent, carried, is_joined}
 use Rattle.ot_machine.specs.declared.delivery.Applied as given
 
--- the head of client c's downlink, carried over what the client waits for; none where it is the client's own entry, or nothing
+-- the head of client c's downlink, transformed against the client's pending operations; none where it is the client's own entry, or nothing
 abbrev pub carried_head : ℕ → Phase → Option Entry → Option (Operation Tagged)
 carried_head c phase None = None
 carried_head c phase (Some h) = if h.maker == c then None else Some (carried phase h.op)

@@ -19,7 +19,7 @@ reached s (Some stop) = stop.0
 abbrev pub IsRefusedIn : Program → State → ℕ → Refusal → Type 0
 IsRefusedIn s state place refusal = (i : Instr) × (slice_get s.instrs place ≡ Some i) × (step state i ≡ Refused refusal)
 
--- memory may be wanting before an instruction that the table performs; any other stop is the table's
+-- memory may run out before an instruction that the table performs; any other stop is the table's
 abbrev pub IsStopAt : Program → State → ℕ → Refusal → Type 0
 IsStopAt s state place Memory = place < done s
 IsStopAt s state place refusal = (place ≡ done s) × IsRefusedIn s state place refusal
@@ -34,7 +34,7 @@ pub record IsRun (s : Program) (run : Run) : Type 0 where
   pub at : place_at s (reached s run.stopped) ≡ Some (record { state = run.machine; shown = run.shown.items })
   pub stop : IsStop s run.machine run.stopped
 
--- where the run of the schedule ended; what it showed is not told
+-- where the run of the schedule ended; what it showed is not said
 pub record IsEnding (s : Program) (ending : Ending) : Type 0 where
   pub shown : List Shown
   pub at : place_at s (reached s ending.stopped) ≡ Some (record { state = ending.machine; shown = shown })

@@ -20,7 +20,7 @@ pub record AreReordered (first second : Program) : Type 0 where
 abbrev pub IsWhole : Program → Type 0
 IsWhole s = done s ≡ length s.instrs
 
--- both runs reach their ends, in one state, and each machine has shown the same lists in the same order
+-- both runs reach their ends, in the same state, and each machine has shown the same lists in the same order
 pub record EndAlike (first second : Program) : Type 0 where
   pub one : Place
   pub other : Place
@@ -38,8 +38,8 @@ pub record StopsEarly (s : Program) : Type 0 where
   pub refused : step place.state early ≡ Refused LinkEmpty
   pub awaited : 1 ≤ count_by (awaits early) (drop (suc (done s)) s.instrs)
 
--- a second run, with its stop, beside a first one that did not stop: it did not stop either, both machines are in one state, and of each
--- client's reads and the server's the same lists were shown; or it stopped for an empty link, or for want of memory
+-- a second run, with its stop, beside a first one that did not stop: it did not stop either, both machines are in the same state, and of each
+-- client's reads and the server's the same lists were shown; or it stopped for an empty link, or out of memory
 abbrev pub IsBeside : Run → Run → Option (ℕ × Refusal) → Type 0
 IsBeside one other None = (one.machine ≡ other.machine) × AreSameShown one.shown.items other.shown.items
 IsBeside one other (Some stop) = (stop.1 ≡ LinkEmpty) ⊎ (stop.1 ≡ Memory)

@@ -102,7 +102,7 @@ abbrev pub state_from : History Tagged → List Seat → ℕ → State
 state_from server seats steps =
     record { log = server.log; server = server.document; clients = map client_of seats; steps = steps }
 
--- what the machine keeps
+-- the invariant of the machine
 pub record IsKept (server : History Tagged) (seats : List Seat) (steps : ℕ) : Type 0 where
   pub sound : IsSound (state_from server seats steps)
   pub queues : AreQueues (length server.log) (map view_of seats)
@@ -157,7 +157,7 @@ joined_at revision list x = record { revision = revision; phase = Synchronized; 
 abbrev pub IsWaiting : History Tagged → Seat → Type 0
 IsWaiting server seat = seat.down.items ≡ numbers (revision_of seat.client) (length server.log - revision_of seat.client)
 
--- the operation under way from a client, carried to its own revision
+-- the operation under way from a client, transformed to its own revision
 abbrev pub outstanding_of : ℕ → Phase → Option Message
 outstanding_of revision NotJoined = None
 outstanding_of revision Synchronized = None
@@ -197,7 +197,7 @@ emptied c [] = []
 emptied zero (v ∷ views) = without_message v ∷ views
 emptied (suc c) (v ∷ views) = v ∷ emptied c views
 
--- the server's fault is want of memory
+-- the server's fault is out of memory
 abbrev pub IsMemory : ServerFault → Type 0
 IsMemory fault.Memory = Unit {0}
 IsMemory fault.NotInHistory = ⊥

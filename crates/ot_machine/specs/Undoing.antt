@@ -1,4 +1,4 @@
--- What a step keeps so that it can be taken back.
+-- The undo records of steps.
 use Rattle.std.specs.Prelude.{◌≡◌, ◌↔◌, ℕ, suc, ◌-◌, Bool, true, IsTrue, List, ◌∷◌, Option, Some, None, length, slice_get, take, ◌==◌, if◌then◌else◌}
 use Rattle.ot_isa.specs.declared.elements.Tagged.{Tagged}
 use Rattle.ot_text.specs.Operation.{Operation, apply}
@@ -24,7 +24,7 @@ list_before (Some inverse) list = apply inverse list
 abbrev pub phase_before : Past Tagged → Phase → Phase
 phase_before past phase = by_rule NotJoined (λ p. phase_in (client.phase_before past p)) phase
 
--- what is kept is over the phase after it
+-- what is recorded is over the phase after it
 abbrev pub FitsPhase : Past Tagged → Phase → Type 0
 FitsPhase past phase = by_rule ⊥ (λ p. client.FitsPhase past p) phase
 
@@ -48,11 +48,11 @@ abbrev pub FitsBack : Option (Operation Tagged) → List Tagged → Type 0
 FitsBack None list = Unit {0}
 FitsBack (Some inverse) list = inverse.base ≡ length list
 
--- the inverse, if there is one, takes the list after back to the list before
+-- the inverse, if there is one, restores the list before from the list after
 abbrev pub GivesBack : Option (Operation Tagged) → List Tagged → List Tagged → Type 0
 GivesBack inverse before after = FitsBack inverse after × (list_before inverse after ≡ before)
 
--- what is kept of the client x before a step after which it has this phase and this list, and which takes a message off its downlink, or not
+-- the undo record of the client x, before a step after which it has this phase and this list, and which takes a message off its downlink, or not
 pub record IsBefore (before : Before) (x : Client) (phase : Phase) (list : List Tagged) (received : Bool) : Type 0 where
   pub waited : phase_before before.past phase ≡ x.phase
   pub fits : FitsPhase before.past phase
@@ -70,7 +70,7 @@ pub record Restores (before : Before) (y x : Client) : Type 0 where
   pub joined : is_joined x.phase ≡ true
   pub revision : x.revision ≡ (if before.received then suc y.revision else y.revision)
 
--- the last message on the way to a client taken back
+-- the last message on the way to a client removed
 abbrev pub unsent : View → View
 unsent v = record { client = v.client; queue = take (length v.queue - 1) v.queue }
 
@@ -120,18 +120,18 @@ pub record IsRecord (earlier s : State) (kept : Record) : Type 0 where
   pub sound : IsSound earlier
   pub step : IsStepOf kept earlier s
 
--- this takes the step back that led from the earlier state, which is sound, to this one
+-- this undoes the step that led from the earlier state, which is sound, to this one
 abbrev pub Undoes : State → State → Undo → Type 0
 Undoes earlier s undo = IsRecord earlier s undo.step
 
--- what a record keeps of what this client waited for, if its step was the client's own
+-- what a record has of this client's pending operations, if its step was the client's own
 abbrev pub past_of : ℕ → Record → Option (Past Tagged)
 past_of c (ClientStep d before) = if d == c then Some before.past else None
 past_of c (Taken d message inverse) = None
 past_of c (Joined d) = None
 past_of c Read = None
 
--- a step of client c led from the earlier state to this one, and of what the client waited for before it this is kept, over what it waits for after it
+-- a step of client c led from the earlier state to this one, and this is recorded of what was pending before it, over what is pending after it
 pub record WaitedBefore (c : ℕ) (past : Past Tagged) (earlier s : State) : Type 0 where
   pub was : Client
   pub is : Client

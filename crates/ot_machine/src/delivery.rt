@@ -18,14 +18,14 @@ use std::alloc::AllocError;
 pub enum Applied {
     /// The instruction was no delivery.
     Nothing,
-    /// The operation of the log's entry with this number, counted from 0, as it stands there: the client waited for nothing.
+    /// The operation of the log's entry with this number, counted from 0, as it stands there: the client had no pending operation.
     Entry(usize),
-    /// The entry's operation, carried over what the client waited for.
+    /// The entry's operation, transformed against the client's pending operations.
     Carried(TextOp<Tagged>),
 }
 
 impl Applied {
-    // What was carried, or else the operation of the entry with this number.
+    // What was transformed, or else the operation of the entry with this number.
     #[inline(always)]
     pub(crate) fn of(number: usize, carried: Option<TextOp<Tagged>>) -> Applied
         ensures { (op made : Operation Letter) → unwrap_or carried op ≡ made → IsMadeOf number op made result }
@@ -37,7 +37,7 @@ impl Applied {
     }
 
     /// The operation that was applied. An entry's is lent from the log of this machine, which is the one that performed the delivery; it stands there as
-    /// long as the delivery is not taken back. A look-up.
+    /// long as the delivery is not undone. A look-up.
     pub fn operation<'a>(&'a self, machine: &'a Machine) -> Option<&'a TextOp<Tagged>>
         ensures { option_copied result ≡ applied_in machine.now self.now }
     {
@@ -53,15 +53,15 @@ impl Applied {
 }
 
 impl Machine {
-    /// What a delivery to the client would apply to its list: the operation at the head of its downlink, carried over what the client
-    /// waits for, which fits the list. None where the client has not joined, nothing is on the way to it, or its own operation comes next.
+    /// What a delivery to the client would apply to its list: the operation at the head of its downlink, transformed against the client's
+    /// pending operations; it fits the list. None where the client has not joined, nothing is on the way to it, or its own operation comes next.
     /// Costs what the delivery does, but for the list; `AllocError` where a growth was refused.
     pub fn delivery(&self, client: u16) -> Result<Option<TextOp<Tagged>>, AllocError>
         requires { client < length self.now.clients }
         ensures value { IfOk result (λ applied. ClientHas self.now client (delivery_of self.now client) applied) }
         ensures fits { IfOk result (λ applied. IfSome applied (λ op. ClientHas self.now client (λ x. length x.list) op.base)) }
     {
-        // For the proof: what every machine keeps.
+        // For the proof: the invariant of every machine.
         let _sound = self.clients();
         let seat = self.seat(client);
         let Some(receiver) = &seat.client else {

@@ -1,5 +1,5 @@
-//! What is kept of a client before a step of its own, and how it comes back. `KEPT` says whether a step is to be taken back; where it is not,
-//! nothing is made and nothing is kept.
+//! The undo record of a client's own step, and how the step is undone. `KEPT` says whether a step may have to be undone; where it may not,
+//! nothing is made and nothing is recorded.
 
 ghost use Rattle.std.specs.Prelude.{◌≡◌, length, map, IfErr, IfOk, IsSomeAnd, IsTrue, OnErr, OnOk};
 ghost use Rattle.ot_text.specs.Operation.{apply};
@@ -14,8 +14,8 @@ use ot_isa::Tagged;
 use ot_text::{Doc, TextOp};
 use std::alloc::AllocError;
 
-/// A client as it was before a step of its own, kept over the client after it: what it waited for, the inverse of what the step applied to its list,
-/// its revision, how much it had inserted, whether nothing was under way from it, and whether the step took a message off its downlink.
+/// A client as it was before a step of its own, recorded as changes of the client after it: its pending operations, the inverse of what the step
+/// applied to its list, its revision, how much it had inserted, whether nothing was under way from it, and whether the step took a message off its downlink.
 #[derive(Drop)]
 pub(crate) struct Before {
     pub past: Past<Tagged>,
@@ -26,7 +26,7 @@ pub(crate) struct Before {
     pub received: bool,
 }
 
-// What takes the operation back from the list that it makes of this one.
+// The inverse of the operation, over the list that it makes of this one.
 fn inverse_of(op: &TextOp<Tagged>, list: &Doc<Tagged>) -> Result<Inverse<Tagged>, AllocError>
     requires { op.now.base ≡ length list.now }
     ensures base { IfOk result (λ inverse. inverse.base ≡ length (apply op.now list.now)) }
@@ -39,7 +39,7 @@ fn inverse_of(op: &TextOp<Tagged>, list: &Doc<Tagged>) -> Result<Inverse<Tagged>
     Ok(inverse)
 }
 
-// What is kept of the client, which is taken out of its seat, before a prepared step that applies an operation to its list.
+// The undo record of the client, which is taken out of its seat, before a prepared step that applies an operation to its list.
 pub(crate) fn before_change<const KEPT: bool>(
     seat: &Seat,
     step: &PreparedStep<Tagged>,
@@ -64,14 +64,14 @@ pub(crate) fn before_change<const KEPT: bool>(
     }))
 }
 
-// The last message on the way to the client taken back.
+// Removes the last message on the way to the client.
 fn unsend(seat: &mut Seat)
     ensures { view_of seat.new ≡ unsent (view_of seat.old) }
 {
     let _ = seat.down.take_back();
 }
 
-// The last message on the way to each client taken back.
+// Removes the last message on the way to each client.
 pub(crate) fn unsend_all(seats: &mut Vec<Seat>)
     ensures { map view_of seats.new.items ≡ map unsent (map view_of seats.old.items) }
 {
@@ -80,7 +80,7 @@ pub(crate) fn unsend_all(seats: &mut Vec<Seat>)
     }
 }
 
-// The client as it was before the step. Where memory is wanting what was kept comes back.
+// The client as it was before the step. Where memory runs out the record comes back.
 pub(crate) fn revert(seat: &mut Seat, before: Before) -> Result<(), (AllocError, Before)>
     requires list { FitsBack before.inverse seat.old.list }
     requires phase { FitsPhase before.past (phase_of seat.old.client) }
@@ -107,7 +107,7 @@ pub(crate) fn revert(seat: &mut Seat, before: Before) -> Result<(), (AllocError,
     Ok(())
 }
 
-// Its client and its list as they were before the step; for want of memory they stay.
+// Its client and its list as they were before the step; if memory runs out, they stay.
 fn revert_client(seat: &mut Seat, before: &Before) -> Result<(), AllocError>
     requires list { FitsBack before.now.inverse seat.old.list }
     requires phase { FitsPhase before.now.past (phase_of seat.old.client) }

@@ -21,7 +21,7 @@ pub fn runs_converge()
     ensures { RunsConverge }
 {}
 
-/// What a step keeps so that it can be taken back and the state after the step leave one state before it: no list is kept, and nothing
+/// The undo record of a step and the state after the step leave one state before it: no list is recorded, and nothing
 /// of the state before is lost.
 pub fn records_determine()
     ensures { RecordsDetermine }
@@ -53,8 +53,8 @@ pub fn one_has_both()
     ot_model::laws::one_has_both();
 }
 
-/// The trace of every schedule, late joiners included, has the weak list property of Attiya et al. (PODC 2016); the three laws before
-/// this one carry it.
+/// The trace of every schedule, late joiners included, has the weak list property of Attiya et al. (PODC 2016); it rests on the three
+/// laws before this one.
 pub fn runs_have_weak_lists()
     ensures { WeakList }
 {

@@ -9,8 +9,8 @@
 //! ```
 //!
 //! - A [`Machine`] is seen by contracts as the `State` of the table (`ot_model`'s specs/Table.antt):
-//!   log, server's list, clients, number of steps. Its type keeps that this state is sound
-//!   (specs/Sound.antt there): a property of the state alone, without its history. So no length
+//!   log, server's list, clients, number of steps. Its type invariant says that this state is sound
+//!   (specs/Sound.antt there): a property of the state alone, not of the run that led to it. So no length
 //!   passes 1,000,000, the server refuses no message, and wherever all is quiet every joined
 //!   client's list is the server's.
 //! - [`Machine::step`] performs one instruction, or refuses it as the table does and changes
@@ -23,7 +23,7 @@
 //! - [`Machine::clients`] and the calls beside it read the fields of the state
 //!   (specs/Readers.antt); [`Machine::state`] copies what a user looks at.
 //! - [`Machine::delivery`] is what a delivery would apply (specs/Delivery.antt), and changes nothing. [`Machine::perform_applied`]
-//!   performs an instruction and gives what a delivery applied ([`Applied`]): nobody who performs one need carry its operation twice.
+//!   performs an instruction and gives what a delivery applied ([`Applied`]): nobody who performs one need transform its operation twice.
 //! - [`Machine::perform`] performs an instruction too and says who is read by it; [`Machine::document_of`] shows that
 //!   list, where `step` copies it, [`end_of_run`] runs a schedule so, and [`run_on`] from a place on (specs/Ended.antt).
 //! - A delivery may give a synchronized client the list of the server, or of another one that has taken the same entry: where an operation changes a very long
@@ -32,7 +32,7 @@
 //!   part still begins the client that is here, and [`Machine::install`] puts a client back that made
 //!   steps off the machine (specs/Parts.antt, over specs/Part.antt and specs/Session.antt of `ot_model`).
 //! - [`laws`] has the theorems of all runs: every state is sound, and where a run is quiet, all lists
-//!   are one (specs/Laws.antt). Logs of several machines need no order between machines:
+//!   are equal (specs/Laws.antt). Logs of several machines need no order between machines:
 //!   [`laws::any_order`] (specs/Orders.antt).
 //! - [`run`] performs a whole schedule up to its first instruction that is not performed
 //!   (specs/Ended.antt, over `place_at` and `done` of specs/Runs.antt).

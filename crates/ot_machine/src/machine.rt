@@ -73,7 +73,7 @@ impl Machine {
         })
     }
 
-    // The rows, each as a plain step and as one that is `KEPT`: then it gives the record that takes it back, made before anything is changed.
+    // The rows, each as a plain step and as one that is `KEPT`: then it gives its undo record, made before anything is changed.
 
     // The client's own edit: tagged, applied to its list, and sent or kept in its buffer.
     pub(crate) fn edit<const KEPT: bool>(
@@ -109,7 +109,7 @@ impl Machine {
         Ok(Record::of_client(client, before))
     }
 
-    // The server receives what is under way from the client, and tells all joined clients.
+    // The server receives what is under way from the client, and notifies all joined clients.
     pub(crate) fn take<const KEPT: bool>(&mut self, client: u16) -> Result<Option<Record>, Refusal>
         ensures done { OnOk result (step self.old (Take client) ≡ Performed self.new None) }
         ensures refused { IfErr result (λ r. IsRefusal (step self.old (Take client)) r) }

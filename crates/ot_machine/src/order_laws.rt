@@ -15,16 +15,16 @@ pub fn any_order(first: &Schedule, second: &Schedule)
     ensures ends { AreReordered first.now second.now → IsWhole first.now → EndAlike first.now second.now ⊎ StopsEarly second.now }
     ensures not_both { EndAlike first.now second.now → StopsEarly second.now → ⊥ }
 {
-    // For the proof: what every schedule keeps.
+    // For the proof: the invariant of every schedule.
     let _ = first.clients();
 }
 
 /// The same of what [`run`](crate::run) gives for two such schedules, the first run without a stop: where the second has no stop
-/// either, the machines are in one state, and each machine has shown the same lists in the same order; its stop is `LinkEmpty`, or
-/// want of memory.
+/// either, the machines are in the same state, and each machine has shown the same lists in the same order; its stop is `LinkEmpty`, or
+/// out of memory.
 pub fn runs_beside(first: &Schedule, second: &Schedule, one: &Run, other: &Run)
     ensures { AreReordered first.now second.now → IsRun first.now one.now → IsRun second.now other.now → one.now.stopped ≡ None → IsBeside one.now other.now other.now.stopped }
 {
-    // For the proof: what every schedule keeps.
+    // For the proof: the invariant of every schedule.
     let _ = first.clients();
 }

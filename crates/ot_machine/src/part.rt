@@ -156,7 +156,7 @@ fn are_first(incoming: &Downlink<Message>, client: u16, entries: &[Entry<Tagged>
     true
 }
 
-// The clients are in one state, at one revision and with equal operations.
+// The clients are in the same state, at the same revision and with equal operations.
 fn same_client(a: &Client<Tagged>, b: &Client<Tagged>) -> bool
     ensures { IsTrue result ↔ (state_of a.now ≡ state_of b.now) }
 {

@@ -1,4 +1,4 @@
-//! Instructions and runs of which no list is kept: it stands in the machine, and is looked at there.
+//! Instructions and runs of which no list is recorded: it stands in the machine, and is looked at there.
 
 ghost use Rattle.std.specs.Prelude.{◌≡◌, ◌≤◌, length, IfErr, IfOk, IfSome, None, OnErr, OnOk, Some};
 ghost use Rattle.std.specs.Option.{option_map};
@@ -116,7 +116,7 @@ impl Machine {
         }
     }
 
-    /// Performs the instruction as [`Machine::perform`] does, and gives what takes it back, as [`Machine::step_kept`] does: for `undo`, on
+    /// Performs the instruction as [`Machine::perform`] does, and gives its undo record, as [`Machine::step_kept`] does: for `undo`, on
     /// the machine as it is then. A read copies no list.
     ///
     /// The refusals are those of `step`; `Memory` is none of a read's. After an error nothing has changed.
@@ -196,7 +196,7 @@ pub fn run_on(schedule: &Schedule, from: usize, machine: Machine) -> Ending
     }
 }
 
-/// Runs the schedule as [`run`] does, and keeps none of the lists that its reads show: it takes the memory of the machine alone, and a read
+/// Runs the schedule as [`run`] does, and records none of the lists that its reads show: it takes the memory of the machine alone, and a read
 /// none.
 pub fn end_of_run(alloc: Global, schedule: &Schedule) -> Result<Ending, AllocError>
     ensures { IfOk result (λ ending. IsEnding schedule.now ending) }

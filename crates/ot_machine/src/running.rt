@@ -82,7 +82,7 @@ impl Machine {
         Ok(())
     }
 
-    // Performs the instruction, if the table does and what it shows can be kept.
+    // Performs the instruction, if the table does and what it shows can be recorded.
     fn keep(&mut self, instr: &Instr, shown: &mut Vec<Shown>) -> Result<(), Refusal>
         ensures done { OnOk result (table.run (instr.now ∷ []) (record { state = self.old; shown = shown.old.items }) ≡ Some (record { state = self.new; shown = shown.new.items })) }
         ensures refused { IfErr result (λ r. IsRefusal (step self.old instr.now) r) }
@@ -114,7 +114,7 @@ impl Machine {
 }
 
 /// Runs the schedule from its opening up to the first instruction that is not performed: one that is refused, one that finds no
-/// memory, or a read whose list cannot be kept. For want of memory at the opening there is no run.
+/// memory, or a read whose list cannot be recorded. If memory runs out at the opening there is no run.
 pub fn run(alloc: Global, schedule: &Schedule) -> Result<Run, AllocError>
     ensures { IfOk result (λ run. IsRun schedule.now run) }
 {

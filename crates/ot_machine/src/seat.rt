@@ -1,4 +1,4 @@
-//! A client's place in the machine, and the rows there. A row gives what takes it back where it is `KEPT` (kept.rt). Each has one caller, and is
+//! A client's place in the machine, and the rows there. A row gives its undo record where it is `KEPT` (kept.rt). Each has one caller, and is
 //! put in its place there, so that a plain row pays nothing for a record that it does not give.
 
 ghost use Rattle.std.specs.Prelude.{◌≡◌, ◌+◌, ◌≤◌, ◌<◌, ◌↔◌, ◌++◌, drop, length, map, replicate, slice_get, true, OnOk, OnErr, IfOk, IfSome, IsSomeAnd, IsTrue, None, Some};
@@ -100,7 +100,7 @@ pub(crate) fn put_up(up: &mut Uplink<Sent<Tagged>>, sent: Option<Sent<Tagged>>)
     }
 }
 
-// The list of the client, which is taken out of its seat, after what its prepared step applies, made here or given; and what takes the step back where it is `KEPT`.
+// The list of the client, which is taken out of its seat, after what its prepared step applies, made here or given; and the step's undo record where it is `KEPT`.
 #[inline(always)]
 fn change_list<const KEPT: bool>(
     seat: &mut Seat,
@@ -278,7 +278,7 @@ pub(crate) fn deliver<const KEPT: bool>(
     }
 }
 
-// What takes an acknowledgement back, where it is `KEPT`.
+// The undo record of an acknowledgement, where it is `KEPT`.
 #[inline(always)]
 fn confirmed<const KEPT: bool>(past: Past<Tagged>, revision: u32, count: u32) -> Option<Before>
     ensures { IsTrue KEPT → result ≡ Some (record { past = past; inverse = None; revision = revision; count = count; unsent = true; received = true }) }
@@ -333,7 +333,7 @@ pub(crate) fn join(seat: &mut Seat, revision: u32, document: &Doc<Tagged>) -> Re
     Ok(())
 }
 
-// The server's fault where it can only want memory.
+// The server's fault where it can only be out of memory.
 fn only_memory(fault: ServerFault) -> AllocError
     requires { IsMemory fault }
 {
@@ -346,7 +346,7 @@ fn only_memory(fault: ServerFault) -> AllocError
     }
 }
 
-// The server receives the operation, which it does not refuse. Gives the inverse of what it appended, where that is kept.
+// The server receives the operation, which it does not refuse. Gives the inverse of what it appended, where that is recorded.
 fn receive<const KEPT: bool>(
     server: &mut Server<Tagged>,
     client: u16,
@@ -370,7 +370,7 @@ fn receive<const KEPT: bool>(
     }
 }
 
-// The server receives an operation that waits, which it does not refuse: one that is held as one list of components as it is, another one as a copy.
+// The server receives a pending operation, which it does not refuse: one that is held as one list of components as it is, another one as a copy.
 fn receive_held<const KEPT: bool>(
     server: &mut Server<Tagged>,
     client: u16,
@@ -388,8 +388,8 @@ fn receive_held<const KEPT: bool>(
     }
 }
 
-// The server receives what is under way from the client. The outstanding operation is the message carried over what the client has
-// seen of the log, so only the entries that it has not seen are left to carry it over.
+// The server receives what is under way from the client. The outstanding operation is the message transformed against what the client has
+// seen of the log, so only the entries that it has not seen are left to transform it against.
 fn receive_outstanding<const KEPT: bool>(
     server: &mut Server<Tagged>,
     seat: &Seat,
@@ -412,7 +412,7 @@ fn receive_outstanding<const KEPT: bool>(
 }
 
 // What is under way from this client goes to the server, and word of it to all. Gives the message, and the inverse of what the server
-// appended, where that is kept.
+// appended, where that is recorded.
 pub(crate) fn take_in<const KEPT: bool>(
     server: &mut Server<Tagged>,
     seats: &mut Vec<Seat>,

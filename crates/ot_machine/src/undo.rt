@@ -1,4 +1,4 @@
-//! Steps with what takes them back, and taking them back.
+//! Steps with their undo records, and undoing them.
 
 ghost use Rattle.std.specs.Prelude.{◌≡◌, IfErr, IfOk, IfSome, None, OnErr, OnOk, Some};
 ghost use Rattle.std.specs.Option.{option_copied, option_map};
@@ -16,7 +16,7 @@ use ot_isa::{Instr, Tagged};
 use ot_model::{Refusal, Shown};
 use std::alloc::AllocError;
 
-/// What takes one step of a machine back: of the client's state what the step changed, inverse operations and the message taken, but no list.
+/// The undo record of one step of a machine: of the client's state what the step changed, inverse operations and the message taken, but no list.
 /// `Machine::step_kept` gives it, `Machine::undo` takes it.
 #[derive(Drop)]
 pub struct Undo {
@@ -33,7 +33,7 @@ pub(crate) enum Record {
 }
 
 impl Record {
-    // Of a step at a client, where what was before it is kept.
+    // Of a step at a client, where what was before it is recorded.
     #[inline(always)]
     pub(crate) fn of_client(client: u16, before: Option<Before>) -> Option<Record>
         ensures { result ≡ option_map (ClientStep client) before }
@@ -44,7 +44,7 @@ impl Record {
         }
     }
 
-    // Of a Take, where the inverse of what was appended is kept.
+    // Of a Take, where the inverse of what was appended is recorded.
     #[inline(always)]
     pub(crate) fn of_take(
         client: u16,
@@ -76,7 +76,7 @@ impl Undo {
         Undo { step: made }
     }
 
-    /// Of what the client waited for before the step what is kept, over what it waits for after it, where the step was its own: an edit, a
+    /// What is recorded of the client's pending operations before the step, as changes of those after it, where the step was its own: an edit, a
     /// delivery or an acknowledgement. None of a step of another client, of a Take, a Join or a read.
     pub fn past(&self, client: u16) -> Option<&Past<Tagged>>
         ensures is { option_copied result ≡ past_of client self.now.step }
@@ -88,8 +88,8 @@ impl Undo {
         }
     }
 
-    /// About how much it keeps, counted in components and elements, 1 at least: those of the inverse, and the components of the message that a Take took.
-    /// What the client waited for before the step is not counted: it is as large as the inverse, about, or as a message. A look-up.
+    /// About how much it stores, counted in components and elements, 1 at least: those of the inverse, and the components of the message that a Take
+    /// took. The client's pending operations before the step are not counted: they are as large as the inverse, about, or as a message. A look-up.
     pub fn size(&self) -> usize {
         match &self.step {
             Record::ClientStep(_, before) => match &before.inverse {
@@ -106,8 +106,8 @@ impl Undo {
 }
 
 impl Machine {
-    /// Performs the instruction as `step` does, and gives what takes it back too: for `undo`, on the machine as it is then.
-    /// The refusals are those of `step`; what is kept is made before anything is changed, so that after `Memory` too nothing has changed.
+    /// Performs the instruction as `step` does, and gives its undo record too: for `undo`, on the machine as it is then.
+    /// The refusals are those of `step`; the record is made before anything is changed, so that after `Memory` too nothing has changed.
     pub fn step_kept(&mut self, instr: &Instr) -> Result<(Option<Shown>, Undo), Refusal>
         ensures done { IfOk result (λ given. step self.old instr.now ≡ Performed self.new given.0) }
         ensures refused { IfErr result (λ r. IsRefusal (step self.old instr.now) r) }
@@ -189,8 +189,8 @@ impl Machine {
         Ok(())
     }
 
-    /// Takes the last step back, of which `step_kept` gave this: the machine is as it was before that step, its number of steps too.
-    /// For want of memory the machine is as it was, and what was given comes back.
+    /// Undoes the last step, whose record `step_kept` gave: the machine is as it was before that step, its number of steps too.
+    /// If memory runs out, the machine is as it was, and what was given comes back.
     pub fn undo(&mut self, undo: Undo) -> Result<(), (AllocError, Undo)>
         requires { IsUndoable self.old undo }
         ensures ok { (earlier : State) → Undoes earlier self.old undo → OnOk result (self.new ≡ earlier) }

@@ -13,7 +13,7 @@ use Rattle.ot_isa.specs.declared.elements.Tagged.{Tagged}
 use Rattle.ot_model.specs.Operation.{Operation, IsOperation, apply, compose, inserted, news, first_after, second_after}
 use Rattle.ot_model.specs.Sound.{Fits, has_tag, times}
 
--- what the algebra promises, at the tagged elements
+-- what the algebra ensures, at the tagged elements
 pub record AlgebraLaws : Type 0 where
   pub apply-length : (a : Operation Tagged) (d : List Tagged) → Fits a d → length (apply a d) ≡ length a.image
   pub first_fits : (a b : Operation Tagged) (d : List Tagged) → Fits a d → Fits b d → Fits (first_after a b) (apply b d)

@@ -54,7 +54,7 @@ IsPhaseSound_push c (AwaitingConfirm o) start seen ahead list message e other so
 IsPhaseSound_push c (AwaitingWithBuffer o b) start seen ahead list message e other sound =
     record { fits = sound.fits; buffer_fits = sound.buffer_fits; list_is = sound.list_is; sent = IsSent_push c o start seen ahead message e other sound.sent }
 
--- what is taken is the outstanding, carried over what the client has not seen
+-- what is taken is the outstanding, transformed against what the client has not seen
 pub taken_is : (c : ℕ) (o : Operation Tagged) (start : List Tagged) (seen ahead : List Entry) (m : Message) → IsUnderway c o start seen ahead m → transform_over m.op (drop m.revision (seen ++ ahead)) ≡ transform_over o ahead
 taken_is c o start seen ahead m u =
     let in_seen : m.revision ≤ length seen = u.revision in
@@ -72,7 +72,7 @@ IsPhaseSound_taken c (AwaitingWithBuffer o b) start seen ahead list m sound =
 module _ (laws : AlgebraLaws) where
   open laws use {first_fits, second_fits, same, compose_fits, apply-compose}
 
-  -- an operation carried over entries that fit goes on to fit
+  -- an operation transformed against entries that fit goes on to fit
   pub transform_over_fits : (o : Operation Tagged) (d : List Tagged) (log : List Entry) → FitAll d log → Fits o d → Fits (transform_over o log) (apply_entries d log)
   transform_over_fits o d [] all fits = fits
   transform_over_fits o d (h ∷ log) all fits = transform_over_fits (first_after o h.op) (apply h.op d) log all.1 (first_fits o h.op d fits all.0)

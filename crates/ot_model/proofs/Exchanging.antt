@@ -309,7 +309,7 @@ set_twice [] i x y = refl
 set_twice (z ∷ xs) zero x y = refl
 set_twice {X = X} (z ∷ xs) (suc i) x y = ap (λ (ws : List X). z ∷ ws) (set_twice xs i x y)
 
--- either can come first, and both orders lead to one state
+-- either can come first, and both orders lead to the same state
 abbrev pub Commutes : (s : State) (i j : Instr) (t u : State) (a b : Option Shown) → Type 0
 Commutes s i j t u a b = (v : State) × (step t j ≡ Performed v b) × (step u i ≡ Performed v a)
 

@@ -140,7 +140,7 @@ module _ (start : List Tagged) (trace : List EventView) (past : List EventView) 
     pub document_now : (j : ℕ) (h : Entry) → slice_get s.log j ≡ Some h → Holds (tags start) trace (logged l.entries j) (apply_entries start (take j s.log))
     document_now j h head = let within = slice_get_within s.log j h head in content.documents j (omega arith)
 
-    -- a client's operation, carried to the log's end
+    -- a client's operation, transformed to the log's end
     pub carried_holds : (c own j : ℕ) (x : Client) (o : Operation Tagged) (ahead : List Entry) → slice_get s.clients c ≡ Some x → x.revision ≤ j → sent_by l c ≤ own → own ≤ made_by l c → drop j s.log ≡ ahead
         → FitAll (apply_entries start (take j s.log)) ahead → Fits o (apply_entries start (take j s.log)) → NoneBy c ahead → ((t : Tag) → times t (apply_entries start (take j s.log)) + (times t (news o) + times_new t (operations ahead)) ≤ 1)
         → Holds (tags start) trace (with_own c own (logged l.entries j)) (apply o (apply_entries start (take j s.log)))

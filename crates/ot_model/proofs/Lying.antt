@@ -29,7 +29,7 @@ use Rattle.ot_model.proofs.Carrying.{IsSettled, Comes, IsCarried, IsCarriedBy, e
 
 -- ---- along a run
 
--- at this place of the run the counts tell what lies where
+-- at this place of the run the counts say what lies where
 record IsLying (run : Program) (n : ℕ) (s : State) (l : Ledger) : Type 0 where
   at : IsStateAt run n s
   clients : length s.clients ≡ run.clients
@@ -177,7 +177,7 @@ module _ (run : Program) (past : List EventView) (n : ℕ) (s : State) (l : Ledg
 
 -- ---- the whole run
 
--- at each later place of the run the counts tell what lies where
+-- at each later place of the run the counts say what lies where
 abbrev Tells : Program → List Instr → ℕ → State → Ledger → Type 0
 Tells run is n s l =
     (m : ℕ) (t : State) (first last : List Shown) → m ≤ length is → run_from (take m is) (record { state = s; shown = first }) ≡ Some (record { state = t; shown = last })

@@ -46,7 +46,7 @@ module _ (laws : AlgebraLaws) (order : OrderLaws) where
     | inr later ↦ inr (inr later)
   ]
 
-  -- a path carried over z
+  -- a path transformed against z
   pub lifted_fits : (z : Operation Tagged) (d : List Tagged) (es : List (Operation Tagged)) → Fits z d → PathFits d es → PathFits (apply z d) (lifted z es)
   lifted_fits z d [] fits path = tt
   lifted_fits z d (e ∷ es) fits path =

@@ -54,7 +54,7 @@ abbrev answer : Program → ℕ → Instr → Option Answer
 answer s c i =
     elim (part_after s c) [ Some p ↦ elim (part_row p i) [ PartPerformed q list ↦ Some Done | PartRefused r ↦ Some (No r) | PartNoRow ↦ Some Never ] | None ↦ None ]
 
--- "b" is in the log, and the first client has not heard of it
+-- "b" is in the log, and the first client has not received it
 abbrev one_behind : Program
 one_behind = schedule 2 2 [] (Edit 1 (op (Add (98 ∷ []) ∷ [])) ∷ Take 1 ∷ [])
 
@@ -89,7 +89,7 @@ one_behind-server : answer one_behind 0 ReadServer ≡ Some Never
 unfolding apply compose merge first_after second_after
 one_behind-server = refl
 
--- the second client hears of its own operation, and what it types then goes at the revision after it
+-- the second client receives its own acknowledgement, and what it types then goes at the revision after it
 one_behind-acknowledged : seen_off one_behind 1 (Edit 1 (op (Keep 1 ∷ Add (99 ∷ []) ∷ [])) ∷ Acknowledge 1 ∷ []) ≡ Some (record { revision = 1; text = 98 ∷ 99 ∷ []; left = 0; sent = Some 1; shown = [] })
 unfolding apply compose merge first_after second_after
 one_behind-acknowledged = refl

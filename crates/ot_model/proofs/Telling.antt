@@ -1,4 +1,4 @@
--- Every event of a run is as the weak list property wants it.
+-- Every event of a run is as the weak list property requires it.
 use Rattle.std.proofs.Common.{◌≡◌, ℕ, zero, suc, ◌+◌, ◌-◌, ◌<◌, ◌≤◌, ◌≢◌, List, [], ◌∷◌, ◌++◌, length, take, drop, set, get_or, filter, refl, sym, ap, ◌∙◌, subst, arith, inl, inr, Option, Some, None, true, false, append_assoc, length-append, length-set, map, Bool}
 use Rattle.std.proofs.lemmas.List.{append-nil, length_push, take_all, length-replicate}
 use Rattle.std.proofs.lemmas.List.Elements.{filter-append}
@@ -37,7 +37,7 @@ use Rattle.ot_model.proofs.Delivering.{content_delivered}
 use Rattle.ot_model.proofs.Taking.{content_acknowledged, content_joined, content_taken}
 use Rattle.ot_model.proofs.Editing.{edited_holds, seen_or_here, sees_next, content_edited, opening_content}
 
--- where a run stands, and what has been told of it
+-- where a run stands, and the events so far
 pub record IsTold (start : List Tagged) (text : List ℕ) (trace past : List EventView) (s : State) (l : Ledger) : Type 0 where
   pub sound : IsSoundFrom start text s
   pub counted : IsCounted past s l

@@ -42,7 +42,7 @@ Apart u v = (t : Tag) → Has t u → Has t v → ⊥
 abbrev pub ApartNew : List Tagged → List (Operation Tagged) → Type 0
 ApartNew u es = (t : Tag) → Has t u → HasNew t es → ⊥
 
--- the operations, each carried over what z has become
+-- the operations, each transformed against what z has become
 abbrev pub lifted : Operation Tagged → List (Operation Tagged) → List (Operation Tagged)
 lifted z [] = []
 lifted z (e ∷ es) = second_after z e ∷ lifted (first_after z e) es
@@ -50,7 +50,7 @@ lifted z (e ∷ es) = second_after z e ∷ lifted (first_after z e) es
 abbrev pub operations : List Entry → List (Operation Tagged)
 operations log = map (λ h. h.op) log
 
--- what the entries are to a client with o outstanding: carried over it until it lands, and as they are from there on
+-- what the entries are to a client with o outstanding: transformed against it until it lands, and as they are from there on
 abbrev pub past_outstanding : ℕ → Operation Tagged → List Entry → List (Operation Tagged)
 past_outstanding c o [] = []
 past_outstanding c o (h ∷ log) =
@@ -122,7 +122,7 @@ pub record IsOrdered (start : List Tagged) (s : State) (seen : List Seen) : Type
   pub sound : (u : Seen) → In u seen → IsSeenSound start s u
   pub consistent : (a b : ℕ) (u v : List Tagged) → IsMember start s seen a u → IsMember start s seen b v → IsConsistent u v
 
--- what more the algebra promises
+-- what more the algebra ensures
 pub record OrderLaws : Type 0 where
   pub keeps : (z : Operation Tagged) (d : List Tagged) (a b : Tag) → Fits z d → Before a b (apply z d) → (Has a (news z) → ⊥) → (Has b (news z) → ⊥) → Before a b d
   pub from : (z : Operation Tagged) (d : List Tagged) (t : Tag) → Fits z d → Has t (apply z d) → Has t d ⊎ Has t (news z)

@@ -47,7 +47,7 @@ Convergence =
 abbrev pub history_of : State → History Tagged
 history_of s = record { document = s.server; log = s.log }
 
--- the server of a sound state receives each message under way, want of memory aside
+-- the server of a sound state receives each message under way, unless memory runs out
 abbrev pub ServerAccepts : Type 0
 ServerAccepts =
     (s : State) (c : ℕ) (x : Client) (m : Message)

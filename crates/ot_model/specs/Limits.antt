@@ -12,7 +12,7 @@ pub record IsShort (op : Operation Tagged) : Type 0 where
   pub base : op.base ≤ LIMIT
   pub target : length op.image ≤ LIMIT
 
--- what a client waits for
+-- a client's pending operations
 abbrev pub IsPhaseShort : Phase → Type 0
 IsPhaseShort NotJoined = Unit {0}
 IsPhaseShort Synchronized = Unit {0}

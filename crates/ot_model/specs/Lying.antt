@@ -1,4 +1,4 @@
--- Where an edit of a run lies: in the operation that its client waits for, in the client's buffer, or in an entry of the log. And what the
+-- Where an edit of a run lies: in its client's outstanding operation, in the client's buffer, or in an entry of the log. And what the
 -- counts of a trace say of the same.
 use Rattle.std.specs.Prelude.{◌≡◌, ◌≢◌, ℕ, zero, suc, ◌-◌, ◌<◌, ◌≤◌, ◌⊎◌, ◌↔◌, Bool, true, false, ◌==◌, List, [], ◌∷◌, length, take, get_or, slice_get, count_by, Some}
 use Rattle.ot_isa.specs.Program.{Program}

@@ -27,7 +27,7 @@ pub record Session : Type 0 where
   pub steps : List Instr
   pub now : Part
 
--- what the type of sessions keeps: the start is a client's part in a sound state, and the rows of its client lead from it by these
+-- the type invariant of sessions: the start is a client's part in a sound state, and the rows of its client lead from it by these
 -- at most 64 steps, none refused, to the present part
 pub record IsAllowed (x : Session) : Type 0 where
   pub start : IsSoundPart x.start

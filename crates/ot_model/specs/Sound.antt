@@ -1,4 +1,4 @@
--- What holds of every state of every run, said of the state alone, without its history.
+-- What holds of every state of every run, said of the state alone, not of the run that led to it.
 use Rattle.std.specs.Prelude.{◌≡◌, ℕ, ◌+◌, ◌<◌, ◌≤◌, ◌≢◌, ◌⊎◌, List, [], ◌∷◌, ◌++◌, length, take, drop, slice_get, sum_by, All, Option, Some, None, Bool, ◌==◌, ◌&&◌, count_by, if◌then◌else◌, nat_lt}
 use Rattle.ot_model.specs.Operation.{Operation, IsOperation, apply, inserted, news, first_after}
 use Rattle.ot_model.specs.Table.{Phase, NotJoined, Synchronized, AwaitingConfirm, AwaitingWithBuffer, Client, absent, State, Entry, Message, Outcome, Performed, Refused, NoRow, start_list}
@@ -31,7 +31,7 @@ abbrev pub NoneBy : ℕ → List Entry → Type 0
 NoneBy c [] = Unit {0}
 NoneBy c (h ∷ log) = (h.maker ≢ c) × NoneBy c log
 
--- exactly one entry is c's, and it is o, carried over the entries before it
+-- exactly one entry is c's, and it is o, transformed against the entries before it
 abbrev pub Lands : ℕ → Operation Tagged → List Entry → Type 0
 Lands c o [] = ⊥
 Lands c o (h ∷ log) = (h.maker ≡ c) × (h.op ≡ o) × NoneBy c log ⊎ ((h.maker ≢ c) × Lands c (first_after o h.op) log)

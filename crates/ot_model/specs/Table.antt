@@ -60,7 +60,7 @@ is_joined Synchronized = true
 is_joined (AwaitingConfirm o) = true
 is_joined (AwaitingWithBuffer o b) = true
 
--- a client: how much of the log it has seen, what it waits for, its list, how many characters it has inserted,
+-- a client: how much of the log it has seen, its pending operations, its list, how many characters it has inserted,
 -- and its message to the server, if one is under way
 pub record Client : Type 0 where
   pub revision : ℕ
@@ -143,7 +143,7 @@ edit_row s c x op =
     else if nat_lt INSERTED_LIMIT (x.count + inserted op) then Refused ClientFull
     else Performed (with_client s c (edited x (tag_operation c x.count op))) None
 
--- Take (ot.js: `receiveOperation`): the message, carried over what the log has gained since, is applied and appended
+-- Take (ot.js: `receiveOperation`): the message, transformed against what the log has gained since, is applied and appended
 abbrev pub taken : State → ℕ → Client → Operation Tagged → State
 taken s c x m =
     record {
@@ -157,7 +157,7 @@ abbrev pub take_row : State → ℕ → Client → Option Message → Outcome
 take_row s c x None = Refused LinkEmpty
 take_row s c x (Some m) = Performed (taken s c x (transform_over m.op (drop m.revision s.log))) None
 
--- Deliver (ot.js: `applyServer`): h goes through outstanding and buffer into the list
+-- Deliver (ot.js: `applyServer`): h is transformed against outstanding and buffer, and applied to the list
 abbrev pub phase_delivered : Phase → Operation Tagged → Phase
 phase_delivered phase h = by_rule NotJoined (λ p. phase_in (client.phase_delivered p h)) phase
 

@@ -16,17 +16,17 @@
 //!
 //! - *The written table* (`specs/Table.antt`): a state, and `step`, which says of each instruction
 //!   what it makes of a state, or why it is refused. It restates ot.js' `Client` and `Server`. A
-//!   downlink is not kept: it is the log from its client's revision on.
+//!   downlink is not stored: it is the log from its client's revision on.
 //! - *Runs* (`specs/Runs.antt`): how far a schedule's run goes, and where it is after each of its
 //!   instructions.
-//! - *Soundness* (`specs/Sound.antt`): a property of a state without its history. Each client's list
-//!   is the log's at its revision with what waits applied; what is under way becomes what waits;
+//! - *Soundness* (`specs/Sound.antt`): a property of a state alone, not of the run that led to it. Each client's list
+//!   is the log's at its revision with the pending operations applied; what is under way becomes what is outstanding;
 //!   what a client inserted has tags of its own, each once. Every opening has it and every row keeps
 //!   it (`opening_sound`, `step_sound`), and of it follow convergence (`convergence`) and that no
 //!   call of a client or of the server finds its condition broken (`server_accepts`, `may_deliver`,
 //!   `lengths_fit`).
 //! - *Parts and sessions* (`specs/Part.antt`, `specs/Session.antt`): a client off the table with a
-//!   copy of its downlink, its rows there, and what a session of such steps keeps. The table performs
+//!   copy of its downlink, its rows there, and the invariant of a session of such steps. The table performs
 //!   the steps as one block wherever the start still begins the client (`session_block`), and it does
 //!   so whatever others do meanwhile (`session_waits`).
 //! - *Orders* (`specs/Orders.antt`, `specs/OrderLaws.antt`): logs of several machines give each

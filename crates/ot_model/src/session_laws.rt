@@ -30,7 +30,7 @@ pub fn convergence()
     ensures { Convergence }
 {}
 
-/// The server refuses no message of a sound state, want of memory aside.
+/// The server refuses no message of a sound state, unless memory runs out.
 pub fn server_accepts()
     ensures { ServerAccepts }
 {}

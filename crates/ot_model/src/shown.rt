@@ -27,7 +27,7 @@ pub enum Refusal {
     /// The next message to the client is an acknowledgement (deliver) or another's operation
     /// (acknowledge).
     WrongHead,
-    /// A growth was refused for want of memory, and the instruction would be performed otherwise.
+    /// A growth was refused, and the instruction would be performed otherwise.
     Memory,
 }
 

@@ -1,4 +1,4 @@
--- Runs of an operation taken back, one after the other.
+-- Runs of an operation inverted, one after the other.
 use Rattle.std.proofs.Common.{◌≡◌, ℕ, suc, ◌+◌, ◌<◌, ◌≤◌, List, [], ◌∷◌, ◌++◌, map, length, take, drop, refl, sym, ap, ◌∙◌, arith, append_assoc, append-nil, length-append, Option, Some, None}
 use Rattle.std.proofs.lemmas.List.{length-map, length-take, length-drop, take-append-drop, drop-drop}
 use Rattle.ot_text.proofs.Built.{past_end}
@@ -26,7 +26,7 @@ split_back {A} whole at n d made mid long is all =
     ∙ rw (long, drop-drop) refl in
     append_assoc made mid _ ∙ rw (← is, ← two) all
 
--- of all runs these are left, from a place of the document on; the operation takes the others back
+-- of all runs these are left, from a place of the document on; the operation is the inverse of the others
 pub record TakesBack {A : Type 0} (all left : List (Run A)) (d : List A) (at : ℕ) (op : Operation A) : Type 0 where
   pub base : op.base + length (image_from at left) ≡ length (image_from 0 all)
   pub image : op.image ++ restored_from (image_from 0 all) at (drop at d) ≡ restored_from (image_from 0 all) 0 d

@@ -15,7 +15,7 @@ pub first_is : (codes : List Code) (code : Code) → first_of codes ≡ Some cod
 first_is [] code is = cc
 first_is (c ∷ codes) code is = let e : c ≡ code = cc in ap (λ k. k ∷ codes) e
 
--- codes that spell one shape are one
+-- codes that spell one shape are equal
 
 code_of : (c d : Code) → run_of c ≡ run_of d → c ≡ d
 code_of (Retain m) (Retain n) is = let e : m ≡ n = cc in ap Retain e

@@ -34,7 +34,7 @@ pub fn compose<T: Element>(
 ///
 /// Both take one document: `a.base_len() == b.base_len()`, in elements. The base and all insertions together are at most
 /// 1,000,000, so that neither result is too long. Where both insert at one place, the text of `a` comes first. What both
-/// delete is deleted by neither result. Equal elements are not told apart by value: what the other inserted is kept.
+/// delete is deleted by neither result. Equal elements are distinct elements: what the other inserted is kept.
 ///
 /// `Err` comes only where memory was refused; `a` and `b` are only read.
 pub fn transform<T: Element>(
@@ -55,8 +55,8 @@ pub fn transform<T: Element>(
     ))
 }
 
-/// What `a` becomes after `b`: the first result of `transform`, under its conditions, for an `a` that is no longer wanted, as a server needs it that
-/// carries an operation over its log. The text of `a` moves.
+/// What `a` becomes after `b`: the first result of `transform`, under its conditions, for an `a` that is no longer needed, as a server needs it to
+/// transform an operation against its log. The text of `a` moves.
 ///
 /// `Err` comes only where memory was refused, and `a` is gone then; `b` is only read.
 pub fn transform_first<T: Element>(a: TextOp<T>, b: &TextOp<T>) -> Result<TextOp<T>, AllocError>

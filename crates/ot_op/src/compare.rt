@@ -13,7 +13,7 @@ pub(crate) fn same_text<T: Element>(a: &[T], b: &[T]) -> bool
     a == b
 }
 
-// The two codes are one.
+// The two codes are equal.
 fn same_code(a: Code, b: Code) -> bool
     ensures { IsTrue result ↔ (a ≡ b) }
 {

@@ -21,7 +21,7 @@ impl<T: Element + Item> TextOp<T> {
 
     /// The document that the operation makes of this one, which stays: retained elements are copied, inserted ones added,
     /// deleted ones passed over. The document has to fit. `AllocError` where a growth was refused; nothing has changed then.
-    /// Where the old document is no longer wanted, `Doc::change` copies less.
+    /// Where the old document is no longer needed, `Doc::change` copies less.
     pub fn apply(&self, document: &Doc<T>) -> Result<Doc<T>, AllocError>
         requires { self.now.base ≡ length document.now }
         ensures { IfOk result (λ d. d ≡ apply self.now document.now) }
@@ -31,8 +31,8 @@ impl<T: Element + Item> TextOp<T> {
         Ok(changed)
     }
 
-    /// The operation that takes this one back, as ot.js' `invert`: applied to what this operation makes of `document`, it gives
-    /// `document`. Retains stay, an insertion becomes a deletion of its length, a deletion an insertion of what went.
+    /// The inverse of this operation, as ot.js' `invert`: applied to what this operation makes of `document`, it gives
+    /// `document`. Retains stay, an insertion becomes a deletion of its length, a deletion an insertion of what was deleted.
     /// The document has to fit. `AllocError` where a growth was refused; nothing has changed then.
     pub fn invert(&self, document: &Doc<T>) -> Result<TextOp<T>, AllocError>
         requires { self.now.base ≡ length document.now }
@@ -43,7 +43,7 @@ impl<T: Element + Item> TextOp<T> {
     }
 }
 
-// The operation that takes the components back, on the document that they make of this one.
+// The inverse of the components, on the document that they make of this one.
 fn take_back<T: Element + Item>(
     alloc: Global,
     components: Components<'_, T>,

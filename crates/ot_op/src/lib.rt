@@ -1,7 +1,7 @@
 //! Text operations as their codes and, apart from them, their text.
 //!
-//! An operation goes over a document once, from left to right, as in ot.js' `TextOperation`: it retains, inserts and deletes elements. Here it is its codes
-//! (`ot_codes`: a kind and a length each) and the list of all elements that it inserts, in order:
+//! An operation walks over a document once, from left to right, as in ot.js' `TextOperation`: it retains, inserts and deletes elements. Here it is its
+//! codes (`ot_codes`: a kind and a length each) and the list of all elements that it inserts, in order:
 //!
 //! ```text
 //!     operation   [2,"xy",-3,1,"z"]      on documents of 6 elements
@@ -15,7 +15,7 @@
 //!
 //! - A call of the builder writes a code, and puts an insertion's elements behind the others.
 //! - `transform` changes codes. What `a` becomes has the text of `a`, and what `b` becomes has the text of `b`.
-//! - `compose` changes codes, and cuts the text of `a`: elements that `b` deletes go, and elements that `b` inserts come.
+//! - `compose` changes codes, and cuts the text of `a`: elements that `b` deletes are removed, and elements that `b` inserts are added.
 //! - Two operations are equal where their codes and their texts are.
 //! - Components are read in order without taking memory: an insertion has its part of the text as a slice.
 //! - `apply` changes a copy of a document (`Doc` of `ot_document`), and `invert` reads from the document what the operation deletes.
@@ -124,7 +124,7 @@ impl<T: Element> TextOp<T> {
         Ok(())
     }
 
-    /// Does as `insert` with the elements of a list that is no longer wanted.
+    /// Does as `insert` with the elements of a list that is no longer needed.
     ///
     /// `TooLong` exactly where the target length would pass 1,000,000; else `Memory` where a growth was refused. After an
     /// error the operation is as it was, and the list is gone.
@@ -174,7 +174,7 @@ impl<T: Element> TextOp<T> {
         self.text.as_slice() // in the order of the codes
     }
 
-    // The same, where the operation is no longer wanted: nothing is copied.
+    // The same, where the operation is no longer needed: nothing is copied.
     fn into_text(self) -> Vec<T>
         ensures { result.items ≡ news self.image }
     {
@@ -236,7 +236,7 @@ impl<T: Element> TextOp<T> {
         sum.inserted == 0
     }
 
-    /// The two operations are one: equal base length and equal image, and so equal components.
+    /// The two operations are equal: equal base length and equal image, and so equal components.
     pub fn equals(&self, other: &TextOp<T>) -> bool
         ensures { IsTrue result ↔ (self.now ≡ other.now) }
     {

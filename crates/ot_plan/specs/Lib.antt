@@ -1,3 +1,4 @@
 pub mod Plan
 pub mod Reading
 pub mod Layout
+pub mod Lines

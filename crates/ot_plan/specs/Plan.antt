@@ -1,4 +1,4 @@
--- What a plan says, and the limits that its type keeps.
+-- What a plan says, and the limits of its type invariant.
 use Rattle.std.specs.Prelude.{◌≡◌, ℕ, ◌≤◌, List, length, All}
 use Rattle.ot_typing.specs.Typing.{Action, inserted}
 use Rattle.ot_isa.specs.declared.builder.TheConstants.{CLIENT_LIMIT, START_LIMIT}

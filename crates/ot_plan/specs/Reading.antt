@@ -1,6 +1,7 @@
 -- What plan a JSON text is, or its first fault.
 use Rattle.std.specs.Prelude.{ℕ, Bool, List, length, Option, Some, None, Result, Ok, Err, codes, not, ◌&&◌, ◌||◌, ◌==◌, nat_le, nat_lt, if◌then◌else◌, option_map, option_and_then}
 use Rattle.std.specs.List.{list_all}
+use Rattle.std.specs.Str.{is_utf8}
 use Rattle.serde_json.specs.Data.{Data, Items}
 use Rattle.serde_json.specs.Find.{get, as_array}
 use Rattle.serde_json.specs.Read.{read}
@@ -120,3 +121,7 @@ plan_of_json (Some d) = plan_of_shape (shape_of d)
 -- the plan that a text is, or its fault
 abbrev pub plan_of_text : List ℕ → Result PlanView PlanFault
 plan_of_text text = plan_of_json (read text)
+
+-- the plan that bytes are, or why they are none; bytes that are no text are no JSON
+abbrev pub plan_of_bytes : List ℕ → Result PlanView PlanFault
+plan_of_bytes bytes = if is_utf8 bytes then plan_of_text bytes else Err NotJson

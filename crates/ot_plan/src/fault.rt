@@ -1,6 +1,7 @@
 //! Why a text is no plan.
 
 ghost use Rattle.std.specs.Prelude.{◌≡◌};
+ghost use Rattle.ot_plan.specs.Lines.{fault_line};
 ghost use Rattle.ot_plan.specs.declared.fault.PlanFault.TheVariants.{Memory};
 
 use std::alloc::{AllocError, AllocFailed};
@@ -28,6 +29,20 @@ pub enum PlanFault {
     /// No memory was found.
     #[error("no memory")]
     Memory,
+}
+
+/// The line of a fault, as the program prints it.
+pub fn fault_line(fault: PlanFault) -> &'static str
+    ensures { result.now ≡ fault_line fault }
+{
+    match fault {
+        PlanFault::NotJson => "otbench: NotJson\n",
+        PlanFault::BadShape => "otbench: BadShape\n",
+        PlanFault::BadNumber => "otbench: BadNumber\n",
+        PlanFault::TooLong => "otbench: TooLong\n",
+        PlanFault::TooMany => "otbench: TooMany\n",
+        PlanFault::Memory => "otbench: Memory\n",
+    }
 }
 
 impl From<AllocError> for PlanFault {

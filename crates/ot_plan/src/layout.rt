@@ -30,8 +30,8 @@ pub struct Layout<'a> {
     pub typing: &'a [Value],
 }
 
-// The fields of a plan.
-fn layout_of(value: &Value) -> Option<Layout<'_>>
+/// The fields of a plan.
+pub fn layout_of(value: &Value) -> Option<Layout<'_>>
     ensures { option_map layout_view result ≡ plan_data (view value.now) }
 {
     let clients = number_at(value, "clients")?;
@@ -48,8 +48,8 @@ fn layout_of(value: &Value) -> Option<Layout<'_>>
     })
 }
 
-// Whether there is one list for each client, or the number of clients is out of range.
-fn has_lists(clients: u64, lists: usize) -> bool
+/// Whether there is one list for each client, or the number of clients is out of range.
+pub fn has_lists(clients: u64, lists: usize) -> bool
     ensures { result ≡ has_lists clients lists }
 {
     clients == 0 || clients > MOST_CLIENTS || lists as u64 == clients

@@ -5,17 +5,18 @@
 //! ```
 //!
 //! `read_plan` reads a plan from JSON, and its answer is exact: the plan that the text is, or its first fault. The type
-//! `Plan` keeps the limits (`IsPlan`). Begin with `plan_of_text` in `specs/Reading.antt`, then with `specs/Plan.antt`.
+//! `Plan` has the limits in its invariant (`IsPlan`). It reads by the pieces of `action`, `layout` and `survey`, which take no memory.
+//! Begin with `plan_of_text` in `specs/Reading.antt`, then with `specs/Plan.antt`.
 #![tactic(auto)]
 
-mod action;
+pub mod action;
 mod fault;
-mod layout;
+pub mod layout;
 mod plan;
 mod reading;
-mod survey;
+pub mod survey;
 
-pub use fault::PlanFault;
+pub use fault::{PlanFault, fault_line};
 pub use ot_typing::Typing;
 pub use plan::Plan;
 pub use reading::{plan_of, read_plan};

@@ -31,7 +31,7 @@ impl Model for Plan {
 }
 
 impl Plan {
-    /// How many clients there are, 1 to 64. The call also tells its caller all that plans keep.
+    /// How many clients there are, 1 to 64. The call also gives its caller the type invariant of plans.
     pub fn clients(&self) -> u16
         ensures value { result ≡ self.now.clients }
         ensures limits { IsPlan self.now }

@@ -58,8 +58,8 @@ fn survey_items(items: &[Value]) -> Option<Survey>
     })
 }
 
-// The survey of what is to be one client's actions.
-fn survey_row(value: &Value) -> Option<Survey>
+/// The survey of what is to be one client's actions; none where it is no array of actions.
+pub fn survey_row(value: &Value) -> Option<Survey>
     ensures { result ≡ option_map row_survey (row_of (view value.now)) }
 {
     let items = value.as_array()?;

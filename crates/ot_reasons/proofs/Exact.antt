@@ -39,7 +39,7 @@ free-two a b a' b' p q = free-both a b ∙ both (is_none a) (is_none b) a' b' p 
 
 -- ---- items
 
-all-one : {A : Type 0} (o : Option A) (os : Option (List A)) → is_some (option_and_then (λ x. option_map (λ xs. x ∷ xs) os) o) ≡ (is_some o && is_some os)
+pub all-one : {A : Type 0} (o : Option A) (os : Option (List A)) → is_some (option_and_then (λ x. option_map (λ xs. x ∷ xs) os) o) ≡ (is_some o && is_some os)
 all-one None os = refl
 all-one (Some x) None = refl
 all-one (Some x) (Some xs) = refl
@@ -50,7 +50,7 @@ each-free f g k (item d ds) each =
     free-two (f k d) (each_fault f (k + 1) ds) (is_some (g d)) (is_some (all_of g ds)) (each k d) (each-free f g (k + 1) ds each)
     ∙ sym (all-one (g d) (all_of g ds))
 
-some-same : {A : Type 0} (a b : A) → Some a ≡ Some b → a ≡ b
+pub some-same : {A : Type 0} (a b : A) → Some a ≡ Some b → a ≡ b
 some-same a b h = cc
 
 pub all-length : {A : Type 0} (f : Data → Option A) (ds : Items) (xs : List A) → all_of f ds ≡ Some xs → length xs ≡ count_items ds
@@ -227,7 +227,7 @@ event-free n p d = go (event_data d) refl where
 -- ---- traces
 
 roots-chain : (R : Option ℕ) (S E : Option Items)
-    → is_none (or_else (unless (is_some R) (in_field here field.Replicas) wanted.Replicas)
+    → is_none (or_else (unless (is_some R) (in_field here field.Replicas) (wanted.Positive 65))
     (or_else (unless (is_some S) (in_field here field.Start) wanted.Array) (unless (is_some E) (in_field here field.Events) wanted.Array)))
     ≡ is_some (option_and_then (λ replicas. option_and_then (λ start. option_map (λ events. let x : TraceData = record { replicas = replicas; start = start; events = events } in x) E) S) R)
 roots-chain None S E = refl

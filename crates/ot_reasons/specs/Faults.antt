@@ -60,7 +60,7 @@ placed_parts p (item o (item s no_items)) = wants p wanted.Placed
 placed_parts p (item o (item s (item x no_items))) = triple_fault p o s x
 placed_parts p (item o (item s (item x (item y ys)))) = wants p wanted.Placed
 
--- what an array's parts tell, or that none stands there
+-- the faults of an array's parts, or that none stands there
 abbrev pub of_array : Option Fault → (Items → Option Fault) → Option Items → Option Fault
 of_array missing inside None = missing
 of_array missing inside (Some ds) = inside ds
@@ -126,7 +126,7 @@ events_fault replicas ds = each_fault (λ k. event_fault replicas (event_place k
 
 abbrev pub parts_fault : Data → Option Fault
 parts_fault d =
-    or_else (unless (is_some (keep_if is_replicas (number_at (codes "replicas") d))) (in_field here field.Replicas) wanted.Replicas)
+    or_else (unless (is_some (keep_if is_replicas (number_at (codes "replicas") d))) (in_field here field.Replicas) (wanted.Positive 65))
     (or_else (unless (is_some (items_at (codes "start") d)) (in_field here field.Start) wanted.Array)
     (unless (is_some (items_at (codes "events") d)) (in_field here field.Events) wanted.Array))
 

@@ -2,3 +2,5 @@ pub mod Places
 pub mod Faults
 pub mod Namings
 pub mod Words
+pub mod PlanFaults
+pub mod PlanWords

@@ -1,12 +1,12 @@
-//! Places in the JSON value of a trace, and what is wanted there.
+//! Places in the JSON value of a trace or a plan, and what is wanted there.
 
 ghost use Rattle.std.specs.Prelude.{◌≡◌, codes, option_map};
 ghost use Rattle.serde_json.specs.View.{view};
-ghost use Rattle.ot_reasons.specs.Places.{event_if, event_place, field_if, found_at, here, in_field, in_item, in_part, item_if, key_of};
+ghost use Rattle.ot_reasons.specs.Places.{event_if, event_place, field_if, found_at, here, in_field, in_item, in_key, in_part, item_if, key_of, row_place};
 
 use serde_json::Value;
 
-/// A key of a trace or of an event.
+/// A key of a trace or of an event, of a plan or of an action.
 #[derive(Clone, Copy, Debug, PartialEq, Eq)]
 pub enum Field {
     Replicas,
@@ -18,25 +18,31 @@ pub enum Field {
     Insert,
     Delete,
     List,
+    Clients,
+    Workers,
+    Present,
+    Typing,
+    At,
 }
 
-/// A path into the value of a trace: into an event, counted from 0, or not; from there to what stands under a key; to an item
-/// of that, counted from 0; and to a part of the item. What is left out is not gone into: with nothing the path is that of the
-/// whole value.
+/// A path into the value of a trace or a plan: into an event, counted from 0, or not; from there to what stands under a key; to an
+/// item of that, counted from 0; to a part of the item; and to what stands under a key of the part. What is left out is not gone
+/// into: with nothing the path is that of the whole value.
 #[derive(Clone, Copy, Debug, PartialEq, Eq)]
 pub struct Place {
     pub event: Option<usize>,
     pub field: Option<Field>,
     pub item: Option<usize>,
     pub part: Option<usize>,
+    pub key: Option<Field>,
 }
 
 /// What is wanted at a place.
 #[derive(Clone, Copy, Debug, PartialEq, Eq)]
 pub enum Wanted {
     Object,
-    /// The number of replicas, 1 to 65.
-    Replicas,
+    /// A whole number from 1 to this one.
+    Positive(u64),
     /// A whole number from 0 to this one.
     Number(u64),
     Array,
@@ -50,6 +56,15 @@ pub enum Wanted {
     Counts(usize),
     /// Nothing, since the event is a read.
     Nothing,
+    Text,
+    /// A text of at most 40,000 characters.
+    StartText,
+    /// An array of so many lists of actions, one for each client.
+    Lists(u64),
+    /// Actions of one client that insert at most 15,000 characters together.
+    Insertions,
+    /// At most 1,000 actions of one client.
+    Actions,
 }
 
 /// A place where not what is wanted stands.
@@ -65,6 +80,7 @@ pub(crate) const HERE: Place = Place {
     field: None,
     item: None,
     part: None,
+    key: None,
 };
 
 impl Place {
@@ -76,6 +92,13 @@ impl Place {
             event: Some(event),
             ..HERE
         }
+    }
+
+    /// The actions of a client of the plan.
+    pub(crate) fn of_row(row: usize) -> Place
+        ensures { result ≡ row_place row }
+    {
+        HERE.in_field(Field::Typing).in_item(row)
     }
 
     /// What stands under a key there.
@@ -107,6 +130,16 @@ impl Place {
             ..self
         }
     }
+
+    /// What stands under a key of the part there.
+    pub(crate) fn in_key(self, key: Field) -> Place
+        ensures { result ≡ in_key self key }
+    {
+        Place {
+            key: Some(key),
+            ..self
+        }
+    }
 }
 
 /// A key's text.
@@ -123,6 +156,11 @@ pub(crate) fn key_of(field: Field) -> &'static str
         Field::Insert => "insert",
         Field::Delete => "delete",
         Field::List => "list",
+        Field::Clients => "clients",
+        Field::Workers => "workers",
+        Field::Present => "present",
+        Field::Typing => "typing",
+        Field::At => "at",
     }
 }
 
@@ -156,12 +194,13 @@ fn item_if(value: &Value, item: Option<usize>) -> Option<&Value>
     }
 }
 
-/// What stands at a place of a trace's value, if something does.
+/// What stands at a place of a value, if something does.
 pub(crate) fn found_at(value: &Value, place: Place) -> Option<&Value>
     ensures { option_map (λ v. view v.now) result ≡ found_at place (view value.now) }
 {
     let event = event_if(value, place.event)?;
     let field = field_if(event, place.field)?;
     let item = item_if(field, place.item)?;
-    item_if(item, place.part)
+    let part = item_if(item, place.part)?;
+    field_if(part, place.key)
 }

@@ -18,7 +18,7 @@ pub struct Reason {
     pub words: String,
 }
 
-// That memory was wanting.
+// That memory ran out.
 fn memory(alloc: Global) -> Reason
     ensures { result.fault ≡ TraceFault.Memory }
 {

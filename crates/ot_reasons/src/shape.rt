@@ -131,7 +131,7 @@ fn parts_fault(value: &Value) -> Option<Fault>
 {
     match number_at(value, "replicas") {
         Some(replicas) if replicas > 0 && replicas < 66 => {}
-        _ => return wants(HERE.in_field(Field::Replicas), Wanted::Replicas),
+        _ => return wants(HERE.in_field(Field::Replicas), Wanted::Positive(65)),
     }
     if items_at(value, "start").is_none() {
         return wants(HERE.in_field(Field::Start), Wanted::Array);

@@ -1,9 +1,9 @@
-//! The words for why a value is no trace.
+//! The words for a fault of a value, and for why a value is no trace.
 
 ghost use Rattle.std.specs.Prelude.{◌≡◌, IfOk, Err, codes, option_map, string_bytes};
 ghost use Rattle.serde_json.specs.View.{view};
 ghost use Rattle.ot_judge.specs.Reading.{items_at, shape_of, trace_of_shape};
-ghost use Rattle.ot_reasons.specs.Words.{IsFaultText, IsFoundText, IsJson, IsValueReason, event_count, field_text, full_text, index_text, namings_text, place_text, size_text, tag_text, wanted_text};
+ghost use Rattle.ot_reasons.specs.Words.{IsFaultText, IsFoundText, IsJson, IsValueReason, event_count, field_text, full_text, index_text, key_text, namings_text, place_text, size_text, tag_text, trace_place, wanted_text};
 
 use crate::checks::count;
 use crate::namings::{Namings, namings_of};
@@ -37,34 +37,50 @@ fn index_text(alloc: Global, index: Option<usize>) -> Result<String, AllocError>
     }
 }
 
-// A key, with what the path goes into under it.
-fn field_text(
-    alloc: Global,
-    field: Field,
-    item: Option<usize>,
-    part: Option<usize>,
-) -> Result<String, AllocError>
-    ensures { IfOk result (λ s. string_bytes s ≡ field_text field item part) }
+// The key of a part, if the path goes into one.
+fn key_text(alloc: Global, key: Option<Field>) -> Result<String, AllocError>
+    ensures { IfOk result (λ s. string_bytes s ≡ key_text key) }
 {
-    let key = key_of(field);
-    let item = index_text(alloc, item)?;
-    let part = index_text(alloc, part)?;
-    format!(in alloc; "{key}{item}{part}")
+    match key {
+        Some(key) => {
+            let key = key_of(key);
+            format!(in alloc; ", {key}")
+        }
+        None => Ok(String::new(alloc)),
+    }
 }
 
-// A place: `event 3, insert[2][1]`.
-fn place_text(alloc: Global, place: Place) -> Result<String, AllocError>
-    ensures { IfOk result (λ s. string_bytes s ≡ place_text place) }
+// A key, with what the path goes into under it.
+fn field_text(alloc: Global, field: Field, place: Place) -> Result<String, AllocError>
+    ensures { IfOk result (λ s. string_bytes s ≡ field_text field place) }
+{
+    let name = key_of(field);
+    let item = index_text(alloc, place.item)?;
+    let part = index_text(alloc, place.part)?;
+    let key = key_text(alloc, place.key)?;
+    format!(in alloc; "{name}{item}{part}{key}")
+}
+
+// A place: `event 3, insert[2][1]`, `typing[1][3], insert`; `whole` is what the whole value is called.
+fn place_text(alloc: Global, whole: &str, place: Place) -> Result<String, AllocError>
+    ensures { IfOk result (λ s. string_bytes s ≡ place_text whole.now place) }
 {
     match (place.event, place.field) {
-        (None, None) => String::from_str(alloc, "the trace"),
-        (None, Some(field)) => field_text(alloc, field, place.item, place.part),
+        (None, None) => String::from_str(alloc, whole),
+        (None, Some(field)) => field_text(alloc, field, place),
         (Some(event), None) => format!(in alloc; "event {event}"),
         (Some(event), Some(field)) => {
-            let field = field_text(alloc, field, place.item, place.part)?;
+            let field = field_text(alloc, field, place)?;
             format!(in alloc; "event {event}, {field}")
         }
     }
+}
+
+// A place in a trace.
+fn trace_place(alloc: Global, place: Place) -> Result<String, AllocError>
+    ensures { IfOk result (λ s. string_bytes s ≡ trace_place place) }
+{
+    place_text(alloc, "the trace", place)
 }
 
 fn wanted_text(alloc: Global, wanted: Wanted) -> Result<String, AllocError>
@@ -72,7 +88,7 @@ fn wanted_text(alloc: Global, wanted: Wanted) -> Result<String, AllocError>
 {
     match wanted {
         Wanted::Object => String::from_str(alloc, "an object"),
-        Wanted::Replicas => String::from_str(alloc, "a number from 1 to 65"),
+        Wanted::Positive(most) => format!(in alloc; "a number from 1 to {most}"),
         Wanted::Number(most) => format!(in alloc; "a number from 0 to {most}"),
         Wanted::Array => String::from_str(alloc, "an array"),
         Wanted::Tag => String::from_str(alloc, "an array [origin, serial]"),
@@ -85,6 +101,16 @@ fn wanted_text(alloc: Global, wanted: Wanted) -> Result<String, AllocError>
             alloc,
             "nothing, since a read inserts and deletes nothing",
         ),
+        Wanted::Text => String::from_str(alloc, "a text"),
+        Wanted::StartText => String::from_str(alloc, "a text of at most 40000 characters"),
+        Wanted::Lists(clients) => {
+            format!(in alloc; "an array of {clients}, a list of actions for each client")
+        }
+        Wanted::Insertions => String::from_str(
+            alloc,
+            "actions that insert at most 15000 characters together",
+        ),
+        Wanted::Actions => String::from_str(alloc, "at most 1000 actions"),
     }
 }
 
@@ -130,11 +156,16 @@ fn found_text(alloc: Global, found: Option<&Value>) -> Result<String, AllocError
     }
 }
 
-// The line of a fault of a value's shape.
-fn fault_text(alloc: Global, value: &Value, fault: Fault) -> Result<String, AllocError>
-    ensures { IfOk result (λ s. IsFaultText (view value.now) fault (string_bytes s)) }
+/// The line of a fault of a value: where it is, what stands there, what is wanted. `whole` is what the whole value is called.
+pub(crate) fn fault_text(
+    alloc: Global,
+    whole: &str,
+    value: &Value,
+    fault: Fault,
+) -> Result<String, AllocError>
+    ensures { IfOk result (λ s. IsFaultText whole.now (view value.now) fault (string_bytes s)) }
 {
-    let place = place_text(alloc, fault.place)?;
+    let place = place_text(alloc, whole, fault.place)?;
     let found = found_text(alloc, found_at(value, fault.place))?;
     let wanted = wanted_text(alloc, fault.wanted)?;
     format!(in alloc; "  {place}: found {found}; wanted {wanted}\n")
@@ -161,8 +192,8 @@ fn namings_text(alloc: Global, tag: Tag, namings: Namings) -> Result<String, All
 {
     match (namings.first, namings.second) {
         (Some(first), Some(second)) => {
-            let first = place_text(alloc, first)?;
-            let second = place_text(alloc, second)?;
+            let first = trace_place(alloc, first)?;
+            let second = trace_place(alloc, second)?;
             let name = tag_text(alloc, tag)?;
             format!(in alloc;
                 "  the tag {name} stands at {first} and at {second}; the start and the insertions name each tag once\n"
@@ -193,7 +224,7 @@ pub(crate) fn value_reason(
 {
     match fault {
         TraceFault::BadShape => match shape_fault(value) {
-            Some(fault) => fault_text(alloc, value, fault),
+            Some(fault) => fault_text(alloc, "the trace", value, fault),
             None => unreachable!(),
         },
         TraceFault::TraceFull => full_text(alloc, event_count(value)),

@@ -15,7 +15,7 @@ use ot_plan::Plan;
 use ot_report::print_end;
 use std::alloc::{AllocError, Global};
 
-// The schedule's canonical text, and the state of a machine that is no longer wanted as comments.
+// The schedule's canonical text, and the state of a machine that is no longer needed as comments.
 fn printed(alloc: Global, schedule: &Schedule, machine: Machine) -> Result<Vec<u8>, AllocError>
     ensures { IfOk result (λ v. IsPrinted schedule.now machine v.items) }
 {

@@ -103,7 +103,7 @@ module _ (s : Program) (p : ℕ) (i : Instr) (state t : State) (gathered : List 
         reads = next_gathered list gathers.0 after new gathers.1 gathers.2;
       })
 
-  -- for want of memory the lines of the first reads stand there; where a write fails, a first part of those so far
+  -- if memory ran out the lines of the first reads stand there; where a write fails, a first part of those so far
   pub reads_missing : (new : Option (List ℕ)) → GathersUpTo fault.Memory gathered mid new → WritesFirstReads s old new
   reads_missing new (between, inl kept) = record { performed = is.reads.first.performed; place = is.reads.first.place; at = is.reads.first.at; written = first_kept new kept.0 }
   reads_missing new (between, inr wrote) = record { performed = p; place = record { state = state; shown = is.shown }; at = is.at; written = all_written new wrote.0 }

@@ -87,7 +87,7 @@ module _ (heap : Global) (s : Program) (limits : IsProgram s) (stopped : Option 
 
 -- ---- faults among the reads
 
--- the run may stop before the next instruction, for want of memory
+-- the run may stop before the next instruction, if memory runs out
 cut_short : (heap : Global) (s : Program) → IsProgram s → (old new : Option (List ℕ)) → ReadsUpTo fault.WriteFault s old new → WritesPartOfReport s old new
 cut_short heap s limits old new (p, before, (place, at, written)) =
     let quiet = quiet_or_not place.state in

@@ -22,7 +22,7 @@ abbrev pub trace_text : Option Verdict → List ℕ
 trace_text None = line (codes "trace full")
 trace_text (Some verdict) = verdict_line verdict
 
--- whether all is quiet with one list, or the first that is not settled, or all that is not
+-- whether all is quiet with equal lists, or the first that is not settled, or all that is not
 abbrev pub quiet_lines : Bool → State → List ℕ
 quiet_lines false s = convergence_line (convergence_of s)
 quiet_lines true s = all_lines (all_unsettled s)

@@ -40,7 +40,7 @@ pub record WritesFirstReads (s : Program) (old new : Option (List ℕ)) : Type 0
   pub at : place_at s performed ≡ Some place
   pub written : Appends old new (read_lines place.shown)
 
--- what stands there after a fault: for want of memory whole lines of reads, else a first part of the report
+-- what stands there after a fault: whole lines of reads if memory ran out, else a first part of the report
 abbrev pub WritesReportUpTo : ReportFault → Program → Option (List ℕ) → Option (List ℕ) → Type 0
 WritesReportUpTo Memory s old new = WritesFirstReads s old new
 WritesReportUpTo WriteFault s old new = WritesPartOfReport s old new

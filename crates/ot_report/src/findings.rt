@@ -79,7 +79,7 @@ fn found_text(
     Ok(text)
 }
 
-/// Runs the schedule once, and says what is found of it: the stop if an instruction was not performed, whether all is quiet with one list
+/// Runs the schedule once, and says what is found of it: the stop if an instruction was not performed, whether all is quiet with equal lists
 /// where the run ended, and the verdict of the schedule's trace, which is `holds`, or `trace full` where it has more than 4,000 events or
 /// 4,000,000 list entries. Where not all is quiet, the line of the first that is not settled, or with `all` a line of each, as
 /// [`print_unsettled`] gives them. The machine is dropped before the trace is judged.

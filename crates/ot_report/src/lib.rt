@@ -6,7 +6,7 @@
 //!   Schedule ── find ──▶ the stop of its run, whether all is quiet with one list or what is not settled, and the verdict of its trace
 //! ```
 //!
-//! Every line ends with LF; a text is printed as a JSON string. Each call that prints answers an error only for want of memory, and its
+//! Every line ends with LF; a text is printed as a JSON string. Each call that prints answers an error only if memory runs out, and its
 //! contract says every byte: `specs/Printed.antt` has the lines of a run, `specs/Verdicts.antt` those of verdicts, `specs/Findings.antt` what
 //! is found of a schedule; `specs/Written.antt` has what stands on the output after a fault. Begin with [`print_run`], [`write_report`] and
 //! [`find`].

@@ -19,7 +19,7 @@ fn reader_name(alloc: Global, who: Reader) -> Result<String, AllocError>
     }
 }
 
-/// Adds the line of a read of this list: `read C "text"` or `read-server "text"`. For want of memory the text holds a part of the line.
+/// Adds the line of a read of this list: `read C "text"` or `read-server "text"`. If memory runs out, the text holds a part of the line.
 pub fn push_read(
     alloc: Global,
     text: &mut String,

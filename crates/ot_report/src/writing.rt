@@ -109,11 +109,11 @@ fn write_reads<W: Sink>(
     Ok(None)
 }
 
-/// Runs the schedule and writes its report while it goes: the line of each read, the stop if an instruction was not performed (refused, or
-/// for want of memory), and the state where the run ended. What is written is what [`print_run`](crate::print_run) makes of the run. Says
+/// Runs the schedule and writes its report while it goes: the line of each read, the stop if an instruction was not performed (refused,
+/// or out of memory), and the state where the run ended. What is written is what [`print_run`](crate::print_run) makes of the run. Says
 /// which instruction was not performed, and why.
 ///
-/// After a failed write a first part of the report is written, and `WriteFault` is said only where one has failed, as the output says itself; for want of memory the lines of the first reads, and these are whole; lines
+/// After a failed write a first part of the report is written, and `WriteFault` is said only where one has failed, as the output says itself; if memory ran out, the lines of the first reads, and these are whole; lines
 /// that were gathered and not yet written are lost. Memory does not grow with the reads: their lines are gathered in one buffer, which is
 /// written once it has 64 KiB, and beside it there is room for the machine, for the line of one read, and for the lines of the end.
 pub fn write_report<W: Sink>(

@@ -177,7 +177,7 @@ without_text a b first second same none =
     second_none a b (normal_runs a) (normal_runs b) (abreast_begin a b (normal_runs a) (normal_runs b) a_is b_is first_normal second_normal same)
     (ap (λ (op : Operation ℕ). length (news op.image)) b_is ∙ none)
 
--- and whichever text goes first the other one carries it alike, where transform takes the two
+-- and whichever text goes first it is transformed alike, where transform takes the two
 pub turned_without_text : (op other : Operation ℕ) → IsOperation op → IsOperation other → length (news op.image) ≡ 0 → may_transform other op ≡ true → Some (first_after op other) ≡ first_of (turned op other)
 turned_without_text op other own theirs none may =
     let same : other.base ≡ op.base = eqb-true other.base op.base (and_parts _ _ may).0 in

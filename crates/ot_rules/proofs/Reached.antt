@@ -1,4 +1,4 @@
--- The machine on its way through a run, and the log over which it goes.
+-- The machine on its way through a run, and the log against which a message is transformed.
 use Rattle.std.proofs.Common.{◌≡◌, ◌≢◌, ℕ, suc, ◌+◌, ◌-◌, ◌<◌, ◌≤◌, List, [], ◌∷◌, ◌++◌, length, drop, take, refl, sym, ap, ◌∙◌, subst, arith, Option, Some, None, Bool, true, false}
 use Rattle.std.specs.Prelude.{map, slice_get, ◌==◌, ◌↔◌, IsTrue, if◌then◌else◌}
 use Rattle.std.specs.Option.{option_map}

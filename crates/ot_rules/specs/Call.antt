@@ -5,7 +5,7 @@ use Rattle.ot_rules.specs.declared.call.Waiting.{Waiting}
 use Rattle.ot_rules.specs.declared.call.Call as program
 use Rattle.ot_rules.specs.declared.call.Call.TheVariants as made
 
--- a call, with what it is given: the client's state with what it waits for, an edit or another's operation, a revision, and the
+-- a call, with what it is given: the client's state with its pending operations, an edit or another's operation, a revision, and the
 -- operations that the log has gained since that
 pub data Call : Type 0 where
   ApplyClient : Waiting → Operation ℕ → Call

@@ -10,7 +10,7 @@ use Rattle.ot_rules.specs.declared.call.Waiting.{Waiting}
 use Rattle.ot_rules.specs.declared.call.Waiting.TheVariants.{Nothing, Outstanding, Buffered}
 use Rattle.ot_rules.specs.Call.{Call, ApplyClient, ApplyServer, ServerAck, ReceiveOperation}
 
--- what the client waits for, without tags; none where it has not joined
+-- the client's pending operations, without tags; none where it has not joined
 abbrev pub waiting_in : Phase → Option Waiting
 waiting_in NotJoined = None
 waiting_in Synchronized = Some Nothing
@@ -31,7 +31,7 @@ delivers None h = None
 delivers (Some w) None = None
 delivers (Some w) (Some h) = Some (ApplyServer w (entry_operation h))
 
--- `serverAck` of a state that waits
+-- `serverAck` of a state with an outstanding operation
 abbrev pub acknowledges : ℕ → Option Waiting → Option Call
 acknowledges revision None = None
 acknowledges revision (Some Nothing) = None

@@ -41,7 +41,7 @@ in_field made field.Applied = made.applied
 in_field made field.Appended = made.appended
 in_field made _ = None
 
--- ---- the tie turned: each transform with the text of its second argument first
+-- ---- the tie broken the other way: each transform with the text of its second argument first
 
 abbrev pub turned_past : Option Pair → Made
 turned_past None = nothing

@@ -2,7 +2,7 @@
 
 use ot_text::TextOp;
 
-/// The state of a client, with what it waits for.
+/// The state of a client, with its pending operations.
 #[derive(Drop)]
 pub enum Waiting {
     /// `Synchronized`: nothing is under way.

@@ -17,7 +17,7 @@ use ot_steps::{plain_held, plain_operation};
 use ot_text::TextOp;
 use std::alloc::{AllocError, Global};
 
-// What the client, who is there, waits for; none where it has not joined.
+// The pending operations of the client, who is there; none where it has not joined.
 fn waiting(alloc: Global, machine: &Machine, client: u16) -> Result<Option<Waiting>, AllocError>
     requires { client < length machine.now.clients }
     ensures { IfOk result (λ w. w ≡ waiting_in (client_in machine.now client).phase) }
@@ -116,7 +116,7 @@ fn taking(alloc: Global, machine: &Machine, client: u16) -> Result<Option<Call>,
 }
 
 /// The call of ot.js that the instruction is, where it is performed in this state: an edit, a take, a deliver or an ack. None for a join
-/// and the reads. What it is given is copied, as it is before the call; `Err` is want of memory.
+/// and the reads. What it is given is copied, as it is before the call; `Err` is out of memory.
 pub fn call_of(alloc: Global, machine: &Machine, instr: &Instr) -> Result<Option<Call>, AllocError>
     ensures { IfOk result (λ call. option_map call_value call ≡ calling.call_of machine.now instr.now) }
 {

@@ -1,4 +1,4 @@
-//! An operation carried over another one whose text goes first where both insert at one place, as a transform has it that turns its sides over.
+//! An operation transformed against another one whose text goes first where both insert at one place: a transform with its sides exchanged.
 //!
 //! ```text
 //!     op               retain 1 | insert "b" | retain 3
@@ -161,12 +161,12 @@ fn carry(op: TextOp<char>, other: &TextOp<char>) -> Result<TextOp<char>, AllocEr
 }
 
 /// What the operation becomes after the other one, whose text goes first where both insert at one place: the second result of transform, whose first argument
-/// is the other one, under its conditions. The operation is no longer wanted.
+/// is the other one, under its conditions. The operation is no longer needed.
 ///
 /// Whether texts meet is looked for up to the last text of the other one, component by component of both. Where they do not, it costs what `transform_first` does; where
 /// they do, the components of the operation move into another list, its texts with them, and it costs the components of both.
 ///
-/// `Err` is want of memory, and the operation is gone then.
+/// `Err` is out of memory, and the operation is gone then.
 pub fn carried_behind(op: TextOp<char>, other: &TextOp<char>) -> Result<TextOp<char>, AllocError>
     requires same_base { other.now.base ≡ op.base }
     requires fits { other.now.base + length (news other.now.image) + length (news op.image) ≤ LIMIT }

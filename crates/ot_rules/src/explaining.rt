@@ -30,7 +30,7 @@ pub struct Difference<'a> {
     pub printed: bool,
 }
 
-// An instruction was not performed: for want of memory, or it was refused.
+// An instruction was not performed: memory ran out, or it was refused.
 fn only_refused(refusal: Refusal) -> Result<(), AllocError>
     ensures { OnOk result (refusal ≢ Refusal.Memory) }
 {
@@ -169,7 +169,7 @@ fn has_rule(field: Field) -> bool
 /// that it is given, and a line `note TEXT` where a note is true of what was found, the first of them. Empty where the instruction is not an edit, a take, a
 /// deliver or an ack that ot.js performs, and for `at`, `do` and `client`, which no rule makes.
 ///
-/// The schedule is run again up to that instruction. `Err` is want of memory.
+/// The schedule is run again up to that instruction. `Err` is out of memory.
 pub fn explain(
     alloc: Global,
     schedule: &Schedule,

@@ -9,16 +9,16 @@
 //! ```
 //!
 //! - *Calls* (`specs/Call.antt`, `specs/Calling.antt`): an edit, a take, a delivery or an acknowledgement is a call of a method of ot.js' `Client` or `Server`, by the client's
-//!   state, with what that is given: what waits, the operation, the concurrent ones of the log. [`call_of`] takes these from the state before the instruction,
+//!   state, with what that is given: the pending operations, the operation, the concurrent ones of the log. [`call_of`] takes these from the state before the instruction,
 //!   without tags: enough for a test of a port.
 //! - *As lines* (`specs/Text.antt`): [`print_call`].
-//! - *Wrong rules* (`specs/Wrong.antt`): what a call makes where the tie is turned, where a transform is missing, or half of them, or compose.
+//! - *Wrong rules* (`specs/Wrong.antt`): what a call makes if the tie is broken the other way, or if a transform, half of them, or compose is missing.
 //! - *Notes* (`specs/Notes.antt`): each note is an equation of what was found, and the answer of [`first_note`] is the first one that is true, or none where none is. The form of an
 //!   operation and lengths in UTF-16 units (`specs/Units.antt`) are asked before the wrong rules; these count over the text that the operation applies to
 //!   (`specs/Texts.antt`, [`text_for`]).
 //! - *All of it* (`specs/Explained.antt`): [`explain`] runs the schedule up to the instruction and gives the lines.
 //!
-//! The wrong rules go over operations without tags, as a port has them, and are asked only where transform takes its two operations (one base; at most 1,000,000 with all that they
+//! The wrong rules work on operations without tags, as a port has them, and are asked only where transform takes its two operations (one base; at most 1,000,000 with all that they
 //! insert). Begin reading at `IsTrueOf` in specs/Notes.antt, then at [`explain`].
 #![tactic(auto)]
 

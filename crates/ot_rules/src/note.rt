@@ -22,7 +22,7 @@ use std::alloc::{AllocError, Global};
 /// A sentence on a value that a port printed where ot.js has another, in the order in which they are asked.
 #[derive(Clone, Copy, Debug, PartialEq, Eq)]
 pub enum Note {
-    /// Through ot.js' builder, the two operations are one.
+    /// Through ot.js' builder, the two operations are the same.
     SameEffect,
     /// It is ot.js' operation with lengths in UTF-16 units.
     InUnits,
@@ -85,7 +85,7 @@ fn read(alloc: Global, text: &str) -> Result<Option<TextOp<char>>, AllocError>
     }
 }
 
-// Through the builder, the two texts are one operation.
+// Through the builder, the two texts are the same operation.
 fn are_one(alloc: Global, found: &str, wanted: &str) -> Result<bool, AllocError>
     ensures { IfOk result (λ same. IsTrue same ↔ notes.AreOne (notes.operation_in (operation_of_text found.now)) (notes.operation_in (operation_of_text wanted.now))) }
 {
@@ -197,7 +197,7 @@ fn is_true(alloc: Global, note: Note, asked: &Asked<'_>) -> Result<bool, AllocEr
     }
 }
 
-/// The first note that is true of what was found; none only where none is true. `Err` is want of memory.
+/// The first note that is true of what was found; none only where none is true. `Err` is out of memory.
 pub fn first_note(alloc: Global, asked: &Asked<'_>) -> Result<Option<Note>, AllocError>
     ensures { IfOk result (λ note. notes.IsFirst note (notes.asked_value asked.now)) }
 {

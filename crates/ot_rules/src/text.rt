@@ -34,7 +34,7 @@ fn replay(
     requires { revision ≤ length machine.now.log }
     ensures { IfOk result (λ list. list ≡ texts.replayed (start_list schedule.now.start) (take revision machine.now.log)) }
 {
-    // For the proof: what every schedule keeps.
+    // For the proof: the invariant of every schedule.
     let _limits = schedule.clients();
     let mut list = start_doc(alloc, schedule.start())?;
     for number in 0..revision {

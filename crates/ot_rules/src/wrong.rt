@@ -187,7 +187,7 @@ fn may_follow(op: &Held<char>, other: &TextOp<char>) -> bool
         && other.base_len() + (other.inserted() + op.inserted()) <= LIMIT
 }
 
-// The first of both, for an operation that is no longer wanted and inserts nothing: it makes no difference whose text goes first.
+// The first of both, for an operation that is no longer needed and inserts nothing: it makes no difference whose text goes first.
 fn followed(op: Held<char>, other: &TextOp<char>) -> Result<Option<Held<char>>, AllocError>
     requires { length (news op.image) ≡ 0 }
     ensures { IfOk result (λ next. next ≡ wrong.first_of (wrong.turned op other.now)) }
@@ -198,7 +198,7 @@ fn followed(op: Held<char>, other: &TextOp<char>) -> Result<Option<Held<char>>, 
     Ok(Some(op.follow(other)?))
 }
 
-// The first of both, for an operation that is no longer wanted. Where it inserts nothing it may be in sections from then on.
+// The first of both, for an operation that is no longer needed. Where it inserts nothing it may be in sections from then on.
 fn turned_first(op: Held<char>, other: &TextOp<char>) -> Result<Option<Held<char>>, AllocError>
     ensures { IfOk result (λ next. next ≡ wrong.first_of (wrong.turned op other.now)) }
 {
@@ -214,7 +214,7 @@ fn turned_first(op: Held<char>, other: &TextOp<char>) -> Result<Option<Held<char
     Ok(Some(Held::new(carried_behind(op, other)?)))
 }
 
-// A message over the log. It is copied once; each entry changes the copy.
+// A message transformed against the log. It is copied once; each entry changes the copy.
 fn turned_over(
     op: &TextOp<char>,
     concurrent: &[TextOp<char>],
@@ -234,8 +234,8 @@ fn turned_over(
     }
 }
 
-/// The rule with a transform in which the text of the second argument goes first. A message over the log costs for each entry what `carried_behind` does, and
-/// where it inserts nothing what `Held::follow` does.
+/// The rule with a transform in which the text of the second argument goes first. A message transformed against the log costs for each entry what
+/// `carried_behind` does, and where it inserts nothing what `Held::follow` does.
 pub fn made_turned(alloc: Global, call: &Call) -> Result<Made, AllocError>
     ensures { IfOk result (λ made. made ≡ wrong.made_turned (call_value call.now)) }
 {
@@ -248,7 +248,7 @@ pub fn made_turned(alloc: Global, call: &Call) -> Result<Made, AllocError>
     }
 }
 
-// What waits, if it does, and the delivered operation.
+// The pending operations, if any, and the delivered operation.
 fn untransformed(waiting: &Waiting, op: &TextOp<char>) -> Result<Made, AllocError>
     ensures { IfOk result (λ made. made ≡ wrong.untransformed waiting.now op.now) }
 {

@@ -192,7 +192,7 @@ module _ {A : Type 0} (a b : Side A) (ready_a : IsReady a) (ready_b : IsReady b)
       let first : image_left a ≡ map New text.now ++ image_from a.place (rest a) = ap (λ head. image_of head a.place (rest a)) is in
       same ∙ unlike_text text.now (image_from a.place (rest a)) b.head b.place (rest b) some ready_b.filled other ready_b.ends (sym first ∙ same)
 
--- the first items were equal: so the rest tells whether all are
+-- the first items were equal: so the rest decides whether all are
 pub record AreRead {A : Type 0} (a b at_a at_b : Side A) : Type 0 where
   pub ready_a : IsReady at_a
   pub ready_b : IsReady at_b

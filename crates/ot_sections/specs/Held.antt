@@ -1,4 +1,4 @@
--- An operation that waits, and what is about to become of it.
+-- A pending operation, and what is about to become of it.
 use Rattle.ot_text.specs.Change.{Change}
 use Rattle.ot_text.specs.Operation.{Operation}
 use Rattle.ot_sections.specs.declared.held.Form.{Form}

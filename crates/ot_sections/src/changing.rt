@@ -16,7 +16,7 @@ use ot_text::{Element, TextOp};
 use std::alloc::AllocError;
 use std::marker::Model;
 
-/// Sections, the steps that are about to be taken with them, and an empty list with room for all that stay and come, where one is wanted. A contract sees the
+/// Sections, the steps that are about to be taken with them, and an empty list with room for all that stay and come, where one is needed. A contract sees the
 /// operation before and after.
 #[derive(Drop)]
 pub(crate) struct InSteps<T> {
@@ -39,7 +39,7 @@ impl<T> Model for InSteps<T> {
 }
 
 impl<T: Element> InSteps<T> {
-    // Takes memory for another list of sections where one is wanted; where that was refused the sections come back.
+    // Takes memory for another list of sections where one is needed; where that was refused the sections come back.
     fn new(
         ops: Vec<TextOp<T>>,
         lengths: Lengths,

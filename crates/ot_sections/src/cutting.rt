@@ -10,17 +10,17 @@ use std::alloc::AllocError;
 // A short section has at least so many components where it is cut. Fewer would make the list of sections longer, which every change looks through.
 const LEAST: usize = 8;
 
-/// A long section has so many where it is cut. More would make what a change costs in the sections that it touches, each of which is written anew, dearer than the
+/// A long section has so many where it is cut. More would make what a change costs in the sections that it touches, each of which is rewritten, dearer than the
 /// look at each of the others.
 pub(crate) const LONG: usize = 512;
 
-// About so many short sections there are at most when an operation is cut, or an eighth more. Where there are twice as many it is cut anew.
+// About so many short sections there are at most when an operation is cut, or an eighth more. Where there are twice as many it is cut again.
 const SECTIONS: usize = 8192;
 
-// Where an operation changes fewer places than so many it costs little that long sections are written anew, and less to look through these.
+// Where an operation changes fewer places than so many it costs little that long sections are rewritten, and less to look through these.
 const PLACES: usize = 16;
 
-// Where an operation changes more than one in so many short sections, it costs no less to write these anew than long ones.
+// Where an operation changes more than one in so many short sections, it costs no less to rewrite these than long ones.
 const SPARSE: usize = 8;
 
 // A change for which the other sections would be better counts for so much where it changes few places, and for `MANY` else; one for which these are good takes as
@@ -29,11 +29,11 @@ const FEW: usize = 1;
 
 const MANY: usize = 4;
 
-// When so much has come, it has cost about what it costs to cut the operation anew.
+// When so much has come, it has cost about what it costs to cut the operation again.
 const ENOUGH: usize = 64;
 
 /// How many components sections have where they are cut, and how much has come of changes for which others would be better, less what has come of those for which
-/// they are good, and never below zero. A change that is taken back counts too.
+/// they are good, and never below zero. A change that is undone counts too.
 #[derive(Clone, Copy)]
 pub(crate) struct Lengths {
     pub(crate) size: usize,
@@ -52,8 +52,8 @@ fn wants_short(count: usize, others: usize) -> bool {
     places >= PLACES && places.saturating_mul(short(count)) <= count / SPARSE
 }
 
-/// What comes of sections, so many, of which `now` tells, where an operation of `others` components changes them: they stay as they are, until enough has come for
-/// which others would be better, or there are too many. The number of components is reckoned as if each section had as many as where it was cut.
+/// What comes of sections, so many, which `now` describes, where an operation of `others` components changes them: they stay as they are, until enough has come
+/// for which others would be better, or there are too many. The number of components is reckoned as if each section had as many as where it was cut.
 pub(crate) fn lengths_for(now: Lengths, sections: usize, others: usize) -> Lengths {
     let count = sections.saturating_mul(now.size);
     let are_short = now.size < LONG;

@@ -1,4 +1,4 @@
-//! An operation that waits.
+//! A pending operation.
 
 ghost use Rattle.std.specs.Prelude.{◌≡◌, ◌+◌, ◌≤◌, ◌↔◌, length, IfErr, IfOk, IfSome, IsTrue};
 ghost use Rattle.ot_text.specs.Operation.{news, IsOperation};
@@ -35,7 +35,7 @@ pub(crate) enum Form<T> {
     Cut(Sections<T>),
 }
 
-/// An operation that waits. A contract sees the operation.
+/// A pending operation. A contract sees the operation.
 #[derive(Drop)]
 pub struct Held<T> {
     pub(crate) form: Form<T>,
@@ -69,7 +69,7 @@ impl<T: Element> Held<T> {
         }
     }
 
-    // The operation in the form in which one of `others` components is to change it: in sections where it has many, unless what leads back will be asked for
+    // The operation in the form in which one of `others` components is to change it: in sections where it has many, unless an undo record will be asked for
     // (`kept`); then it is one list. Where memory was refused it comes back as it was.
     fn formed(self, kept: bool, others: usize) -> Result<Form<T>, Held<T>>
         ensures ok { IfOk result (λ form. operation_in form ≡ self) }
@@ -242,13 +242,13 @@ impl<T: Element> Held<T> {
         }
     }
 
-    /// Prepares the operation to become what `compose` of `ot_algebra` gives of it and `op`. Where what leads back will be asked for (`kept`), it is held as
+    /// Prepares the operation to become what `compose` of `ot_algebra` gives of it and `op`. Where an undo record will be asked for (`kept`), it is held as
     /// one list of components from now on. Where memory was refused the operation comes back; `op` is only read.
     ///
     /// `op` takes what the operation makes: `self.target_len() == op.base_len()`, in elements.
     ///
     /// One list costs what `prepare_compose` of `ot_algebra` says. In sections it costs a look at each and the components of those that `op` touches, which are
-    /// copied; to go over to the other form, or to other sections, costs all components.
+    /// copied; to change to the other form, or to other sections, costs all components.
     #[inline(always)]
     pub fn prepare_compose(self, op: &TextOp<T>, kept: bool) -> Result<PreparedHeld<T>, Held<T>>
         requires { length self.image ≡ op.now.base }
@@ -270,7 +270,7 @@ impl<T: Element> Held<T> {
     }
 
     /// Prepares the operation to become what it is after `op`, and gives what `op` becomes after it: the two results of `transform` of `ot_algebra`, under
-    /// its conditions. Where what leads back will be asked for (`kept`), it is held as one list of components from now on. Where memory was refused the
+    /// its conditions. Where an undo record will be asked for (`kept`), it is held as one list of components from now on. Where memory was refused the
     /// operation comes back; `op` is only read. It costs as `prepare_compose` does.
     #[inline(always)]
     pub fn prepare_transform(
@@ -319,9 +319,9 @@ impl<T: Element> Held<T> {
         }
     }
 
-    /// What the operation, which is no longer wanted, becomes after `op`: the first result of `transform`, under its conditions, as a server needs it that
-    /// carries an operation over its log. It is held in sections from now on where it has that many components, and costs as `prepare_compose` does. `Err` comes
-    /// only where memory was refused, and the operation is gone then; `op` is only read.
+    /// What the operation, which is no longer needed, becomes after `op`: the first result of `transform`, under its conditions, as a server needs it to
+    /// transform an operation against its log. It is held in sections from now on where it has that many components, and costs as `prepare_compose` does. `Err`
+    /// comes only where memory was refused, and the operation is gone then; `op` is only read.
     pub fn follow(self, op: &TextOp<T>) -> Result<Held<T>, AllocError>
         requires same_base { self.base ≡ op.now.base }
         requires fits { self.base + length (news self.image) + length (news op.now.image) ≤ LIMIT }

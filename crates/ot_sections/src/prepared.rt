@@ -1,4 +1,4 @@
-//! A change of an operation that waits, for which all memory is there.
+//! A change of a pending operation, for which all memory is there.
 
 ghost use Rattle.std.specs.Prelude.{◌≡◌, IfOk};
 ghost use Rattle.ot_text.specs.Patch.{patched, LeadsFrom};
@@ -17,7 +17,7 @@ pub(crate) enum Making<T> {
     Cut(InSteps<T>),
 }
 
-/// An operation that waits and is about to become another one. All memory that this takes is there already: it is done by [`PreparedHeld::commit`], or the
+/// A pending operation that is about to become another one. All memory that this takes is there already: it is done by [`PreparedHeld::commit`], or the
 /// operation comes back as it was by [`PreparedHeld::roll_back`], and neither fails.
 #[derive(Drop)]
 pub struct PreparedHeld<T> {
@@ -75,7 +75,7 @@ impl<T: Element> PreparedHeld<T> {
         }
     }
 
-    /// What leads back from the operation as it will be: of one that is held in sections, all of it as it was. `AllocError` where a growth was refused.
+    /// The undo record of the change: of an operation that is held in sections, all of it as it was. `AllocError` where a growth was refused.
     pub fn patch(&self) -> Result<Patch<T>, AllocError>
         ensures leads { IfOk result (λ patch. LeadsFrom patch self.now.after) }
         ensures back { IfOk result (λ patch. patched patch self.now.after ≡ self.now.before) }

@@ -58,8 +58,8 @@ impl<T: Element> Sections<T> {
         })
     }
 
-    // The same operation, which one of `others` components is to change: cut anew where `lengths_for` says so, and else only what it counts is kept. Where memory
-    // was refused it comes back as it was.
+    // The same operation, which one of `others` components is to change: cut again where `lengths_for` says so, and else only what it counts is recorded. Where
+    // memory was refused it comes back as it was.
     pub(crate) fn suited(self, others: usize) -> Result<Sections<T>, Sections<T>>
         ensures ok { IfOk result (λ same. same ≡ self) }
         ensures err { IfErr result (λ same. same ≡ self) }

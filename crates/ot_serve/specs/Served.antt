@@ -12,6 +12,7 @@ use Rattle.ot_commands.specs.Converted.{MayGiveImage, MayGiveText}
 use Rattle.ot_commands.specs.Generated.{Generates}
 use Rattle.ot_commands.specs.Judged.{Judges}
 use Rattle.ot_commands.specs.ExplainedTraces.{ExplainsTrace}
+use Rattle.ot_commands.specs.ExplainedPlans.{ExplainsPlan}
 use Rattle.ot_commands.specs.Checked.{MayFind}
 use Rattle.ot_commands.specs.Debugged.{Debugs}
 use Rattle.ot_steps_command.specs.Stepped.{Steps as DoesSteps}
@@ -41,6 +42,7 @@ Serves Judge unread = Judges unread
 Serves (Steps documents) unread = DoesSteps documents
 Serves (Explain subject.Schedule) unread = Explains unread
 Serves (Explain subject.Trace) unread = ExplainsTrace unread
+Serves (Explain subject.Plan) unread = ExplainsPlan unread
 Serves (Conform sparse) unread = Compares sparse
 Serves Complete unread = OfText MayComplete
 Serves (Generate seed shape) unread = WithoutInput (Generates shape)
@@ -54,7 +56,7 @@ ServesAsked Threads unread = DoesThreads unread
 abbrev pub Advises : ℕ → Streams → Type 0
 Advises status streams = (status ≡ 2) × Keeps streams.output streams.output' × ((text : List ℕ) × WritesPart streams.faults streams.faults' text)
 
--- what the words ask for is done; or, where `clap` does not take them or they ask for nothing, its text is given; or memory for them was wanting
+-- what the words ask for is done; or, where `clap` does not take them or they ask for nothing, its text is given; or memory for them ran out
 abbrev pub ServesWords : List Text → Bool → List ℕ → ℕ → Streams → Type 0
 ServesWords words unread input status streams =
     ((asked : Asked) × (request_of words ≡ Some asked) × ServesAsked asked unread input status streams)

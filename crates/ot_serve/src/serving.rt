@@ -10,8 +10,8 @@ ghost use Rattle.ot_serve.specs.Served.{Serves, ServesAsked, ServesWords};
 use clap::Error;
 use clap::error::ErrorKind;
 use ot_commands::{
-    assemble, check_text, complete_text, debug_text, disassemble_image, explain_trace,
-    generate_session, judge_input, run_image, run_text,
+    assemble, check_text, complete_text, debug_text, disassemble_image, explain_plan,
+    explain_trace, generate_session, judge_input, run_image, run_text,
 };
 use ot_conform_command::run_conform;
 use ot_explain_command::run_explain;
@@ -69,6 +69,7 @@ fn carry_out<I: Source, O: Sink, F: Write>(
         Request::Steps(documents) => run_steps(alloc, documents, input, output, faults),
         Request::Explain(Subject::Schedule) => run_explain(alloc, input, output, faults),
         Request::Explain(Subject::Trace) => explain_trace(alloc, input, output, faults),
+        Request::Explain(Subject::Plan) => explain_plan(alloc, input, output, faults),
         Request::Conform(sparse) => run_conform(alloc, sparse, input, output, faults),
         Request::Complete => complete_text(alloc, input, output, faults),
         Request::Generate(seed, shape) => generate_session(alloc, seed, &shape, output, faults),

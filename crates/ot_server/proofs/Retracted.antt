@@ -1,4 +1,4 @@
--- The last entry taken back.
+-- The last entry undone.
 use Rattle.std.proofs.Common.{◌≡◌, ℕ, zero, suc, ◌+◌, ◌<◌, List, [], ◌∷◌, ◌++◌, length, take, refl, sym, ap, ◌∙◌, arith, length-append}
 use Rattle.ot_text.specs.Operation.{Operation, apply, invert}
 use Rattle.ot_text.proofs.ApplyLaws.{length-apply}

@@ -49,7 +49,7 @@ fault_of server revision op =
     else if nat_lt LIMIT (longest_at server revision op) then Some TooLong
     else None
 
--- the answer names the fault if there is one; for want of memory it may refuse what has none
+-- the answer names the fault if there is one; if memory runs out, it may refuse what has none
 abbrev pub Names : {X : Type 0} → Result X ServerFault → Option ServerFault → Type 0
 Names (Ok x) fault = fault ≡ None
 Names (Err Memory) fault = fault ≡ None
@@ -71,7 +71,7 @@ with_entry server maker op = record { document = apply op server.document; log =
 abbrev pub received : {A : Type 0} → History A → ℕ → ℕ → Operation A → History A
 received server maker revision op = with_entry server maker (transform_over op (drop revision server.log))
 
--- the last entry led from the earlier history to this one, and `undo` takes it back
+-- the last entry led from the earlier history to this one, and `undo` undoes it
 pub record IsUndo {A : Type 0} (earlier server : History A) (undo : Operation A) : Type 0 where
   pub last : Entry A
   pub operation : IsOperation last.op
@@ -79,6 +79,6 @@ pub record IsUndo {A : Type 0} (earlier server : History A) (undo : Operation A)
   pub led : server ≡ with_entry earlier last.maker last.op
   pub undo_is : undo ≡ invert last.op earlier.document
 
--- the operation takes the last entry back
+-- the operation undoes the last entry
 abbrev pub IsRetractable : {A : Type 0} → History A → Operation A → Type 0
 IsRetractable {A} server undo = (earlier : History A) × IsUndo earlier server undo

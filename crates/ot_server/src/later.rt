@@ -56,7 +56,7 @@ fn held_after<T: Element>(
 {
     let mut carried = Held::new(op.copy()?);
     for entry in entries {
-        // For the proof: what every operation keeps.
+        // For the proof: the invariant of every operation.
         let _operation = carried.base_len();
         let _operation = entry.operation().base_len();
         carried = carried.follow(entry.operation())?;
@@ -64,7 +64,7 @@ fn held_after<T: Element>(
     let Ok(carried) = carried.into_op() else {
         return Err(AllocError);
     };
-    // For the proof: what every operation keeps.
+    // For the proof: the invariant of every operation.
     let _operation = carried.base_len();
     Ok(carried)
 }
@@ -87,12 +87,12 @@ pub fn transform_after<T: Element>(
     }
     let mut carried = op.copy()?;
     for entry in entries {
-        // For the proof: what every operation keeps.
+        // For the proof: the invariant of every operation.
         let _operation = carried.base_len();
         let _operation = entry.operation().base_len();
         carried = transform_first(carried, entry.operation())?;
     }
-    // For the proof: what every operation keeps.
+    // For the proof: the invariant of every operation.
     let _operation = carried.base_len();
     Ok(carried)
 }

@@ -9,11 +9,11 @@
 //!
 //! [`Server::receive`] is `Server.receiveOperation` of ot.js: an operation is replaced by the first result of `transform` with each
 //! entry that its maker did not have, oldest first, and then applied and appended. It costs these transforms and the change of
-//! the document; older entries are neither read nor copied. [`Server::receive_kept`] gives what takes that back too, and
-//! [`Server::retract`] takes it back.
+//! the document; older entries are neither read nor copied. [`Server::receive_kept`] gives the undo record too, and
+//! [`Server::retract`] undoes it.
 //!
 //! Contracts see a server as `History` of `specs/History.antt`, its document and log. `received` is the history after an operation,
-//! `fault_of` why there is none, `IsUndo` and `IsRetractable` what takes the last entry back. The type keeps `IsChain`: each entry makes
+//! `fault_of` why there is none, `IsUndo` and `IsRetractable` what undoes the last entry. The type invariant is `IsChain`: each entry makes
 //! documents of the length that the next one takes, and the last one the document's.
 //!
 //! Begin reading at `received`, then at [`Server::receive`].
@@ -101,8 +101,8 @@ impl<T: Element> Server<T> {
         self.log.len()
     }
 
-    /// Receives the operation that client `maker` made on the document at `revision`, counted in log entries: it goes over the entries from
-    /// that revision on, is applied to the document and appended to the log (`Server.receiveOperation` of ot.js).
+    /// Receives the operation that client `maker` made on the document at `revision`, counted in log entries: it is transformed against the
+    /// entries from that revision on, applied to the document and appended to the log (`Server.receiveOperation` of ot.js).
     ///
     /// The first of these faults that holds comes, and leaves the server as it was: `NotInHistory` where the revision is above the log's
     /// length; `BadBase` where the operation's base is not the document's length at that revision; `LogFull` at 1,000,000 entries; `TooLong`
@@ -118,8 +118,8 @@ impl<T: Element> Server<T> {
         Ok(())
     }
 
-    /// Does as `receive`, and gives the inverse of the appended operation over the document before it: what `retract` takes back the
-    /// entry with. The inverse is made first, so that every fault leaves the server as it was.
+    /// Does as `receive`, and gives the inverse of the appended operation over the document before it: with which `retract` undoes
+    /// the entry. The inverse is made first, so that every fault leaves the server as it was.
     pub fn receive_kept(
         &mut self,
         maker: u16,
@@ -138,7 +138,7 @@ impl<T: Element> Server<T> {
         Ok(inverse)
     }
 
-    /// Takes the last entry back: `undo` is its inverse over the document before it. Where memory is wanting the server is as it was.
+    /// Removes the last entry: `undo` is its inverse over the document before it. Where memory runs out the server is as it was.
     pub fn retract(&mut self, undo: &Inverse<T>) -> Result<(), AllocError>
         requires { IsRetractable self.old undo.now }
         ensures ok { (earlier : History T) → IsUndo earlier self.old undo.now → OnOk result (self.new ≡ earlier) }

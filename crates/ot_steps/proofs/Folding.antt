@@ -49,7 +49,7 @@ items_plain origin first [] = refl
 items_plain origin first (Old i ∷ image) = ap (λ (items : List (Item ℕ)). Old i ∷ items) (items_plain origin first image)
 items_plain origin first (New x ∷ image) = ap (λ (items : List (Item ℕ)). New x ∷ items) (items_plain origin (suc first) image)
 
--- tagging is taken back
+-- tagging is undone
 pub plain_tagged : (origin first : ℕ) (op : Operation ℕ) → plain_operation (tag_operation origin first op) ≡ op
 plain_tagged origin first op = ap (λ (image : List (Item ℕ)). record { base = op.base; image = image }) (items_plain origin first op.image)
 

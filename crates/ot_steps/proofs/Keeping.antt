@@ -1,4 +1,4 @@
--- What is kept of clients over their steps.
+-- What is cached of clients over their steps.
 use Rattle.std.proofs.Common.{◌≡◌, ◌≢◌, ℕ, zero, suc, ◌<◌, ◌≤◌, List, [], ◌∷◌, length, set, get_or, refl, sym, ap, ◌∙◌, subst, arith, Option, Some, None, Bool, true, false}
 use Rattle.std.specs.Prelude.{nat_eq, replicate, slice_get}
 use Rattle.std.specs.Option.{option_map}
@@ -88,7 +88,7 @@ LeavesPhase s k (Performed t shown) = (client_in t k).phase ≡ (client_in s k).
 LeavesPhase s k (Refused r) = Unit {0}
 LeavesPhase s k NoRow = Unit {0}
 
--- a client is written anew in the phase that it was in
+-- a client is rewritten in the phase that it was in
 set_phase : (xs : List Client) (c : ℕ) (x y : Client) (k : ℕ) → slice_get xs c ≡ Some x → y.phase ≡ x.phase → (get_or (set xs c y) k absent).phase ≡ (get_or xs k absent).phase
 set_phase [] c x y k at same = absurd cc
 set_phase (z ∷ xs) zero x y zero at same = same ∙ ap (λ (w : Client). w.phase) (sym (same_Some z x at))
@@ -103,7 +103,7 @@ take_leaves_phase d s t k leads =
 pub read_leaves_phase : (d : ℕ) (s t : State) (k : ℕ) → LeadsTo (Read d) s t → (client_in t k).phase ≡ (client_in s k).phase
 read_leaves_phase d s t k leads = subst (LeavesPhase s k) leads.1 (by_read (LeavesPhase s k) (λ r. tt) s d (λ x at below on. refl))
 
--- ---- what is kept of all clients
+-- ---- what is cached of all clients
 
 pub none_kept : (n : ℕ) (clients : List Client) → length clients ≡ n → AreKept (replicate n nothing) clients
 none_kept n clients size = record { count = length-replicate n nothing ∙ sym size; each = λ c k x at there. go n c k x at }

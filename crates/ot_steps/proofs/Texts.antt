@@ -75,7 +75,7 @@ line_made line start body text begins keys ends =
     ∙ append_assoc (codes "{\"at\":" ++ decimal line.at) (fields_text (fields line)) (codes "}\n")
     ∙ append_assoc (codes "{\"at\":") (decimal line.at) (fields_text (fields line) ++ codes "}\n")
 
--- ---- what a client waits for
+-- ---- a client's pending operations
 
 pub waits_confirm : (s : State) (c : ℕ) (client : program.Client Tagged) (inner : Confirming Tagged) (o : Operation Tagged) (old new : List ℕ)
     → ClientHas s c (λ x. x.phase) (phase_in (state_of client).phase) → client ≡ AwaitingConfirm inner → o ≡ inner.outstanding

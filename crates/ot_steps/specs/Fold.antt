@@ -11,7 +11,7 @@ use Rattle.ot_machine.specs.Readers.{phase_name}
 use Rattle.ot_steps.specs.Lines.{Line, Message, Word, Edit, Take, Deliver, Ack, Join, Read, ReadServer, plain_message, plain_operation}
 use Rattle.ot_steps.specs.Steps.{buffer_of, outstanding_of}
 
--- a client as lines tell it: revision, state, what waits, its text, and its message on the link to the server
+-- a client as lines give it: revision, state, pending operations, its text, and its message on the link to the server
 pub record ClientText : Type 0 where
   pub revision : ℕ
   pub state : Phase
@@ -24,7 +24,7 @@ pub record EntryText : Type 0 where
   pub maker : ℕ
   pub operation : Operation ℕ
 
--- a session as lines tell it: its clients, the server's text and the log
+-- a session as lines give it: its clients, the server's text and the log
 pub record Session : Type 0 where
   pub clients : List ClientText
   pub document : List ℕ
@@ -56,7 +56,7 @@ abbrev pub under_way : Option Message → Option Message → Option Message
 under_way None message = message
 under_way (Some m) message = Some m
 
--- the client's revision, state and what waits are the line's
+-- the client's revision, state and pending operations are the line's
 abbrev pub told : Line → ClientText → List ℕ → ClientText
 told line x document =
     record {

@@ -20,7 +20,7 @@ pub record Gathers (old new : Option (List ℕ)) (held held' text : List ℕ) : 
   pub written : Appends old new front
   pub is : held ++ text ≡ front ++ held'
 
--- after a fault: for want of memory the text is not added, else a first part of both is written
+-- after a fault: if memory ran out the text is not added, else a first part of both is written
 abbrev pub GathersUpTo : StepsFault → Option (List ℕ) → Option (List ℕ) → List ℕ → List ℕ → List ℕ → Type 0
 GathersUpTo Memory old new held held' text = Gathers old new held held' []
 GathersUpTo WriteFault old new held held' text = WritesPart old new (held ++ text)
@@ -52,7 +52,7 @@ pub record CutsRun (documents : Bool) (s : Program) (old new : Option (List ℕ)
   pub are : AreFirstLines documents s lines
   pub written : WritesPart old new (held ++ lines_text lines)
 
--- after a fault: for want of memory nothing is added, or the first lines are; else a first part of them is written
+-- after a fault: if memory ran out nothing is added, or the first lines are; else a first part of them is written
 abbrev pub RunUpTo : StepsFault → Bool → Program → Option (List ℕ) → Option (List ℕ) → List ℕ → List ℕ → Type 0
 RunUpTo Memory documents s old new held held' =
     Gathers old new held held' [] ⊎ ((p : ℕ) × (p ≤ done s) × Gathers old new held held' (lines_text (first_lines documents s p)))

@@ -1,4 +1,4 @@
--- Texts of items that are kept from one line to the next: for private clauses.
+-- Texts of items that are cached from one line to the next: for private clauses.
 use Rattle.std.specs.Prelude.{◌≡◌, ℕ, ◌+◌, ◌<◌, List, [], ◌∷◌, ◌++◌, Bool, false, true, Option, Some, None, length, slice_get, string_bytes}
 use Rattle.serde_json.specs.Written.{comma_if, compact_text}
 use Rattle.ot_json.specs.Writing.{data_of}
@@ -44,17 +44,17 @@ abbrev pub total : List Block → ℕ
 total [] = 0
 total (b ∷ bs) = b.count + total bs
 
--- nothing is kept of a client
+-- nothing is cached of a client
 abbrev pub nothing : Kept
 nothing = record { outstanding = None; buffer = None }
 
--- what is kept of an operation, if anything is kept, is its text
+-- what is cached of an operation, if anything is, is its text
 abbrev pub HoldsOf : Option Items → Option (Operation Tagged) → Type 0
 HoldsOf None op = Unit {0}
 HoldsOf (Some items) None = ⊥
 HoldsOf (Some items) (Some op) = HoldItems items.blocks.items (normal_runs op)
 
--- what a client waits for
+-- a client's pending operations
 abbrev pub outstanding_in : Phase → Option (Operation Tagged)
 outstanding_in NotJoined = None
 outstanding_in Synchronized = None
@@ -67,7 +67,7 @@ buffer_in Synchronized = None
 buffer_in (AwaitingConfirm o) = None
 buffer_in (AwaitingWithBuffer o b) = Some b
 
--- what is kept of a client is of what it waits for
+-- what is cached of a client is of its pending operations
 pub record IsKeptOf (kept : Kept) (phase : Phase) : Type 0 where
   pub outstanding : HoldsOf kept.outstanding (outstanding_in phase)
   pub buffer : HoldsOf kept.buffer (buffer_in phase)

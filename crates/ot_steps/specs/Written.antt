@@ -47,7 +47,7 @@ pub record WritesPartOfRun (documents : Bool) (s : Program) (old new : Option (L
   pub are : AreFirstLines documents s lines
   pub written : WritesPart old new (lines_text lines)
 
--- what stands there after a fault: for want of memory whole lines, else a first part of them
+-- what stands there after a fault: whole lines if memory ran out, else a first part of them
 abbrev pub WritesUpTo : StepsFault → Bool → Program → Option (List ℕ) → Option (List ℕ) → Type 0
 WritesUpTo Memory documents s old new = WritesFirstLines documents s old new
 WritesUpTo WriteFault documents s old new = WritesPartOfRun documents s old new

@@ -71,7 +71,7 @@ pub(crate) fn push_text(
     push_letters(alloc, text, letters)
 }
 
-/// Adds the operation as a compact JSON array. For want of memory the text holds a part of it.
+/// Adds the operation as a compact JSON array. If memory runs out, the text holds a part of it.
 pub fn push_array(alloc: Global, text: &mut String, op: &TextOp<char>) -> Result<(), AllocError>
     ensures { OnOk result (string_bytes text.new ≡ string_bytes text.old ++ text_of_operation op.now) }
 {
@@ -90,7 +90,7 @@ pub(crate) fn push_edit(
     push_array(alloc, text, op)
 }
 
-/// Adds the operation as a compact JSON array, without the tags of what it inserts. For want of memory the text holds a part of it.
+/// Adds the operation as a compact JSON array, without the tags of what it inserts. If memory runs out, the text holds a part of it.
 pub fn push_plain_array(
     alloc: Global,
     text: &mut String,
@@ -101,7 +101,7 @@ pub fn push_plain_array(
     push_components(alloc, text, op.components())
 }
 
-/// The operation as a compact JSON array, without the tags of what it inserts; or want of memory.
+/// The operation as a compact JSON array, without the tags of what it inserts; or out of memory.
 pub fn operation_text(alloc: Global, op: &TextOp<Tagged>) -> Result<String, AllocError>
     ensures { IfOk result (λ s. string_bytes s ≡ text_of_operation (plain_operation op.now)) }
 {
@@ -122,7 +122,7 @@ pub(crate) fn push_operation(
     push_plain_array(alloc, text, op)
 }
 
-// So an operation that waits: as it is where it is held as one list of components, else from a copy.
+// The same of a pending operation: as it is where it is held as one list of components, else from a copy.
 fn push_held(
     alloc: Global,
     text: &mut String,
@@ -137,7 +137,7 @@ fn push_held(
     }
 }
 
-/// The key and array of an operation that waits, whose items may be kept.
+/// The key and array of a pending operation, whose items may be cached.
 pub(crate) fn push_kept(
     alloc: Global,
     text: &mut String,
@@ -150,7 +150,7 @@ pub(crate) fn push_kept(
 {
     match kept {
         Some(items) => {
-            // For the proof: what every operation keeps.
+            // For the proof: the invariant of every operation.
             let _operation = op.base_len();
             push_key(text, key)?;
             items.push(text)

@@ -1,11 +1,11 @@
-//! The text of a long operation's array, kept in blocks.
+//! The text of a long operation's array, cached in blocks.
 //!
 //! ```text
 //!    components   [ retain 7 | insert "ab" | .. | delete 1 ][ retain 5 | .. ] .. [ .. | retain 2 ]
 //!    blocks         7,"ab",..,-1                             5,..                 ..,2
 //! ```
 //!
-//! Where components change, the blocks that they touch are written anew, and the others stay what they are.
+//! Where components change, the blocks that they touch are rewritten, and the others stay what they are.
 
 ghost use Rattle.std.specs.Prelude.{◌≡◌, ◌+◌, ◌<◌, ◌≤◌, ◌++◌, List, length, drop, take, IfOk, OnOk, map, string_bytes};
 ghost use Rattle.serde_json.specs.Written.{compact_text};

@@ -1,4 +1,4 @@
-//! The texts of what clients wait for, kept from one line to the next.
+//! The texts of clients' pending operations, cached from one line to the next.
 //!
 //! ```text
 //!    instruction ── Machine::perform_kept_applied ──▶ Undo::past ── Patch::shared ──▶ Items::renew
@@ -29,21 +29,21 @@ use ot_sections::{Held, is_long};
 use ot_text::Patch;
 use std::alloc::{AllocError, Global};
 
-/// The text of an operation of fewer components is not kept.
+/// The text of an operation of fewer components is not cached.
 const LONG: usize = 512;
 
-/// Of a step by an operation of more components nothing is kept, unless what waits is so long that it would go to sections.
+/// Of a step by an operation of more components nothing is cached, unless what is pending is so long that it would go to sections.
 const FEW: usize = 16;
 
-/// Of what a client waits for the texts that are kept.
+/// The cached texts of a client's pending operations.
 #[derive(Drop)]
 pub(crate) struct Kept {
     pub outstanding: Option<Items>,
     pub buffer: Option<Items>,
 }
 
-// The text of `op`, from that of the operation that the patch makes of it, where that was kept. None where more than half of the components have changed,
-// or where these are few, or in sections.
+// The text of `op`, from that of the operation that the patch makes of it, where that was cached. None where more than half of the components have
+// changed, or where these are few, or in sections.
 fn renewed(
     alloc: Global,
     kept: Option<Items>,
@@ -68,7 +68,7 @@ fn renewed(
     Ok(Some(items))
 }
 
-// Whether the client waits for an operation whose text may be kept.
+// Whether the client has a pending operation whose text may be cached.
 fn waits_for_much(client: &Client<Tagged>) -> bool {
     match client {
         Client::Synchronized(_) => false,
@@ -79,7 +79,7 @@ fn waits_for_much(client: &Client<Tagged>) -> bool {
     }
 }
 
-// Whether the operation is held in sections, or will be once it changes, unless what leads back is asked for.
+// Whether the operation is held in sections, or will be once it changes, unless an undo record is asked for.
 fn is_cut(op: &Held<Tagged>) -> bool {
     match op.whole() {
         Some(op) => is_long(op),
@@ -87,7 +87,7 @@ fn is_cut(op: &Held<Tagged>) -> bool {
     }
 }
 
-// Whether the client waits for an operation that is in sections, or would be after its next change. All of it is written at each line, and so it is best one list.
+// Whether a pending operation of the client is in sections, or would be after its next change. All of it is written at each line, and so it is best one list.
 fn waits_in_sections(client: &Client<Tagged>) -> bool {
     match client {
         Client::Synchronized(_) => false,
@@ -120,8 +120,8 @@ fn changes_little(machine: &Machine, instr: &Instr, client: u16) -> bool
     }
 }
 
-// Whether the step of the client, who is there, is performed with what leads back from it: where it changes little of much, whose text is kept then, and where
-// what the client waits for would go to sections.
+// Whether the step of the client, who is there, is performed with its undo record: where it changes little of much, whose text is cached then, and where
+// what is pending would be put into sections.
 fn is_followed(machine: &Machine, instr: &Instr, client: u16) -> bool
     requires { client < length machine.now.clients }
 {
@@ -130,7 +130,7 @@ fn is_followed(machine: &Machine, instr: &Instr, client: u16) -> bool
         && (changes_little(machine, instr, client) || waits_in_sections(machine.client(client)))
 }
 
-// Whether the instruction leaves what each client waits for as it is.
+// Whether the instruction leaves each client's pending operations as they are.
 fn leaves_phases(instr: &Instr) -> bool
     ensures { result ≡ true → (s t : State) (c : ℕ) → LeadsTo instr.now s t → (client_in t c).phase ≡ (client_in s c).phase }
 {
@@ -209,7 +209,7 @@ impl Kept {
         }
     }
 
-    // What is kept of the client after a step of its own, from what was kept before it.
+    // What is cached of the client after a step of its own, from what was cached before it.
     fn follow(
         self,
         alloc: Global,
@@ -231,7 +231,7 @@ impl Kept {
     }
 }
 
-// Performs the instruction. Gives what is kept of the client after it, from what was kept before it, and what it applied by a delivery.
+// Performs the instruction. Gives what is cached of the client after it, from what was cached before it, and what it applied by a delivery.
 fn perform_from(
     alloc: Global,
     machine: &mut Machine,
@@ -270,7 +270,7 @@ fn perform_from(
     Ok(Ok((after, applied)))
 }
 
-/// Nothing is kept of so many clients.
+/// Nothing is cached of so many clients.
 pub(crate) fn nothing_kept(alloc: Global, clients: u16) -> Result<Vec<Kept>, AllocError>
     ensures { IfOk result (λ kept. kept.items ≡ replicate clients nothing) }
 {
@@ -281,7 +281,7 @@ pub(crate) fn nothing_kept(alloc: Global, clients: u16) -> Result<Vec<Kept>, All
     Ok(kept)
 }
 
-/// What is kept of the client that the instruction names, if it names one.
+/// What is cached of the client that the instruction names, if it names one.
 pub(crate) fn kept_of<'a>(kept: &'a [Kept], nothing: &'a Kept, instr: &Instr) -> &'a Kept
     requires { IsForClients (length kept.now) instr.now }
     ensures { (s : State) → AreKept kept.now s.clients → IsKeptAt result.now s (client_of instr.now) }
@@ -292,10 +292,10 @@ pub(crate) fn kept_of<'a>(kept: &'a [Kept], nothing: &'a Kept, instr: &Instr) ->
     }
 }
 
-/// Performs the instruction as [`perform`] does, gives what it applied by a delivery, and renews what is kept of the client that it names.
+/// Performs the instruction as [`perform`] does, gives what it applied by a delivery, and renews what is cached of the client that it names.
 ///
-/// What is kept of a client are the texts of the operations of 512 components and more for which it waits: less than twice their bytes, and some 40 for
-/// each block. It does not grow with the steps. After want of memory the instruction may be performed, and what is kept is not to be used.
+/// What is cached of a client are the texts of its pending operations of 512 components and more: less than twice their bytes, and some 40 for
+/// each block. It does not grow with the steps. After running out of memory the instruction may be performed, and the cache is not to be used.
 pub(crate) fn perform_keeping(
     alloc: Global,
     machine: &mut Machine,

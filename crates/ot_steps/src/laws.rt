@@ -2,7 +2,7 @@
 
 ghost use Rattle.ot_steps.specs.Laws.{AllLinesFold, DownlinksFollow, FoldIsRun, LinesFold};
 
-/// The opening and the lines of the first instructions fold to the state after them: every client's revision, state, what it waits for,
+/// The opening and the lines of the first instructions fold to the state after them: every client's revision, state, pending operations,
 /// its text and its message to the server, the server's text, and the log with its makers. The fold applies operations to texts and
 /// needs nothing else of the algebra.
 pub fn fold_is_run()

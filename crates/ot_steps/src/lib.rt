@@ -9,14 +9,14 @@
 //!   table's states before and after the instruction (`ot_model`'s specs/Table.antt). `run_lines` are all lines of a run.
 //! - *The lines as text* (`specs/Text.antt`): one JSON object a line, its keys in a fixed order.
 //! - *The fold* (`specs/Fold.antt`): from the lines alone, by applying operations to texts and nothing else of the algebra, come every
-//!   client's revision, state, what it waits for, text and links, the server's text and the log. [`fold_is_run`] and [`lines_fold`] are the
+//!   client's revision, state, pending operations, text and links, the server's text and the log. [`fold_is_run`] and [`lines_fold`] are the
 //!   laws (`specs/Laws.antt`) that this is the run.
 //! - *Writing* (`specs/Written.antt`): [`print_steps`] writes the lines while the run goes, 64 KiB of them at a time (`specs/Gathered.antt`), and after a
 //!   fault a first part of them stands.
-//! - *Keeping* (`specs/Kept.antt`): of operations of some hundred components and more that a client waits for, the text is kept from one line to the
-//!   next, and what a step changes of it is written anew (items.rt, kept.rt).
+//! - *Caching* (`specs/Kept.antt`): of pending operations of some hundred components and more, the text is cached from one line to the
+//!   next, and what a step changes of it is rewritten (items.rt, kept.rt).
 //!
-//! What a delivery applies is made once: the machine that performs it gives it ([`perform`]); [`applies`] tells it without performing anything. Begin reading
+//! What a delivery applies is made once: the machine that performs it gives it ([`perform`]); [`applies`] says it without performing anything. Begin reading
 //! at `step_line` in specs/Steps.antt, then at [`print_steps`].
 #![tactic(auto)]
 

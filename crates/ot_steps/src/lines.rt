@@ -61,7 +61,7 @@ fn push_named(alloc: Global, text: &mut String, instr: &Instr) -> Result<(), All
     Ok(())
 }
 
-// What the client, who is there, waits for.
+// The pending operations of the client, who is there.
 fn push_waiting(
     alloc: Global,
     text: &mut String,
@@ -237,7 +237,7 @@ fn push_document(
 }
 
 /// Writes the line of an instruction that the machine has performed into the text, instead of what that held, as [`print_step`] makes it.
-/// After want of memory the text holds a part of the line.
+/// After running out of memory the text holds a part of the line.
 pub(crate) fn write_step(
     alloc: Global,
     text: &mut String,

@@ -1,4 +1,4 @@
-//! What of the state before an instruction its line tells, and what of the instruction itself.
+//! What of the state before an instruction its line has, and what of the instruction itself.
 
 ghost use Rattle.std.specs.Prelude.{◌≡◌, IfErr, IfOk, OnErr, OnOk};
 ghost use Rattle.std.specs.Option.{option_map};
@@ -16,7 +16,7 @@ use ot_text::TextOp;
 use std::alloc::AllocError;
 
 /// Whether the instruction, where it is performed, puts a message on its client's link to the server: an edit where nothing is under
-/// way, and an acknowledgement where a buffer waits.
+/// way, and an acknowledgement where there is a buffer.
 pub fn sends(machine: &Machine, instr: &Instr) -> bool
     ensures { result ≡ steps.sends instr.now machine.now }
 {
@@ -32,7 +32,7 @@ pub fn sends(machine: &Machine, instr: &Instr) -> bool
 }
 
 /// The operation that the instruction, where it is performed, applies to its client's document by a delivery: the operation at the
-/// head of the client's downlink, carried over what the client waits for. None where there is no such; or want of memory.
+/// head of the client's downlink, transformed against the client's pending operations. None where there is no such; or out of memory.
 pub fn applies(machine: &Machine, instr: &Instr) -> Result<Option<TextOp<Tagged>>, AllocError>
     ensures { IfOk result (λ applied. option_map plain_operation applied ≡ steps.applies instr.now machine.now) }
 {
@@ -53,7 +53,7 @@ pub fn perform(machine: &mut Machine, instr: &Instr) -> Result<Applied, Refusal>
     machine.perform_applied(instr)
 }
 
-/// Performs the instruction as [`perform`] does, and gives what takes it back too.
+/// Performs the instruction as [`perform`] does, and gives its undo record too.
 pub(crate) fn perform_kept(machine: &mut Machine, instr: &Instr) -> Result<(Undo, Applied), Refusal>
     ensures done { OnOk result (LeadsTo instr.now machine.old machine.new) }
     ensures refused { IfErr result (λ r. IsRefusal (table.step machine.old instr.now) r) }

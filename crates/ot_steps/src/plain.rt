@@ -40,17 +40,17 @@ fn plain_components(
     Ok(op)
 }
 
-/// The operation without the tags of what it inserts, or want of memory.
+/// The operation without the tags of what it inserts, or out of memory.
 pub fn plain_operation(alloc: Global, op: &TextOp<Tagged>) -> Result<TextOp<char>, AllocError>
     ensures { IfOk result (λ plain. plain ≡ plain_operation op.now) }
 {
-    // For the proof: what every operation keeps.
+    // For the proof: the invariant of every operation.
     let _base = op.base_len();
     let _target = op.target_len();
     plain_components(alloc, op.components())
 }
 
-/// So an operation that waits. Where it is held in sections it costs a copy more.
+/// The same of a pending operation. Where it is held in sections it costs a copy more.
 pub fn plain_held(alloc: Global, op: &Held<Tagged>) -> Result<TextOp<char>, AllocError>
     ensures { IfOk result (λ plain. plain ≡ plain_operation op.now) }
 {

@@ -177,12 +177,12 @@ fn gather_run<W: Sink>(
 }
 
 /// Runs the schedule and writes the lines of its run while it goes: the opening, a line for each performed instruction, the stop if an
-/// instruction was not performed (refused, or for want of memory), and the end. Says whether one was not performed. With `documents` each
+/// instruction was not performed (refused, or out of memory), and the end. Says whether one was not performed. With `documents` each
 /// performed instruction's line has the document of the one that moved.
 ///
-/// After a fault a first part of the lines is written. `WriteFault` is said only where a write has failed, as the output says itself. For want of memory for a line these are whole lines, all that were made before it. Memory does
-/// not grow with the lines: they are written wherever 64 KiB of them are held. Beside the machine stand the texts of the long operations for which clients
-/// wait, in less than twice their bytes.
+/// After a fault a first part of the lines is written. `WriteFault` is said only where a write has failed, as the output says itself. If memory for a line ran out these are whole lines, all that were made before it. Memory does
+/// not grow with the lines: they are written wherever 64 KiB of them are held. Beside the machine stand the texts of clients' long pending
+/// operations, in less than twice their bytes.
 pub fn print_steps<W: Sink>(
     alloc: Global,
     schedule: &Schedule,

@@ -23,7 +23,7 @@ abbrev pub BreaksOff : Bool → Program → ℕ → Streams → Type 0
 BreaksOff documents schedule status streams =
     (status ≡ 1) × (streams.broken ≡ true) × WritesPartOfRun documents schedule streams.output streams.output' × Keeps streams.faults streams.faults'
 
--- memory was wanting: the first lines, and on the faults that it was
+-- memory ran out: the first lines, and on the faults that it was
 abbrev pub WantsMemory : Bool → Program → ℕ → Streams → Type 0
 WantsMemory documents schedule status streams =
     (status ≡ 1) × WritesFirstLines documents schedule streams.output streams.output' × WritesPart streams.faults streams.faults' memory_fault

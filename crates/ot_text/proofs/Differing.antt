@@ -1,4 +1,4 @@
--- Pieces that lead back, behind one another.
+-- The pieces of a patch back, behind one another.
 use Rattle.std.proofs.Common.{◌≡◌, ℕ, zero, suc, ◌+◌, ◌-◌, ◌<◌, ◌≤◌, List, [], ◌∷◌, ◌++◌, length, take, drop, get_or, refl, sym, ap, ◌∙◌, subst, arith, append_assoc, length-append, length-drop}
 use Rattle.std.specs.Prelude.{slice_get}
 use Rattle.std.specs.List.{slice_range}
@@ -135,7 +135,7 @@ apart_behind :
 apart_behind [] last p apart order less = tt
 apart_behind (q ∷ ps) last p apart order less = apart_push 0 (q ∷ ps) last p apart order (less (omega arith))
 
--- what leads back from the runs in front of a place, where so many pieces were gone over
+-- the patch back from the runs in front of a place, where so many pieces were passed
 pub record Going {A : Type 0} (ps back : List (Piece A)) (old : List (Run A)) (at place i : ℕ) : Type 0 where
   pub front : List (Run A)
   pub order : AreInOrder at (drop i ps) (length old)
@@ -161,7 +161,7 @@ module _
     going_apart : BeginBehind p.end (drop (i + 1) ps) × StandApart (drop (i + 1) ps)
     going_apart = apart_rest p (drop (i + 1) ps) (rw rest_is at going.apart)
 
-    -- the pieces that lead back stand apart from any that begins where this one will, or later
+    -- the pieces of the patch back stand apart from any that begins where this one will, or later
     going_beside : (next : Piece A) → place + (p.start - at) ≤ next.start → StandApart (back ++ next ∷ [])
     going_beside next later =
         apart_behind back place next going.leads.apart (rw going.place_is at going.leads.in_order)

@@ -1,4 +1,4 @@
--- The components of an operation taken back, over a document in chunks.
+-- The components of an operation inverted, over a document in chunks.
 use Rattle.std.proofs.Common.{◌≡◌, ℕ, ◌+◌, ◌-◌, ◌<◌, ◌≤◌, List, length, take, drop, get_or, refl, sym, ap, ◌∙◌, arith}
 use Rattle.std.proofs.lemmas.List.{length-drop, drop-drop}
 use Rattle.ot_text.specs.declared.Component.{Component}
@@ -15,7 +15,7 @@ use Rattle.ot_text.proofs.Inverted.{IsInverted, inverted_none, inverted_all, ret
 abbrev pub gone : {A : Type 0} → List A → List A → ℕ
 gone d left = length d - length left
 
--- the components up to place i have been taken back, and they end so many items behind the cursor
+-- the components up to place i have been inverted, and they end so many items behind the cursor
 pub record IsInverting {T : Type 0} (components : List (Component T)) (cs : List (List T)) (i chunk offset ahead : ℕ) (op : Operation T) : Type 0 where
   pub inverted : IsInverted components (concatenated cs) i (gone (concatenated cs) (left_at cs chunk offset) + ahead) op
   pub left_is : left_at cs chunk offset ≡ drop (gone (concatenated cs) (left_at cs chunk offset)) (concatenated cs)

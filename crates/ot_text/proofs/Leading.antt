@@ -1,4 +1,4 @@
--- What pieces that lead back are to operations.
+-- What the pieces of a patch back are to operations.
 use Rattle.std.proofs.Common.{◌≡◌, ℕ, List, [], ap, ◌∙◌, arith}
 use Rattle.ot_text.specs.Operation.{Operation, IsTooLong}
 use Rattle.ot_text.specs.Run.{Run, IsSound, normal_runs, operation_of}

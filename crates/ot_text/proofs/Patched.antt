@@ -59,7 +59,7 @@ at_drop (suc n) [] i j e = refl
 at_drop (suc n) (x ∷ xs) i zero e = absurd (omega arith)
 at_drop (suc n) (x ∷ xs) i (suc j) e = at_drop n xs i j (omega arith)
 
--- the older runs are what is shared and what is kept
+-- the older runs are what is shared and what is recorded
 module _
     {A : Type 0} (us vs kept : List (Run A)) (front back newer : ℕ)
     (fronts : ShareFront us vs front) (backs : ShareBack (drop front us) (drop front vs) back)
@@ -129,7 +129,7 @@ module _ {T : Type 0} (a b rest_a rest_b between kept : List (Component T)) (fro
   there : (front - 0 ≡ front)
   there = omega arith
 
-  -- what was found leads back, and is as small as can be
+  -- what was found is a patch back, and is as small as can be
   pub found_leads :
       (end : ℕ) → end ≡ front + (length rest_b - back) → (front ≡ end → 0 < length (runs kept))
       → LeadBack (record { start = front; end = end; part = runs kept } ∷ []) (runs b) (runs a)

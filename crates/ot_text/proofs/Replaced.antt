@@ -111,7 +111,7 @@ length-news-any i j (Add s ∷ rs) =
     omega (arith, length-news-append (map New s) (image_from i rs), length-news-append (map New s) (image_from j rs), length-news-any i j rs)
 length-news-any i j (Skip n ∷ rs) = length-news-any (i + n) (j + n) rs
 
--- the lengths of what is gone over, and of what is left
+-- the lengths of what is passed, and of what is left
 
 pub record Counted {T : Type 0} (whole rest : List (Component T)) (base target inserted : ℕ) : Type 0 where
   pub base_is : base + base_of (runs rest) ≡ base_of (runs whole)

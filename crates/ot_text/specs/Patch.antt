@@ -1,4 +1,4 @@
--- What leads from one operation to another.
+-- Patches from one operation to another.
 use Rattle.std.specs.Prelude.{◌≡◌, ◌≢◌, ℕ, suc, ◌-◌, ◌<◌, ◌≤◌, List, [], ◌∷◌, length, take, drop, slice_get}
 use Rattle.ot_text.specs.declared.patch.Patch.{Patch}
 use Rattle.ot_text.specs.declared.patch.Patch.TheVariants.{Whole, Part, Parts}

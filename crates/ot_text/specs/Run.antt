@@ -3,7 +3,7 @@ use Rattle.std.specs.Prelude.{◌≡◌, ℕ, zero, suc, ◌+◌, ◌-◌, ◌<�
 use Rattle.ot_text.specs.Operation.{Item, Old, New, olds, Operation, news}
 use Rattle.ot_text.specs.declared.TheConstants.{LIMIT}
 
--- a run of places that stay, of new items, or of places that go
+-- a run of retained places, of new items, or of deleted places
 pub data Run (A : Type 0) : Type 0 where
   Keep : ℕ → Run A
   Add : List A → Run A

@@ -1,4 +1,4 @@
--- A spot in chunks, and what an operation makes of the chunks as it goes over them, each where it lies.
+-- A spot in chunks, and what an operation makes of the chunks as it walks over them, each where it lies.
 use Rattle.std.specs.Prelude.{◌≡◌, ℕ, suc, ◌+◌, ◌-◌, ◌<◌, ◌≤◌, List, [], ◌∷◌, ◌++◌, map, length, take, drop, get_or, nat_lt, if◌then◌else◌}
 use Rattle.ot_text.specs.declared.chunk.Chunk.{Chunk}
 use Rattle.ot_text.specs.declared.survey.Survey.{Survey}

@@ -137,7 +137,7 @@ pub fn apply_components<T: Element>(
     Ok(items)
 }
 
-// The operation that takes the components back, on the document that they make of the chunks.
+// The inverse of the components, on the document that they make of the chunks.
 pub fn invert_components<T: Element>(
     alloc: Global,
     components: &[Component<T>],
@@ -151,7 +151,7 @@ pub fn invert_components<T: Element>(
 {
     let mut inverse = TextOp::with_capacity(alloc, components.len())?;
     let mut cursor = Cursor::start();
-    // How many items stay behind the cursor: it goes over them where something is to be read behind them.
+    // How many items stay behind the cursor: it walks over them where something is to be read behind them.
     let mut ahead = 0;
     for component in components {
         match component {

@@ -36,7 +36,7 @@ impl Cursor {
         &chunk[self.offset..]
     }
 
-    // Goes over items of one chunk.
+    // Skips items of one chunk.
     pub fn advance<T>(&mut self, chunks: &[Chunk<T>], count: usize)
         requires chunked { IsChunked (lists chunks.now) }
         requires within { count ≤ length (rest_at (lists chunks.now) self.old.chunk self.old.offset) }
@@ -54,7 +54,7 @@ impl Cursor {
         }
     }
 
-    // Goes over items of any chunks.
+    // Skips items of any chunks.
     pub fn skip<T>(&mut self, chunks: &[Chunk<T>], count: usize)
         requires chunked { IsChunked (lists chunks.now) }
         requires within { count ≤ length (left_at (lists chunks.now) self.old.chunk self.old.offset) }

@@ -38,7 +38,7 @@ fn shared_back<T: Element>(a: &[Component<T>], b: &[Component<T>]) -> usize
     most
 }
 
-// What leads from components back to older ones, if they differ: the longest fronts and backs of equal ones are shared. What is kept is copied.
+// The patch from components back to older ones, if they differ: the longest fronts and backs of equal ones are shared. What is recorded is copied.
 pub fn difference<T: Element>(
     alloc: Global,
     older: &[Component<T>],
@@ -62,7 +62,7 @@ pub fn difference<T: Element>(
     }))
 }
 
-// Adds what leads back from components that stand behind `place` others, and apart from the pieces before.
+// Adds the patch back from components that stand behind `place` others, and apart from the pieces before.
 fn add_difference<T: Element>(
     pieces: &mut Vec<Splice<T>>,
     place: usize,
@@ -79,7 +79,7 @@ fn add_difference<T: Element>(
     Ok(())
 }
 
-// What leads back from components with parts in their places: for each part what it shares with those that went is left out. Places are those that
+// The patch back from components with parts in their places: for each part what it shares with those that went is left out. Places are those that
 // components have once all the parts have come.
 pub fn differences<T: Element>(
     alloc: Global,

@@ -105,7 +105,7 @@ impl<T: Element> Doc<T> {
         self.chunks.len()
     }
 
-    /// The element at a place, counted from 0, or `None` past the end. Goes over the chunks before it, not over their elements.
+    /// The element at a place, counted from 0, or `None` past the end. Reads the lengths of the chunks before it, not their elements.
     pub fn get(&self, place: usize) -> Option<T>
         ensures { result ≡ slice_get self.now place }
     {
@@ -127,7 +127,7 @@ impl<T: Element> Doc<T> {
         }
     }
 
-    /// The two documents are one list; how it lies in chunks does not count.
+    /// The two documents are equal as lists; how they lie in chunks does not count.
     pub fn equals(&self, other: &Doc<T>) -> bool
         ensures { IsTrue result ↔ (self.now ≡ other.now) }
     {
@@ -203,7 +203,7 @@ impl<T: Element> Doc<T> {
         Ok(true)
     }
 
-    // A change that drafts the chunks which it touches anew. (A document without a chunk has none that could stay.)
+    // A change that redrafts the chunks which it touches. (A document without a chunk has none that could stay.)
     fn redraft(&mut self, op: &TextOp<T>) -> Result<(), AllocError>
         requires { op.now.base ≡ length self.old }
         ensures ok { OnOk result (self.new ≡ apply op.now self.old) }
@@ -218,7 +218,7 @@ impl<T: Element> Doc<T> {
         Ok(())
     }
 
-    // A change to a document of one chunk or none, which is written anew.
+    // A change to a document of one chunk or none, which is rewritten.
     fn rebuild(&mut self, op: &TextOp<T>) -> Result<(), AllocError>
         requires base { op.now.base ≡ length self.old }
         requires small { length op.now.image ≤ 512 }
@@ -271,7 +271,7 @@ impl<T: Element> Doc<T> {
     }
 }
 
-// Do chunks of `count` items hold one list?
+// Do chunks of `count` items hold equal lists?
 fn same_lists<T: Element>(a: &[Chunk<T>], b: &[Chunk<T>], count: usize) -> bool
     requires a { IsChunked (lists a.now) }
     requires b { IsChunked (lists b.now) }

@@ -12,7 +12,7 @@ use crate::cursor::Cursor;
 use crate::{Component, Element};
 use std::alloc::{AllocError, Global};
 
-/// How far a chunk is filled when it is written anew: what comes later then finds room.
+/// How far a chunk is filled when it is rewritten: what comes later then finds room.
 pub const FILL: usize = 384;
 
 // A chunk to be: an old one by its place, or a new one.

@@ -38,7 +38,7 @@ impl Place {
         chunks[self.chunk].len() - self.at
     }
 
-    // Goes over items, which stay.
+    // Skips items, which stay.
     pub fn keep<T>(&mut self, chunks: &[Chunk<T>], count: usize)
         requires place { IsPlace (lists chunks.now) self.old }
         requires within { count ≤ length (spot_at (lists chunks.now) self.old).rest + behind (lists chunks.now) self.old.chunk }

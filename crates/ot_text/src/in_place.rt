@@ -233,7 +233,7 @@ impl<T: Element> InPlace<T> {
         }
     }
 
-    // What leads back.
+    // The undo record.
     pub fn back(&self) -> Result<Patch<T>, AllocError>
         ensures leads { IfOk result (λ patch. LeadsFrom patch self.now.after) }
         ensures back { IfOk result (λ patch. patched patch self.now.after ≡ self.now.before) }

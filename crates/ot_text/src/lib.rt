@@ -1,6 +1,6 @@
 //! Text operations and the documents that they change: the data of operational transformation.
 //!
-//! An operation is a list of components, as in ot.js' `TextOperation`, which goes over a document once, from left to right:
+//! An operation is a list of components, as in ot.js' `TextOperation`, which walks over a document once, from left to right:
 //!
 //! ```text
 //!     retain 1      a                  a          [1,"cd",-2,1] takes documents of 4 elements (base length)
@@ -10,9 +10,9 @@
 //! ```
 //!
 //! It is always in normal form: no component is empty, no two neighbours are of one kind, and no insertion stands directly
-//! after a deletion. So two operations that do the same are one list. A contract sees an operation as its base length and
+//! after a deletion. So two operations that do the same are equal lists. A contract sees an operation as its base length and
 //! its image, which says for each element of the result whether it stood at a place of the document before (`Old i`) or
-//! is new (`New x`): here `Old 0, New c, New d, Old 3` on base 4. The three lengths are kept beside the components.
+//! is new (`New x`): here `Old 0, New c, New d, Old 3` on base 4. The three lengths are stored beside the components.
 //!
 //! A document is a list of elements, in chunks. A contract sees the list alone, and so does who looks at it piece by piece (`Pieces`).
 //!
@@ -31,8 +31,8 @@
 //! made over the old chunks as they are, from the one before the first touched one up to the first behind the last that may follow as it is.
 //! Then the drafted chunks are put in the place of these in the list, which takes no memory either.
 //!
-//! A change of an operation is prepared (`Prepared`), which makes its growths, and then made or taken back, neither of which takes memory. It is
-//! given as parts that take the place of some of its components (`Patch`), so that what lies between them costs nothing:
+//! A change of an operation is prepared (`Prepared`), which makes its growths, and then committed or rolled back, neither of which takes memory. It
+//! is given as parts that take the place of some of its components (`Patch`), so that what lies between them costs nothing:
 //!
 //! ```text
 //!     op       [ retain 7 | insert "ab" | retain 5 | .. | retain 2 ]      as it is, with room for what comes
@@ -46,14 +46,14 @@
 //! - `specs/Run.antt`, `specs/Components.antt`, `specs/Texts.antt`: the components as runs, their normal form, what they spell, what they add.
 //! - `specs/Chunks.antt`, `specs/Draft.antt`, `specs/Spots.antt`: the rule on chunks, a place in them, the draft of a change, the change
 //!   where they lie.
-//! - `specs/Splices.antt`, `specs/Patch.antt`: parts in the place of components, and what leads from one operation to another.
+//! - `specs/Splices.antt`, `specs/Patch.antt`: parts in the place of components, and patches from one operation to another.
 //! - `specs/Change.antt`, `specs/Prepared.antt`: an operation and what is about to become of it.
 //! - `specs/Rewriting.antt`: an operation that is written over an old one.
 //!
 //! Begin with `TextOp` below, then `build.rt` (normal form), `text.rt` (what an insertion adds), `document.rt` (`Doc`), `survey.rt`, `edit.rt` and `crowd.rt` (the
 //! change where chunks lie), `cursor.rt` and `draft.rt` (the draft), and `change.rt` (what components make of chunks). `patch.rt` leads from
-//! one operation to another, `prepared.rt` and `in_place.rt` change an operation where its components lie, `difference.rt` finds what
-//! leads back, and `rewrite.rt` writes an operation over an old one, of which long runs stay where they lie.
+//! one operation to another, `prepared.rt` and `in_place.rt` change an operation where its components lie, `difference.rt` finds the
+//! patch back, and `rewrite.rt` writes an operation over an old one, of which long runs stay where they lie.
 #![tactic(auto)]
 
 ghost use Rattle.std.specs.Prelude.{◌≡◌, ℕ, ◌+◌, ◌<◌, ◌≤◌, ◌↔◌, List, length, max, set, slice_get, Some, OnOk, OnErr, IfOk, IsErrOf, IsTrue};
@@ -210,7 +210,7 @@ impl<T: Element> TextOp<T> {
         Ok(())
     }
 
-    /// Does as `insert` with a text that is no longer wanted: it moves in, and is copied only where it is concatenated with an insertion.
+    /// Does as `insert` with a text that is no longer needed: it moves in, and is copied only where it is concatenated with an insertion.
     ///
     /// `TooLong` exactly where the target length would pass 1,000,000; else `Memory` where a growth was refused. After an
     /// error the operation is as it was, and the text is gone.
@@ -304,7 +304,7 @@ impl<T: Element> TextOp<T> {
         &self.components[..]
     }
 
-    /// The components themselves, in order, where the operation is no longer wanted: nothing is copied.
+    /// The components themselves, in order, where the operation is no longer needed: nothing is copied.
     pub fn into_components(self) -> Vec<Component<T>>
         ensures normal { IsNormal (runs result.items) }
         ensures spells { operation_of (runs result.items) ≡ self }
@@ -368,7 +368,7 @@ impl<T: Element> TextOp<T> {
 
     /// The document that the operation makes of this one, which stays: retained elements are copied, inserted ones added,
     /// deleted ones passed over. The document has to fit. `AllocError` where a growth was refused; nothing has changed then.
-    /// Where the old document is no longer wanted, `Doc::change` copies less.
+    /// Where the old document is no longer needed, `Doc::change` copies less.
     pub fn apply(&self, document: &Doc<T>) -> Result<Doc<T>, AllocError>
         requires { self.now.base ≡ length document.now }
         ensures { IfOk result (λ d. d ≡ apply self.now document.now) }
@@ -390,8 +390,8 @@ impl<T: Element> TextOp<T> {
         })
     }
 
-    /// The operation that takes this one back, as ot.js' `invert`: applied to what this operation makes of `document`, it gives
-    /// `document`. Retains stay, an insertion becomes a deletion of its length, a deletion an insertion of what went.
+    /// The inverse of this operation, as ot.js' `invert`: applied to what this operation makes of `document`, it gives
+    /// `document`. Retains stay, an insertion becomes a deletion of its length, a deletion an insertion of what was deleted.
     /// The document has to fit. `AllocError` where a growth was refused; nothing has changed then.
     pub fn invert(&self, document: &Doc<T>) -> Result<TextOp<T>, AllocError>
         requires { self.now.base ≡ length document.now }

@@ -1,4 +1,4 @@
-//! What leads from one operation to another that resembles it.
+//! Patches from one operation to another that resembles it.
 //!
 //! ```text
 //!   older     [ retain 7 | insert "ab" | retain 5 | delete 1 | .. | retain 2 ]
@@ -19,9 +19,9 @@ use crate::splices::{copy_splices, one_splice};
 use crate::{Element, Prepared, Splice, TextOp};
 use std::alloc::AllocError;
 
-/// What leads from one operation to another: this other one altogether, one part that takes the place of some of its components, or any number of
-/// such parts, in order. One part alone has no list around it where one is made here: what is kept of an edit is then one block of memory. As a
-/// `Rewrite` makes it, and, as what leads back from an operation to an older one, `Patch::between` and `Prepared::patch`. Between two parts of what
+/// A patch from one operation to another: this other one altogether, one part that takes the place of some of its components, or any number of
+/// such parts, in order. One part alone has no list around it where one is made here: what is recorded of an edit is then one block of memory. As a
+/// `Rewrite` makes it, and, as the patch from an operation back to an older one, `Patch::between` and `Prepared::patch`. Between two parts of what
 /// these make at least one component stays.
 #[derive(Drop)]
 pub enum Patch<T> {
@@ -31,9 +31,9 @@ pub enum Patch<T> {
 }
 
 impl<T: Element> Patch<T> {
-    /// What leads from `newer` back to `older`, in parts none of which is empty in the place of nothing. A part that has components, and takes the
+    /// The patch from `newer` back to `older`, in parts none of which is empty in the place of nothing. A part that has components, and takes the
     /// place of some, neither begins nor ends with the same component as these; between two parts at least one component stays. Both operations are
-    /// gone through once, and what is kept is copied. `AllocError` where a growth was refused.
+    /// gone through once, and what is recorded is copied. `AllocError` where a growth was refused.
     pub fn between(older: &TextOp<T>, newer: &TextOp<T>) -> Result<Patch<T>, AllocError>
         ensures leads { IfOk result (λ patch. LeadsFrom patch newer.now) }
         ensures back { IfOk result (λ patch. patched patch newer.now ≡ older.now) }
@@ -46,7 +46,7 @@ impl<T: Element> Patch<T> {
         }
     }
 
-    /// What leads from an operation back to itself: nothing differs. It takes no memory.
+    /// The patch from an operation to itself: nothing differs. It takes no memory.
     pub fn same(op: &TextOp<T>) -> Patch<T>
         ensures leads { LeadsFrom result op.now }
         ensures back { patched result op.now ≡ op.now }
@@ -55,7 +55,7 @@ impl<T: Element> Patch<T> {
         Patch::Parts(Vec::new(*op.components.allocator()))
     }
 
-    /// What leads from any operation to this one. It takes no memory.
+    /// The patch from any operation to this one. It takes no memory.
     pub fn whole(op: TextOp<T>) -> Patch<T>
         ensures leads { (newer : Operation T) → LeadsFrom result newer }
         ensures makes { (newer : Operation T) → patched result newer ≡ op }
@@ -77,7 +77,7 @@ impl<T: Element> Patch<T> {
         }
     }
 
-    /// Prepares the newer operation to become the older one. Costs what the patch keeps, which is copied: the list of the operation is not copied,
+    /// Prepares the newer operation to become the older one. Costs what the patch stores, which is copied: the list of the operation is not copied,
     /// and grows only where it has no room, or is to move into another one, as `TextOp::prepare` says. Where a growth was refused the operation comes
     /// back.
     pub fn prepare_back(&self, newer: TextOp<T>) -> Result<Prepared<T>, TextOp<T>>

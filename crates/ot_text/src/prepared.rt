@@ -80,9 +80,9 @@ impl<T: Element> Prepared<T> {
         }
     }
 
-    /// What leads back from the operation as it will be, in parts none of which is empty in the place of nothing. A part that has components, and
+    /// The undo record of the change, a patch in parts none of which is empty in the place of nothing. A part that has components, and
     /// takes the place of some, neither begins nor ends with the same component as these; between two parts at least one component stays. Goes
-    /// through the components that come and those that go, and copies what is kept. `AllocError` where a growth was refused.
+    /// through the components that come and those that go, and copies what is recorded. `AllocError` where a growth was refused.
     pub fn patch(&self) -> Result<Patch<T>, AllocError>
         ensures leads { IfOk result (λ patch. LeadsFrom patch self.now.after) }
         ensures back { IfOk result (λ patch. patched patch self.now.after ≡ self.now.before) }

@@ -1,4 +1,4 @@
-//! An operation that is written anew over an old one, of which components stay where they lie.
+//! An operation that is rewritten over an old one, of which components stay where they lie.
 
 ghost use Rattle.std.specs.Prelude.{◌≡◌, ◌↔◌, ℕ, ◌-◌, ◌<◌, ◌≤◌, [], length, take, drop, slice_get, Some, IfOk, OnOk, OnErr, IsTrue, true, false};
 ghost use Rattle.ot_text.specs.Operation.{Operation, empty, with_retain, with_insert, with_delete, IsTooLong};

@@ -65,7 +65,7 @@ impl Survey {
         stands
     }
 
-    // Goes over items that stay, unless a chunk on the way may not stand.
+    // Skips items that stay, unless a chunk on the way may not stand.
     fn keep<T>(&mut self, chunks: &[Chunk<T>], count: usize) -> bool
         requires chunked { IsChunked (lists chunks.now) }
         requires survey { IsSurvey (lists chunks.now) self.old }
@@ -97,7 +97,7 @@ impl Survey {
         chunks[self.chunk].make_room(size)
     }
 
-    // Goes over items that go, unless a chunk on the way may not stand.
+    // Skips items that go, unless a chunk on the way may not stand.
     fn delete<T: Copy>(
         &mut self,
         chunks: &mut Vec<Chunk<T>>,

@@ -1,4 +1,4 @@
-//! A change of some of a document's chunks: those that it touches are drafted anew, and the others stay.
+//! A change of some of a document's chunks: those that it touches are redrafted, and the others stay.
 
 ghost use Rattle.std.specs.Prelude.{◌≡◌, ◌+◌, ◌-◌, ◌<◌, ◌≤◌, ◌++◌, [], length, take, drop, OnOk, OnErr, IfOk, vec_len, vec_capacity};
 ghost use Rattle.std.specs.List.{slice_range};
@@ -64,7 +64,7 @@ fn draft_window<T: Element>(
     Ok(Window { pieces, count })
 }
 
-// The chunks that the pieces say, over those from `start` up to `end`, of which none is wanted any more then.
+// The chunks that the pieces say, over those from `start` up to `end`, of which none is needed any more then.
 fn assemble_within<T: Element>(
     chunks: &mut Vec<Chunk<T>>,
     start: usize,
@@ -108,7 +108,7 @@ fn put_window<T: Element>(
     Ok(())
 }
 
-// Makes of the chunks what the components make of them: those that are touched are drafted anew.
+// Makes of the chunks what the components make of them: those that are touched are redrafted.
 pub fn redraft_chunks<T: Element>(
     components: &[Component<T>],
     chunks: &mut Vec<Chunk<T>>,

@@ -51,7 +51,7 @@ pub record IsConcluded (plan : PlanView) (board : BoardView) (ends : List Worker
   pub done : AreDone board ends
   pub checked : IsChecked plan board.recorded (receipts_of ends) text
 
--- the first fault: a worker's, a client that stays out, the audit's, a record that does not follow the plan. Memory is wanting only
+-- the first fault: a worker's, a client that stays out, the audit's, a record that does not follow the plan. Out of memory only
 -- where the workers and the board have none
 abbrev pub IsThreadsFault : PlanView → BoardView → List WorkerEnd → ThreadsFault → Type 0
 IsThreadsFault plan board ends (Work fault) = IsFirstFault ends fault

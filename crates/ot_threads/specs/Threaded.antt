@@ -1,12 +1,13 @@
 -- What `threads` writes and answers.
-use Rattle.std.specs.Prelude.{◌≡◌, ◌≢◌, ◌⊎◌, ℕ, ◌<◌, List, [], ◌∷◌, ◌++◌, length, Bool, true, Result, Ok, Err, codes, if◌then◌else◌}
+use Rattle.std.specs.Prelude.{◌≡◌, ◌≢◌, ◌⊎◌, ℕ, ◌<◌, List, [], ◌∷◌, ◌++◌, length, Bool, true, Ok, Err, codes}
 use Rattle.std.specs.Str.{is_utf8}
 use Rattle.outcomes.specs.Outcomes.{Streams, Gives, GivesUp, Refuses, WantsMemory, memory_fault}
 use Rattle.ot_board.specs.declared.auditing.AuditFault.{AuditFault}
 use Rattle.ot_board.specs.declared.auditing.AuditFault.TheVariants as audit
 use Rattle.ot_board.specs.Boards.{BoardView}
 use Rattle.ot_plan.specs.Plan.{PlanView}
-use Rattle.ot_plan.specs.Reading.{plan_of_text}
+use Rattle.ot_plan.specs.Lines.{fault_line}
+use Rattle.ot_plan.specs.Reading.{plan_of_bytes}
 use Rattle.ot_plan.specs.declared.fault.PlanFault.{PlanFault}
 use Rattle.ot_plan.specs.declared.fault.PlanFault.TheVariants as kind
 use Rattle.ot_workers.specs.declared.fault.WorkFault.{WorkFault}
@@ -16,15 +17,7 @@ use Rattle.ot_threads.specs.declared.fault.ThreadsFault.{ThreadsFault}
 use Rattle.ot_threads.specs.declared.fault.ThreadsFault.TheVariants.{Work, StillOut, Audit, NotPlan, Memory}
 use Rattle.ot_threads.specs.Concluded.{AreLeft, IsConcluded, IsThreadsFault}
 
--- the lines of faults: of a plan, of a worker, of the audit, and of all together
-abbrev pub plan_fault : PlanFault → List ℕ
-plan_fault kind.NotJson = codes "otbench: NotJson" ++ 10 ∷ []
-plan_fault kind.BadShape = codes "otbench: BadShape" ++ 10 ∷ []
-plan_fault kind.BadNumber = codes "otbench: BadNumber" ++ 10 ∷ []
-plan_fault kind.TooLong = codes "otbench: TooLong" ++ 10 ∷ []
-plan_fault kind.TooMany = codes "otbench: TooMany" ++ 10 ∷ []
-plan_fault kind.Memory = memory_fault
-
+-- the lines of faults: of a worker, of the audit, and of all together
 abbrev pub work_fault : WorkFault → List ℕ
 work_fault work.RecordFull = codes "otbench: RecordFull" ++ 10 ∷ []
 work_fault work.Stopped = codes "otbench: Stopped" ++ 10 ∷ []
@@ -45,11 +38,7 @@ threads_fault (Audit fault) = audit_fault fault
 threads_fault NotPlan = codes "otbench: NotPlan" ++ 10 ∷ []
 threads_fault Memory = memory_fault
 
--- the plan that bytes are, or why they are none; bytes that are no text are no JSON
-abbrev pub plan_of_bytes : List ℕ → Result PlanView PlanFault
-plan_of_bytes bytes = if is_utf8 bytes then plan_of_text bytes else Err kind.NotJson
-
--- the fault of bytes that are read as a plan. One other than Memory is theirs; memory is wanting for a text that is not empty
+-- the fault of bytes that are read as a plan. One other than Memory is theirs; out of memory only for a text that is not empty
 pub record IsPlanFault (bytes : List ℕ) (fault : PlanFault) : Type 0 where
   pub named : fault ≢ kind.Memory → plan_of_bytes bytes ≡ Err fault
   pub text : fault ≡ kind.Memory → is_utf8 bytes ≡ true
@@ -59,7 +48,7 @@ pub record IsPlanFault (bytes : List ℕ) (fault : PlanFault) : Type 0 where
 pub record RefusesPlan (bytes : List ℕ) (status : ℕ) (streams : Streams) : Type 0 where
   pub fault : PlanFault
   pub is_fault : IsPlanFault bytes fault
-  pub refuses : Refuses (plan_fault fault) status streams
+  pub refuses : Refuses (fault_line fault) status streams
 
 -- the schedule that the workers recorded, which follows the plan, and where it ends, as they are printed
 pub record GivesRecord (plan : PlanView) (board : BoardView) (ends : List WorkerEnd) (status : ℕ) (streams : Streams) : Type 0 where
@@ -83,7 +72,7 @@ pub record Ends (plan : PlanView) (status : ℕ) (streams : Streams) : Type 0 wh
   pub left : AreLeft plan.workers board ends
   pub concludes : Concludes plan board ends status streams
 
--- the plan is carried out, or memory for its workers was wanting
+-- the plan is carried out, or memory for its workers ran out
 abbrev pub CarriesOut : PlanView → ℕ → Streams → Type 0
 CarriesOut plan status streams = WantsMemory status streams ⊎ Ends plan status streams
 

@@ -43,7 +43,7 @@ fn shared_of(alloc: Global, plan: &Plan) -> Result<Shared, AllocError> {
     }
 }
 
-/// The board as the plan's workers left it, and their ends. `Err` where memory for the workers was wanting.
+/// The board as the plan's workers left it, and their ends. `Err` where memory for the workers ran out.
 pub fn carry_out<R: Threads + Wait + Sync>(
     rt: &R,
     alloc: Global,
@@ -52,11 +52,11 @@ pub fn carry_out<R: Threads + Wait + Sync>(
     ensures { IfOk result (λ left. AreLeft plan.now.workers left.0 left.1.items) }
 {
     let shared = shared_of(alloc, plan)?;
-    // For the proof: what every plan keeps.
+    // For the proof: the invariant of every plan.
     let _limits = plan.clients();
     let ends = run_workers(rt, alloc, &shared, plan.workers(), &OpenGate)?;
     let board = shared.into_board();
-    // For the proof: what every board keeps.
+    // For the proof: the invariant of every board.
     let _kept = board.steps();
     Ok((board, ends))
 }

@@ -6,7 +6,7 @@
 //! ```
 //!
 //! `run_threads` is the whole of it over any reader and two writers, and the only call here that starts threads and waits. What it
-//! promises (`Threads` in `specs/Threaded.antt`) rests on nothing that the workers do: their receipts are audited against the board's
+//! ensures (`Threads` in `specs/Threaded.antt`) rests on nothing that the workers do: their receipts are audited against the board's
 //! record, and the record is replayed against the plan, before it is printed. That part is [`conclude`], which takes a board and the
 //! workers' ends by value and waits for nobody (`IsConcluded` and `IsThreadsFault` in `specs/Concluded.antt`). Begin there.
 #![tactic(auto)]

@@ -1,26 +1,11 @@
 //! Faults as they are printed.
 
 ghost use Rattle.std.specs.Prelude.{◌≡◌};
-ghost use Rattle.ot_threads.specs.Threaded.{audit_fault, plan_fault, threads_fault, work_fault};
+ghost use Rattle.ot_threads.specs.Threaded.{audit_fault, threads_fault, work_fault};
 
 use crate::fault::ThreadsFault;
 use ot_board::AuditFault;
-use ot_plan::PlanFault;
 use ot_workers::WorkFault;
-
-/// The line of a plan's fault.
-pub fn plan_line(fault: PlanFault) -> &'static str
-    ensures { result.now ≡ plan_fault fault }
-{
-    match fault {
-        PlanFault::NotJson => "otbench: NotJson\n",
-        PlanFault::BadShape => "otbench: BadShape\n",
-        PlanFault::BadNumber => "otbench: BadNumber\n",
-        PlanFault::TooLong => "otbench: TooLong\n",
-        PlanFault::TooMany => "otbench: TooMany\n",
-        PlanFault::Memory => "otbench: Memory\n",
-    }
-}
 
 fn work_line(fault: WorkFault) -> &'static str
     ensures { result.now ≡ work_fault fault }

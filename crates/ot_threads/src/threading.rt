@@ -1,14 +1,15 @@
 //! `threads` over any streams.
 
 ghost use Rattle.std.specs.Prelude.{◌≡◌, Ok, IfErr, IfOk, IfSome};
-ghost use Rattle.ot_threads.specs.Threaded.{plan_of_bytes, CarriesOut, Concludes, IsPlanFault, Threads as DoesThreads};
+ghost use Rattle.ot_plan.specs.Reading.{plan_of_bytes};
+ghost use Rattle.ot_threads.specs.Threaded.{CarriesOut, Concludes, IsPlanFault, Threads as DoesThreads};
 
 use crate::carrying::carry_out;
 use crate::concluding::conclude;
-use crate::lines::{plan_line, threads_line};
+use crate::lines::threads_line;
 use ot_asm::read_text;
 use ot_board::Board;
-use ot_plan::{Plan, PlanFault, read_plan};
+use ot_plan::{Plan, PlanFault, fault_line, read_plan};
 use ot_workers::WorkerEnd;
 use outcomes::{complain, complain_of_input, complain_of_memory, give};
 use std::alloc::Global;
@@ -72,7 +73,7 @@ fn give_record<R: Threads + Wait + Sync, O: Sink, F: Write>(
 
 /// Reads a plan, has it carried out by its workers on threads, and prints the schedule that they recorded and where it ends, or the first
 /// fault. Status 0 only where the recorded schedule, which is printed, is all of the workers' steps and follows the plan; else 1. It may
-/// wait, and what it promises it promises of the moment when it returns.
+/// wait, and what it ensures holds at the moment when it returns.
 pub fn run_threads<R: Threads + Wait + Sync, I: Source, O: Sink, F: Write>(
     rt: &R,
     alloc: Global,
@@ -92,7 +93,7 @@ pub fn run_threads<R: Threads + Wait + Sync, I: Source, O: Sink, F: Write>(
     match plan_in(alloc, bytes.as_slice()) {
         Ok(plan) => give_record(rt, alloc, &plan, output, faults),
         Err(fault) => {
-            complain(faults, plan_line(fault));
+            complain(faults, fault_line(fault));
             1
         }
     }

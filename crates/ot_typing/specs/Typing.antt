@@ -4,7 +4,7 @@ use Rattle.std.specs.declared.alloc.Global.{Global}
 use Rattle.ot_text.specs.Operation.{Operation, empty, with_retain, with_insert, with_delete}
 use Rattle.ot_typing.specs.declared.typing.Typing.{Typing}
 
--- an action: a place, how many elements go from there on, and what comes in
+-- an action: a place, how many elements are deleted from there on, and what is inserted
 pub record Action : Type 0 where
   pub at : ℕ
   pub delete : ℕ
@@ -13,7 +13,7 @@ pub record Action : Type 0 where
 abbrev pub action_view : Typing → Action
 action_view t = record { at = t.at; delete = t.delete; insert = t.insert.items }
 
--- where it happens in a list of so many elements, and how many of them go
+-- where it happens in a list of so many elements, and how many of them are deleted
 abbrev pub place_in : Action → ℕ → ℕ
 place_in a length = min a.at length
 

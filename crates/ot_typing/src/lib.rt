@@ -1,6 +1,6 @@
 //! What a user types: actions, and the edit that an action is on a list.
 //!
-//! An action says where, how much goes, and what comes in. It is made without a look at the list, so both numbers are cut
+//! An action says where, how much is deleted, and what is inserted. It is made without a look at the list, so both numbers are cut
 //! to what is there:
 //!
 //! ```text

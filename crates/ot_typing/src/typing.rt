@@ -8,14 +8,14 @@ ghost use Rattle.ot_text.specs.declared.TheConstants.{LIMIT};
 use ot_text::{OpRefusal, TextOp};
 use std::alloc::{AllocError, Global};
 
-/// What a user types next: at a place of its list some elements go, and others come in.
+/// What a user types next: at a place of its list some elements are deleted, and others inserted.
 #[derive(Drop)]
 pub struct Typing {
     /// The place, in elements; past the list's end it is the end.
     pub at: u32,
-    /// How many elements go from there on, or as many as there are.
+    /// How many elements are deleted from there on, or as many as there are.
     pub delete: u32,
-    /// What comes in at the place.
+    /// What is inserted at the place.
     pub insert: Vec<char>,
 }
 

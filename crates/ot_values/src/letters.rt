@@ -173,7 +173,7 @@ fn push_pieces<T: Letter>(text: &mut String, pieces: Pieces<'_, T>) -> Result<bo
     Ok(true)
 }
 
-// The text between quotes, escaped where JSON wants it.
+// The text between quotes, escaped where JSON requires it.
 fn push_escaped(alloc: Global, text: &mut String, plain: String) -> Result<(), AllocError>
     ensures { OnOk result (string_bytes text.new ≡ string_bytes text.old ++ quoted (string_bytes plain)) }
 {
@@ -181,7 +181,7 @@ fn push_escaped(alloc: Global, text: &mut String, plain: String) -> Result<(), A
     text.push_str(escaped.as_str())
 }
 
-/// Adds the letters between quotes, escaped where JSON wants it. For want of memory the text holds a part of them.
+/// Adds the letters between quotes, escaped where JSON requires it. If memory runs out, the text holds a part of them.
 pub fn push_letters<T: Letter>(
     alloc: Global,
     text: &mut String,
@@ -199,7 +199,7 @@ pub fn push_letters<T: Letter>(
     push_escaped(alloc, text, plain)
 }
 
-/// Adds the document's text as a JSON string, looked at where it lies: only where JSON wants an escape the text is copied. For want of memory
+/// Adds the document's text as a JSON string, looked at where it lies: only where JSON requires an escape the text is copied. If memory runs out,
 /// the text holds a part of it.
 pub fn push_quoted(alloc: Global, text: &mut String, list: &Doc<Tagged>) -> Result<(), AllocError>
     ensures { OnOk result (string_bytes text.new ≡ string_bytes text.old ++ text_of list.now) }

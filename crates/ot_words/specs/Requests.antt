@@ -29,13 +29,17 @@ plain_app name = new_app name
 abbrev pub flagged_app : Text → Text → App
 flagged_app name flag = with_rule (new_app name) (flag_rule flag)
 
+-- the subcommand `explain`
+abbrev pub explain_app : App
+explain_app = with_rule (flagged_app (codes "explain") (codes "trace")) (flag_rule (codes "plan"))
+
 -- the subcommand `generate`
 abbrev pub generate_app : App
 generate_app =
     with_rule (with_rule (with_rule (with_rule (with_rule (with_rule (plain_app (codes "generate"))
     (option_rule (codes "seed"))) (option_rule (codes "clients"))) (option_rule (codes "present"))) (option_rule (codes "instructions"))) (option_rule (codes "start"))) (flag_rule (codes "open"))
 
--- the program without its subcommands: it tells its version, and wants a subcommand
+-- the program without its subcommands: it prints its version, and requires a subcommand
 abbrev pub versioned : App → App
 versioned a = record a { top = record a.top { has_version = true } }
 
@@ -65,7 +69,7 @@ otbench_app =
     +> plain_app (codes "dis")
     +> plain_app (codes "judge")
     +> flagged_app (codes "steps") (codes "documents")
-    +> flagged_app (codes "explain") (codes "trace")
+    +> explain_app
     +> flagged_app (codes "conform") (codes "sparse")
     +> plain_app (codes "threads")
     +> plain_app (codes "complete")
@@ -83,9 +87,19 @@ flag_among id rows = is_true (first_of id rows)
 abbrev pub form_among : List Row → Form
 form_among rows = if flag_among (codes "image") rows then form.Image else form.Text
 
--- what is explained
-abbrev pub subject_among : List Row → Subject
-subject_among rows = if flag_among (codes "trace") rows then subject.Trace else subject.Schedule
+-- what is explained, by whether `--trace` and `--plan` were given: they exclude one another
+abbrev pub subject_of : Bool → Bool → Option Subject
+subject_of false false = Some subject.Schedule
+subject_of true false = Some subject.Trace
+subject_of false true = Some subject.Plan
+subject_of true true = None
+
+abbrev pub explains : Option Subject → Option Asked
+explains None = None
+explains (Some what) = Some (Plainly (Explain what))
+
+abbrev pub explain_among : List Row → Option Asked
+explain_among rows = explains (subject_of (flag_among (codes "trace") rows) (flag_among (codes "plan") rows))
 
 -- the number of an option's text, or this one where there is none
 abbrev pub number_or : ℕ → Option Text → Option ℕ
@@ -132,7 +146,7 @@ request_in_rows p =
     (if bytes_eq p.0 (codes "dis") then Some (Plainly Disassemble) else
     (if bytes_eq p.0 (codes "judge") then Some (Plainly Judge) else
     (if bytes_eq p.0 (codes "steps") then Some (Plainly (Steps (flag_among (codes "documents") p.1))) else
-    (if bytes_eq p.0 (codes "explain") then Some (Plainly (Explain (subject_among p.1))) else
+    (if bytes_eq p.0 (codes "explain") then explain_among p.1 else
     (if bytes_eq p.0 (codes "conform") then Some (Plainly (Conform (flag_among (codes "sparse") p.1))) else
     (if bytes_eq p.0 (codes "threads") then Some Threads else
     (if bytes_eq p.0 (codes "complete") then Some (Plainly Complete) else

@@ -72,12 +72,13 @@ The lines: docs/FORMATS.md, 'Steps'.";
 pub const EXPLAIN: &str = "\
 Reads a schedule's text on standard input. Tells its run in words: what each instruction did, with its line of the text and its
 number, why one is refused and what would repair it. Of a text that is no schedule: the column and the cause of its fault.
-With --trace it reads a trace as 'otbench judge' does, and judges it. Of a text that is no trace: where its first fault is, what
-stands there and what is wanted; of one that is no JSON, the line, the column and the cause.
+With --trace it reads a trace as 'otbench judge' does, and judges it. With --plan it reads a plan as 'otbench threads' does, and
+says what it is. Of a text that is none: where its first fault is, what stands there and what is wanted; of one that is no JSON,
+the line, the column and the cause.
 Example:  printf 'clients 1\\nedit 0 [\"a\"]\\ntake 0\\nack 0\\n' | otbench explain
           printf '{\"replicas\":1,\"start\":[[0]],\"events\":[]}' | otbench explain --trace
-Status 0: all instructions were performed, or the trace's property holds. 1: it does not, an instruction was refused, or the
-input was, or a fault of reading, writing or memory. The words: docs/FORMATS.md, 'Explain'.";
+Status 0: all instructions were performed, the trace's property holds, or the input is a plan. 1: it does not, an instruction was
+refused, or the input was, or a fault of reading, writing or memory. The words: docs/FORMATS.md, 'Explain'.";
 
 /// Of `conform`.
 pub const CONFORM: &str = "\

@@ -3,7 +3,7 @@
 ghost use Rattle.std.specs.Prelude.{◌≡◌, Some, IfOk, IfErr, IsSome, map, true, option_and_then, option_map, vec_items};
 ghost use Rattle.std.specs.Str.{chars};
 ghost use Rattle.clap.specs.Words.{app_of, found_of, kind_of, rows_of, subcommand_rows_of, takes, with_rule};
-ghost use Rattle.ot_words.specs.Requests.{◌+>◌, IsPlain, chars_among, flag_among, flag_rule, form_among, generate_among, generate_app, number_among, number_if_among, option_rule, otbench_app, plain_app, request_in_rows, request_of, session_among, subject_among, top_app};
+ghost use Rattle.ot_words.specs.Requests.{◌+>◌, IsPlain, chars_among, explain_among, explain_app, flag_among, flag_rule, form_among, generate_among, generate_app, number_among, number_if_among, option_rule, otbench_app, plain_app, request_in_rows, request_of, session_among, subject_of, top_app};
 
 use crate::help;
 use clap::error::ErrorKind;
@@ -27,6 +27,8 @@ pub enum Subject {
     Schedule,
     /// A trace.
     Trace,
+    /// A plan.
+    Plan,
 }
 
 /// A subcommand.
@@ -35,19 +37,19 @@ pub enum Request {
     /// Runs a schedule and prints what it shows and where it ends.
     Run(Form),
     /// Runs a schedule and prints what is found of it: a stop, whether all is quiet, and whether its trace has the weak list property; whether
-    /// all that is not settled is told, or the first alone.
+    /// all that is not settled is listed, or the first alone.
     Check(bool),
     /// Steps through a schedule by commands, back and forth.
     Debug,
-    /// Turns a schedule's text into its image.
+    /// Converts a schedule's text to its image.
     Assemble,
-    /// Turns a schedule's image into its text.
+    /// Converts a schedule's image to its text.
     Disassemble,
     /// Judges a trace.
     Judge,
     /// Runs a schedule and prints what each instruction changes, as lines of JSON; whether the documents too.
     Steps(bool),
-    /// Tells in words what each instruction of a schedule did, or why a trace is refused and what its verdict is.
+    /// Says in words what each instruction of a schedule did; or what the verdict of a trace is, or what a plan is, and why it is refused.
     Explain(Subject),
     /// Compares the lines that a port printed with the run of its schedule; whether instructions without a line are passed over.
     Conform(bool),
@@ -170,6 +172,30 @@ fn generate_command<'a>(alloc: Global) -> Result<Command<'a>, AllocError>
     )
 }
 
+// The subcommand `explain`.
+fn explain_command<'a>(alloc: Global) -> Result<Command<'a>, AllocError>
+    ensures { IfOk result (λ c. app_of c ≡ explain_app) }
+{
+    let command = plain(
+        alloc,
+        "explain",
+        "Run a schedule and tell in words what each instruction did, and why one is refused",
+        help::EXPLAIN,
+    );
+    let command = flagged(
+        alloc,
+        command,
+        "trace",
+        "Read a trace (JSON) in place of a schedule: judge it, and tell why it is refused",
+    )?;
+    flagged(
+        alloc,
+        command,
+        "plan",
+        "Read a plan (JSON) in place of a schedule: tell what it is, or why it is refused",
+    )
+}
+
 // The program with one subcommand more.
 fn joined<'a>(program: Command<'a>, subcommand: Command<'a>) -> Result<Command<'a>, AllocError>
     ensures { IfOk result (λ c. IsPlain (app_of subcommand.entry) → app_of c ≡ (app_of program.entry +> app_of subcommand.entry)) }
@@ -245,17 +271,7 @@ fn command<'a>(alloc: Global) -> Result<Command<'a>, AllocError>
         "Print with each instruction the document of the one that moved",
     )?;
     let program = joined(program, steps)?;
-    let explain = flagged(
-        alloc,
-        plain(
-            alloc,
-            "explain",
-            "Run a schedule and tell in words what each instruction did, and why one is refused",
-            help::EXPLAIN,
-        ),
-        "trace",
-        "Read a trace (JSON) in place of a schedule: judge it, and tell why it is refused",
-    )?;
+    let explain = explain_command(alloc)?;
     let program = joined(program, explain)?;
     let conform = flagged(
         alloc,
@@ -308,14 +324,25 @@ fn form_in(matches: &ArgMatches<'_>) -> Form
     }
 }
 
-// What the matches of `explain` say is explained.
-fn subject_in(matches: &ArgMatches<'_>) -> Subject
-    ensures { result ≡ subject_among (rows_of (found_of matches.now)) }
+// What these flags say is explained; none where both are set.
+fn subject_of(trace: bool, plan: bool) -> Option<Subject>
+    ensures { result ≡ subject_of trace plan }
 {
-    if is_set(matches, "trace") {
-        Subject::Trace
-    } else {
-        Subject::Schedule
+    match (trace, plan) {
+        (false, false) => Some(Subject::Schedule),
+        (true, false) => Some(Subject::Trace),
+        (false, true) => Some(Subject::Plan),
+        (true, true) => None,
+    }
+}
+
+// The request that the matches of `explain` say, if they say one.
+fn explain_in(matches: &ArgMatches<'_>) -> Option<Asked>
+    ensures { result ≡ explain_among (rows_of (found_of matches.now)) }
+{
+    match subject_of(is_set(matches, "trace"), is_set(matches, "plan")) {
+        Some(subject) => Some(Asked::Plainly(Request::Explain(subject))),
+        None => None,
     }
 }
 
@@ -407,7 +434,7 @@ fn request_in(alloc: Global, matches: &ArgMatches<'_>) -> Result<Option<Asked>, 
         "dis" => Ok(Some(Asked::Plainly(Request::Disassemble))),
         "judge" => Ok(Some(Asked::Plainly(Request::Judge))),
         "steps" => Ok(Some(Asked::Plainly(Request::Steps(is_set(found, "documents"))))),
-        "explain" => Ok(Some(Asked::Plainly(Request::Explain(subject_in(found))))),
+        "explain" => Ok(explain_in(found)),
         "conform" => Ok(Some(Asked::Plainly(Request::Conform(is_set(found, "sparse"))))),
         "threads" => Ok(Some(Asked::Threads)),
         "complete" => Ok(Some(Asked::Plainly(Request::Complete))),
@@ -464,17 +491,27 @@ fn refused_session(alloc: Global, matches: &ArgMatches<'_>) -> Result<Error, All
     command.error(ErrorKind::ValueValidation, words.as_str())
 }
 
+// That the matches of `explain` ask for two subjects: `clap`'s error, with the usage of `explain`.
+fn refused_subject(alloc: Global) -> Result<Error, AllocError> {
+    let mut command = explain_command(alloc)?.bin_name("otbench explain")?;
+    command.error(
+        ErrorKind::ArgumentConflict,
+        "the argument '--trace' cannot be used with '--plan'",
+    )
+}
+
 // Why the matches ask for nothing that the program does.
 fn refused_request(alloc: Global, matches: &ArgMatches<'_>) -> Result<Error, AllocError> {
     match matches.subcommand() {
+        Some((name, _)) if name == "explain" => refused_subject(alloc),
         Some((_, found)) => refused_session(alloc, found),
         None => command(alloc)?.error(ErrorKind::MissingSubcommand, "a subcommand is missing"),
     }
 }
 
 /// What the words ask for, the program's name being the first of them. Where they ask for nothing that the program does, for a session with
-/// a number out of its range, or for help, the answer is `clap`'s error with its text: of a number that is refused, the option, what it takes
-/// and the usage of `generate`. `ErrorKind::OutOfMemory` stands for want of memory.
+/// a number out of its range, for `explain` of a trace and of a plan at once, or for help, the answer is `clap`'s error with its text: of a
+/// number that is refused, the option, what it takes and the usage of `generate`. `ErrorKind::OutOfMemory` means out of memory.
 pub fn read_request<'a, S: AsStr>(alloc: Global, words: &'a [S]) -> Result<Asked, Error>
     ensures ok { IfOk result (λ r. request_of (map S.text words.entry.now) ≡ Some r) }
     ensures refused { IfErr result (λ e. takes otbench_app (map S.text words.entry.now) ≡ true

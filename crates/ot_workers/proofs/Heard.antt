@@ -162,7 +162,7 @@ drop_head (suc n) (x ∷ xs) ys h e =
     let f = drop_head n xs ys h e in
     (ap (λ (l : List Head). x ∷ l) f.0, f.1)
 
--- the first so many messages are heard
+-- the first so many messages are received
 pub record HasHeardFirst (x : Session) (count : ℕ) (y : Session) : Type 0 where
   pub made : HasMade x (map (step_for x.start.number) (take count x.now.incoming)) y
   pub left : y.now.incoming ≡ drop count x.now.incoming
@@ -245,7 +245,7 @@ cut_last x y steps i made =
       made = subst (λ (is : List Instr). HasMade x is y) (sym (take-append-le (length steps) steps (i ∷ []) (omega arith) ∙ take_all (length steps) steps (omega arith))) made;
     }
 
--- a whole turn that hears and types
+-- a whole turn that receives and types
 typed_same : (x y : Session) (a : Action) → HasMade x (heard x) y → Edit y.start.number (edit_of a (length y.now.client.list)) ∷ [] ≡ typed_on x.start.number (part_after (heard x) x.now) (Some a)
 typed_same x y a made =
     ap (λ (p : Part). Edit p.number (edit_of a (length y.now.client.list)) ∷ []) made.start

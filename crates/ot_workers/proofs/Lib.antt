@@ -1,4 +1,7 @@
 mod Round
 mod Heard
 mod Counted
+mod Receipted
+mod Uplinks
+mod Seen
 pub mod Fresh

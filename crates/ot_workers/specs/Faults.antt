@@ -1,4 +1,4 @@
--- What a refusal is to a worker: a full record and want of memory go by their names, and any other is `Refused`.
+-- What a refusal is to a worker: a full record and out of memory go by their names, and any other is `Refused`.
 use Rattle.ot_board.specs.declared.refusal.BoardRefusal.{BoardRefusal}
 use Rattle.ot_board.specs.declared.refusal.BoardRefusal.TheVariants as board
 use Rattle.ot_board.specs.declared.refusal.SettleRefusal.{SettleRefusal}

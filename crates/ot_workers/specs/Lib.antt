@@ -2,4 +2,5 @@ pub mod Faults
 pub mod Choosing
 pub mod Playing
 pub mod Sharing
+pub mod Receipts
 pub mod Turns

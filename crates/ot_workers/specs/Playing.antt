@@ -39,12 +39,12 @@ abbrev pub turn_steps : Session → Task → List Instr
 turn_steps x Reads = Read x.start.number ∷ []
 turn_steps x (Enter action) = heard x ++ typed_on x.start.number (part_after (heard x) x.now) (option_map (λ t. action_view t.now) action)
 
--- a turn that hears and types
+-- a turn that receives and types
 abbrev pub is_enter : Task → Bool
 is_enter Reads = false
 is_enter (Enter action) = true
 
--- messages are heard in a session without steps, since it makes at most 64
+-- messages are received in a session without steps, since it makes at most 64
 abbrev pub MayPlay : Session → Task → Type 0
 MayPlay x task = is_enter task ≡ true → length x.steps ≡ 0
 
@@ -73,7 +73,7 @@ IsEnterFault x a Stopped = ⊥
 IsEnterFault x a Memory = Unit {0}
 IsEnterFault x a Refused = IsUntypable x a
 
--- a read is refused in a session of 64 steps alone, and of a turn that hears and types, the typing alone
+-- a read is refused in a session of 64 steps alone, and of a turn that receives and types, the typing alone
 abbrev pub IsRefused : Session → Task → Session → Type 0
 IsRefused x Reads y = length x.steps ≡ SESSION_LIMIT
 IsRefused x (Enter None) y = ⊥

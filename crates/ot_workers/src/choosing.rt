@@ -27,7 +27,7 @@ impl Seat {
     };
 }
 
-/// How a client is had.
+/// How a client is obtained.
 #[derive(Clone, Copy, Debug, PartialEq, Eq)]
 pub enum Way {
     PickUp,
@@ -36,7 +36,7 @@ pub enum Way {
     Join,
 }
 
-// How this client is had, if it can be.
+// How this client is obtained, if it can be.
 fn way_of(seat: Seat) -> Option<Way>
     ensures { result ≡ way seat }
 {
@@ -56,7 +56,7 @@ fn way_of(seat: Seat) -> Option<Way>
     if seat.untyped { Some(Way::Join) } else { None }
 }
 
-// How the client at a place is had, if there is one and it can be.
+// How the client at a place is obtained, if there is one and it can be.
 fn way_at(seats: &[Seat], place: usize) -> Option<Way>
     ensures { result ≡ way (slice_index_or seats.now place nobody) }
 {
@@ -66,7 +66,7 @@ fn way_at(seats: &[Seat], place: usize) -> Option<Way>
     }
 }
 
-/// The first client that can be had, from client `worker + turn` on and round once, and how.
+/// The first client that can be obtained, from client `worker + turn` on and round once, and how.
 pub fn choose(seats: &[Seat], worker: usize, turn: u64) -> Option<(usize, Way)>
     ensures { result ≡ choice seats.now worker turn }
 {

@@ -11,11 +11,13 @@
 //!   choose, join, lend    or read, where it was picked up       wake all
 //! ```
 //!
-//! Whatever the threads do, the board keeps that its machine is the run of its record, and `ot_board::audit` says whether the workers'
+//! Whatever the threads do, the board's invariant says that its machine is the run of its record, and `ot_board::audit` says whether the workers'
 //! receipts are that record. What is proved of the workers' own steps stands on `play`: it makes exactly the steps of a turn, or with a fault
 //! the first ones of them (`turn_steps` and `IsCutShort` in `specs/Playing.antt`). Which client a turn takes is `choice` in
-//! `specs/Choosing.antt`, and what a board and its users' actions have to be is `MayShare` in `specs/Sharing.antt`. Only `work` and
-//! `run_workers` may wait; nothing is promised of the order in which threads run, or that they get on.
+//! `specs/Choosing.antt`, and what a board and its users' actions have to be is `MayShare` in `specs/Sharing.antt`. What a turn does under the
+//! lock is `begin_turn` and `end_turn` in `turns.rt`: the first is `IsNextOf` in `specs/Turns.antt`, and exactly what either records has its
+//! receipts (`HasReceipts` in `specs/Receipts.antt`). Only `work` and `run_workers` may wait; no contract speaks of the order in which threads run,
+//! or says that they make progress.
 //!
 //! Workers stand on the board, so this crate gives the board's names too: who takes it needs no other for sessions on threads. `play` is also a
 //! call on the session, `lent.play(..)`, by the trait [`Play`].

@@ -16,7 +16,7 @@ pub trait Play: Sized {
     // the session, as contracts see it
     ghost session: { Self → Session };
 
-    /// The same as the function [`play`](crate::play): tells the gate that the worker holds the session, and then makes the steps of the turn.
+    /// The same as the function [`play`](crate::play): notifies the gate that the worker holds the session, and then makes the steps of the turn.
     /// For `Enter` the session has no steps yet. The first step that is not made ends it, as `Memory` or `Refused`; the session comes back as
     /// far as it came.
     fn play<G: Gate>(

@@ -48,7 +48,7 @@ fn hear_next(lent: Lent) -> Result<Lent, Lent>
     }
 }
 
-// Delivers or acknowledges the first messages, until memory is wanting.
+// Delivers or acknowledges the first messages, until memory runs out.
 fn hear(mut lent: Lent) -> Result<Lent, Lent>
     requires { length (session_of lent).steps ≡ 0 }
     ensures ok { IfOk result (λ next. HasMade (session_of lent) (heard (session_of lent)) (session_of next)) }
@@ -72,7 +72,7 @@ fn enter(alloc: Global, lent: Lent, action: &Typing) -> Result<Lent, (WorkFault,
     ensures back { IfErr result (λ back. back.1 ≡ lent) }
     ensures fault { IfErr result (λ back. IsEnterFault (session_of lent) (action_view action.now) back.0) }
 {
-    // For the proof: what every session keeps.
+    // For the proof: the invariant of every session.
     let _allowed = lent.steps();
     let length = lent.document().len();
     match action.edit(alloc, length) {
@@ -85,7 +85,7 @@ fn enter(alloc: Global, lent: Lent, action: &Typing) -> Result<Lent, (WorkFault,
     }
 }
 
-// Hears the messages and then types the action, if there is one.
+// Receives the messages and then types the action, if there is one.
 fn hear_and_enter(
     alloc: Global,
     lent: Lent,
@@ -135,7 +135,7 @@ pub fn make_steps(alloc: Global, lent: Lent, task: Task<'_>) -> (Lent, Option<Wo
     }
 }
 
-/// Tells the gate that the worker holds the session, and then makes the steps of the turn: for `Enter` the first 60 messages of the session's
+/// Notifies the gate that the worker holds the session, and then makes the steps of the turn: for `Enter` the first 60 messages of the session's
 /// own part are delivered or acknowledged, each as it is, and then the action is typed, if there is one; for `Read` the list is read once.
 /// The first step that is not made ends it: `Memory` where a growth was refused; else `Refused`, where the session has 64 steps already (a
 /// read), or where the client would pass 15,000 inserted characters or its list 1,000,000 elements (the action). The session comes back as

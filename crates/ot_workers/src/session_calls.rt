@@ -64,11 +64,11 @@ pub(crate) fn acknowledge(lent: Lent) -> Result<Lent, (SessionRefusal, Lent)>
     ensures refused { IfErr result (λ back. IsStepRefusal (session_of lent) (Acknowledge (session_of lent).start.number) back.0) }
     ensures back { IfErr result (λ back. back.1 ≡ lent) }
 {
-    // For the proof: what every session keeps.
+    // For the proof: the invariant of every session.
     let _allowed = lent.steps();
     match lent {
         Lent::Synchronized(session) => {
-            // For the proof: what every session keeps.
+            // For the proof: the invariant of every session.
             let _synchronized = session.state();
             unreachable!()
         }

@@ -39,7 +39,7 @@ fn counts(alloc: Global, clients: usize) -> Result<(Vec<usize>, Vec<Seat>), Allo
 
 impl Shared {
     /// The board under a lock, with nothing typed yet. No client is out, and there is one list of actions for each client, of at most 1,000,
-    /// which with what the client has inserted already insert at most 15,000 characters. For want of memory both come back as they were.
+    /// which with what the client has inserted already insert at most 15,000 characters. If memory runs out both come back as they were.
     pub fn new(
         alloc: Global,
         board: Board,

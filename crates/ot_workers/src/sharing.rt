@@ -30,7 +30,7 @@ fn may_type(board: &Board, actions: &[Typing], client: u16) -> bool
     requires { client < board.now.recorded.clients }
     ensures { IsTrue result ↔ MayType board.now client (map action_view actions.now) }
 {
-    // For the proof: what every board keeps.
+    // For the proof: the invariant of every board.
     let _kept = board.steps();
     let count = board.machine().inserted(client) as usize;
     !board.is_out(client)
@@ -44,7 +44,7 @@ fn may_type(board: &Board, actions: &[Typing], client: u16) -> bool
 pub fn can_share(board: &Board, typing: &[Vec<Typing>]) -> bool
     ensures { IsTrue result ↔ MayShare board.now (typing_view typing.now) }
 {
-    // For the proof: what every board keeps.
+    // For the proof: the invariant of every board.
     let _kept = board.steps();
     let clients = board.machine().clients();
     if typing.len() != usize::from(clients) {

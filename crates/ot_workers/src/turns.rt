@@ -1,16 +1,18 @@
 //! What a turn does under the lock.
 
-ghost use Rattle.std.specs.Prelude.{◌≡◌, ◌<◌, IfOk, OnOk, vec_capacity, vec_len};
+ghost use Rattle.std.specs.Prelude.{◌≡◌, ◌<◌, false, length, set, IfOk, OnOk, Some, option_copied, vec_capacity, vec_len, ℕ};
+ghost use Rattle.ot_board.specs.Boards.{with_parked};
 ghost use Rattle.ot_board.specs.Lents.{session_of};
 ghost use Rattle.ot_workers.specs.Choosing.{IsHad};
-ghost use Rattle.ot_workers.specs.Turns.{EndsAs, IsNextOf, IsPlay, is_any_out, parks, with_typed};
+ghost use Rattle.ot_workers.specs.Receipts.{HasReceipts, IsSettled};
+ghost use Rattle.ot_workers.specs.Turns.{AreSeen, AreUplinksEmpty, EndsAs, IsHadFrom, IsLeft, IsMarked, IsMarkedBy, IsNextOf, IsPlay, IsSeen, IsUplinkEmpty, is_any_out, next_action, parks, typed_by, with_action, with_typed};
 
 use crate::choosing::{Seat, Way, choose};
 use crate::fault::WorkFault;
 use crate::held::{Held, in_hand};
 use crate::playing::Task;
 use crate::shared::Inside;
-use ot_board::{Lent, Receipt, Replayed};
+use ot_board::{Board, Lent, Receipt, Replayed};
 use ot_typing::Typing;
 
 /// What a turn comes to under the lock.
@@ -29,37 +31,56 @@ pub(crate) enum Ended {
 }
 
 // Whether a message of the client is under way to the server.
-fn sends(inside: &Inside, client: u16) -> bool {
-    let machine = inside.board.machine();
-    client < machine.clients() && machine.up(client).is_some()
+fn sends(board: &Board, client: u16) -> bool
+    ensures { result ≡ false → IsUplinkEmpty board.now.state client }
+{
+    let machine = board.machine();
+    if client >= machine.clients() {
+        return false;
+    }
+    machine.up(client).is_some()
+}
+
+// The server takes the client's message, where one is under way.
+fn take_one(board: &mut Board, receipts: &mut Vec<Receipt>, client: u16) -> Result<(), WorkFault>
+    ensures taken { OnOk result (IsUplinkEmpty board.new.state client) }
+    ensures others { (c : ℕ) → IsUplinkEmpty board.old.state c → IsUplinkEmpty board.new.state c }
+    ensures clients { length board.new.state.clients ≡ length board.old.state.clients }
+    ensures receipts { HasReceipts board.old receipts.old.items board.new receipts.new.items }
+{
+    if !sends(board, client) {
+        return Ok(());
+    }
+    receipts.reserve(1)?;
+    let receipt = board.take(client)?;
+    receipts.push_reserved(receipt);
+    Ok(())
 }
 
 // The server takes each message that is under way, by client.
-fn take_all(inside: &mut Inside, receipts: &mut Vec<Receipt>) -> Result<(), WorkFault> {
-    for client in 0..inside.board.machine().clients() {
-        if sends(inside, client) {
-            receipts.reserve(1)?;
-            let receipt = inside.board.take(client)?;
-            receipts.push_reserved(receipt);
-        }
+fn take_all(board: &mut Board, receipts: &mut Vec<Receipt>) -> Result<(), WorkFault>
+    ensures taken { OnOk result (AreUplinksEmpty board.new.state) }
+    ensures receipts { HasReceipts board.old receipts.old.items board.new receipts.new.items }
+{
+    for client in 0..board.machine().clients() {
+        take_one(board, receipts, client)?;
     }
     Ok(())
 }
 
 // The next action of a client that is not typed.
-fn next_action<'a>(
-    inside: &Inside,
-    typing: &'a [Vec<Typing>],
-    client: usize,
-) -> Option<&'a Typing> {
-    let done = *inside.typed.get(client)?;
+fn next_action<'a>(typed: &[usize], typing: &'a [Vec<Typing>], client: usize) -> Option<&'a Typing>
+    ensures { option_copied result ≡ next_action typing.now typed.now client }
+{
+    let done = *typed.get(client)?;
     typing.get(client)?.as_slice().get(done)
 }
 
 // What is seen of a client.
-fn seat_of(inside: &Inside, typing: &[Vec<Typing>], client: u16) -> Seat {
-    let board = &inside.board;
-    // For the proof: what every board keeps.
+fn seat_of(board: &Board, untyped: bool, client: u16) -> Seat
+    ensures { client < length board.now.state.clients → IsSeen board.now untyped client result }
+{
+    // For the proof: the invariant of every board.
     let _kept = board.steps();
     let machine = board.machine();
     if client >= machine.clients() {
@@ -70,42 +91,60 @@ fn seat_of(inside: &Inside, typing: &[Vec<Typing>], client: u16) -> Seat {
         out: board.is_out(client),
         parked: board.is_parked(client),
         message: machine.down_len(client) > 0,
-        untyped: next_action(inside, typing, usize::from(client)).is_some(),
+        untyped,
+    }
+}
+
+// Writes what is seen of a client, where there is a place for it.
+fn show(seats: &mut [Seat], client: usize, seat: Seat)
+    ensures { seats.new ≡ set seats.old client seat }
+{
+    if client < seats.len() {
+        seats[client] = seat;
     }
 }
 
 // Looks at all clients.
-fn look(inside: &mut Inside, typing: &[Vec<Typing>]) {
-    for client in 0..inside.board.machine().clients() {
-        let seat = seat_of(inside, typing, client);
-        if let Some(seen) = inside.seats.get_mut(usize::from(client)) {
-            *seen = seat;
-        }
+fn look(board: &Board, typed: &[usize], typing: &[Vec<Typing>], seats: &mut [Seat])
+    ensures { AreSeen board.now typing.now typed.now seats.new }
+{
+    for client in 0..board.machine().clients() {
+        let place = usize::from(client);
+        let untyped = next_action(typed, typing, place).is_some();
+        show(seats, place, seat_of(board, untyped, client));
     }
 }
 
 // The session of the client that was chosen, without steps where it was not parked. Room for the receipts of its join and of its settling is
 // made before.
 fn have(
-    inside: &mut Inside,
+    board: &mut Board,
     receipts: &mut Vec<Receipt>,
     client: u16,
     way: Way,
 ) -> Result<Lent, WorkFault>
     ensures room { OnOk result (vec_len receipts.new < vec_capacity receipts.new) }
-    ensures had { IfOk result (λ lent. IsHad way (session_of lent)) }
+    ensures fresh { IfOk result (λ lent. IsHad way (session_of lent)) }
+    ensures had { IfOk result (λ lent. IsHadFrom board.old client way (session_of lent) board.new) }
+    ensures receipts { HasReceipts board.old receipts.old.items board.new receipts.new.items }
 {
     receipts.reserve(2)?;
-    if way == Way::PickUp {
-        let lent = inside.board.pick_up(client)?;
-        return Ok(lent);
+    match way {
+        Way::PickUp => {
+            let lent = board.pick_up(client)?;
+            Ok(lent)
+        }
+        Way::Lend => {
+            let lent = board.lend(client)?;
+            Ok(lent)
+        }
+        Way::Join => {
+            let receipt = board.join(client)?;
+            receipts.push_reserved(receipt);
+            let lent = board.lend(client)?;
+            Ok(lent)
+        }
     }
-    if way == Way::Join {
-        let receipt = inside.board.join(client)?;
-        receipts.push_reserved(receipt);
-    }
-    let lent = inside.board.lend(client)?;
-    Ok(lent)
 }
 
 // Whether some client is out.
@@ -124,20 +163,28 @@ fn begin<'a>(
     turn: u64,
 ) -> Result<Next<'a>, WorkFault>
     ensures room { IfOk result (λ next. IsPlay next → vec_len receipts.new < vec_capacity receipts.new) }
-    ensures next { IfOk result (λ next. IsNextOf inside.new.seats.items worker turn next) }
+    ensures next { IfOk result (λ next. IsNextOf typing.now worker turn inside.new next) }
+    ensures mark { IfOk result (λ next. IsMarked next inside.old.stopped inside.new.stopped) }
+    ensures typed { inside.new.typed ≡ inside.old.typed }
+    ensures receipts { HasReceipts inside.old.board receipts.old.items inside.new.board receipts.new.items }
 {
     if inside.stopped {
         return Ok(Next::End(Some(WorkFault::Stopped)));
     }
-    take_all(inside, receipts)?;
-    look(inside, typing);
+    take_all(&mut inside.board, receipts)?;
+    look(
+        &inside.board,
+        inside.typed.as_slice(),
+        typing,
+        inside.seats.as_mut_slice(),
+    );
     match choose(inside.seats.as_slice(), worker, turn) {
         Some((client, way)) => {
             let Ok(number) = u16::try_from(client) else {
                 return Err(WorkFault::Refused);
             };
-            let lent = have(inside, receipts, number, way)?;
-            let action = next_action(inside, typing, client);
+            let lent = have(&mut inside.board, receipts, number, way)?;
+            let action = next_action(inside.typed.as_slice(), typing, client);
             Ok(Next::Play(in_hand(lent, way, action)))
         }
         None if is_any_out(inside.seats.as_slice()) => Ok(Next::Wait),
@@ -146,7 +193,7 @@ fn begin<'a>(
 }
 
 /// The first two steps of a turn: where a worker has stopped, the end; else the server takes what is under way, and the next client is
-/// picked up or lent, or there is none. A refusal sets the stop mark.
+/// picked up or lent, or there is none. A refusal sets the stop mark. What is recorded has its receipts, also before a refusal.
 pub(crate) fn begin_turn<'a>(
     inside: &mut Inside,
     typing: &'a [Vec<Typing>],
@@ -155,7 +202,10 @@ pub(crate) fn begin_turn<'a>(
     turn: u64,
 ) -> Next<'a>
     ensures room { IsPlay result → vec_len receipts.new < vec_capacity receipts.new }
-    ensures next { IsNextOf inside.new.seats.items worker turn result }
+    ensures next { IsNextOf typing.now worker turn inside.new result }
+    ensures mark { IsMarked result inside.old.stopped inside.new.stopped }
+    ensures typed { inside.new.typed ≡ inside.old.typed }
+    ensures receipts { HasReceipts inside.old.board receipts.old.items inside.new.board receipts.new.items }
 {
     match begin(inside, typing, receipts, worker, turn) {
         Ok(next) => next,
@@ -168,10 +218,12 @@ pub(crate) fn begin_turn<'a>(
 
 // Settles the session, for whose receipt there is room: the board's machine performs its steps. Where it stops before the last one, what was
 // performed has its receipt all the same.
-fn settle(inside: &mut Inside, receipts: &mut Vec<Receipt>, lent: Lent) -> Result<(), WorkFault>
+fn settle(board: &mut Board, receipts: &mut Vec<Receipt>, lent: Lent) -> Result<(), WorkFault>
     requires { vec_len receipts.old < vec_capacity receipts.old }
+    ensures settled { OnOk result (IsSettled (session_of lent) board.old board.new) }
+    ensures receipts { HasReceipts board.old receipts.old.items board.new receipts.new.items }
 {
-    match inside.board.replay(lent) {
+    match board.replay(lent) {
         Ok(Replayed { receipt, stopped }) => {
             receipts.push_reserved(receipt);
             match stopped {
@@ -184,13 +236,15 @@ fn settle(inside: &mut Inside, receipts: &mut Vec<Receipt>, lent: Lent) -> Resul
 }
 
 // Parks the session, or settles it where that is refused.
-fn park(inside: &mut Inside, receipts: &mut Vec<Receipt>, lent: Lent) -> Result<(), WorkFault>
+fn park(board: &mut Board, receipts: &mut Vec<Receipt>, lent: Lent) -> Result<(), WorkFault>
     requires { vec_len receipts.old < vec_capacity receipts.old }
+    ensures parked { OnOk result (board.new ≡ with_parked board.old (session_of lent).start.number (Some (session_of lent))) }
+    ensures receipts { HasReceipts board.old receipts.old.items board.new receipts.new.items }
 {
-    match inside.board.hold(lent) {
+    match board.hold(lent) {
         Ok(()) => Ok(()),
         Err((refusal, lent)) => {
-            let _ = settle(inside, receipts, lent);
+            let _ = settle(board, receipts, lent);
             Err(WorkFault::from(refusal))
         }
     }
@@ -198,25 +252,31 @@ fn park(inside: &mut Inside, receipts: &mut Vec<Receipt>, lent: Lent) -> Result<
 
 // Parks or settles the session; after a fault it is settled, if that can be done.
 fn leave(
-    inside: &mut Inside,
+    board: &mut Board,
     receipts: &mut Vec<Receipt>,
     parks: bool,
     lent: Lent,
     fault: Option<WorkFault>,
-) -> Result<Ended, WorkFault>
+) -> Ended
     requires { vec_len receipts.old < vec_capacity receipts.old }
-    ensures { IfOk result (λ ended. EndsAs parks ended) }
+    ensures ended { EndsAs parks result }
+    ensures left { IsLeft (session_of lent) board.old board.new result }
+    ensures receipts { HasReceipts board.old receipts.old.items board.new receipts.new.items }
 {
     if let Some(fault) = fault {
-        let _ = settle(inside, receipts, lent);
-        return Err(fault);
+        let _ = settle(board, receipts, lent);
+        return Ended::Fault(fault);
     }
     if parks {
-        park(inside, receipts, lent)?;
-        return Ok(Ended::Parked);
+        return match park(board, receipts, lent) {
+            Ok(()) => Ended::Parked,
+            Err(fault) => Ended::Fault(fault),
+        };
     }
-    settle(inside, receipts, lent)?;
-    Ok(Ended::Settled)
+    match settle(board, receipts, lent) {
+        Ok(()) => Ended::Settled,
+        Err(fault) => Ended::Fault(fault),
+    }
 }
 
 // Counts one more action of the client.
@@ -229,6 +289,15 @@ fn count_typed(typed: &mut [usize], client: u16)
     }
 }
 
+// Counts the action that a turn typed, if it typed one.
+fn count_action(typed: &mut [usize], task: Task<'_>, client: u16)
+    ensures { typed.new ≡ with_action task.entry client typed.old }
+{
+    if let Task::Enter(Some(_)) = task {
+        count_typed(typed, client);
+    }
+}
+
 // Whether the session is parked: in each fourth turn, where it was lent.
 fn parks(turn: u64, task: Task<'_>) -> bool
     ensures { result ≡ parks turn task.entry }
@@ -237,7 +306,7 @@ fn parks(turn: u64, task: Task<'_>) -> bool
 }
 
 /// The last step of a turn: the session is parked, where it was lent in each fourth turn, or settled, and what was typed is counted; after a
-/// fault it is settled, if that can be done, and the stop mark is set.
+/// fault it is settled, if that can be done, and the stop mark is set. What is recorded has its receipts, also before a fault.
 pub(crate) fn end_turn(
     inside: &mut Inside,
     receipts: &mut Vec<Receipt>,
@@ -247,17 +316,23 @@ pub(crate) fn end_turn(
     fault: Option<WorkFault>,
 ) -> Ended
     requires { vec_len receipts.old < vec_capacity receipts.old }
-    ensures { EndsAs (parks turn task.entry) result }
+    ensures ended { EndsAs (parks turn task.entry) result }
+    ensures left { IsLeft (session_of lent) inside.old.board inside.new.board result }
+    ensures mark { IsMarkedBy result inside.old.stopped inside.new.stopped }
+    ensures typed { inside.new.typed.items ≡ typed_by task.entry result (session_of lent).start.number inside.old.typed.items }
+    ensures receipts { HasReceipts inside.old.board receipts.old.items inside.new.board receipts.new.items }
 {
     let client = lent.client();
-    match leave(inside, receipts, parks(turn, task), lent, fault) {
-        Ok(ended) => {
-            if let Task::Enter(Some(_)) = task {
-                count_typed(inside.typed.as_mut_slice(), client);
-            }
-            ended
+    match leave(&mut inside.board, receipts, parks(turn, task), lent, fault) {
+        Ended::Settled => {
+            count_action(inside.typed.as_mut_slice(), task, client);
+            Ended::Settled
         }
-        Err(fault) => {
+        Ended::Parked => {
+            count_action(inside.typed.as_mut_slice(), task, client);
+            Ended::Parked
+        }
+        Ended::Fault(fault) => {
             inside.stopped = true;
             Ended::Fault(fault)
         }

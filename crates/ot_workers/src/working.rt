@@ -54,7 +54,7 @@ fn go_on<R: Wait, G: Gate>(
 /// 3. Off the lock it plays: `play`, with `Read` for a session that was picked up.
 /// 4. Under the lock it parks the session (`Board::hold`), where it was lent and k mod 4 is 3, or settles it (`Board::replay`), and wakes the others.
 ///
-/// A worker that meets a refusal settles the session that it holds, if that can be done, and stops the others. Where memory is wanting in the
+/// A worker that meets a refusal settles the session that it holds, if that can be done, and stops the others. Where memory runs out in the
 /// midst of settling, the steps that were performed until then have their receipt. Room for a receipt is made before the call that gives it. It
 /// may wait, so nothing says that it returns.
 pub fn work<R: Wait, G: Gate>(

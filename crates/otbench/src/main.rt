@@ -9,7 +9,7 @@ use std::process::ExitCode;
 use std::{env, io};
 use streams::Device;
 
-// Says that memory for the program's own words was wanting.
+// Says that memory for the program's own words ran out.
 fn wants_memory(rt: &impl Eprint) -> ExitCode {
     let _ = eprintln!(rt; "otbench: Memory");
     ExitCode::FAILURE

@@ -25,7 +25,7 @@ abbrev pub input_fault : InputFault → List ℕ
 input_fault Read = read_fault
 input_fault Memory = memory_fault
 
--- the line, or for want of memory the line that says so, or what of it could be written
+-- the line, or if memory runs out, the line that says so, or what of it could be written
 abbrev pub Complains : List ℕ → Option (List ℕ) → Option (List ℕ) → Type 0
 Complains line old new = WritesPart old new line ⊎ WritesPart old new memory_fault
 
@@ -33,11 +33,11 @@ Complains line old new = WritesPart old new line ⊎ WritesPart old new memory_f
 abbrev pub Refuses : List ℕ → ℕ → Streams → Type 0
 Refuses line status streams = (status ≡ 1) × Keeps streams.output streams.output' × Complains line streams.faults streams.faults'
 
--- status 1, nothing on the output, and on the faults that memory was wanting
+-- status 1, nothing on the output, and on the faults that memory ran out
 abbrev pub WantsMemory : ℕ → Streams → Type 0
 WantsMemory status streams = (status ≡ 1) × Keeps streams.output streams.output' × WritesPart streams.faults streams.faults' memory_fault
 
--- status 1, nothing on the output, and on the faults why the input was not read whole: memory was wanting, or, only where the input says that it has
+-- status 1, nothing on the output, and on the faults why the input was not read whole: memory ran out, or, only where the input says that it has
 -- failed (`unread`), a read failed or the input is too long
 pub record GivesUp (unread : Bool) (status : ℕ) (streams : Streams) : Type 0 where
   pub fault : InputFault
@@ -54,6 +54,6 @@ Puts right text status old new broken = ((status ≡ right) × Appends old new t
 abbrev pub Gives : ℕ → List ℕ → ℕ → Streams → Type 0
 Gives right text status streams = Puts right text status streams.output streams.output' streams.broken × Keeps streams.faults streams.faults'
 
--- status 1, a first part of the output, and on the faults that memory was wanting: where the output is written piece by piece
+-- status 1, a first part of the output, and on the faults that memory ran out: where the output is written piece by piece
 abbrev pub StopsShort : List ℕ → ℕ → Streams → Type 0
 StopsShort text status streams = (status ≡ 1) × WritesPart streams.output streams.output' text × WritesPart streams.faults streams.faults' memory_fault

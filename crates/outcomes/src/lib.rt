@@ -3,8 +3,8 @@
 //! ```text
 //!    the whole output, no fault    Gives right text    its own status; 1 only where a write failed, with a first part of the text
 //!    a refused input               Refuses line        1, nothing on the output, the fault's line
-//!    want of memory                WantsMemory         1, nothing on the output, `otbench: Memory`
-//!    want of memory on the way     StopsShort text     1, a first part of the output, `otbench: Memory`
+//!    out of memory                 WantsMemory         1, nothing on the output, `otbench: Memory`
+//!    out of memory on the way      StopsShort text     1, a first part of the output, `otbench: Memory`
 //!    an input that was not read    GivesUp unread      1, nothing on the output, `otbench: ReadFault` only where it has failed, or the line above
 //! ```
 //!
@@ -36,7 +36,7 @@ pub fn complain<F: Write>(faults: &mut F, line: &str)
     let _ = put(faults, line.as_bytes());
 }
 
-/// Writes that memory was wanting.
+/// Writes that memory ran out.
 pub fn complain_of_memory<F: Write>(faults: &mut F)
     ensures { WritesPart (F.contents faults.old) (F.contents faults.new) memory_fault }
 {

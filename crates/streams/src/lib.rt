@@ -10,8 +10,8 @@
 //!              ── Source::read_whole ─▶ failed: a read has failed, or there are too many bytes
 //! ```
 //!
-//! A [`Sink`] is a writer, and a [`Source`] a reader, that tells whether it has failed. Nobody but its own calls can make it say so, and so a
-//! function over one can promise that it speaks of a fault only where there was one. [`Device`] is both, over any reader or writer.
+//! A [`Sink`] is a writer, and a [`Source`] a reader, that reports whether it has failed. Nobody but its own calls can make it say so, and so a
+//! function over one can ensure that it speaks of a fault only where there was one. [`Device`] is both, over any reader or writer.
 #![tactic(auto)]
 
 ghost use Rattle.std.specs.Prelude.{◌≡◌, ◌≤◌, ℕ, List, length, Bool, true, false, IfSome, IfOk, IfErr, OnOk, OnErr, vec_len};
@@ -82,7 +82,7 @@ fn read_whole<R: Read>(alloc: Global, reader: &mut R) -> Result<Vec<u8>, InputFa
     Err(InputFault::Read)
 }
 
-/// A writer that tells whether it has failed.
+/// A writer that reports whether it has failed.
 pub trait Sink: Write {
     // Whether a write by `put` has failed by now.
     ghost failed: { Self → Bool };
@@ -95,7 +95,7 @@ pub trait Sink: Write {
         ensures cause { OnErr result (failed self.new ≡ true) };
 }
 
-/// A reader that tells whether it has failed.
+/// A reader that reports whether it has failed.
 pub trait Source: Read {
     // Whether by now it could not be read whole: a read has failed, or there were more than 2^30 bytes.
     ghost failed: { Self → Bool };

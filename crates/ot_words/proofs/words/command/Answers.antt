@@ -1,7 +1,7 @@
 use Rattle.std.proofs.Common.{ap, ap₂, codes, rules, ◌≡◌, ◌∙◌}
 use Rattle.std.proofs.lemmas.Result.{IfOk-weaker}
 use Rattle.clap.specs.Words.{App, app_of, with_rule}
-use Rattle.ot_words.specs.Requests.{◌+>◌, flag_rule, flagged_app, otbench_app}
+use Rattle.ot_words.specs.Requests.{◌+>◌, explain_app, flag_rule, flagged_app, otbench_app}
 use Rattle.ot_words.proofs.Shapes.{plain_of}
 use Rattle.ot_words.proofs.words.command.Goals as goal
 
@@ -21,11 +21,10 @@ returns c =
     let steps : app_of c.in_ok-steps.steps ≡ flagged_app (codes "steps") (codes "documents") =
     c.in_ok-steps.ensures ∙ ap (λ (a : App). with_rule a (flag_rule (codes "documents"))) c.plain-3.ensures in
     let seven = c.in_ok-program-7.ensures (ap plain_of steps) ∙ ap₂ (◌+>◌) six steps in
-    let explain : app_of c.in_ok-explain.explain ≡ flagged_app (codes "explain") (codes "trace") =
-    c.in_ok-explain.ensures ∙ ap (λ (a : App). with_rule a (flag_rule (codes "trace"))) c.plain-4.ensures in
+    let explain : app_of c.in_ok-explain.explain ≡ explain_app = c.in_ok-explain.ensures in
     let eight = c.in_ok-program-8.ensures (ap plain_of explain) ∙ ap₂ (◌+>◌) seven explain in
     let conform : app_of c.in_ok-conform.conform ≡ flagged_app (codes "conform") (codes "sparse") =
-    c.in_ok-conform.ensures ∙ ap (λ (a : App). with_rule a (flag_rule (codes "sparse"))) c.plain-5.ensures in
+    c.in_ok-conform.ensures ∙ ap (λ (a : App). with_rule a (flag_rule (codes "sparse"))) c.plain-4.ensures in
     let nine = c.in_ok-program-9.ensures (ap plain_of conform) ∙ ap₂ (◌+>◌) eight conform in
     let ten = c.in_ok-program-10.ensures (ap plain_of c.plain-threads.ensures) ∙ ap₂ (◌+>◌) nine c.plain-threads.ensures in
     let eleven = c.in_ok-program-11.ensures (ap plain_of c.plain-complete.ensures) ∙ ap₂ (◌+>◌) ten c.plain-complete.ensures in
@@ -43,9 +42,6 @@ returns-in_err-program-3 c = let r = c.from_residual-in_err-program-3.ensures in
 
 pub returns-in_err-steps : goal.returns-in_err-steps
 returns-in_err-steps c = let r = c.from_residual-in_err-steps.ensures in search rules
-
-pub returns-in_err-explain : goal.returns-in_err-explain
-returns-in_err-explain c = let r = c.from_residual-in_err-explain.ensures in search rules
 
 pub returns-in_err-conform : goal.returns-in_err-conform
 returns-in_err-conform c = let r = c.from_residual-in_err-conform.ensures in search rules

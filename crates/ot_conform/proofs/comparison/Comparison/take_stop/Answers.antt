@@ -1,5 +1,5 @@
 use Rattle.ot_conform.specs.Read.{read_as}
-use Rattle.ot_conform.proofs.Settling.{stop_agrees, stop_decides}
+use Rattle.ot_conform.proofs.Settling.{stop_decides}
 use Rattle.ot_conform.proofs.comparison.Comparison.take_stop.Goals as goal
 
 pub returns-clause-decided : goal.returns-clause-decided

@@ -1,0 +1,41 @@
+-- The code points of what was found and of what ot.js has, which may look alike.
+use Rattle.std.specs.Prelude.{ℕ, nat_le, nat_lt, List, [], ◌∷◌, ◌++◌, take, drop, Bool, true, codes, string_bytes, ◌&&◌, if◌then◌else◌}
+use Rattle.std.specs.Fmt.{digits}
+use Rattle.std.specs.Str.{chars}
+use Rattle.ot_conform.specs.Answers.{same_front}
+use Rattle.ot_conform.specs.declared.answers.Difference.{Difference}
+
+-- the zeros before a hexadecimal number, which has four digits or more
+abbrev pub zeros : ℕ → List ℕ
+zeros c = if nat_lt c 16 then codes "000" else (if nat_lt c 256 then codes "00" else (if nat_lt c 4096 then codes "0" else []))
+
+abbrev pub point_text : ℕ → List ℕ
+point_text c = codes " U+" ++ (zeros c ++ digits 16 true c)
+
+abbrev pub points_text : List ℕ → List ℕ
+points_text [] = []
+points_text (c ∷ cs) = point_text c ++ points_text cs
+
+-- the first one, if there is one, is a character of ASCII that is seen
+abbrev pub begins_plain : List ℕ → Bool
+begins_plain [] = true
+begins_plain (c ∷ cs) = nat_le 32 c && nat_le c 126
+
+abbrev pub points_row : List ℕ → List ℕ → List ℕ
+points_row found wanted = codes "points" ++ (points_text found ++ (codes " |" ++ (points_text wanted ++ codes "\n")))
+
+-- where one of them begins with another character
+abbrev pub points_unless_plain : List ℕ → List ℕ → List ℕ
+points_unless_plain found wanted = if begins_plain found && begins_plain wanted then [] else points_row found wanted
+
+-- from a place on, four at most
+abbrev pub four_from : ℕ → List ℕ → List ℕ
+four_from place text = take 4 (drop place text)
+
+-- of both texts from where they first differ
+abbrev pub points_rows : List ℕ → List ℕ → List ℕ
+points_rows found wanted = points_unless_plain (four_from (same_front found wanted) found) (four_from (same_front found wanted) wanted)
+
+-- of both values as they are printed
+abbrev pub difference_points : Difference → List ℕ
+difference_points d = points_rows (chars (string_bytes d.found)) (chars (string_bytes d.wanted))

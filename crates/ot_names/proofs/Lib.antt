@@ -1,0 +1,5 @@
+mod ByByte
+mod Examples
+mod Joined
+mod Listing
+mod Reading
