@@ -3,7 +3,7 @@
 
     python3 bench/compare.py [--dir DIR] [--runs N] [--seeds S,S,..] [--only a,b,c,d,e,f] [--program PROGRAM]
 
-Writes the schedules of storms.py, for each seed (1), to DIR (a temporary folder by default), runs `otbench run` and `node oracle/otjs.js` on each, N times (3) in turns, compares
+Writes the schedules of storms.py, for each seed (1), to DIR (a temporary folder by default), runs `otbench run` and `node oracle/run.js` on each, N times (3) in turns, compares
 what the two print, and prints for each the least processor time (user and system), the peak memory, and the ratio of node's to otbench's; at the end the least ratio of each shape.
 """
 import argparse
@@ -54,7 +54,7 @@ def main():
     if not words.program:
         subprocess.run([os.path.join(TOP, 'otbench'), 'run'], input=b'clients 1\n', stdout=subprocess.DEVNULL, check=True)
     program = words.program or os.path.join(TOP, 'crates', 'otbench', 'out', 'otbench')
-    peers = {'node': ['node', os.path.join(HERE, '..', 'oracle', 'otjs.js')], 'otbench': [program, 'run']}
+    peers = {'node': ['node', os.path.join(HERE, '..', 'oracle', 'run.js')], 'otbench': [program, 'run']}
     print('%-14s %6s %10s %10s %8s %12s %12s' % ('schedule', 'seed', 'node s', 'otbench s', 'ratio', 'node MiB', 'otbench MiB'))
     folder, least, same = words.dir or tempfile.mkdtemp(), {}, True
     for seed in words.seeds.split(','):

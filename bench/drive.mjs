@@ -8,11 +8,12 @@ import path from "node:path";
 import readline from "node:readline";
 import { pathToFileURL } from "node:url";
 import { bugs } from "../examples/port/bugs.js";
+import { makePort } from "../oracle/otjs.js";
 
-const { drive, loadPort } = await import(pathToFileURL(path.resolve(process.argv[2])));
+const { drive } = await import(pathToFileURL(path.resolve(process.argv[2])));
 
 function portWith(bug) {
-  const port = loadPort();
+  const port = makePort();
   if (bug) bugs[bug](port);
   return port;
 }

@@ -18,7 +18,7 @@ f-behind.txt      four clients, each with an operation and a buffer of some
                   hundred components under way, deliver 9,000 operations of a
                   fifth
 
---time runs each under `node oracle/otjs.js --quiet --time`, three times, and prints
+--time runs each under `node oracle/run.js --quiet --time`, three times, and prints
 the whole process' wall time and the time of the steps alone.
 
 The small simulator here only keeps lengths and pending operations (an insert
@@ -372,7 +372,7 @@ def main():
         if a.time:
             for _ in range(3):
                 t = time.time()
-                p = subprocess.run(['node', os.path.join(HERE, '..', 'oracle', 'otjs.js'), '--quiet', '--time'],
+                p = subprocess.run(['node', os.path.join(HERE, '..', 'oracle', 'run.js'), '--quiet', '--time'],
                                    stdin=open(path, 'rb'), stdout=subprocess.PIPE,
                                    stderr=subprocess.PIPE)
                 wall = time.time() - t

@@ -4,7 +4,8 @@ import difflib
 import json
 import re
 
-ALSO_KNOWN = {"at", "stopped"}  # keys of `steps` that `conform` does not count
+ALSO_KNOWN = {"at", "stopped", "message"}  # keys that `conform` compares and does not count
+RECEIVES = ("take", "deliver")  # the instructions that have a message
 
 
 def lines_of(printed):
@@ -19,11 +20,14 @@ def lines_of(printed):
 
 
 class Compared:
-    """Of one session or of many that conform: how often each key was compared, the keys that `steps` does not have, and in how many sessions no document of a client or of the server was compared."""
+    """
+    Of one session or of many that conform: how often each key was compared, how many messages, the keys that `conform` does not know,
+    and in how many sessions no document of a client or of the server was compared.
+    """
 
     def __init__(self):
         self.keys, self.unknown = collections.Counter(), set()
-        self.sessions, self.no_client, self.no_server = 0, 0, 0
+        self.messages, self.sessions, self.no_client, self.no_server = 0, 0, 0, 0
 
     @classmethod
     def of(cls, session, printed, said):
@@ -38,8 +42,12 @@ class Compared:
         for line in lines_of(printed):
             it.unknown.update(set(line) - known)
             at = line.get("at")
-            if line.get("document") is not None and isinstance(at, int) and 0 < at <= len(session.instructions):
-                shown.add(session.instructions[at - 1].mover())
+            if not isinstance(at, int) or not 0 < at <= len(session.instructions):
+                continue
+            instruction = session.instructions[at - 1]
+            if line.get("document") is not None:
+                shown.add(instruction.mover())
+            it.messages += line.get("message") is not None and instruction.word in RECEIVES
         missing = {instruction.mover() for instruction in session.instructions} - shown
         it.no_server = int("server" in missing)
         it.no_client = int(bool(missing - {"server"}))
@@ -48,6 +56,7 @@ class Compared:
     def add(self, other):
         self.keys.update(other.keys)
         self.unknown |= other.unknown
+        self.messages += other.messages
         self.sessions += other.sessions
         self.no_client += other.no_client
         self.no_server += other.no_server
@@ -58,7 +67,7 @@ class Compared:
 
     def lacks(self, needed):
         """What of the needed keys was never compared, in words."""
-        lacks = [key for key in needed if not self.keys[key]]
+        lacks = [key for key in needed if not (self.messages if key == "message" else self.keys[key])]
         if "document" in needed and "document" not in lacks:
             for count, whose in ((self.no_client, "a client"), (self.no_server, "the server")):
                 if count:
@@ -66,7 +75,7 @@ class Compared:
         return lacks
 
     def misspelt(self):
-        """What is said of the keys that `steps` does not have, each once."""
+        """What is said of the keys that `conform` does not know, each once."""
         for key in sorted(self.unknown):
-            like = difflib.get_close_matches(key, self.keys, 1)
+            like = difflib.get_close_matches(key, [*self.keys, *ALSO_KNOWN], 1)
             yield f"the key {json.dumps(key)} is none of steps, and was not compared" + (f": is it {like[0]}?" if like else "")

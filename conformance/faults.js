@@ -3,8 +3,8 @@
  * ot.js, and one for each kind of text, length, operation, message and log. Nearly all are an edit of a method's source: what stands
  * there, and what the faulty port has instead. Those of `leaks` show only where one process performs several sessions.
  */
-"use strict";
-const { bugs: five, waitingStates } = require("../examples/port/bugs.js");
+
+import { bugs as five, waitingStates } from "../examples/port/bugs.js";
 
 /* [name, method, what ot.js has, what the fault has]; blanks are one blank each, and comments are left out. */
 const EDITS = [
@@ -95,7 +95,7 @@ const EDITS = [
   ["message-read-in-pieces", "Server.receiveOperation", "var concurrentOperations =", "operation = inPieces(operation); var concurrentOperations ="],
 ];
 
-const leaks = {
+export const leaks = {
   /* All servers have one log. */
   "log-shared"(port) {
     const { Server } = port;
@@ -164,7 +164,5 @@ function edit(port, method, from, to) {
   owner[name] = new Function(...Object.keys(names), `return ${source.replace(from, () => to)};`)(...Object.values(names));
 }
 
-const bugs = { ...five, ...leaks, ...others };
+export const bugs = { ...five, ...leaks, ...others };
 for (const [name, method, from, to] of EDITS) bugs[name] = (port) => edit(port, method, from, to);
-
-module.exports = { bugs, leaks };

@@ -64,8 +64,8 @@ def find(differences, fault, sessions):
 
 def fault_names(leaking=False):
     """The faults that one session can show; or those that only several sessions of one process can."""
-    names = f"const {{ bugs, leaks }} = require('./faults.js'); console.log(JSON.stringify(Object.keys(bugs).filter((name) => name in leaks === {json.dumps(leaking)})))"
-    return json.loads(subprocess.run(["node", "-e", names], cwd=HERE, check=True, capture_output=True).stdout)
+    names = f"import {{ bugs, leaks }} from './faults.js'; console.log(JSON.stringify(Object.keys(bugs).filter((name) => name in leaks === {json.dumps(leaking)})))"
+    return json.loads(subprocess.run(["node", "--input-type=module", "-e", names], cwd=HERE, check=True, capture_output=True).stdout)
 
 
 def row(fault, found):

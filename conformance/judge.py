@@ -9,6 +9,7 @@ import subprocess
 import time
 
 from compared import Compared
+from messages import was_changed
 from port import ENDED, Driver, KeptDriver
 from reduce import reduced
 from report import visible
@@ -33,6 +34,7 @@ class Verdict:
         self.place = int(at[1]) if at else None
         self.ended = trouble is not None and trouble.startswith(ENDED)
         self.is_limit = said.startswith("stopped at ")
+        self.is_of_the_way = was_changed(said, printed)
         self.compared = Compared.of(sessions[-1], printed, said) if self.conforms else Compared()
 
     def is_slow(self):
@@ -43,6 +45,8 @@ class Verdict:
         """The method of ot.js and the key in which the port differs, or else what was wrong: the same for failures of one cause, mostly."""
         first = self.said.split("\n", 1)[0]
         differs = re.fullmatch(r"differs at \d+: (after the end|[a-z-]+)\b.*?(sent revision|sent operation|\w+)", first)
+        if differs and self.is_of_the_way:
+            return f"{differs[1]}: message"
         if differs:
             rule = re.search(r"^rule (.*)$", self.said, re.MULTILINE)
             return f"{rule[1] if rule else differs[1]}: {differs[2]}"
@@ -64,9 +68,10 @@ class Verdict:
 def fails_likewise(first):
     """
     Whether a verdict fails as a first one did: by the driver's limits or otherwise, since on a busy machine it may be too slow for
-    once; and not by a limit of otbench, which a smaller session may come to.
+    once; not by a limit of otbench, which a smaller session may come to; and by a message that was changed on its way, or not.
     """
-    return lambda verdict: not verdict.conforms and verdict.ended == first.ended and verdict.is_limit == first.is_limit
+    how = lambda it: (it.conforms, it.ended, it.is_limit, it.is_of_the_way)  # noqa: E731
+    return lambda verdict: how(verdict) == how(first)
 
 
 class Judge:

@@ -1,9 +1,10 @@
 /* The lines that `otbench steps` prints of a schedule, by ot.js itself; and where a port parts from ot.js. */
-"use strict";
-const sample = require("../examples/port/driver.js");
-const { drive, inUnits, loadPort } = require("../oracle/scalars.js");
 
-const otjs = loadPort();
+import { drive as driveUnits } from "../examples/port/drive.js";
+import { makePort } from "../oracle/otjs.js";
+import { drive, inUnits } from "../oracle/scalars.js";
+
+const otjs = makePort();
 
 const KEYS = "at clients present start do client edit stopped revision state outstanding buffer sent applied appended document end".split(" ");
 const STATE = ["revision", "state", "outstanding", "buffer"];
@@ -17,29 +18,24 @@ function asStep(line) {
   return JSON.stringify(Object.fromEntries(shown.map((key) => [key, values[key]])));
 }
 
-const stepsOf = (text) => drive(text, otjs).map((line) => asStep(line) + "\n").join("");
+export const stepsOf = (text) => drive(text, otjs).map((line) => asStep(line) + "\n").join("");
 
 /* A schedule, to be compared: its text in UTF-16 units, and the lines of ot.js. */
-function comparable(text) {
+export function comparable(text) {
   const given = inUnits(text);
-  return { given, ours: sample.drive(given, otjs) };
+  return { given, ours: driveUnits(given, otjs) };
 }
 
 /* The place of the first line that a port prints otherwise than ot.js, or null. */
-function firstDifference({ given, ours }, port) {
-  const theirs = sample.drive(given, port);
+export function firstDifference({ given, ours }, port) {
+  const theirs = driveUnits(given, port);
   const index = ours.findIndex((line, number) => line !== theirs[number]);
   return index < 0 ? null : JSON.parse(ours[index]).at;
 }
 
 /* ot.js with a fault of faults.js. */
-function faultyPort(plant) {
-  const port = loadPort();
+export function faultyPort(plant) {
+  const port = makePort();
   plant(port);
   return port;
 }
-
-module.exports = { comparable, firstDifference, faultyPort, stepsOf };
-
-/* On the command line: the lines of the schedule on standard input. */
-if (require.main === module) process.stdout.write(stepsOf(require("node:fs").readFileSync(0, "utf8")));

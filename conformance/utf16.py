@@ -15,7 +15,8 @@ import subprocess
 from program import program
 from schedule import json_of, read_schedule
 
-OPERATIONS = ("edit", "outstanding", "buffer", "applied", "appended")
+OPERATIONS = ("edit", "outstanding", "buffer", "applied", "appended", "message")
+MESSAGES = ("sent", "message")
 
 
 class Refused(Exception):
@@ -96,21 +97,25 @@ class Texts:
         self.documents = [start if client < opening["present"] else "" for client in range(opening["clients"])]
         self.revision = [0] * opening["clients"]
         self.outstanding = [[]] * opening["clients"]
+        self.sent = [0] * opening["clients"]  # the revision of each client's message
 
     def read(self, line):
-        """What each operation of a line applies to, by its key; `sent` is over what the server had."""
+        """What each operation of a line applies to, by its key; a message is over what the server had at its revision."""
         client = line.get("client")
         if line["do"] == "take":
             self.log.append(line["document"])
-            return {"appended": self.log[-2]}
+            return {"message": self.log[self.sent[client]], "appended": self.log[-2]}
         if client is None:
             return {}
         before = self.documents[client]
         self.documents[client] = line["document"]
         if "revision" in line:
             self.revision[client], self.outstanding[client] = line["revision"], line.get("outstanding", [])
+        if "sent" in line:
+            self.sent[client] = line["sent"]["revision"]
         base = self.log[self.revision[client]]
-        return {"edit": before, "applied": before, "outstanding": base, "sent": base, "buffer": applied(self.outstanding[client], base)}
+        over = {"edit": before, "applied": before, "outstanding": base, "sent": base, "buffer": applied(self.outstanding[client], base)}
+        return {**over, "message": self.log[line["revision"] - 1]} if line["do"] == "deliver" else over
 
 
 class Translation:
@@ -148,7 +153,7 @@ class Translation:
     def _line_back(self, raw):
         try:
             line = json.loads(raw)
-            over = self.over.get(line["at"], {})
+            over = self.over.get(line["at"] + ("stopped" in line), {})  # a stop stands before its instruction's place
             changed = {key: value_back(key, value, over) for key, value in line.items()}
         except (ValueError, TypeError, KeyError, AttributeError, RecursionError):
             return raw
@@ -156,10 +161,10 @@ class Translation:
 
 
 def value_back(key, value, over):
+    if key in MESSAGES and isinstance(value, dict) and "operation" in value and key in over:
+        return {**value, "operation": operation_back(value["operation"], over[key])}
     if key in OPERATIONS and key in over:
         return operation_back(value, over[key])
-    if key == "sent" and isinstance(value, dict) and "operation" in value and key in over:
-        return {**value, "operation": operation_back(value["operation"], over[key])}
     return text_back(value)
 
 

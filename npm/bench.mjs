@@ -34,7 +34,7 @@ const calls = {
 
   /* A form that the program does not know is refused by it. */
   explain: (given, { form, signal } = {}) =>
-    reading(form === undefined ? ["explain"] : ["explain", `--${form}`], VALUES.has(form) ? jsonOf(given, VALUES.get(form)) : schedule(given), String, signal),
+    reading(form === undefined ? ["explain"] : ["explain", `--${form}`], form === undefined ? schedule(given) : jsonOf(given, VALUES.get(form) ?? "the input"), String, signal),
 
   /* A line `%%` would end the schedule: one that has such a line is refused as `run` refuses it. */
   conform(text, lines, { sparse = false, signal } = {}) {
@@ -60,6 +60,19 @@ const calls = {
 
   generate: ({ signal, ...options } = {}) => reading(["generate", ...wordsOf(options)], NOTHING, String, signal),
 };
+
+/* The options of each function beside `signal`; those of `generate` are the program's. */
+const OPTIONS = { run: ["image"], steps: ["documents"], explain: ["form"], conform: ["sparse"], check: ["all"], judge: [], assemble: [], disassemble: [], complete: [] };
+
+/* The call of a function, whose options are the last it is given. One that it does not have is refused. */
+function callOf(name, ...given) {
+  const options = given[name === "conform" ? 2 : 1];
+  const own = OPTIONS[name];
+  const other = own && Object.keys(options ?? {}).find((option) => option !== "signal" && !own.includes(option));
+  if (name === "generate" && given[0] !== undefined && Object(given[0]) !== given[0]) throw new OtbenchError("Usage", "generate takes its options as an object, such as { instructions: 5 }");
+  if (other !== undefined) throw new OtbenchError("Usage", `${name} has no option ${other}; its options: ${[...own, "signal"].join(", ")}`);
+  return calls[name](...given);
+}
 
 /* A port's lines: a text, bytes, or an array of texts and of values. */
 function linesOf(lines) {
@@ -95,8 +108,8 @@ export function benchOver(serveBytes) {
     checkWords(words);
     return serveBytes(words, bytesOf(input, "the input"));
   };
-  const called = (make) => (...given) => {
-    const { words, input, read } = make(...given);
+  const called = (name) => (...given) => {
+    const { words, input, read } = callOf(name, ...given);
     return read(serve(words, input));
   };
   return { serve, ...mapped(called) };
@@ -112,11 +125,11 @@ export function laterBenchOver(serveBytes) {
     checkWords(words);
     return serveBytes(words, bytesOf(input, "the input"), signal);
   };
-  const called = (make) => async (...given) => {
-    const { words, input, read, signal } = make(...given);
+  const called = (name) => async (...given) => {
+    const { words, input, read, signal } = callOf(name, ...given);
     return read(await serve(words, input, { signal }));
   };
   return { serve, ...mapped(called) };
 }
 
-const mapped = (called) => Object.fromEntries(Object.entries(calls).map(([name, make]) => [name, called(make)]));
+const mapped = (called) => Object.fromEntries(Object.keys(calls).map((name) => [name, called(name)]));

@@ -3,18 +3,21 @@
 import { isatty } from "node:tty";
 import { EngineFault, serve } from "../engine/host.mjs";
 import { debug } from "../terminal/debugging.mjs";
-import { edit } from "../terminal/editing.mjs";
-import { FILES, inputOf, isFile, readWhole, split, STDIN, Unreadable } from "./files.mjs";
-import { hasHints, hintsOf, looksAtOutput } from "./hints.mjs";
+import { edit, USAGE as EDIT_HELP } from "../terminal/editing.mjs";
+import { FILES, formOf, inputOf, isFile, OPTIONS, readWhole, split, STDIN, Unreadable } from "./files.mjs";
+import { hintsOf, looksAtOutput } from "./hints.mjs";
 import { engineBytes, release, viewer } from "./parts.mjs";
 import { runOnStreams, writeAll } from "./streams.mjs";
 import { bytesOf, joined, textOf } from "./text.mjs";
+import { meant, similarTo } from "./usage.mjs";
 import { pageOf, shownOf } from "./view.mjs";
 
 const [STDOUT, STDERR] = [1, 2];
 const [DONE, FAULT, USAGE] = [0, 1, 2];
 
 const engine = () => new WebAssembly.Module(engineBytes());
+
+const asks = (module) => (words, input) => serve(module, words, input);
 
 const utf8 = (text) => bytesOf(text, "the text");
 
@@ -25,7 +28,8 @@ ${Object.entries(FILES)
   .join("")}  otbench debug SCHEDULE [--port LINES]           at a terminal, forth and back
   otbench edit SCHEDULE C AT DELETED INSERTED    appends the edit with which client C changes its document so
 COMMANDS and LINES stand behind the schedule and a line '%%'. 'view' prints a page for a browser with the session in it, and
-beside it what a port printed, its LINES. 'help' prints on the output, with status 0. 'threads' carries out plans of one worker.
+beside it what a port printed, its LINES. 'help' and 'version' print on the output, with status 0; so do '--version', '-V' and '-v'.
+'threads' carries out plans of one worker.
 `;
 
 const VIEW_HELP = `usage: otbench view [SCHEDULE [LINES]] > PAGE
@@ -52,33 +56,36 @@ function print(bytes) {
   }
 }
 
+const VERSION = new Set(["version", "--version", "-V", "-v"]);
+
 const isHelp = (word) => word === "-h" || word === "--help";
 
 function showVersion() {
   const { version, commit, proved } = release();
-  complain(`otbench ${version} (${commit === null ? "no release" : `commit ${commit}`}, ${proved ? "proved" : "not proved"})\n`);
-  return USAGE;
+  const said = `otbench ${version} (${commit === null ? "no release" : `commit ${commit}`}, ${proved ? "proved" : "not proved"})\n`;
+  return print(utf8(said)) ? DONE : FAULT;
 }
 
+/* The help of what the program does not have. */
+const OWN_HELP = { view: VIEW_HELP, edit: EDIT_HELP };
+
 /* The program's help, or that of one of its words, on the output. */
-function showHelp([word, ...more]) {
-  if (word === "view" && more.length === 0) return print(utf8(VIEW_HELP)) ? DONE : FAULT;
-  const { errors } = serve(engine(), ["help", ...(word === undefined ? [] : [word]), ...more], new Uint8Array(0));
-  const said = textOf(errors);
+function showHelp(words) {
+  const [word] = words;
+  if (words.length === 1 && Object.hasOwn(OWN_HELP, word)) return print(utf8(OWN_HELP[word])) ? DONE : FAULT;
+  const ask = asks(engine());
+  const said = textOf(ask(["help", ...words], new Uint8Array(0)).errors);
   if (!said.startsWith("error:")) return print(utf8(word === undefined ? said + MORE_HELP : said)) ? DONE : FAULT;
   complain(said);
+  if (words.length === 1 && isatty(STDERR)) hint(similarTo(word, ask));
   return USAGE;
 }
 
 const isOnTerminal = () => isatty(STDOUT) && isatty(STDERR);
 
-/* What an option has a command read. */
-const FORMS = { "--image": "IMAGE", "--trace": "TRACE", "--plan": "PLAN" };
-
 /* Says what is awaited where somebody has to type it. */
 function announce(word, flags, files) {
-  const form = FORMS[flags.find((flag) => Object.hasOwn(FORMS, flag))];
-  const all = form ? [form] : FILES[word];
+  const all = [formOf(word, flags).toUpperCase(), ...FILES[word].slice(1)];
   const awaited = files.length === 0 ? all : all.filter((_, i) => files[i] === "-");
   if (awaited.length > 0 && isatty(STDIN) && isatty(STDERR))
     complain(`otbench: reading ${awaited.join(", a line '%%', ")} from the terminal; Ctrl-D ends it\n`);
@@ -103,27 +110,37 @@ function view(words) {
   return FAULT;
 }
 
-/* Runs a word of the program that takes files. One file too many is refused by the program, as a word that it does not know. */
+/* Runs a word of the program that takes files. A file too many, and what may be an unknown option's value, is refused by the program. */
 function runOnFiles(word, words) {
   const { flags, files } = split(words);
   const extra = files.slice(FILES[word].length);
-  if (extra.length > 0 || flags.some(isHelp)) return runOnStreams(engine(), [word, ...flags, ...extra], []);
+  if (extra.length > 0 || flags.some(isHelp)) return runOnWords([word, ...flags, ...extra], []);
+  if (flags.some((flag) => !OPTIONS.has(flag)) && !files.every(isFile)) return runOnWords([word, ...flags, ...files], []);
   announce(word, flags, files);
   const input = inputOf(files);
-  if (!hasHints(word) || !isOnTerminal()) return runOnStreams(engine(), [word, ...flags], input);
+  if (!isOnTerminal()) return runOnStreams(engine(), [word, ...flags], input);
   return runWithHints(word, { flags, files }, input);
 }
 
-/* The same on a terminal, with the hints below an answer of status 1. */
+const hint = (text) => complain(`otbench: ${text}\n`);
+
+/* The same on a terminal, with the hints below an answer. */
 function runWithHints(word, { flags, files }, input) {
   const module = engine();
   const [read, written] = [[], []];
   const onRead = (bytes) => void read.push(bytes.slice());
   const onWrite = looksAtOutput(word) ? (bytes) => void written.push(bytes.slice()) : undefined;
   const status = runOnStreams(module, [word, ...flags], input, { onRead, onWrite });
-  if (status !== FAULT) return status;
-  const kept = { input: joined(read), output: joined(written) };
-  for (const hint of hintsOf(word, { flags, files }, kept, (words, text) => serve(module, words, text))) complain(`otbench: ${hint}\n`);
+  if (status === USAGE) meant([word, ...flags], asks(module)).forEach(hint);
+  if (status === FAULT) hintsOf(word, { flags, files }, { input: joined(read), output: joined(written) }, asks(module)).forEach(hint);
+  return status;
+}
+
+/* Runs the program on words without files; on a terminal with what may be meant by those that it refuses. */
+function runOnWords(words, input) {
+  const module = engine();
+  const status = runOnStreams(module, words, input);
+  if (status === USAGE && isOnTerminal()) meant(words, asks(module)).forEach(hint);
   return status;
 }
 
@@ -146,12 +163,10 @@ function run(words) {
   if (word === "edit") return edit(rest, asker());
   if (word === "view") return view(rest);
   if (word === "help") return showHelp(rest);
-  if (words.length === 1 && (word === "-V" || word === "--version")) return showVersion();
+  if (words.length === 1 && VERSION.has(word)) return showVersion();
   if (Object.hasOwn(FILES, word ?? "")) return runOnFiles(word, rest);
-  const status = runOnStreams(engine(), words, [STDIN]);
+  const status = runOnWords(words, [STDIN]);
   if (words.length === 1 && isHelp(word)) complain(MORE_HELP);
-  const isAlone = status === USAGE && word !== "generate" && isFile(word);
-  if (isAlone && isOnTerminal()) complain(`otbench: a command stands in front of a file: otbench run ${word}\n`);
   return status;
 }
 

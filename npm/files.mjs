@@ -25,11 +25,28 @@ export const FILES = {
   view: ["SCHEDULE", "LINES"],
 };
 
+/* What an option has a command read. */
+const FORMS = { "--image": "image", "--trace": "trace", "--plan": "plan" };
+
+/**
+ * What a subcommand reads, or first reads: schedule, image, trace or plan; null where it reads no file.
+ * @param {string} word
+ * @param {string[]} flags
+ */
+export function formOf(word, flags) {
+  if (!Object.hasOwn(FILES, word)) return null;
+  const flag = flags.findLast((it) => Object.hasOwn(FORMS, it));
+  return FORMS[flag] ?? FILES[word][0].toLowerCase();
+}
+
 /** Standard input, by its number. */
 export const STDIN = 0;
 
 /** A file that cannot be read. */
 export class Unreadable extends Error {}
+
+/** The options that the program has for commands that read files. Behind another one a word may be its value. */
+export const OPTIONS = new Set([...Object.keys(FORMS), "--documents", "--all", "--sparse"]);
 
 const REASONS = { ENOENT: "there is no such file", EISDIR: "is a folder", EACCES: "cannot be read" };
 

@@ -264,12 +264,14 @@ export interface Bench {
   /** The run in words, with the clients' names where comments say them. The error of a refused text says its column and cause too. */
   explain(schedule: Text): string;
   /**
-   * Judges a recorded trace, a value or its JSON, and gives the line that `judge` prints. The error of an input that is no trace says where its first fault
-   * is, what stands there and what is wanted.
+   * Judges a recorded trace, a value or its JSON, and gives the line that `judge` prints, with words below it: which events, which elements, and what
+   * each list has. The error of an input that is no trace says where its first fault is, what stands there and what is wanted.
    */
   explain(trace: object | Text, options: { form: "trace" }): string;
   /** Says in a line what a plan is, a value or its JSON. The error of an input that is no plan says where its first fault is, as that of a trace does. */
   explain(plan: object | Text, options: { form: "plan" }): string;
+  /** The run of a schedule's image in words. The error of bytes that are no image says which field is wrong, what stands there and what is wanted. */
+  explain(image: Uint8Array, options: { form: "image" }): string;
   /** Compares what a port of ot.js printed with the run of the schedule; with `sparse` instructions without a line are passed over. */
   conform(schedule: Text, lines: PortLines, options?: { sparse?: boolean }): Conformance;
   /** Whether all is quiet and one, and whether the trace has the weak list property. */

@@ -5,11 +5,11 @@
  * performed any more goes too. So every schedule that is tried is performed whole. Its texts have one unit for each character.
  */
 
-import { loadPort } from "../examples/port/driver.js";
+import { makePort } from "../oracle/otjs.js";
 import { Session } from "../examples/port/session.js";
 
 /* ot.js, to perform what is left. */
-const otjs = loadPort();
+const otjs = makePort();
 
 /* The schedule with edits fitted and without what cannot be performed. */
 function repaired(schedule) {

@@ -3,7 +3,7 @@
 import { readSchedule } from "../examples/port/schedule.js";
 
 /** The values of a text that otbench accepts. */
-export const valuesOf = (text) => readSchedule(text, (string) => string);
+export const valuesOf = (text) => readSchedule(text);
 
 /** The text of such values. */
 export function written({ clients, present, start, instructions }) {

@@ -8,7 +8,7 @@
 
 import { AssertionError } from "node:assert";
 import { setImmediate } from "node:timers/promises";
-import { drive as drivePort } from "../examples/port/driver.js";
+import { drive as drivePort } from "../examples/port/drive.js";
 import { lineTold } from "../viewer/src/numbering.mjs";
 import { conform } from "./otbench.mjs";
 import { reduced } from "./reduce.mjs";
@@ -27,7 +27,7 @@ function driverOf(subject) {
   for (const part of ["TextOperation", "Client", "Server"])
     if (typeof subject?.[part] !== "function")
       throw new TypeError(`a port with TextOperation, Client and Server, or a function that drives one: ${part} is not there`);
-  return (schedule) => drivePort(schedule, subject, { scalars: true }); // lengths go to the port as they stand
+  return (schedule) => drivePort(schedule, subject); // lengths go to the port as they stand
 }
 
 /* A driver whose lines count scalars, as a schedule does. */

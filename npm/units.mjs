@@ -43,20 +43,22 @@ function linesOf(printed) {
 function textsOf([opening, ...lines]) {
   const log = [opening.start]; // the server's document at each revision
   const documents = Array.from({ length: opening.clients }, (_, client) => (client < opening.present ? opening.start : ""));
-  const clients = documents.map(() => ({ revision: 0, outstanding: [] }));
+  const clients = documents.map(() => ({ revision: 0, outstanding: [], sent: 0 })); // sent: the revision of its message
   const texts = [];
   for (const line of lines.filter((it) => it.do && !it.stopped)) {
     const { at, client } = line;
     if (line.do === "take") {
-      texts[at] = { appended: log.at(-1) };
+      texts[at] = { message: log[clients[client].sent], appended: log.at(-1) };
       log.push(line.document);
     } else if (client !== undefined) {
       const before = documents[client];
       documents[client] = line.document;
-      if (line.revision !== undefined) clients[client] = { revision: line.revision, outstanding: line.outstanding ?? [] };
+      if (line.revision !== undefined) Object.assign(clients[client], { revision: line.revision, outstanding: line.outstanding ?? [] });
+      if (line.sent) clients[client].sent = line.sent.revision;
       const { revision, outstanding } = clients[client];
       const base = log[revision];
       texts[at] = { edit: before, applied: before, outstanding: base, sent: base, buffer: applied(outstanding, base) };
+      if (line.do === "deliver") texts[at].message = log[revision - 1];
     }
   }
   return texts;
@@ -91,7 +93,8 @@ function unitsOf(operation, text) {
 function lineInScalars(line, overs) {
   const value = valueOf(typeof line === "string" ? line : JSON.stringify(line));
   if (value === null || typeof value !== "object") return line;
-  return valueInScalars(value, overs[value.at] ?? {});
+  const place = value.stopped === undefined ? value.at : value.at + 1; // a stop stands before its instruction's place
+  return valueInScalars(value, overs[place] ?? {});
 }
 
 function valueOf(line) {
@@ -102,9 +105,12 @@ function valueOf(line) {
   }
 }
 
+/* The keys whose value may be a message, an operation and its revision. */
+const MESSAGES = ["sent", "message"];
+
 function valueInScalars(line, over) {
   const turned = Object.entries(line).map(([key, value]) => {
-    if (key === "sent" && value?.operation) return [key, { ...value, operation: operationInScalars(value.operation, over.sent) }];
+    if (MESSAGES.includes(key) && value?.operation) return [key, { ...value, operation: operationInScalars(value.operation, over[key]) }];
     return [key, Array.isArray(value) ? operationInScalars(value, over[key]) : textOrFault(value)];
   });
   return Object.fromEntries(turned);

@@ -15,6 +15,7 @@ export interface WorkerBench {
   explain(schedule: Text, options?: Cancelled): Promise<string>;
   explain(trace: object | Text, options: { form: "trace" } & Cancelled): Promise<string>;
   explain(plan: object | Text, options: { form: "plan" } & Cancelled): Promise<string>;
+  explain(image: Uint8Array, options: { form: "image" } & Cancelled): Promise<string>;
   conform(schedule: Text, lines: PortLines, options?: { sparse?: boolean } & Cancelled): Promise<ReturnType<Bench["conform"]>>;
   check(schedule: Text, options?: { all?: boolean } & Cancelled): Promise<ReturnType<Bench["check"]>>;
   judge(trace: object | Text, options?: Cancelled): Promise<ReturnType<Bench["judge"]>>;

@@ -2,16 +2,17 @@
  * A schedule's lengths are Unicode scalar values, ot.js counts UTF-16 units. Two ways from one to the other:
  *
  *     drive     the lines of the sample driver, in scalars as `otbench steps` prints them: each character past U+FFFF is one
- *               unit inside of the port (otjs.js' Interner), so the port sees no surrogate pair
+ *               unit inside of the port (interner.js), so the port sees no surrogate pair
  *     inUnits   the schedule itself in UTF-16 units, for a port that is to see the pairs
  */
-"use strict";
-const sample = require("../examples/port/driver.js");
-const { readSchedule } = require("../examples/port/schedule.js");
-const { Session } = require("../examples/port/session.js");
-const { Interner } = require("./otjs.js");
 
-const otjs = sample.loadPort();
+import { drive as driveUnits } from "../examples/port/drive.js";
+import { readSchedule } from "../examples/port/schedule.js";
+import { Session } from "../examples/port/session.js";
+import { Interner } from "./interner.js";
+import { makePort } from "./otjs.js";
+
+const otjs = makePort();
 
 /* An escape of JSON: of a surrogate pair, of one surrogate, or another. */
 const ESCAPE = /\\(?:u(d[89ab][0-9a-f]{2})\\u(d[c-f][0-9a-f]{2})|u(d[89a-f][0-9a-f]{2})|[^])/gi;
@@ -21,9 +22,9 @@ const withPairs = (text) => text.replace(ESCAPE, (escape, high, low) => (high ? 
 const withUnits = (line) => line.replace(ESCAPE, (escape, high, low, one) => (one ? unit(one) : high ? unit(high) + unit(low) : escape));
 
 /* The lines of a schedule's text on a port, their lengths in scalars. Options as for the sample driver. */
-function drive(text, port, options) {
+export function drive(text, port, options) {
   const interner = new Interner();
-  return sample.drive(interner.inward(withPairs(text)), port, options).map((line) => interner.outward(withUnits(line)));
+  return driveUnits(interner.inward(withPairs(text)), port, options).map((line) => interner.outward(withUnits(line)));
 }
 
 /* An operation over a text, the lengths of both in scalars, with lengths in UTF-16 units. */
@@ -39,7 +40,7 @@ function unitsOf(operation, text) {
 }
 
 /* A schedule's text with lengths in UTF-16 units. An edit that is refused, and what stands behind it, is as it was. */
-function inUnits(text) {
+export function inUnits(text) {
   if (!/[\ud800-\udfff]/.test(withPairs(text))) return text;
   const schedule = readSchedule(text);
   const session = new Session(otjs, schedule);
@@ -63,4 +64,3 @@ function inUnits(text) {
   return text.split("\n").map(counted).join("\n");
 }
 
-module.exports = { drive, inUnits, loadPort: sample.loadPort };

@@ -1,22 +1,22 @@
 /* Writes the events of a session, in one order, as a schedule and as the participants' own lines. */
-"use strict";
-const { nameOf } = require("./logs.js");
-const { Unwritable, isWellFormed, toScalars, apply } = require("./scalars.js");
+
+import { nameOf } from "./logs.js";
+import { Unwritable, isWellFormed, toScalars, apply } from "./scalars.js";
 
 /* A name as a comment has it: as it is, or as a JSON string where it would not be one line's rest. */
 const written = (name) => (/^[^\p{C}\s"](?:[^\p{C}]*[^\p{C}\s])?$/u.test(name) ? name : JSON.stringify(name));
 
 /*
- * The texts over which lengths are counted: of each client its document and the server's at its revision (`base`), and the
- * server's. They are made of what the logs say was applied.
+ * The texts over which lengths are counted: of each client its document, the server's at its revision (`base`) and at its
+ * message's (`sent`), and the server's. They are made of what the logs say was applied.
  */
-class Writer {
+export class Writer {
   constructor({ server, clients }) {
     const [{ revision, document }] = server;
     if (!isWellFormed(document)) throw new Unwritable(`${nameOf(server[0])}: the document has half of a surrogate pair`);
     this.first = revision;
     this.served = document;
-    this.texts = clients.map(() => ({ document, base: document, outstanding: null }));
+    this.texts = clients.map(() => ({ document, base: document, sent: document, outstanding: null }));
     this.told = new Map();
     this.notes = [];
     this.fault = null;
@@ -49,6 +49,8 @@ class Writer {
   #line(event, client, edit) {
     if (event.stopped !== undefined) return { at: this.lines.length - 1, do: event.do, client, stopped: event.stopped };
     const line = { at: this.lines.length, do: event.do, client };
+    if (event.do === "take") line.message = this.#message(event, event.given, this.texts[client].sent);
+    if (event.do === "deliver") this.#tell(line, "message", event, event.operation, this.texts[client].base);
     if (edit) line.edit = edit;
     line.revision = event.revision - this.first;
     if (event.do === "take") this.#take(line, event);
@@ -81,9 +83,15 @@ class Writer {
     this.#tell(line, "buffer", event, event.buffer, event.outstanding ? apply(event.outstanding, text.base) : text.base);
     if (event.do === "deliver") this.#tell(line, "applied", event, event.applied, before);
     if (event.sent) {
-      line.sent = { revision: event.sent.revision - this.first };
-      this.#tell(line.sent, "operation", event, event.sent.operation, text.base);
+      text.sent = text.base;
+      line.sent = this.#message(event, event.sent, text.sent);
     }
+  }
+
+  #message(event, { revision, operation }, text) {
+    const message = { revision: revision - this.first };
+    this.#tell(message, "operation", event, operation, text);
+    return message;
   }
 
   /*
@@ -108,5 +116,3 @@ class Writer {
     this.told.set(name, { units, scalars: line[key] });
   }
 }
-
-module.exports = { Writer };

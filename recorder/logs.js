@@ -1,9 +1,9 @@
 /* Reads the recorder's lines, and sorts them into the logs of the participants. */
-"use strict";
-const { isUtf8 } = require("node:buffer");
+
+import { isUtf8 } from "node:buffer";
 
 /* An event as faults name it. */
-const nameOf = (event) => `${event.who}, event ${event.n}`;
+export const nameOf = (event) => `${event.who}, event ${event.n}`;
 
 const isOperation = (value) => Array.isArray(value) && value.every((x) => typeof x === "string" || Number.isInteger(x));
 
@@ -23,7 +23,7 @@ function holds(event) {
 }
 
 /* A file's text. No character of UTF-8 has an LF in it, so each line is looked at by itself for the fault. */
-function decode(bytes, file) {
+export function decode(bytes, file) {
   if (isUtf8(bytes)) return bytes.toString("utf8");
   const lines = bytes.toString("latin1").split("\n");
   const at = lines.findIndex((line) => !isUtf8(Buffer.from(line, "latin1")));
@@ -31,7 +31,7 @@ function decode(bytes, file) {
 }
 
 /* The events in a file's text. */
-function readEvents(text, file) {
+export function readEvents(text, file) {
   const events = [];
   text.split("\n").forEach((line, i) => {
     const here = `${file}, line ${i + 1}`;
@@ -66,7 +66,7 @@ function checkLog(who, log) {
  * { server, clients }: the server's log, and the clients' in the order in which they joined. The clients whose revision at
  * the opening is the server's are there from the beginning.
  */
-function readLogs(events) {
+export function readLogs(events) {
   const logs = new Map();
   for (const event of events) {
     if (!logs.has(event.who)) logs.set(event.who, []);
@@ -89,5 +89,3 @@ function checkOpening(opening, server) {
     throw new Error(`${nameOf(opening)} is at revision ${opening.revision}, before the server's log begins (${server.revision})`);
   if (opening.outstanding) throw new Error(`${nameOf(opening)}: an operation is outstanding already`);
 }
-
-module.exports = { decode, nameOf, readEvents, readLogs };

@@ -9,35 +9,15 @@
  * the logs do: standard error says at whose event, and so does the last line; also where the output cannot be written. Status 2
  * for words that are not understood, and for help.
  */
-"use strict";
-const fs = require("node:fs");
-const { parseArgs } = require("node:util");
-const { Writer } = require("./lines.js");
-const { decode, readEvents, readLogs } = require("./logs.js");
-const { oneOrder } = require("./order.js");
+
+import fs from "node:fs";
+import { parseArgs } from "node:util";
+import { decode, readEvents } from "./logs.js";
+import { merge } from "./merging.js";
 
 const USAGE = `usage: node recorder/merge.js [--schedule] LOG ..
 Prints the session of the recorder's logs, of the server and of the clients: its schedule, and behind a line '%%' what the
 participants had; with --schedule the schedule alone.`;
-
-/*
- * { schedule, lines, notes, fault } of the recorder's events. A fault is the last line of both: of the schedule a comment, of the
- * participants' lines one without a place, which differs from any line that is due.
- */
-function merge(events) {
-  const logs = readLogs(events);
-  const order = oneOrder(logs);
-  const writer = new Writer(logs);
-  order.events.every(({ event, client }) => writer.write(event, client));
-  const fault = writer.fault || order.fault;
-  const cut = fault ? [{ cut: fault }] : [];
-  return {
-    schedule: [...writer.schedule, ...cut.map((line) => `; cut: ${JSON.stringify(line.cut)}`)],
-    lines: [...writer.lines, ...cut].map((line) => JSON.stringify(line)),
-    notes: [...order.notes, ...writer.notes],
-    fault,
-  };
-}
 
 function main() {
   const options = { schedule: { type: "boolean" }, help: { type: "boolean", short: "h" } };
@@ -59,13 +39,9 @@ function fail(fault) {
   process.exitCode = /^ERR_PARSE_ARGS/.test(fault.code) ? 2 : 1;
 }
 
-module.exports = { merge };
-
-if (require.main === module) {
-  process.stdout.on("error", fail);
-  try {
-    main();
-  } catch (fault) {
-    fail(fault);
-  }
+process.stdout.on("error", fail);
+try {
+  main();
+} catch (fault) {
+  fail(fault);
 }

@@ -5,8 +5,8 @@
  * a client joins between those of the server's operations that its revision says: each participant goes through the same
  * states in all of them (README.md says why). Of the events that can come next, the one with the earliest time is taken.
  */
-"use strict";
-const { nameOf } = require("./logs.js");
+
+import { nameOf } from "./logs.js";
 
 const receives = (event) => event.do === "deliver" || event.do === "ack";
 const same = (a, b) => JSON.stringify(a) === JSON.stringify(b);
@@ -71,7 +71,7 @@ class Order {
     if (acknowledger) {
       const { client, name } = acknowledger;
       if (sender(client)) return client;
-      if (client.up) this.fault = `${nameOf(take)}: take of ${text(take.given)}; ${name} acknowledges it, and had sent ${text(client.up)}`;
+      if (client.up) this.#layChanged({ event: take, client }, `take of ${text(take.given)}; ${name} acknowledges it, and had sent ${text(client.up)}`);
       return null;
     }
     const senders = this.clients.filter(sender);
@@ -100,10 +100,16 @@ class Order {
     if (other) this.notes.push(`${nameOf(take)}: ${maker.who} and ${other.who} both sent ${text(take.given)}; taken as ${maker.who}'s`);
   }
 
+  /* What received a message that was changed on its way ends the schedule: its line has the message. Where the method threw, it has none. */
+  #layChanged({ event, client }, told) {
+    if (event.stopped === undefined) this.events.push({ event, client: client.number });
+    this.fault = `${nameOf(event)}: ${told}`;
+  }
+
   #lay({ event, client }) {
     if (event.do === "deliver" && !same(event.operation, this.appended[client.entries])) {
       const [theirs, ours] = [event.operation, this.appended[client.entries]].map((operation) => JSON.stringify(operation));
-      this.fault = `${nameOf(event)}: deliver of ${theirs}, and the server's operation ${this.first + client.entries} is ${ours}${thrown(event)}`;
+      this.#layChanged({ event, client }, `deliver of ${theirs}, and the server's operation ${this.first + client.entries} is ${ours}${thrown(event)}`);
       return;
     }
     if (event.do === "take") this.#noteGuess(event, client);
@@ -180,10 +186,8 @@ class Order {
 }
 
 /* { events, notes, fault }: the events as { event, client number }, as far as they go, and what they do not go on with. */
-function oneOrder(logs) {
+export function oneOrder(logs) {
   const order = new Order(logs);
   order.run();
   return order;
 }
-
-module.exports = { oneOrder };

@@ -2,7 +2,7 @@
  * Records what the participants of a live ot.js session do: one line of JSON an event, each participant's in its own order.
  *
  *     page    recorder.recordClient(client, { who: "ann", document: () => editor.getValue(), write: (line) => .. })
- *     node    recorder.recordServer(server, { write: (line) => stream.write(line + "\n") })
+ *     node    recordServer(server, { write: (line) => stream.write(line + "\n") })
  *
  * Methods of that one object are wrapped: of ot.js' Client applyClient, applyServer, serverAck and the page's sendOperation
  * and applyOperation, of its Server receiveOperation. They do what they did. Lengths are UTF-16 units, as ot.js has them;
@@ -12,7 +12,7 @@
  * recordServer before the first operation comes, or while all is quiet.
  */
 "use strict";
-const recorder = (() => {
+globalThis.recorder = (() => {
   /* ot.js' WrappedOperation has the TextOperation inside. */
   const json = (operation) => (operation ? (operation.wrapped || operation).toJSON() : null);
 
@@ -95,4 +95,4 @@ const recorder = (() => {
 
   return { recordClient, recordServer };
 })();
-if (typeof module === "object") module.exports = recorder;
+if (typeof module === "object") module.exports = globalThis.recorder; // in a project of CommonJS

@@ -1,20 +1,19 @@
 /* Operations of ot.js, whose lengths are UTF-16 units, with lengths in Unicode scalar values. */
-"use strict";
 
 /* What a schedule has no words for. */
-class Unwritable extends Error {}
+export class Unwritable extends Error {}
 
 const isHigh = (unit) => unit >= 0xd800 && unit < 0xdc00;
 const isLow = (unit) => unit >= 0xdc00 && unit < 0xe000;
 const cutsPair = (text, place) => isHigh(text.charCodeAt(place - 1)) && isLow(text.charCodeAt(place));
 
 /* Whether each surrogate of a text stands in a pair. */
-function isWellFormed(text) {
+export function isWellFormed(text) {
   return !/[\ud800-\udbff](?![\udc00-\udfff])|(?<![\ud800-\udbff])[\udc00-\udfff]/.test(text);
 }
 
 /* An operation over a text, its lengths in scalars. */
-function toScalars(operation, text) {
+export function toScalars(operation, text) {
   let place = 0;
   const counted = operation.map((component) => {
     if (typeof component === "string") {
@@ -32,7 +31,7 @@ function toScalars(operation, text) {
 }
 
 /* The text that an operation makes of a text, lengths in UTF-16 units. */
-function apply(operation, text) {
+export function apply(operation, text) {
   let place = 0;
   let result = "";
   for (const component of operation) {
@@ -45,5 +44,3 @@ function apply(operation, text) {
   }
   return result;
 }
-
-module.exports = { Unwritable, isWellFormed, toScalars, apply };

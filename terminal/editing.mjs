@@ -4,7 +4,8 @@ import { appendFileSync, readFileSync } from "node:fs";
 import { nativeProgram } from "./program.mjs";
 import { Recording, RefusedText } from "./recording.mjs";
 
-const USAGE = `usage: otbench edit FILE C AT DELETED INSERTED
+/** What the command takes. */
+export const USAGE = `usage: otbench edit FILE C AT DELETED INSERTED
 Appends to the schedule FILE the edit with which client C deletes the text DELETED at place AT of its document, and inserts INSERTED there.
 AT counts characters (Unicode scalars) from 0. Either text may be empty: ''.
 `;

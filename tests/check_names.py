@@ -16,7 +16,7 @@ import sys
 
 TOP = pathlib.Path(__file__).resolve().parent.parent
 NAMED = ["README.md", "docs/PROOFS.md", "docs/DEFINITIONS.md", "docs/DECISIONS.md"]
-FILE = re.compile(r"^[\w./-]+\.(?:antt|rt|py|js|c|h|ots|json|img|txt|md|html|edit|svg)$")
+FILE = re.compile(r"^[\w./-]+\.(?:antt|rt|py|js|mjs|c|h|ots|json|img|txt|md|html|edit|svg)$")
 BARE = re.compile(r"(?<![\w/`.])(?:proofs|specs)/\w+\.antt")
 WORD = re.compile(r"[A-Za-z_][A-Za-z0-9_'-]*")
 # What documents cite of other projects and of the toolchain.

@@ -6,22 +6,24 @@
  *
  * The page is dist/otbench.html, or that which OTBENCH_PAGE names.
  */
-"use strict";
-const fs = require("node:fs");
-const path = require("node:path");
-const { bugs } = require("../examples/port/bugs.js");
-const { drive, loadPort } = require("../examples/port/driver.js");
-const { openChromium } = require("./browser/chromium.js");
-const { User } = require("./browser/user.js");
+
+import fs from "node:fs";
+import path from "node:path";
+import { fileURLToPath } from "node:url";
+import { bugs } from "../examples/port/bugs.js";
+import { drive } from "../examples/port/drive.js";
+import { makePort } from "../oracle/otjs.js";
+import { openChromium } from "./browser/chromium.js";
+import { User } from "./browser/user.js";
 
 /** How many bytes a picture may have. */
 const MOST = 150_000;
 
-const example = (name) => fs.readFileSync(path.join(__dirname, `../examples/${name}.ots`), "utf8");
+const example = (name) => fs.readFileSync(new URL(`../examples/${name}.ots`, import.meta.url), "utf8");
 
 /* The schedule of an example, and what a port with a planted fault printed. */
 function withPort(name, bug) {
-  const port = loadPort();
+  const port = makePort();
   bugs[bug](port);
   return `${example(name)}%%\n${drive(example(name), port).join("\n")}\n`;
 }
@@ -69,7 +71,7 @@ async function take(folder) {
   }
 }
 
-take(process.argv[2] ?? path.join(__dirname, "../docs")).catch((fault) => {
+take(process.argv[2] ?? fileURLToPath(new URL("../docs", import.meta.url))).catch((fault) => {
   console.error(`screenshots: ${fault.message}`);
   process.exitCode = 1;
 });

@@ -1,16 +1,17 @@
 /* The corpus: what each session is, and that it finds what COVERAGE.md says. */
-"use strict";
-const assert = require("node:assert/strict");
-const { spawnSync } = require("node:child_process");
-const fs = require("node:fs");
-const path = require("node:path");
-const { test } = require("node:test");
-const { drive, loadPort } = require("../../oracle/scalars.js");
-const { TOGETHER, coverage, page, readCorpus } = require("../coverage.js");
-const { bugs } = require("../faults.js");
-const { comparable, faultyPort, firstDifference, stepsOf } = require("../lines.js");
 
-const beside = (name) => path.join(__dirname, "..", name);
+import assert from "node:assert/strict";
+import { spawnSync } from "node:child_process";
+import fs from "node:fs";
+import { test } from "node:test";
+import { fileURLToPath } from "node:url";
+import { makePort } from "../../oracle/otjs.js";
+import { drive } from "../../oracle/scalars.js";
+import { bugs } from "../faults.js";
+import { TOGETHER, coverage, page, readCorpus } from "../finders.js";
+import { comparable, faultyPort, firstDifference, stepsOf } from "../lines.js";
+
+const beside = (name) => fileURLToPath(new URL(`../${name}`, import.meta.url));
 
 test("the lines of a session in the form of steps", () => {
   assert.deepEqual(stepsOf('clients 2\npresent 1\nstart "x"\nedit 0 [1,"é\\u0001"]\ntake 0\nread 0\njoin 1\n').split("\n"), [
@@ -26,8 +27,29 @@ test("the lines of a session in the form of steps", () => {
 
 test("where a port parts from ot.js", () => {
   const session = comparable('clients 1\nedit 0 ["a"]\nedit 0 [1,"b"]\nedit 0 [1,"c",1]\n');
-  assert.equal(firstDifference(session, loadPort()), null);
+  assert.equal(firstDifference(session, makePort()), null);
   assert.equal(firstDifference(session, faultyPort(bugs["buffer-replaced"])), 3);
+});
+
+/* The first key of the lines in which a faulty port parts from ot.js, leaving one out. */
+function firstKey(text, fault, left) {
+  const [ours, theirs] = [makePort(), faultyPort(bugs[fault])].map((port) => drive(text, port).map((line) => JSON.parse(line)));
+  for (const [i, line] of theirs.entries()) {
+    const key = Object.keys(line).find((name) => name !== left && JSON.stringify(line[name]) !== JSON.stringify(ours[i][name]));
+    if (key) return `${line.do} ${line.client}: ${key}`;
+  }
+  return null;
+}
+
+test("a message that was changed on its way shows as such, and without the key in what a method made of it", () => {
+  const rows = [
+    ["message-changed-by-its-sender", '[1,"a",2]', '["b",2,-1]', "take 0", "take 0: appended"],
+    ["message-changed-by-a-receiver", '["a",2,-1]', '[1,"b",2]', "deliver 2", "deliver 2: applied"],
+  ];
+  for (const [fault, first, second, last, without] of rows) {
+    const text = `clients 3\nstart "xyz"\nedit 0 ${first}\nedit 1 ${second}\ntake 1\ndeliver 0\n${last}\n`;
+    assert.deepEqual([firstKey(text, fault), firstKey(text, fault, "message")], [`${last}: message`, without]);
+  }
 });
 
 test("a schedule in UTF-16 units", () => {
@@ -40,7 +62,7 @@ test("each session says what it tries, is never refused, is quiet, and ends with
   const corpus = readCorpus();
   assert.ok(corpus.length >= 60);
   for (const { name, text } of corpus) {
-    const lines = drive(text, loadPort()).map((line) => JSON.parse(line));
+    const lines = drive(text, makePort()).map((line) => JSON.parse(line));
     assert.match(text, /^; .*[.]\nclients /, name);
     assert.ok(lines.every((line) => line.stopped === undefined), name);
     assert.equal(lines.at(-1).end, "quiet", name);

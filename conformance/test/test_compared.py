@@ -28,6 +28,15 @@ class Documents(unittest.TestCase):
         for printed, lacks in rows:
             self.assertEqual(compared(printed).lacks(["document", "do"]), lacks, printed)
 
+    def test_of_messages(self):
+        printed = b'{"at":1,"message":["a"]}\n{"at":2,"message":null}\n{"at":3,"message":7}\n'
+        self.assertEqual(compared(printed).lacks(["message"]), ["message"])
+        both = Compared()
+        both.add(compared(b'{"at":2,"message":{"revision":0,"operation":["a"]}}\n'))
+        both.add(compared(b"{}\n"))
+        self.assertEqual((both.lacks(["message", "do"]), both.unknown, both.line()), ([], set(), "compared do 8 client 0 document 4"))
+        self.assertEqual(list(compared(b'{"at":2,"mesage":[]}\n').misspelt()), ['the key "mesage" is none of steps, and was not compared: is it message?'])
+
     def test_of_many_sessions(self):
         both = Compared()
         both.add(compared(b'{"at":1,"document":"a","why":1}\n{"at":3,"document":""}\n'))
@@ -44,6 +53,8 @@ class Kinds(unittest.TestCase):
             ("differs at 7: deliver 0: client 0 buffer\nfound 1\nrule AwaitingWithBuffer.applyServer\n", None, "AwaitingWithBuffer.applyServer: buffer"),
             ("differs at 1: edit 0: client 0 document\nplace 0\npoints U+0065 U+0301 U+0022 | U+00E9 U+0022\nrule Synchronized.applyClient\n", None, "Synchronized.applyClient: document"),
             ("differs at 7: ack 0: client 0 (Ann B.: x) sent revision\nrule AwaitingWithBuffer.serverAck\n", None, "AwaitingWithBuffer.serverAck: sent revision"),
+            ("differs at 2: take 0: server message operation\nfound 1\n", None, "take: message"),
+            ("differs at 7: deliver 0: client 0 message\nfound 1\n", None, "deliver: message"),
             ("differs at 12: read-server: server document\nfound 1\n", None, "read-server: document"),
             ("differs at 12: read 3: client 3 document\nfound 1\n", None, "read: document"),
             ("differs at 0: opening: start\nfound 1\n", None, "opening: start"),

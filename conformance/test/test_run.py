@@ -10,6 +10,7 @@ import unittest
 import xml.etree.ElementTree as xml
 
 from paths import JUDGE, KIT, PROGRAM, STUB, needs_node, needs_program
+from messages import TOLD, was_changed
 from options import cores
 from port import Driver, KeptDriver
 from report import visible
@@ -430,6 +431,41 @@ class Together(unittest.TestCase):
             file.flush()
             _, printed, _ = self.run_kit("--utf16", "--session", file.name, *SAMPLE, "--bug", "buffer-kept")
         self.assertRegex(printed, r"\n; client 0 is ann\n(.*\n)*clients 2\n(.*\n)*differs at \d+: deliver 0: client 0 \(ann\) buffer\n")
+
+    def check_is_blamed_on_the_way(self, bug, text, field, rule):
+        """A fault by which a message is changed on its way: what is said of its lines, and where the port does not print the message."""
+        printed = subprocess.run([*SAMPLE, "--bug", bug], input=text.encode(), capture_output=True, check=True).stdout
+        for lines, is_told in ((printed, True), (printed.replace(b'"message"', b'"massage"'), False)):
+            said = subprocess.run([PROGRAM, "conform"], input=text.encode() + b"%%\n" + lines, capture_output=True, check=False).stdout.decode()
+            self.assertEqual(was_changed(said, lines), is_told, said)
+            if is_told:
+                self.assertTrue(said.startswith(f"differs at 5: {field}\n"), said)
+            else:
+                self.assertIn(f"\nrule {rule}\n", said)
+
+    def test_a_message_that_was_changed_on_its_way(self):
+        text = 'clients 3\nstart "xyz"\nedit 0 {}\nedit 1 {}\ntake 1\ndeliver 0\n{}\n'
+        self.check_is_blamed_on_the_way("message-changed-by-its-sender", text.format('[1,"a",2]', '["b",2,-1]', "take 0"),
+                                        "take 0: server message", "Server.receiveOperation")
+        self.check_is_blamed_on_the_way("message-changed-by-a-receiver", text.format('["a",2,-1]', '[1,"b",2]', "deliver 2"),
+                                        "deliver 2: client 2 message", "Synchronized.applyServer")
+
+    def test_a_message_over_which_the_port_stops(self):
+        text = 'clients 3\nedit 0 ["a"]\nedit 1 ["b"]\ntake 1\ndeliver 0\n'
+        self.check_is_blamed_on_the_way("message-changed-by-its-sender", text + "take 0\n", "take 0: stopped", "Server.receiveOperation")
+        self.check_is_blamed_on_the_way("message-changed-by-a-receiver", text + "deliver 2\n", "deliver 2: stopped", "Synchronized.applyServer")
+
+    def test_a_message_that_was_changed_on_its_way_is_told(self):
+        session = KIT / "sessions" / "client-awaiting-confirm-deliver.ots"
+        status, printed, _ = self.run_kit("--utf16", "--session", session, "--reduce-seconds", "5", *SAMPLE, "--bug", "message-changed-by-its-sender")
+        self.assertEqual(status, 1)
+        self.assertTrue(printed.endswith(f"\n{TOLD}\n"), printed)
+
+    def test_messages_can_be_needed(self):
+        session = KIT / "sessions" / "transform-tie.ots"
+        self.assertEqual(self.run_kit("--session", session, "--need", "message", *SAMPLE)[0], 0)
+        status, _, said = self.run_kit("--session", session, "--need", "message", PROGRAM, "steps")
+        self.assertEqual((status, said), (1, "run: never compared: message\n"))
 
     def test_ot_js_conforms_with_real_surrogate_pairs(self):
         status, printed, said = self.run_kit("--utf16", "--keep-driver", "--sessions", "40", *SAMPLE, "--keep")

@@ -71,26 +71,30 @@ class Sessions(unittest.TestCase):
     def test_each_operation_goes_over_a_text_of_its_own(self):
         self.assertEqual(self.back(
             {"at": 2, "outstanding": [3, "𝒳"], "buffer": [3, "b", -2], "edit": [3, "b", -2], "applied": [3, "b", -2], "sent": {"revision": 0, "operation": [3]}},
-            {"at": 4, "appended": ["é", 3]},
-            {"at": 5, "outstanding": [4, "𝒳"], "applied": ["é", 4]},
-            {"at": 6, "appended": [4, "𝒳"]},
+            {"at": 4, "message": {"revision": 0, "operation": ["é", 3]}, "appended": ["é", 3]},
+            {"at": 5, "message": ["é", 3], "outstanding": [4, "𝒳"], "applied": ["é", 4]},
+            {"at": 6, "message": {"revision": 0, "operation": [3, "𝒳"]}, "appended": [4, "𝒳"]},
             {"at": 7, "outstanding": [4, "b", -2], "sent": {"revision": 2, "operation": [4, "b", -2]}},
+            {"at": 5, "message": {"revision": 0, "operation": [3, "𝒳"]}, "stopped": "no"},
         ), [
             {"at": 2, "outstanding": [2, "𝒳"], "buffer": [2, "b", -1], "edit": [2, "b", -1], "applied": [2, "b", -1], "sent": {"revision": 0, "operation": [2]}},
-            {"at": 4, "appended": ["é", 2]},
-            {"at": 5, "outstanding": [3, "𝒳"], "applied": ["é", 3]},
-            {"at": 6, "appended": [3, "𝒳"]},
+            {"at": 4, "message": {"revision": 0, "operation": ["é", 2]}, "appended": ["é", 2]},
+            {"at": 5, "message": ["é", 2], "outstanding": [3, "𝒳"], "applied": ["é", 3]},
+            {"at": 6, "message": {"revision": 0, "operation": [2, "𝒳"]}, "appended": [3, "𝒳"]},
             {"at": 7, "outstanding": [3, "b", -1], "sent": {"revision": 2, "operation": [3, "b", -1]}},
+            {"at": 5, "message": {"revision": 0, "operation": [2, "𝒳"]}, "stopped": "no"},
         ])
 
     def test_what_cannot_be_said_is_said_in_words(self):
         self.assertEqual(self.back(
             {"at": 1, "outstanding": [2, "x", 1], "sent": {"revision": 0, "operation": [9]}, "document": "a\ud83d"},
             {"at": 2, "buffer": [3, "\ude00", -2], "why": "\ude00"},
+            {"at": 5, "message": [2, "é", 1]},
         ), [
             {"at": 1, "outstanding": '[2, "x", 1] in UTF-16 units cuts a surrogate pair of "a😀"',
              "sent": {"revision": 0, "operation": '[9] in UTF-16 units passes the end of "a😀", which has 3'}, "document": '"a\\ud83d" has half of a surrogate pair'},
             {"at": 2, "buffer": '[3, "\\ude00", -2] inserts half of a surrogate pair', "why": '"\\ude00" has half of a surrogate pair'},
+            {"at": 5, "message": '[2, "\\u00e9", 1] in UTF-16 units cuts a surrogate pair of "a😀"'},
         ])
 
     def test_what_is_no_line_of_a_port_stays_as_it_is(self):

@@ -1,8 +1,7 @@
 /* Five faults that ports of ot.js have, each planted in ot.js itself, to see how they show. */
-"use strict";
 
 /* ot.js does not export the classes of its two waiting states: a client is led into them. */
-function waitingStates({ Client, TextOperation }) {
+export function waitingStates({ Client, TextOperation }) {
   const client = new Client(0);
   client.sendOperation = () => {};
   client.applyClient(new TextOperation().insert("a"));
@@ -11,7 +10,7 @@ function waitingStates({ Client, TextOperation }) {
   return { AwaitingConfirm, AwaitingWithBuffer: client.state.constructor };
 }
 
-const bugs = {
+export const bugs = {
   /* Where both operations insert at one place, the second one's text goes first. */
   tie({ TextOperation }) {
     const transform = TextOperation.transform;
@@ -58,5 +57,3 @@ const bugs = {
     };
   },
 };
-
-module.exports = { bugs, waitingStates };

@@ -8,8 +8,9 @@ import os from "node:os";
 import path from "node:path";
 import { test } from "node:test";
 import { fileURLToPath } from "node:url";
+import { makePort } from "../../oracle/otjs.js";
 import { bugs } from "./bugs.js";
-import { drive, loadPort } from "./driver.js";
+import { drive } from "./drive.js";
 
 const OWN = fileURLToPath(import.meta.url);
 const beside = (name) => path.join(path.dirname(OWN), name);
@@ -17,18 +18,39 @@ const example = (name) => fs.readFileSync(beside(`../${name}.ots`), "utf8");
 const values = (lines) => lines.map((line) => JSON.parse(line));
 
 test("the lines of a session", () => {
-  const lines = values(drive(example("weak-order"), loadPort()));
+  const lines = values(drive(example("weak-order"), makePort()));
   assert.deepEqual(lines[0], { at: 0, clients: 2, present: 2, start: "x" });
   const first = { revision: 0, state: "awaiting-confirm", outstanding: [1, "z"], buffer: null, document: "xz" };
   assert.deepEqual(lines[1], { at: 1, do: "edit", client: 0, edit: [1, "z"], ...first, sent: { revision: 0, operation: [1, "z"] } });
-  assert.deepEqual(lines[6], { at: 6, do: "take", client: 0, revision: 2, appended: [2, "z"], document: "cxz" });
+  const taken = { revision: 0, operation: [1, "z"] };
+  assert.deepEqual(lines[6], { at: 6, do: "take", client: 0, message: taken, revision: 2, appended: [2, "z"], document: "cxz" });
   const seventh = { revision: 1, state: "awaiting-with-buffer", outstanding: [2, "z"], buffer: ["a", 1, -1, 1], document: "acz" };
-  assert.deepEqual(lines[7], { at: 7, do: "deliver", client: 0, ...seventh, applied: [1, "c", 1] });
+  assert.deepEqual(lines[7], { at: 7, do: "deliver", client: 0, message: ["c", 1], ...seventh, applied: [1, "c", 1] });
   assert.deepEqual(lines.slice(16), [{ at: 16, do: "read-server", document: "acz" }, { at: 16, end: "quiet" }]);
 });
 
+test("a message is printed as it came, whatever the port makes of it then", () => {
+  const port = makePort();
+  const receive = port.Server.prototype.receiveOperation;
+  port.Server.prototype.receiveOperation = function (revision, operation) {
+    return receive.call(this, revision, Object.assign(operation, new port.TextOperation().insert("?")));
+  };
+  const lines = values(drive('clients 2\nedit 0 ["a"]\ntake 0\ndeliver 1\nack 0\n', port));
+  assert.deepEqual([lines[2].message, lines[2].appended], [{ revision: 0, operation: ["a"] }, ["?"]]);
+  assert.deepEqual([lines[3].message, lines[4].message], [["?"], undefined]);
+});
+
+test("a message that the port throws over is printed", () => {
+  const port = makePort();
+  port.Server.prototype.receiveOperation = () => {
+    throw new Error("no");
+  };
+  const lines = values(drive('clients 1\nedit 0 ["a"]\ntake 0\n', port));
+  assert.deepEqual(lines[2], { at: 1, do: "take", client: 0, message: { revision: 0, operation: ["a"] }, stopped: "no" });
+});
+
 test("a late joiner, and documents where they are asked for", () => {
-  const lines = values(drive(example("late-join"), loadPort(), { short: true }));
+  const lines = values(drive(example("late-join"), makePort(), { short: true }));
   assert.deepEqual(lines[0], { at: 0, clients: 2, present: 1, start: "x" });
   const joined = { revision: 1, state: "synchronized", outstanding: null, buffer: null, document: "xa" };
   assert.deepEqual(lines[3], { at: 3, do: "join", client: 1, ...joined });
@@ -36,7 +58,7 @@ test("a late joiner, and documents where they are asked for", () => {
 });
 
 test("lengths count UTF-16 units, and texts come out as they went in", () => {
-  const lines = values(drive('clients 1\nstart "𝒳y"\nedit 0 [2,"😀",1]\nedit 0 [4,"é",1]\n', loadPort()));
+  const lines = values(drive('clients 1\nstart "𝒳y"\nedit 0 [2,"😀",1]\nedit 0 [4,"é",1]\n', makePort()));
   assert.deepEqual([lines[0].start, lines[1].edit, lines[1].document, lines[2].document], ["𝒳y", [2, "😀", 1], "𝒳😀y", "𝒳😀éy"]);
 });
 
@@ -50,7 +72,7 @@ test("where an instruction cannot be performed the port's own words are printed"
     ["clients 1\nedit 0 [1]\n", "The operation's base length must be equal to the string's length."],
   ];
   for (const [schedule, stopped] of rows) {
-    const lines = values(drive(schedule, loadPort()));
+    const lines = values(drive(schedule, makePort()));
     assert.equal(lines.at(-2).stopped, stopped);
     assert.equal(lines.at(-2).at, lines.at(-1).at);
   }
@@ -66,10 +88,10 @@ const SHOWN = {
 };
 
 test("each fault shows at its place, and not before", () => {
-  const ours = drive(example("weak-order"), loadPort());
+  const ours = drive(example("weak-order"), makePort());
   assert.deepEqual(Object.keys(SHOWN), Object.keys(bugs));
   for (const [name, [place, shown]] of Object.entries(SHOWN)) {
-    const port = loadPort();
+    const port = makePort();
     bugs[name](port);
     const lines = drive(example("weak-order"), port);
     assert.deepEqual(lines.slice(0, place), ours.slice(0, place), name);
@@ -80,19 +102,19 @@ test("each fault shows at its place, and not before", () => {
 
 test("a byte order mark in front of a schedule is named", () => {
   const message = "the schedule begins with a byte order mark: write it without";
-  assert.throws(() => drive(`\ufeff${example("weak-order")}`, loadPort()), { message });
+  assert.throws(() => drive(`\ufeff${example("weak-order")}`, makePort()), { message });
 });
 
 test("blanks about a line are dropped, those in a text are not, however many", () => {
   const blanks = " ".repeat(39990);
   const given = `clients 1\t\n  start "${blanks}" \t \nread 0${blanks}\n`;
-  assert.equal(JSON.parse(drive(given, loadPort())[0]).start, blanks);
+  assert.equal(JSON.parse(drive(given, makePort())[0]).start, blanks);
 });
 
 test("the command line", () => {
   const options = { input: example("weak-order"), encoding: "utf8" };
   const call = (...words) => spawnSync("node", [beside("driver.js"), ...words], options);
-  assert.equal(call("--short").stdout, drive(example("weak-order"), loadPort(), { short: true }).join("\n") + "\n");
+  assert.equal(call("--short").stdout, drive(example("weak-order"), makePort(), { short: true }).join("\n") + "\n");
   const refused = call("--bug", "none");
   assert.equal(refused.stderr, "driver: no such bug; there are tie, old-revision, buffer-kept, whole-log, order\n");
   assert.equal(refused.status, 1);
@@ -105,7 +127,7 @@ test("several sessions in one process, each ended by a line %%", async () => {
   const answered = async (count) => {
     while (printed.split("\n%%\n").length <= count) await new Promise((resolve) => child.stdout.once("data", resolve));
   };
-  const linesOf = (name) => `${drive(example(name), loadPort()).join("\n")}\n%%\n`;
+  const linesOf = (name) => `${drive(example(name), makePort()).join("\n")}\n%%\n`;
   child.stdin.write(`${example("weak-order")}%%\n`);
   await answered(1);
   assert.equal(printed, linesOf("weak-order"), "its lines come before the next session is given");

@@ -1,8 +1,7 @@
 /* Reads the text of a schedule that otbench accepts. */
-"use strict";
 
 /* { clients, present, start, instructions }, an instruction being { word, client, edit }. Lines from "%%" on are not the schedule's. */
-function readSchedule(text) {
+export function readSchedule(text) {
   if (text.startsWith("\ufeff")) throw new Error("the schedule begins with a byte order mark: write it without");
   const schedule = { clients: 0, present: null, start: "", instructions: [] };
   for (const raw of text.split("\n")) {
@@ -33,5 +32,3 @@ function readLine(schedule, line) {
     schedule.instructions.push({ word, client: Number(client), edit: JSON.parse(operation) });
   } else schedule.instructions.push({ word, client: Number(rest) });
 }
-
-module.exports = { readSchedule };

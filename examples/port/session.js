@@ -7,18 +7,22 @@
  * The port is an object with ot.js' TextOperation, Client and Server. Everything else that a session needs is here; to
  * drive a port in another language, write this file again in it.
  */
-"use strict";
 
-class Session {
+/* A value as it is now: the port may change the object later, and with it what was printed. */
+const asItIs = (value) => JSON.parse(JSON.stringify(value));
+
+export class Session {
   constructor(port, { clients, present, start }) {
     this.port = port;
     this.server = new port.Server(start);
     this.clients = Array(clients).fill(null);
+    this.message = undefined; // what the last instruction was handed: from a client, or to a client
     for (let number = 0; number < present; number++) this.#join(number);
   }
 
   /* Performs an instruction and gives the values that its line shows. It throws where the port does, or the session. */
   perform({ word, client: number, edit }) {
+    this.message = undefined;
     if (word === "read-server") return { do: word, document: this.server.document };
     if (word === "join") {
       if (this.clients[number]) throw new Error("has joined already");
@@ -63,6 +67,7 @@ class Session {
 
   #take(client) {
     if (!client.up) throw new Error("no message under way");
+    client.shown.message = this.message = asItIs(client.up);
     const appended = this.server.receiveOperation(client.up.revision, client.up.operation);
     client.up = null;
     for (const other of this.clients) if (other) other.down.push(other === client ? null : appended);
@@ -75,8 +80,12 @@ class Session {
     const operation = client.down[0];
     if ((operation === null) !== (word === "ack")) throw new Error("another message is at the head");
     client.down.shift();
-    if (word === "ack") client.serverAck();
-    else client.applyServer(operation);
+    if (word === "ack") {
+      client.serverAck();
+      return;
+    }
+    client.shown.message = this.message = asItIs(operation);
+    client.applyServer(operation);
   }
 }
 
@@ -90,5 +99,3 @@ function stateOf({ revision, state, document }) {
     document,
   };
 }
-
-module.exports = { Session };

@@ -5,10 +5,10 @@
 import assert from "node:assert/strict";
 import { test } from "node:test";
 import { compare, conforms } from "../../npm/testing.mjs";
-import { loadPort } from "../port/driver.js";
+import { makePort } from "../../oracle/otjs.js";
 import { bugs } from "../port/bugs.js";
 
-const { TextOperation, Client, Server } = loadPort();
+const { TextOperation, Client, Server } = makePort();
 
 test("the port is ot.js, over the corpus and 100 sessions made at random", async () => {
   const { compared } = await conforms({ TextOperation, Client, Server }, { sessions: 100, seed: 7 });
@@ -21,7 +21,7 @@ test("one session", async () => {
 });
 
 test("a port whose ties are broken the other way is found, and the session has a few instructions", async () => {
-  const port = loadPort();
+  const port = makePort();
   bugs.tie(port);
   await assert.rejects(conforms(port), /reduced to [3-6]\n[^]*that is what transform gives if the text of its second argument goes first/);
 });

@@ -43,9 +43,6 @@ const LEFT_OUT = new Set([
   "terminal/test",
 ]);
 
-/* Folders whose .js files are CommonJS, while the package is of modules. */
-const COMMONJS = ["conformance", "examples", "oracle", "recorder"];
-
 /* The viewer's page with a place for the engine, which `otbench view` fills. */
 export function viewerPage() {
   return page({ host: path.join(TOP, "engine/host.mjs"), module: "/* the module */" }, examplesOf(path.join(TOP, "examples")));
@@ -63,7 +60,7 @@ export function stage(folder, engine, release) {
   const to = (file) => path.join(folder, file);
   for (const held of HELD) fs.cpSync(path.join(TOP, held), to(held), { recursive: true, filter: isHeld });
   for (const name of ["package.json", "README.md"]) fs.copyFileSync(path.join(TOP, "npm", name), to(name));
-  for (const commonjs of COMMONJS) fs.writeFileSync(to(`${commonjs}/package.json`), '{ "type": "commonjs" }\n');
+  fs.copyFileSync(to("recorder/recorder.js"), to("recorder/recorder.cjs")); // for require
   fs.writeFileSync(to("viewer/viewer.html"), viewerPage());
   fs.mkdirSync(to("engine/out"));
   fs.writeFileSync(to("engine/out/otbench.wasm"), engine);

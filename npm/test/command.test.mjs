@@ -91,6 +91,7 @@ test("help on the output with status 0, --help as the program has it, and the ve
   assert.match(call(["help", "run"])[1], /^Run a schedule/);
   assert.deepEqual(call(["help", "bogus"]).slice(0, 2), [2, ""]);
   assert.match(call(["help", "view"])[1], /^usage: otbench view/);
+  assert.match(call(["help", "edit"])[1], /^usage: otbench edit/);
   for (const [words, said] of [
     [["--help"], ""],
     [["a", "b", "c"], "error: unexpected argument 'c' found\n"],
@@ -98,7 +99,7 @@ test("help on the output with status 0, --help as the program has it, and the ve
   ])
     assert.deepEqual(call(["view", ...words]), [2, "", said + call(["help", "view"])[1]]);
   const { version } = JSON.parse(fs.readFileSync(new URL("../package.json", import.meta.url)));
-  for (const word of ["--version", "-V"]) assert.deepEqual(call([word]), [2, "", `otbench ${version} (no release, not proved)\n`]);
+  for (const word of ["version", "--version", "-V", "-v"]) assert.deepEqual(call([word]), [0, `otbench ${version} (no release, not proved)\n`, ""]);
 });
 
 test("view: the viewer's page with the lines, as viewer/view writes it", { skip: NATIVE === null && "no native program" }, () => {

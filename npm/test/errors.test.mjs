@@ -86,6 +86,14 @@ test("explain says what a plan is, and of one that is refused where its first fa
   refused(told('{"clients":1,}'), "NotJson", {}, /^NotJson\n {2}line 1, column 14: a key is missing behind the last comma$/);
 });
 
+test("explain tells the run of an image, and of bytes that are none which field is wrong", () => {
+  const image = assemble('clients 1\n; a comment\nedit 0 ["a"]\n');
+  assert.equal(explain(image, { form: "image" }), explain('clients 1\nedit 0 ["a"]\n'));
+  const told = (bytes) => () => explain(bytes, { form: "image" });
+  refused(told(image.subarray(0, 5)), "Cut", { byte: 5 }, /^byte 5: Cut\n {2}clients: found 1 of 2 bytes$/);
+  refused(told(image.with(5, 65)), "BadNumber", { byte: 4 }, /^byte 4: BadNumber\n {2}clients: found 65; wanted a number from 1 to 64$/);
+});
+
 test("a schedule with a line %% is refused by conform as by run, and takes no line of the port's", () => {
   refused(() => conform("clients 1\n \t%% \r\nread 0\n", []), "UnknownWord", { line: 2 });
   refused(() => conform("bogus\n%%\n", []), "NoClients", { line: 1 });
@@ -98,6 +106,15 @@ test("options that are refused, by the program's words", () => {
   refused(() => generate({ instruction: 3 }), "Usage", {}, /^unexpected argument '--instruction' found/);
   refused(() => generate({ start: "a\0b" }), "Usage");
   refused(() => serve(["generate", "\ud800"]), "Usage");
+});
+
+test("options that a function does not have", () => {
+  refused(() => run("clients 1\n", { imgae: true }), "Usage", {}, /^run has no option imgae; its options: image, signal$/);
+  refused(() => conform("clients 1\n", "", { all: true }), "Usage", {}, /^conform has no option all; /);
+  refused(() => judge({}, { form: "trace" }), "Usage", {}, /^judge has no option form; its options: signal$/);
+  refused(() => explain({ replicas: 1 }, { form: "traec" }), "Usage", {}, /^unexpected argument '--traec' found\n\n {2}tip: a similar argument exists: '--trace'/);
+  refused(() => generate(5), "Usage", {}, /^generate takes its options as an object, /);
+  assert.deepEqual(["clients 1\n"].map(run), [run("clients 1\n", { image: false, signal: undefined })]);
 });
 
 test("what is no text and no bytes is a TypeError", () => {

@@ -1,4 +1,4 @@
-// What the command says on a terminal below an answer of status 1; in a pipe it says nothing more.
+// What the command says on a terminal below an answer of status 1 or 2; in a pipe it says nothing more.
 
 import assert from "node:assert/strict";
 import { spawnSync } from "node:child_process";
@@ -7,7 +7,9 @@ import path from "node:path";
 import { test } from "node:test";
 import { fileURLToPath } from "node:url";
 import { hintsOf } from "../hints.mjs";
+import { kindOf } from "../kinds.mjs";
 import { serve } from "../otbench.mjs";
+import { meant, similarTo } from "../usage.mjs";
 import { example, temporaryFolder, TOP } from "./files.mjs";
 
 const COMMAND = fileURLToPath(new URL("../cli.mjs", import.meta.url));
@@ -37,8 +39,10 @@ test("of a refused instruction its line, and how to ask explain", () => {
     assert.deepEqual(hints(word, [], ["a.ots"], TWICE), [line, "what happened, in words: otbench explain a.ots"]);
     assert.deepEqual(hints(word, [], [], TWICE), [line, "what happened, in words: give the schedule to otbench explain"]);
   }
-  assert.deepEqual(hints("asm", [], ["a.ots"], "clients\n"), ["what happened, in words: otbench explain a.ots"]);
+  assert.deepEqual(hints("asm", [], ["a.ots"], "clients\n"), ["where the fault is, in words: otbench explain a.ots"]);
   assert.deepEqual(hints("run", [], ["a.ots"], "clients\n"), ["what happened, in words: otbench explain a.ots"]);
+  assert.deepEqual(hints("conform", [], ["a.ots", "b"], "clients\n%%\n"), ["where the fault is, in words: otbench explain a.ots"]);
+  assert.deepEqual(hints("explain", [], ["a.ots"], "clients\n"), []);
 });
 
 test("of a difference the line that led to its place, or the one that ot.js refuses", () => {
@@ -50,6 +54,7 @@ test("of a difference the line that led to its place, or the one that ot.js refu
 test("of lines that are none of a port what may be wrong", () => {
   const [, none] = ofLines("");
   assert.match(none, /^the port has no line there; /);
+  assert.equal(ofLines('{"at":1}\n')[1], "the port's lines end there");
   for (const line of ["hello", "{'at': 1}", '{"do":"edit"}', '{"at":"1"}', '[{"at":1}]', "\ufeff{\"at\":1}"]) assert.match(ofLines(`${line}\n`)[1], /^each line of a port is one JSON object /, line);
   for (const line of ['{"at":0,"do":"edit"}', '{"at":2}']) assert.match(ofLines(`${line}\n`)[1], /^at counts performed instructions, /, line);
   const all = '{"at":1}\n{"at":2}\n{"at":2,"stopped":"x"}\n';
@@ -57,38 +62,95 @@ test("of lines that are none of a port what may be wrong", () => {
   assert.deepEqual(ofLines(all), ["no line has a value that is counted: docs/FORMATS.md, What a port prints", THERE]);
 });
 
-test("of an input that is something else what is awaited", () => {
-  assert.deepEqual(hints("conform", [], ["b", "a.ots"], `{"at":1}\n%%\n${TWICE}`), ["the first file is the schedule, and the second one has the lines of a port", "what ot.js does there, in words: otbench explain b"]);
-  assert.equal(hints("conform", [], ["a", "b"], `edti\n%%\n{}\n`).length, 1);
-  for (const [word, flags] of [["dis", []], ["run", ["--image"]]]) {
-    assert.match(hints(word, flags, ["a.ots"], TWICE)[0], /^an image begins with OTS1 or OTS2; /);
-    assert.equal(hints(word, flags, ["a.img"], "OTS2").length, 1);
-  }
+const IMAGE = fs.readFileSync(`${TOP}examples/late-join.img`);
+const PLAN = '{"typing":[[{"at":0,"insert":"a"}]],\n"clients":1,"workers":2}';
+const KINDS = {
+  image: [IMAGE, "this is an image, which run --image and dis read; in words: otbench explain --image a"],
+  schedule: [` \r\n;clients\r\n\tclients\t1\n`, "this is a schedule's text, which run, check and asm read; in words: otbench explain a"],
+  trace: ['{"events": [],"replicas":1}', "this is a trace, which judge reads; in words: otbench explain --trace a"],
+  plan: [PLAN, "this is a plan, which threads reads; in words: otbench explain --plan a"],
+  lines: ['{"do":"edit","at":1,"document":"\\"typing\\":"}\n', "these are lines of a port, which conform reads behind the schedule, or in a second file"],
+};
+
+test("of an input that is something else what it is, and how to ask explain", () => {
+  for (const [kind, [input]] of Object.entries(KINDS)) assert.equal(kindOf(Buffer.from(input), null), kind);
+  for (const other of ["", "clients", "; clients 1\n", "edit 0\nclients 1\n", "{}", '[{"at":1}]', " OTS2", '{"a":"at:"}', "\ufeffclients 1\n"]) assert.equal(kindOf(Buffer.from(other), null), null, other);
+  const readers = [["run", [], "schedule"], ["explain", [], "schedule"], ["conform", [], "schedule"], ["debug", [], "schedule"], ["dis", [], "image"], ["run", ["--image"], "image"], ["judge", [], "trace"], ["explain", ["--trace"], "trace"], ["threads", [], "plan"], ["explain", ["--plan"], "plan"]];
+  for (const [word, flags, reads] of readers)
+    for (const [kind, [input, said]] of Object.entries(KINDS))
+      if (kind !== reads) assert.deepEqual(hints(word, flags, ["a"], input), [said], `${word} ${flags} of a ${kind}`);
+  assert.deepEqual(hints("run", [], ["-"], IMAGE), [KINDS.image[1].replace(/otbench explain.*/, "give the image to otbench explain --image")]);
+  assert.deepEqual(hints("judge", [], ["a"], '{"at":1,"replicas":0}'), ["where the fault is, in words: otbench explain --trace a"]); // what is awaited, with more keys
   assert.match(hints("debug", [], ["a.ots", "b"], `${TWICE}%%\n{"at":1}\n`)[0], /^the second file has commands: /);
   assert.deepEqual(hints("debug", [], [], `${TWICE}%%\nbogus\n`), []);
 });
 
-test("of images, traces and plans where their form stands", () => {
-  const [dis] = hints("dis", [], ["a.img"], "OTS2");
-  assert.match(dis, /docs\/FORMATS\.md, The image of a schedule$/);
-  assert.deepEqual(hints("run", ["--image"], ["a.img"], "OTS2"), ["what happened, in words: otbench dis a.img | otbench explain"]);
-  assert.deepEqual(hints("judge", [], [], "{}"), ["where the fault is, in words: give the trace to otbench explain --trace"]);
-  assert.deepEqual(hints("judge", [], ["a.json"], "{}"), ["where the fault is, in words: otbench explain --trace a.json"]);
-  assert.deepEqual(hints("judge", [], ["a.json"], example("reversed.json")), ["what each verdict says: docs/FORMATS.md, Traces"]);
-  const plan = (workers) => `{"clients":1,"workers":${workers},"typing":[[{"insert":"a"}]]}`;
-  assert.deepEqual(hints("threads", [], [], "{}"), ["where the fault is, in words: give the plan to otbench explain --plan"]);
-  assert.equal(hints("threads", [], ["a.json"], plan(9)).at(-1), "where the fault is, in words: otbench explain --plan a.json");
-  assert.match(hints("threads", [], [], plan(2))[0], /^this engine has one thread/);
-  assert.equal(hints("threads", [], [], "x").length, 1);
+test("of images, traces and plans how to ask explain", () => {
+  const fault = "where the fault is, in words: ";
+  assert.deepEqual(hints("dis", [], ["a.img"], "OTS2"), [`${fault}otbench explain --image a.img`]);
+  assert.deepEqual(hints("dis", [], [], "OTS2"), [`${fault}give the image to otbench explain --image`]);
+  assert.deepEqual(hints("run", ["--image"], ["a.img"], "OTS2"), ["what happened, in words: otbench explain --image a.img"]);
+  assert.deepEqual(hints("judge", [], [], "{}"), [`${fault}give the trace to otbench explain --trace`]);
+  assert.deepEqual(hints("judge", [], ["a.json"], "{}"), [`${fault}otbench explain --trace a.json`]);
+  assert.deepEqual(hints("judge", [], ["a.json"], example("reversed.json")), ["what the verdict says, in words: otbench explain --trace a.json"]);
+  assert.deepEqual(hints("threads", [], [], "{}"), [`${fault}give the plan to otbench explain --plan`]);
+  assert.deepEqual(hints("threads", [], ["a.json"], PLAN.replace('"workers":2', '"workers":9')), [`${fault}otbench explain --plan a.json`]);
+  assert.deepEqual(hints("threads", [], ["a.json"], PLAN), ['this engine has one thread: it carries out plans with "workers":1']);
+});
+
+test("of words that are refused what may be meant", () => {
+  fs.writeFileSync(path.join(folder, "an.img"), IMAGE);
+  const at = (name) => path.join(folder, name);
+  const subcommands = "the subcommands are run, check, debug, asm, dis, judge, steps, explain, conform, threads, complete, generate, view, edit, version, help";
+  const rows = [
+    [["generate", "5"], "a number stands behind its option: otbench generate --instructions 5"],
+    [["generate", "--open", "-n", "5"], "a number stands behind its option: otbench generate --instructions 5"],
+    [["generate", "--seed", "7", "new.ots"], "generate reads no file; to write one: otbench generate > new.ots"],
+    [["generate", "--seed", "-1"], "--seed takes one to nine digits, without a sign"],
+    [["generate", "--clients", "-1"], "--clients takes 1 to 64, without a sign"],
+    [["generate", "--clients", "3", "--present", "-1"], "--present takes 0 to the number of clients, without a sign"],
+    [["generate", "--instructions", "-1"], "--instructions takes 0 to 100000, without a sign"],
+    [["generate", "--start", "-x"], "a text that begins with '-' stands behind '=': --start=-x"],
+    [["generate", "--seed"]],
+    [["generate", "--bogus"]],
+    [["generate", "5", "--help"]],
+    [["check", "--image", at("an.img")], "--image is an option of run and explain; dis prints an image's text"],
+    [["run", "--trace", "--documents"], "--documents is an option of steps"],
+    [["dis", "--image", at("an.img")], "dis needs no --image"],
+    [["judge", "--trace"], "judge needs no --trace"],
+    [["threads", "--plan"], "threads needs no --plan"],
+    [["threads", "--trace"], "--trace is an option of explain"],
+    [["run", "--image", "--imgae"]],
+    [["check", "--json"], "the options of check are --all --help"],
+    [["asm", "-o"], "the options of asm are --help"],
+    [["run", "a", "b"]],
+    [["run", "--image=a"]],
+    [["check", "--image=a"], "--image is an option of run and explain; dis prints an image's text"],
+    [["runn"]],
+    [["nosuch"], subcommands],
+    [["--nosuch"]],
+    [[]],
+    [[at("an.img")], `a command stands in front of a file: otbench run --image ${at("an.img")}`],
+    [[at("twice.ots"), "run"], `a command stands in front of a file: otbench run ${at("twice.ots")}`],
+  ];
+  for (const [words, said] of rows) {
+    assert.equal(serve(words, "").status, 2, words.join(" "));
+    assert.deepEqual(meant(words, serve), said ? [said] : [], words.join(" "));
+  }
+  assert.equal(similarTo("runn", serve), "a similar subcommand exists: 'run'");
+  assert.equal(similarTo("nosuch", serve), subcommands);
 });
 
 test("./otbench says the same", () => {
-  const wrapper = fs.readFileSync(`${TOP}otbench`, "utf8");
-  const lines = ["", "hello\n", '{"at":0,"do":"edit"}\n', '{"at":1}\n{"at":2}\n{"at":2,"stopped":"x"}\n', '{"at":1}\n{"at":2}\n{"at":2,"stopped":"x"}\n{"at":3}\n'];
-  const others = [...hints("dis", [], [], TWICE), hints("conform", [], ["b", "a.ots"], "{}")[0]];
-  const shared = [...lines.flatMap(ofLines), ...others].filter((hint) => !hint.startsWith("place ") && hint !== THERE);
-  assert.equal(shared.length, 8);
-  for (const hint of [...shared, ...hints("judge", [], [], example("reversed.json")), ...hints("dis", [], [], "")]) assert.ok(wrapper.includes(`"${hint}"`), hint);
+  const wrapper = fs.readFileSync(`${TOP}scripts/hints`, "utf8");
+  const lines = ["", '{"at":1}\n', "hello\n", '{"at":0,"do":"edit"}\n', '{"at":1}\n{"at":2}\n{"at":2,"stopped":"x"}\n', '{"at":1}\n{"at":2}\n{"at":2,"stopped":"x"}\n{"at":3}\n'];
+  const ofPorts = lines.flatMap(ofLines).filter((hint) => !hint.startsWith("place ") && hint !== THERE);
+  assert.equal(ofPorts.length, 6);
+  const kinds = Object.values(KINDS).map(([, said]) => said.split("; in words")[0]);
+  const told = ["what happened", "where the fault is", "what the verdict says", "what ot.js does there"];
+  for (const hint of [...ofPorts, ...kinds, ...told]) assert.ok(wrapper.includes(`"${hint}"`), hint);
+  const owners = ["run and explain", "explain", "steps", "check", "conform", "generate"];
+  for (const owner of owners) assert.match(wrapper, new RegExp(`owners="?${owner}"? (?:;;|further="; dis prints an image's text")`), owner);
 });
 
 /* What a terminal shows of the command, where nothing is typed but the key that ends the input. */
@@ -99,7 +161,7 @@ function shown(...words) {
 }
 
 test("what is awaited is said", { skip: !hasPty && "no pty of Python's" }, () => {
-  const rows = [[["run"], "SCHEDULE"], [["run", "--image"], "IMAGE"], [["explain", "--trace"], "TRACE"], [["judge"], "TRACE"], [["conform"], "SCHEDULE, a line '%%', LINES"], [["conform", "-", "lines.jsonl"], "SCHEDULE"]];
+  const rows = [[["run"], "SCHEDULE"], [["run", "--image"], "IMAGE"], [["explain", "--trace"], "TRACE"], [["explain", "--image"], "IMAGE"], [["judge"], "TRACE"], [["conform"], "SCHEDULE, a line '%%', LINES"], [["conform", "-", "lines.jsonl"], "SCHEDULE"]];
   for (const [words, awaited] of rows) assert.ok(shown(...words).includes(`otbench: reading ${awaited} from the terminal; Ctrl-D ends it\n`), words.join(" "));
   assert.doesNotMatch(shown("run", "twice.ots"), /reading/);
 });
@@ -108,6 +170,10 @@ test("on a terminal alone", { skip: !hasPty && "no pty of Python's" }, () => {
   assert.match(shown("run", "twice.ots"), /^stopped at 2: LinkEmpty\n[^]*\notbench: instruction 2 is line 5: take 0\notbench: what happened, in words: otbench explain twice\.ots\n$/);
   assert.match(shown("conform", "twice.ots", "lines.jsonl"), /^differs at 1: edit 0: client 0 document\n[^]*\notbench: place 1 is behind line 3, instruction 0: edit 0\notbench: what ot\.js does there/);
   assert.match(shown("twice.ots"), /^error: unrecognized subcommand 'twice\.ots'\n[^]*\notbench: a command stands in front of a file: otbench run twice\.ots\n$/);
+  assert.match(shown("generate", "5"), /^error: unexpected argument '5' found\n[^]*\notbench: a number stands behind its option: otbench generate --instructions 5\n$/);
+  assert.match(shown("check", "--image", "twice.ots"), /^error: unexpected argument '--image' found\n[^]*\notbench: --image is an option of run and explain; /);
+  assert.match(shown("run", "--imgae", "nosuch"), /^error: unexpected argument '--imgae' found\n\n {2}tip: a similar argument exists: '--image'\n/);
+  assert.match(shown("help", "runn"), /^error: unrecognized subcommand 'runn'\n[^]*\notbench: a similar subcommand exists: 'run'\n$/);
   for (const words of [["nosuch"], ["a".repeat(5000)]]) assert.doesNotMatch(shown(...words), /in front of a file/);
   const { stdout, stderr } = spawnSync(process.execPath, [COMMAND, "run", "twice.ots"], { encoding: "utf8", cwd: folder });
   assert.match(stdout, /^stopped at 2: LinkEmpty\n/);

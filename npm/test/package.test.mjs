@@ -69,15 +69,15 @@ test("recorded logs become a schedule that runs, and a page", () => {
   fs.writeFileSync(
     path.join(project, "record.mjs"),
     `import { appendFileSync } from "node:fs";
-     import recorder from "otbench/recorder";
-     import { loadPort } from "./node_modules/otbench/examples/port/driver.js";
-     const { Client, Server, TextOperation } = loadPort();
+     import { recordClient, recordServer } from "otbench/recorder";
+     import { makePort } from "./node_modules/otbench/oracle/otjs.js";
+     const { Client, Server, TextOperation } = makePort();
      const [client, server] = [new Client(0), new Server("")];
      let [text, message] = [""];
      client.sendOperation = (revision, operation) => (message = [revision, operation]);
      client.applyOperation = (operation) => (text = operation.apply(text));
-     recorder.recordClient(client, { who: "ann", document: () => text, write: (line) => appendFileSync("ann.log", line + "\\n") });
-     recorder.recordServer(server, { write: (line) => appendFileSync("server.log", line + "\\n") });
+     recordClient(client, { who: "ann", document: () => text, write: (line) => appendFileSync("ann.log", line + "\\n") });
+     recordServer(server, { write: (line) => appendFileSync("server.log", line + "\\n") });
      const edit = new TextOperation().insert("a");
      text = edit.apply(text);
      client.applyClient(edit);
@@ -92,14 +92,18 @@ test("recorded logs become a schedule that runs, and a page", () => {
   assert.equal(stdout, 'client 0 rev 1 synchronized "a"\nserver rev 1 "a"\nquiet\nconforms\n2\n', stderr);
 });
 
+test("the recorder, by require", () => {
+  const { stdout, stderr } = run(process.execPath, "--input-type=commonjs", "-e", 'console.log(Object.keys(require("otbench/recorder")).join())');
+  assert.equal(stdout, "recordClient,recordServer\n", stderr);
+});
+
 test("a port in the test suite of its project, and the example of it", () => {
-  fs.writeFileSync(path.join(project, "port.cjs"), 'module.exports = require("./node_modules/otbench/examples/port/driver.js").loadPort();\n');
+  fs.writeFileSync(path.join(project, "port.mjs"), 'import { makePort } from "./node_modules/otbench/oracle/otjs.js";\nexport const { TextOperation, Client, Server } = makePort();\n');
   fs.writeFileSync(
     path.join(project, "port.test.js"),
     `import { test } from "node:test";
      import { conforms } from "otbench/testing";
-     import port from "./port.cjs";
-     const { TextOperation, Client, Server } = port;
+     import { TextOperation, Client, Server } from "./port.mjs";
      test("the port is ot.js", () => conforms({ TextOperation, Client, Server }, { sessions: 5 }));
      test("this one is not", () => conforms({ TextOperation, Client: class extends Client { serverAck() {} }, Server }));\n`,
   );
@@ -123,5 +127,5 @@ test("the functions, the worker, the types and the engine by their names", () =>
 });
 
 test("the version", () => {
-  assert.deepEqual(run("npx", "otbench", "--version").stderr, "otbench 0.1.0 (commit 0123456789abcdef, not proved)\n");
+  assert.deepEqual(run("npx", "otbench", "--version").stdout, "otbench 0.1.0 (commit 0123456789abcdef, not proved)\n");
 });

@@ -2,14 +2,14 @@
 
 import assert from "node:assert/strict";
 import { test } from "node:test";
-import { loadPort } from "../../examples/port/driver.js";
+import { makePort } from "../../oracle/otjs.js";
 import { bugs } from "../../conformance/faults.js";
 import { OtbenchError, run, steps } from "../otbench.mjs";
 import { compare, conforms, corpus, drive, random } from "../testing.mjs";
 
 /** ot.js with a fault planted in it. */
 function faulty(name) {
-  const port = loadPort();
+  const port = makePort();
   bugs[name](port);
   return port;
 }
@@ -21,7 +21,7 @@ const failing = (subject, options) =>
   );
 
 test("a port that is ot.js conforms, and what was compared is counted", async () => {
-  const { sessions, compared } = await conforms(loadPort(), { sessions: 10 });
+  const { sessions, compared } = await conforms(makePort(), { sessions: 10 });
   assert.equal(sessions, [...corpus()].length + 10);
   assert.equal(compared.start, sessions);
   assert.ok(Object.values(compared).every((count) => count >= sessions), JSON.stringify(compared));
@@ -91,14 +91,14 @@ test("a driver by which nothing can be compared does not conform", async () => {
 test("no port, no such option", async () => {
   await assert.rejects(conforms({ TextOperation() {}, Client() {} }), { name: "TypeError", message: /Server is not there$/ });
   await assert.rejects(conforms(undefined), TypeError);
-  await assert.rejects(conforms(loadPort(), { corpus: false, session: 5 }), (error) => error instanceof OtbenchError && error.kind === "Usage");
+  await assert.rejects(conforms(makePort(), { corpus: false, session: 5 }), (error) => error instanceof OtbenchError && error.kind === "Usage");
 });
 
 const PAIRS = 'clients 2\nstart "😀x"\nedit 0 [1,"é",1]\nedit 1 [-1,"𝒳",1]\ntake 0\ntake 1\nack 0\ndeliver 1\ndeliver 0\nack 1\nread 0\n';
 
 test("a port that counts UTF-16 units sees pairs, and conforms", async () => {
   const seen = [];
-  const watched = loadPort();
+  const watched = makePort();
   const { receiveOperation } = watched.Server.prototype;
   watched.Server.prototype.receiveOperation = function (revision, operation) {
     seen.push(operation.toJSON());
@@ -106,12 +106,14 @@ test("a port that counts UTF-16 units sees pairs, and conforms", async () => {
   };
   assert.equal((await compare(watched, PAIRS)).verdict, "conforms");
   assert.deepEqual(seen, [[2, "é", 1], ["𝒳", -2, 1]]);
-  const lines = await drive(loadPort(), PAIRS);
+  const lines = await drive(makePort(), PAIRS);
   assert.deepEqual(lines.find((line) => line.appended).appended, [1, "é", 1]);
+  const messages = [{ revision: 0, operation: [1, "é", 1] }, { revision: 0, operation: ["𝒳", -1, 1] }, [1, "é", 1], ["𝒳", -1, 2]];
+  assert.deepEqual(lines.flatMap(({ message }) => message ?? []), messages.flat());
 });
 
 test("a driver that counts UTF-16 units may give operations as they are", async () => {
-  const { TextOperation } = loadPort();
+  const { TextOperation } = makePort();
   const edit = new TextOperation().retain(2).insert("é").retain(1);
   const answer = await compare(() => [{ at: 0 }, { at: 1, edit, sent: { revision: 0, operation: edit } }], PAIRS, { utf16: true });
   assert.match(answer.field, /^line$/); // only that the second edit has no line
@@ -119,7 +121,7 @@ test("a driver that counts UTF-16 units may give operations as they are", async 
 });
 
 test("a port that counts scalars and is said to count units, and the other way", async () => {
-  assert.match((await compare(loadPort(), PAIRS, { utf16: false })).field, /stopped/);
+  assert.match((await compare(makePort(), PAIRS, { utf16: false })).field, /stopped/);
   const scalars = (schedule) => steps(schedule);
   assert.equal((await compare(scalars, PAIRS)).verdict, "conforms");
   assert.equal((await compare(scalars, PAIRS, { utf16: true })).conforms, false);

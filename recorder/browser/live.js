@@ -3,7 +3,11 @@
  * while; links keep their order. A fault in the address is planted: #adapter, where an editor deletes one character too
  * many, and #careless, where an edit is what two texts have not in common, unit by unit.
  */
-"use strict";
+
+import { makePort } from "../../oracle/otjs.js";
+
+const { CodeMirror, recorder } = window;
+const port = makePort();
 const lines = [];
 const write = (line) => lines.push(line);
 const wait = (milliseconds) => new Promise((done) => setTimeout(done, milliseconds));
@@ -136,3 +140,6 @@ async function settled() {
   while (underWay) await wait(10);
   return [...clients.map(({ editor }) => editor.get()), server.document];
 }
+
+/* What the test uses. */
+Object.assign(window, { lines, ann, ben, cleo, runSession, settled });

@@ -1,22 +1,49 @@
 /* A session of live editors in Chromium, recorded, merged and replayed. */
-"use strict";
-const assert = require("node:assert/strict");
-const path = require("node:path");
-const { after, before, test } = require("node:test");
-const { drive, loadPort } = require("../../oracle/scalars.js");
-const { openChromium, wait } = require("../../viewer/browser/chromium.js");
-const { otbench, pageOf } = require("../../viewer/browser/otbench.js");
-const { readEvents } = require("../logs.js");
-const { merge } = require("../merge.js");
+
+import assert from "node:assert/strict";
+import fs from "node:fs";
+import http from "node:http";
+import path from "node:path";
+import { after, before, test } from "node:test";
+import { fileURLToPath } from "node:url";
+import { makePort } from "../../oracle/otjs.js";
+import { drive } from "../../oracle/scalars.js";
+import { openChromium, wait } from "../../viewer/browser/chromium.js";
+import { otbench, pageOf } from "../../viewer/browser/otbench.js";
+import { readEvents } from "../logs.js";
+import { merge } from "../merging.js";
+
+const TOP = fileURLToPath(new URL("../..", import.meta.url));
+const CODEMIRROR = "/usr/share/javascript/codemirror/";
+const TYPES = { ".html": "text/html", ".js": "text/javascript", ".css": "text/css" };
+
+/* Serves the repository and CodeMirror to this machine: a browser takes no module from a file. */
+const server = http.createServer((request, response) => {
+  const { pathname } = new URL(request.url, "http://localhost");
+  const file = pathname.startsWith(CODEMIRROR) ? pathname : path.join(TOP, pathname);
+  if (!fs.existsSync(file)) {
+    response.writeHead(404).end();
+    return;
+  }
+  response.setHeader("content-type", TYPES[path.extname(file)] ?? "text/plain");
+  response.end(fs.readFileSync(file));
+});
 
 let page;
-before(async () => (page = await openChromium()));
-after(() => page.close());
+before(async () => {
+  await new Promise((resolve) => server.listen(0, "127.0.0.1", resolve));
+  page = await openChromium();
+});
+after(async () => {
+  await page.close();
+  server.closeAllConnections();
+  server.close();
+});
 
 /* Runs the session, with real keys into ann's editor meanwhile, and gives the documents at its end and its log. */
 async function runLive(fault = "", last = "") {
   page.exceptions.length = 0;
-  await page.goto(`file://${path.join(__dirname, "live.html")}${fault}`);
+  await page.goto(`http://127.0.0.1:${server.address().port}/recorder/browser/live.html${fault}`);
   const going = page.run("runSession()");
   await page.run("ann.mirror.focus(); ann.mirror.setCursor(0, 3);");
   for (const character of "typed by hand") {
@@ -38,7 +65,7 @@ function endsOf(schedule) {
 
 /* The first of the participants' values that ot.js has not, where the schedule is performed. */
 function firstDifference({ schedule, lines }) {
-  const ours = drive(schedule.join("\n"), loadPort()).map((line) => JSON.parse(line));
+  const ours = drive(schedule.join("\n"), makePort()).map((line) => JSON.parse(line));
   for (const [i, line] of lines.map((text) => JSON.parse(text)).entries()) {
     const key = Object.keys(line).find((name) => JSON.stringify(line[name]) !== JSON.stringify(ours[i][name] ?? null));
     if (key) return [line.do, key];

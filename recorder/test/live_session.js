@@ -8,9 +8,9 @@
  * late: so many clients join on the way; cut: messages are left under way; wrapped: operations in ot.js' WrappedOperation;
  * middle: the recording begins at a quiet moment of a session, at revision 5; plant: a fault for the port.
  */
-"use strict";
-const { loadPort } = require("../../examples/port/driver.js");
-const { recordClient, recordServer } = require("../recorder.js");
+
+import { makePort } from "../../oracle/otjs.js";
+import { recordClient, recordServer } from "../recorder.mjs";
 
 /* ot.js' WrappedOperation, as its EditorClient hands it to Client. */
 class Wrapped {
@@ -31,7 +31,7 @@ class Wrapped {
 }
 
 /* Numbers below n, the same for the same seed. */
-function chance(seed) {
+export function chance(seed) {
   let state = (seed * 2654435761) >>> 0 || 1;
   return (n) => {
     state ^= state << 13;
@@ -48,9 +48,9 @@ const nameOf = (number) => `client ${"abcdefghij"[number]}`;
 const START = "a😀b";
 const INSERTIONS = ["x", "yz", "😀", "𝒳é", "ab"];
 
-class LiveSession {
+export class LiveSession {
   constructor({ seed = 1, clients = 3, edits = 40, late = 0, cut = false, wrapped = false, middle = false, plant } = {}) {
-    this.port = loadPort();
+    this.port = makePort();
     if (plant) plant(this.port);
     this.random = chance(seed);
     this.wrap = wrapped ? (operation) => new Wrapped(operation, { selection: null }) : (operation) => operation;
@@ -134,7 +134,7 @@ function inWholeLogs(lines) {
   return [...logs.values()].reverse().flat();
 }
 
-function liveSession(options) {
+export function liveSession(options) {
   const session = new LiveSession(options);
   let broke = null;
   try {
@@ -146,5 +146,3 @@ function liveSession(options) {
   session.clients.forEach((seat, number) => (documents[nameOf(number)] = seat.document));
   return { log: inWholeLogs(session.lines).join("\n") + "\n", documents, broke };
 }
-
-module.exports = { liveSession, LiveSession, chance };

@@ -1,17 +1,19 @@
 /* The merge: one schedule of the participants' logs, and what cannot be merged is named. */
-"use strict";
-const assert = require("node:assert/strict");
-const { spawnSync } = require("node:child_process");
-const fs = require("node:fs");
-const os = require("node:os");
-const path = require("node:path");
-const { test } = require("node:test");
-const { bugs } = require("../../examples/port/bugs.js");
-const { drive, loadPort } = require("../../oracle/scalars.js");
-const { decode, readEvents } = require("../logs.js");
-const { merge } = require("../merge.js");
-const { isWellFormed, toScalars } = require("../scalars.js");
-const { LiveSession, chance, liveSession } = require("./live_session.js");
+
+import assert from "node:assert/strict";
+import { spawnSync } from "node:child_process";
+import fs from "node:fs";
+import os from "node:os";
+import path from "node:path";
+import { test } from "node:test";
+import { fileURLToPath } from "node:url";
+import { bugs } from "../../examples/port/bugs.js";
+import { makePort } from "../../oracle/otjs.js";
+import { drive } from "../../oracle/scalars.js";
+import { decode, readEvents } from "../logs.js";
+import { merge } from "../merging.js";
+import { isWellFormed, toScalars } from "../scalars.js";
+import { LiveSession, chance, liveSession } from "./live_session.js";
 
 const mergeText = (text) => merge(readEvents(text, "log"));
 const eventsOf = (log) => readEvents(log, "log");
@@ -22,7 +24,7 @@ const cutOf = (schedule) => JSON.parse(schedule.at(-1).replace("; cut: ", ""));
 
 /* The first value that a participant logged and that ot.js has not, where the merged schedule is performed; null without. */
 function firstDifference({ schedule, lines }) {
-  const ours = drive(schedule.join("\n"), loadPort()).map((line) => JSON.parse(line));
+  const ours = drive(schedule.join("\n"), makePort()).map((line) => JSON.parse(line));
   for (const [i, text] of lines.entries()) {
     const line = JSON.parse(text);
     if (line.cut !== undefined) continue;
@@ -38,7 +40,7 @@ function firstDifference({ schedule, lines }) {
 function documentsAtEnd(schedule) {
   const names = schedule.filter((line) => line[0] === ";").map((line) => /^; client \d+ is (.*)$/.exec(line)[1]);
   const reads = [...names.map((_, client) => `read ${client}`), "read-server"];
-  const lines = drive([...schedule, ...reads].join("\n"), loadPort()).slice(-reads.length - 1, -1);
+  const lines = drive([...schedule, ...reads].join("\n"), makePort()).slice(-reads.length - 1, -1);
   return Object.fromEntries(lines.map((line, i) => [names[i] || "server", JSON.parse(line).document]));
 }
 
@@ -80,7 +82,7 @@ test("a session of two, as a schedule", () => {
   assert.deepEqual([notes, fault], [[], null]);
   const told = lines.map((line) => JSON.parse(line));
   assert.deepEqual(told[0], { at: 0, clients: 2, present: 1, start: "a😀" });
-  assert.deepEqual(told[2], { at: 2, do: "take", client: 0, revision: 1, appended: [2, "b"], document: "a😀b" });
+  assert.deepEqual(told[2], { at: 2, do: "take", client: 0, message: { revision: 0, operation: [2, "b"] }, revision: 1, appended: [2, "b"], document: "a😀b" });
   assert.deepEqual(told[3], { at: 3, do: "join", client: 1, revision: 1, state: "synchronized", document: "a😀b" });
   const state = { revision: 1, state: "awaiting-confirm", outstanding: [1, -1, 1], buffer: null, sent: { revision: 1, operation: [1, -1, 1] } };
   assert.deepEqual(told[5], { at: 5, do: "edit", client: 1, edit: [1, -1, 1], ...state, document: "ab" });
@@ -113,7 +115,7 @@ test("where the logs are cut the last line of the schedule and of the participan
   assert.equal(cutOf(merge([...acknowledged, thrown]).schedule), "ann, event 3: edit stopped: Error: two\nlines");
 });
 
-const program = process.env.OTBENCH || path.join(__dirname, "../../crates/otbench/out/otbench");
+const program = process.env.OTBENCH || fileURLToPath(new URL("../../crates/otbench/out/otbench", import.meta.url));
 
 test("otbench conform does not take a cut recording for a whole one", { skip: !fs.existsSync(program) }, () => {
   const conform = ({ schedule, lines }) => spawnSync(program, ["conform"], { input: [...schedule, "%%", ...lines, ""].join("\n"), encoding: "utf8" });
@@ -218,6 +220,27 @@ test("a message from elsewhere is named", () => {
   assert.match(mergeChanged(unknown), /^server, event 1: take of \[.*\] at revision 0, which no client of these logs sent: is a client's log missing, or cut\?$/);
   const changed = (events) => void (events.find((event) => event.do === "deliver").operation = [1]);
   assert.match(mergeChanged(changed), /^client [ab], event \d+: deliver of \[1\], and the server's operation \d+ is \[.*\]$/);
+});
+
+/* What the schedule's last event is, and the message of its line. */
+function lastOf({ schedule, lines }) {
+  const line = JSON.parse(lines.at(-2));
+  assert.equal(instructionsOf(schedule).at(-1), `${line.do} ${line.client}`);
+  return [line.do, line.message];
+}
+
+test("a message that was changed on its way ends the schedule, and its line has it as it came", () => {
+  const changed = { ...take, given: { revision: 0, operation: ["b"] }, appended: ["b"], document: "b" };
+  const ofServer = merge([...openings, changed, { who: "ann", ...edit }, acknowledged[5]]);
+  assert.deepEqual(lastOf(ofServer), ["take", { revision: 0, operation: ["b"] }]);
+  const events = eventsOf(liveSession({ seed: 4, clients: 2, edits: 12 }).log);
+  const delivered = events.find((event) => event.do === "deliver");
+  delivered.operation = ["?", ...delivered.operation];
+  const ofClient = merge(events);
+  assert.equal(lastOf(ofClient)[0], "deliver");
+  assert.equal(lastOf(ofClient)[1][0], "?");
+  assert.equal(firstDifference(ofServer), "take message");
+  assert.equal(firstDifference(ofClient), "deliver message");
 });
 
 test("two acknowledgements of one operation are named", () => {
@@ -349,7 +372,7 @@ test("bytes that are no UTF-8 are named by their line", () => {
   for (const [text, line] of rows) assert.throws(() => decode(text, "log"), { message: `log, line ${line} is no UTF-8` });
 });
 
-const merger = path.join(__dirname, "../merge.js");
+const merger = fileURLToPath(new URL("../merge.js", import.meta.url));
 const call = (...words) => spawnSync("node", [merger, ...words], { encoding: "utf8" });
 
 test("the command line", () => {

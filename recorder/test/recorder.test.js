@@ -1,12 +1,12 @@
 /* The recorder: what is logged, and that the wrapped methods do what they did. */
-"use strict";
-const assert = require("node:assert/strict");
-const { test } = require("node:test");
-const { loadPort } = require("../../examples/port/driver.js");
-const { recordClient, recordServer } = require("../recorder.js");
+
+import assert from "node:assert/strict";
+import { test } from "node:test";
+import { makePort } from "../../oracle/otjs.js";
+import { recordClient, recordServer } from "../recorder.mjs";
 
 function openSession(start = "x") {
-  const port = loadPort();
+  const port = makePort();
   const lines = [];
   const write = (line) => lines.push(line);
   const server = new port.Server(start);

@@ -40,6 +40,8 @@ class Words(unittest.TestCase):
             (["run", "no end"], "", (0, "proved one: run\nclients 2", "")),
             (["run", str(self.tree.room / "a.ots")], "", (0, "proved one: run\nclients 1\n", "")),
             (["explain", "--plan", "a.ots"], "", (0, "proved one: explain --plan\nclients 1\n", "")),
+            (["explain", "--image", "a.ots"], "", (0, "proved one: explain --image\nclients 1\n", "")),
+            (["explain", "a.ots", "--trace"], "", (0, "proved one: explain --trace\nclients 1\n", "")),
             (["steps", "a.ots"], "", (0, '{"end":"quiet"}\n', "")),
             (["conform", "a.ots", "port"], "", (0, 'proved one: conform\nclients 1\n%%\n{"at":0}\n', "")),
             (["conform", "no end", "port"], "", (0, 'proved one: conform\nclients 2\n%%\n{"at":0}\n', "")),
@@ -108,6 +110,18 @@ class Words(unittest.TestCase):
             (["help", "nosuch"], "", (2, "", "error: unrecognized subcommand 'nosuch'\n")),
         ])
 
+    @unittest.skipUnless(shutil.which("node"), "no node is there")
+    def test_help_on_edit(self):
+        (self.tree.top / "terminal").symlink_to(TOP / "terminal")
+        (self.tree.room / "tools/node").symlink_to(shutil.which("node"))
+        status, printed, faults = self.tree.run("help", "edit")
+        self.assertEqual((status, faults), (0, ""))
+        self.assertRegex(printed, r"^usage: otbench edit FILE C AT DELETED INSERTED\n")
+
+    def test_the_version(self):
+        self.table([([word], "", (0, "otbench 0.1.0 (proved)\n", "")) for word in ("version", "--version", "-V", "-v")])
+        self.table([(["version", "x"], "input", (0, "proved one: version x\ninput", "")), (["-v", "x"], "input", (0, "proved one: -v x\ninput", ""))])
+
 
 class Terminal(unittest.TestCase):
     """What is said where the streams are a terminal, over a proved program and over one that is not."""
@@ -150,20 +164,25 @@ class Terminal(unittest.TestCase):
     def test_where_to_ask(self):
         self.tree.has_proved()
         program = self.tree.top / "otbench"
-        self.tree.put("an.img", "OTS2\n")
-        happened, there = "otbench: what happened, in words: ", "otbench: what ot.js does there, in words: "
+        self.put_kinds()
+        happened, fault, there = (f"otbench: {what}, in words: " for what in ("what happened", "where the fault is", "what ot.js does there"))
         rows = [
             (["run", "a.ots"], f"{happened}{program} explain a.ots\n"),
             (["check", "a.ots"], f"{happened}{program} explain a.ots\n"),
-            (["run", "--image", "an.img"], f"{happened}{program} dis an.img | {program} explain\n"),
+            (["run", "--image", "an.img"], f"{happened}{program} explain --image an.img\n"),
+            (["run", "an.img", "--image"], f"{happened}{program} explain --image an.img\n"),
             (["conform", "a.ots"], f"{there}give the schedule to {program} explain\n"),
             (["conform", "a.ots", "a.ots"], f"{there}{program} explain a.ots\n"),
             (["explain", "a.ots"], ""),
-            (["judge", "a.ots"], "otbench: what each verdict says: docs/FORMATS.md, Traces\n"),
-            (["asm", "a.ots"], f"{happened}{program} explain a.ots\n"),
+            (["explain", "--image", "an.img"], ""),
+            (["explain", "--trace", "trace"], ""),
+            (["explain", "--plan", "plan"], ""),
+            (["judge", "trace"], f"otbench: what the verdict says, in words: {program} explain --trace trace\n"),
+            (["asm", "a.ots"], f"{fault}{program} explain a.ots\n"),
             (["complete", "a.ots"], f"{happened}{program} explain a.ots\n"),
-            (["threads", "a.ots"], f"otbench: where the fault is, in words: {program} explain --plan a.ots\n"),
-            (["dis", "an.img"], "otbench: what an image holds, and what each fault says: docs/FORMATS.md, The image of a schedule\n"),
+            (["threads", "plan"], f"{fault}{program} explain --plan plan\n"),
+            (["dis", "an.img"], f"{fault}{program} explain --image an.img\n"),
+            (["dis", "none"], f"{fault}{program} explain --image none\n"),
         ]
         for words, said in rows:
             with self.subTest(words=words):
@@ -175,9 +194,15 @@ class Terminal(unittest.TestCase):
         self.assertEqual(self.run_on_terminal("steps", "/dev/null")[1], f"otbench: line 1: NoClients\n{happened}{program} explain /dev/null\n")
         for status in (0, 2):
             self.assertNotIn("otbench:", self.run_on_terminal("run", "a.ots", FAKE_STATUS=str(status))[1])
-        where = "otbench: where the fault is, in words: "
-        self.assertEqual(self.run_on_terminal("judge", "a.ots", FAKE_FAULT="BadShape")[:2], (1, f"otbench: BadShape\n{where}{program} explain --trace a.ots\n"))
-        self.assertEqual(self.run_on_terminal("judge", terminal=(1, 2), FAKE_FAULT="NotJson")[:2], (1, f"otbench: NotJson\n{where}give the trace to {program} explain --trace\n"))
+        self.assertEqual(self.run_on_terminal("judge", "trace", FAKE_FAULT="BadShape")[:2], (1, f"otbench: BadShape\n{fault}{program} explain --trace trace\n"))
+        self.assertEqual(self.run_on_terminal("judge", terminal=(1, 2), FAKE_FAULT="NotJson")[:2], (1, f"otbench: NotJson\n{fault}give the trace to {program} explain --trace\n"))
+        self.assertEqual(self.said_on_terminal("dis", terminal=(1, 2), given="OTS2\n"), f"{fault}give the image to {program} explain --image\n")
+
+    def put_kinds(self):
+        """A file of each kind, and one that is none."""
+        kinds = {"an.img": b"OTS2\x00\x01\n", "trace": '{"replicas":1,"events":[]}\n', "plan": '{"typing":[],\n"workers":1}\n', "text": ' \n; a note\r\n clients\t1\n', "lines": '{"at":1}\n', "none": b"\x00OTS2\n"}
+        for name, content in kinds.items():
+            self.tree.put(name, content)
 
     def test_a_file_in_the_place_of_the_command(self):
         self.tree.has_proved()
@@ -192,6 +217,7 @@ class Terminal(unittest.TestCase):
         self.tree.has_proved()
         rows = {
             "differs at 1: edit 0: line\nfound nothing\not.js {}": "the port has no line there; its lines stand behind the schedule and a line '%%', or in a second file",
+            "differs at 12: edit 0: line\nfound nothing\not.js {}": "the port's lines end there",
             "differs at 1: edit 0: line\nfound \"x\"\not.js {}": "each line of a port is one JSON object that has at, a number: docs/FORMATS.md, What a port prints",
             "differs at 1: after the end: line\nfound {}\not.js nothing": "the port has more lines than the schedule has instructions",
             "differs at 1: end: at\nfound 2\not.js 1": "the port has more lines than the schedule has instructions",
@@ -242,12 +268,75 @@ class Terminal(unittest.TestCase):
 
     def test_an_input_that_is_something_else(self):
         self.tree.has_proved()
-        image = "otbench: an image begins with OTS1 or OTS2; the text of a schedule is for asm, and for run without --image\n"
-        order = "otbench: the first file is the schedule, and the second one has the lines of a port\n"
-        self.tree.put("an.img", b"OTS2\x00\x01\n")
-        self.tree.put("short", b"\x00\n")
-        for words, said in ((["dis", "a.ots"], image), (["run", "--image", "a.ots"], image), (["dis", "short"], image), (["dis", "an.img"], ""), (["run", "--image", "an.img"], ""), (["conform", "port", "a.ots"], order), (["conform", "a.ots", "port"], ""), (["run", "port"], "")):
-            self.assertEqual("".join(self.said_on_terminal(*words).splitlines(True)[:-1]), said, words)
+        self.put_kinds()
+        self.tree.put("other order", '{"at":1,"typing":[],"replicas":1}\n')
+        explain = f"{self.tree.top / 'otbench'} explain"
+        said = {
+            "an.img": f"this is an image, which run --image and dis read; in words: {explain} --image an.img",
+            "trace": f"this is a trace, which judge reads; in words: {explain} --trace trace",
+            "plan": f"this is a plan, which threads reads; in words: {explain} --plan plan",
+            "text": f"this is a schedule's text, which run, check and asm read; in words: {explain} text",
+            "lines": "these are lines of a port, which conform reads behind the schedule, or in a second file",
+        }
+        readers = {"steps": "text", "explain": "text", "dis": "an.img", "explain --image": "an.img", "explain --trace": "trace", "threads": "plan", "explain --plan": "plan"}
+        for command, own in readers.items():
+            for name, sentence in said.items():
+                with self.subTest(command=command, name=name):
+                    shown = self.said_on_terminal(*command.split(), name)
+                    if name == own: self.assertNotIn("this is", shown)
+                    else: self.assertEqual(shown, f"otbench: {sentence}\n")
+            self.assertNotIn("this is", self.said_on_terminal(*command.split(), "none"), command)
+        for name, sentence in said.items():
+            if name != "trace": self.assertEqual(self.said_on_terminal("judge", name, FAKE_FAULT="BadShape").splitlines()[-1], f"otbench: {sentence}", name)
+            self.assertIn("what the verdict says", self.said_on_terminal("judge", name))
+        for command, own in (("explain --trace", "trace"), ("explain --plan", "plan")):
+            self.assertEqual(self.said_on_terminal(*command.split(), "other order"), "", own)
+        self.assertEqual(self.said_on_terminal("run", "other order"), f"otbench: {said['lines']}\n")
+        self.assertEqual(self.said_on_terminal("run", terminal=(1, 2), given="OTS2\n"), f"otbench: {said['an.img']}\n".replace(f"{explain} --image an.img", f"give the image to {explain} --image"))
+        self.assertEqual(self.said_on_terminal("run", "an.img", terminal=(0, 1)), "")
+
+    def test_words_that_are_refused(self):
+        self.tree.has_proved()
+        self.put_kinds()
+        program = self.tree.top / "otbench"
+        rows = {
+            "generate 5": f"a number stands behind its option: {program} generate --instructions 5",
+            "generate --open -n 5": f"a number stands behind its option: {program} generate --instructions 5",
+            "generate --seed 7 new.ots": f"generate reads no file; to write one: {program} generate > new.ots",
+            "generate --clients 2 --seed -1": "--seed takes one to nine digits, without a sign",
+            "generate --start -x": "a text that begins with '-' stands behind '=': --start=-x",
+            "generate --seed=5": None,
+            "generate --seed": None,
+            "generate 5 --help": None,
+            "check --image an.img": "--image is an option of run and explain; dis prints an image's text",
+            "judge --trace trace": "judge needs no --trace",
+            "dis --image an.img": "dis needs no --image",
+            "threads --plan plan": "threads needs no --plan",
+            "threads --trace trace": "--trace is an option of explain",
+            "run --documents a.ots": "--documents is an option of steps",
+            "run --image an.img a.ots": None,
+            "explain --trace --plan trace": None,
+            "run --imgae an.img": None,
+            "run --image=an.img": None,
+            "check --all=1": None,
+            "run --all=1": "--all is an option of check",
+            "check --json": "the options of check are --all --help",
+            "asm -o a.ots": "the options of asm are --help",
+            "runn": None,
+            "nosuch": "the subcommands are run, generate, view, edit, version, help",
+            "help nosuch": "the subcommands are run, generate, view, edit, version, help",
+            "--nosuch": None,
+            "an.img": f"a command stands in front of a file: {program} run --image an.img",
+            "trace": f"a command stands in front of a file: {program} judge trace",
+            "plan": f"a command stands in front of a file: {program} threads plan",
+            "text run": f"a command stands in front of a file: {program} run text",
+        }
+        for words, said in rows.items():
+            with self.subTest(words=words):
+                status, shown, _ = self.run_on_terminal(*words.split(), terminal=(1, 2), FAKE_REFUSES="1")
+                self.assertEqual((status, [line for line in shown.splitlines() if line.startswith("otbench: ")]), (2, [f"otbench: {said}"] if said else []))
+        for words in ("generate 5", "help nosuch", "an.img"):
+            self.assertNotIn("otbench:", "".join(self.run_on_terminal(*words.split(), terminal=(0, 1), keys="\x04", FAKE_REFUSES="1")[1:]))
 
     def test_a_recording_that_is_cut(self):
         self.tree.has_proved()
@@ -266,7 +355,7 @@ class Terminal(unittest.TestCase):
         self.tree.has_proved()
         schedule = "a schedule's text"
         rows = {"run": schedule, "check": schedule, "explain": schedule, "steps": schedule, "asm": schedule, "view": schedule, "run --image": "a schedule's image", "dis": "a schedule's image",
-                "judge": "a trace (JSON)", "explain --trace": "a trace (JSON)", "explain --plan": "a plan (JSON)", "threads": "a plan (JSON)", "conform": f"{schedule}, a line '%%' and the lines of a port", "debug": f"{schedule}, a line '%%' and commands"}
+                "judge": "a trace (JSON)", "explain --trace": "a trace (JSON)", "explain --plan": "a plan (JSON)", "explain --image": "a schedule's image", "threads": "a plan (JSON)", "conform": f"{schedule}, a line '%%' and the lines of a port", "debug": f"{schedule}, a line '%%' and commands"}
         for words, awaited in rows.items():
             with self.subTest(words=words):
                 shown = self.run_on_terminal(*words.split(), keys="clients 1\n\x04")[1]
@@ -339,7 +428,7 @@ class WithoutToolchain(unittest.TestCase):
 
 class Scripts(unittest.TestCase):
     def test_the_shell_finds_no_fault(self):
-        for name in ("otbench", "test", "scripts/sources", "scripts/stamp"):
+        for name in ("otbench", "test", "scripts/hints", "scripts/sources", "scripts/stamp"):
             subprocess.run(["sh", "-n", TOP / name], check=True)
 
     def test_words_that_are_not_understood(self):

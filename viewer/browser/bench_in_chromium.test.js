@@ -1,12 +1,12 @@
 /* The page with the engine in Chromium; and an input method, which its protocol alone can play. */
-"use strict";
-const assert = require("node:assert/strict");
-const { test } = require("node:test");
-const { testIn } = require("./bench_tests.js");
-const { openChromium } = require("./chromium.js");
-const { testLong } = require("./long_tests.js");
-const { skip } = require("./otbench.js");
-const { User } = require("./user.js");
+
+import assert from "node:assert/strict";
+import { test } from "node:test";
+import { testIn } from "./bench_tests.js";
+import { openChromium } from "./chromium.js";
+import { testLong } from "./long_tests.js";
+import { skip } from "./otbench.js";
+import { User } from "./user.js";
 
 testIn("Chromium", openChromium);
 testLong("Chromium", openChromium);

@@ -1,8 +1,8 @@
 /* The page with the engine in Firefox. */
-"use strict";
-const { testIn } = require("./bench_tests.js");
-const { openFirefox } = require("./firefox.js");
-const { testLong } = require("./long_tests.js");
+
+import { testIn } from "./bench_tests.js";
+import { openFirefox } from "./firefox.js";
+import { testLong } from "./long_tests.js";
 
 testIn("Firefox", openFirefox);
 testLong("Firefox", openFirefox);

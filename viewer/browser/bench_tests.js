@@ -1,19 +1,19 @@
 /* The tests of the page with the engine, for any browser, by real keys and clicks. */
-"use strict";
-const assert = require("node:assert/strict");
-const fs = require("node:fs");
-const path = require("node:path");
-const { after, before, describe, test } = require("node:test");
-const { bugs } = require("../../examples/port/bugs.js");
-const { drive, loadPort } = require("../../examples/port/driver.js");
-const { wait } = require("./chromium.js");
-const { addressOfPage, otbench, skip } = require("./otbench.js");
-const { User, clipboardEvent, quoted } = require("./user.js");
 
-const file = (name) => fs.readFileSync(path.join(__dirname, "../../examples", name), "utf8");
+import assert from "node:assert/strict";
+import fs from "node:fs";
+import { after, before, describe, test } from "node:test";
+import { bugs } from "../../examples/port/bugs.js";
+import { drive } from "../../examples/port/drive.js";
+import { makePort } from "../../oracle/otjs.js";
+import { wait } from "./chromium.js";
+import { addressOfPage, otbench, skip } from "./otbench.js";
+import { User, clipboardEvent, quoted } from "./user.js";
+
+const file = (name) => fs.readFileSync(new URL(`../../examples/${name}`, import.meta.url), "utf8");
 
 /* Tests the page in a browser: its name, and what opens it. */
-function testIn(name, openBrowser) {
+export function testIn(name, openBrowser) {
   describe(name, { skip }, () => {
     let user;
     let page;
@@ -83,7 +83,7 @@ function testIn(name, openBrowser) {
       const printed = otbench(["run"], text);
       assert.ok(printed.endsWith(await user.end()), printed);
 
-      const port = loadPort();
+      const port = makePort();
       bugs.tie(port);
       await user.click("#paste");
       await user.run(`document.getElementById("pasted").value = ${quoted(drive(text, port).join("\n"))}`);
@@ -203,16 +203,16 @@ function testIn(name, openBrowser) {
 
     test("files: image, lines, trace, plan, a schedule with a port's lines, and what is none of them", async () => {
       await user.open();
-      await user.drop("late-join.img", [...fs.readFileSync(path.join(__dirname, "../../examples/late-join.img"))]);
+      await user.drop("late-join.img", [...fs.readFileSync(new URL("../../examples/late-join.img", import.meta.url))]);
       await user.shown("/present 1/");
       assert.equal(await user.text("#name"), "late-join.img");
-      const port = loadPort();
+      const port = makePort();
       await user.drop("port.jsonl", drive(file("both-delete.ots"), port).join("\n"));
       await user.shown("/edit 1 \\[-1\\]/");
       await user.until('document.getElementById("conformance").textContent === "conforms"', "conforms");
       await user.drop("reversed.json", file("reversed.json"));
       await user.until('document.getElementById("judged").open', "the trace");
-      assert.match(await user.text("#trace-verdict"), /^0:0 stands before 1:0 in the list of event 2, and behind it in that of event 4$/);
+      assert.match(await user.text("#trace-verdict"), /^reversed 2 4 0:0 1:0\nevent 2 is a read of replica 0; .*\nevent 4 is a read of replica 1; .*$/);
       assert.equal(await user.run('document.querySelectorAll("#judged .at-fault mark").length'), 4);
       await user.press("Escape");
       await user.drop("bad.bin", [255, 254, 0, 1]);
@@ -376,5 +376,3 @@ function testIn(name, openBrowser) {
     });
   });
 }
-
-module.exports = { testIn };

@@ -1,11 +1,11 @@
 /* Chromium, headless, over its debugging protocol, without packages: node --experimental-websocket. */
-"use strict";
-const { spawn } = require("node:child_process");
-const fs = require("node:fs");
-const os = require("node:os");
-const path = require("node:path");
 
-const wait = (milliseconds) => new Promise((done) => setTimeout(done, milliseconds));
+import { spawn } from "node:child_process";
+import fs from "node:fs";
+import os from "node:os";
+import path from "node:path";
+
+export const wait = (milliseconds) => new Promise((done) => setTimeout(done, milliseconds));
 
 /* What the protocol calls the keys that are held down with others. */
 const HELD = { Alt: 1, Control: 2, Meta: 4, Shift: 8 };
@@ -147,7 +147,7 @@ class Page {
   }
 }
 
-async function openChromium({ width = 1440, height = 900 } = {}) {
+export async function openChromium({ width = 1440, height = 900 } = {}) {
   const folder = fs.mkdtempSync(path.join(os.tmpdir(), "otbench-chromium-"));
   const words = ["--headless", "--no-sandbox", "--disable-gpu", "--hide-scrollbars", "--force-color-profile=srgb"];
   words.push("--allow-file-access-from-files", "--remote-debugging-port=0", `--user-data-dir=${folder}`, "about:blank");
@@ -159,5 +159,3 @@ async function openChromium({ width = 1440, height = 900 } = {}) {
   await page.size(width, height);
   return page;
 }
-
-module.exports = { openChromium, wait };

@@ -1,9 +1,9 @@
 /* Firefox, headless, over WebDriver BiDi, without packages: node --experimental-websocket. The same page as that of chromium.js. */
-"use strict";
-const { spawn } = require("node:child_process");
-const fs = require("node:fs");
-const os = require("node:os");
-const path = require("node:path");
+
+import { spawn } from "node:child_process";
+import fs from "node:fs";
+import os from "node:os";
+import path from "node:path";
 
 const wait = (milliseconds) => new Promise((done) => setTimeout(done, milliseconds));
 
@@ -145,7 +145,7 @@ class Page {
   }
 }
 
-async function openFirefox({ width = 1440, height = 900 } = {}) {
+export async function openFirefox({ width = 1440, height = 900 } = {}) {
   const folder = fs.mkdtempSync(path.join(os.tmpdir(), "otbench-firefox-"));
   const words = ["--headless", "--no-remote", "--profile", folder, "--remote-debugging-port=0"];
   const child = spawn("firefox-esr", words, { stdio: ["ignore", "ignore", "pipe"] });
@@ -155,5 +155,3 @@ async function openFirefox({ width = 1440, height = 900 } = {}) {
   await page.size(width, height);
   return page;
 }
-
-module.exports = { openFirefox };

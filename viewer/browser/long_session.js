@@ -1,8 +1,8 @@
 /* A seeded session of many clients, as a schedule: messages are long under way, and documents grow. */
-"use strict";
-const { loadPort } = require("../../examples/port/driver.js");
-const { Session } = require("../../examples/port/session.js");
-const { chance } = require("../../recorder/test/live_session.js");
+
+import { makePort } from "../../oracle/otjs.js";
+import { Session } from "../../examples/port/session.js";
+import { chance } from "../../recorder/test/live_session.js";
 
 const WORDS = ["a", "be", "see", " ", "it is ", "xyz"];
 
@@ -22,9 +22,9 @@ function nextOf(client, random) {
   return client.down.length ? { word: client.down[0] ? "deliver" : "ack", client: client.number } : null;
 }
 
-function longSchedule({ clients, instructions, seed = 1 }) {
+export function longSchedule({ clients, instructions, seed = 1 }) {
   const random = chance(seed);
-  const session = new Session(loadPort(), { clients, present: clients, start: "start" });
+  const session = new Session(makePort(), { clients, present: clients, start: "start" });
   const lines = [`clients ${clients}`, 'start "start"'];
   while (lines.length < instructions + 2) {
     const instruction = nextOf(session.clients[random(clients)], random);
@@ -35,5 +35,3 @@ function longSchedule({ clients, instructions, seed = 1 }) {
   }
   return `${lines.join("\n")}\n`;
 }
-
-module.exports = { longSchedule };

@@ -1,10 +1,10 @@
 /* Tests of the page with long sessions, for any browser: it answers soon, or says that it does not. */
-"use strict";
-const assert = require("node:assert/strict");
-const { after, before, describe, test } = require("node:test");
-const { skip } = require("./otbench.js");
-const { SLOWEST, inWords, measure, median, open, slowness } = require("./pace.js");
-const { User } = require("./user.js");
+
+import assert from "node:assert/strict";
+import { after, before, describe, test } from "node:test";
+import { skip } from "./otbench.js";
+import { SLOWEST, inWords, measure, median, open, slowness } from "./paces.js";
+import { User } from "./user.js";
 
 /* A session of 100,000 instructions whose document stays short. */
 function longest() {
@@ -12,7 +12,7 @@ function longest() {
   return `clients 2\n${`${round.join("\n")}\n`.repeat(12500)}`;
 }
 
-function testLong(name, openBrowser) {
+export function testLong(name, openBrowser) {
   describe(`${name}, long sessions`, { skip }, () => {
     let user;
     let page;
@@ -84,5 +84,3 @@ function testLong(name, openBrowser) {
     });
   });
 }
-
-module.exports = { testLong };

@@ -1,12 +1,12 @@
 /* A user of the page with the engine, for any browser: real keys and clicks. */
-"use strict";
-const { wait } = require("./chromium.js");
-const { addressOfPage } = require("./otbench.js");
 
-const quoted = (value) => JSON.stringify(value);
+import { wait } from "./chromium.js";
+import { addressOfPage } from "./otbench.js";
+
+export const quoted = (value) => JSON.stringify(value);
 
 /* A clipboard's event in the page, with what is to be pasted; gives what was copied. Firefox takes no clipboard of a script. */
-const clipboardEvent = (type, selector, content) => {
+export const clipboardEvent = (type, selector, content) => {
   const data = new DataTransfer();
   if (content !== null) data.setData("text/plain", content);
   const event = new ClipboardEvent(type, { bubbles: true, cancelable: true });
@@ -16,7 +16,7 @@ const clipboardEvent = (type, selector, content) => {
 };
 
 /* What a test does with the page of a browser. */
-class User {
+export class User {
   constructor(page) {
     this.page = page;
   }
@@ -115,5 +115,3 @@ class User {
     return this.run(`(${clipboardEvent})("paste", ${quoted(selector)}, ${quoted(content)})`);
   }
 }
-
-module.exports = { User, clipboardEvent, quoted };

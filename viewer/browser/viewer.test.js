@@ -1,16 +1,16 @@
 /* The viewer in Chromium, by real keys and clicks. */
-"use strict";
-const assert = require("node:assert/strict");
-const fs = require("node:fs");
-const path = require("node:path");
-const { after, before, test } = require("node:test");
-const { bugs } = require("../../examples/port/bugs.js");
-const { drive, loadPort } = require("../../examples/port/driver.js");
-const { openChromium } = require("./chromium.js");
-const { longSchedule } = require("./long_session.js");
-const { otbench, pageOf } = require("./otbench.js");
 
-const example = (name) => fs.readFileSync(path.join(__dirname, `../../examples/${name}.ots`), "utf8");
+import assert from "node:assert/strict";
+import fs from "node:fs";
+import { after, before, test } from "node:test";
+import { bugs } from "../../examples/port/bugs.js";
+import { drive } from "../../examples/port/drive.js";
+import { makePort } from "../../oracle/otjs.js";
+import { openChromium } from "./chromium.js";
+import { longSchedule } from "./long_session.js";
+import { otbench, pageOf } from "./otbench.js";
+
+const example = (name) => fs.readFileSync(new URL(`../../examples/${name}.ots`, import.meta.url), "utf8");
 
 let page;
 before(async () => (page = await openChromium()));
@@ -180,7 +180,7 @@ test("a click within a run of one author finds the character", async () => {
 });
 
 test("a port's lines beside, with the first difference", async () => {
-  const port = loadPort();
+  const port = makePort();
   bugs.tie(port);
   const input = `${otbench(["steps"], example("weak-order"))}%%\n${drive(example("weak-order"), port).join("\n")}\n`;
   await page.goto(pageOf("plain", example("weak-order")));
@@ -202,7 +202,7 @@ test("a port's lines beside, with the first difference", async () => {
 test("a file is dropped, and a faulty one is refused with its line", async () => {
   const drop = (content) => `(() => { const data = new DataTransfer(); data.items.add(new File([${JSON.stringify(content)}], "a.jsonl"));
     document.body.dispatchEvent(new DragEvent("drop", { dataTransfer: data, bubbles: true })); })()`;
-  await page.goto(`file://${path.join(__dirname, "../viewer.html")}`);
+  await page.goto(new URL("../viewer.html", import.meta.url).href);
   await page.run(drop('{"at":1}\n'));
   await page.drawn();
   assert.equal(await text("#refused"), "line 1 is no line of otbench steps: the opening is missing");
@@ -253,7 +253,7 @@ test("the diagram is saved as an SVG file", async () => {
   })()`);
   await page.key("s");
   const saved = await page.run("window.saved.text()");
-  assert.equal(saved, fs.readFileSync(path.join(__dirname, "../../docs/session.svg"), "utf8"));
+  assert.equal(saved, fs.readFileSync(new URL("../../docs/session.svg", import.meta.url), "utf8"));
   const read = `new DOMParser().parseFromString(${JSON.stringify(saved)}, "image/svg+xml")`;
   assert.equal(await page.run(`${read}.querySelector("parsererror")`), null);
 });

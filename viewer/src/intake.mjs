@@ -6,7 +6,15 @@ import { kindOf, scheduleOf, splitSchedule, textOfSchedule } from "./reader.mjs"
 import { readVerdict } from "./trace.mjs";
 
 const text = (bytes) => new TextDecoder().decode(bytes);
-const firstLine = (words) => words.trim().split("\n")[0];
+
+/* A fault and the words below it as one line. */
+const lineOf = (errors) => errors.trim().split(/\n */).join(": ");
+
+/* What is wrong with an input, as `explain` says it: where the fault is, what stands there and what is wanted. It has no words where memory runs out. */
+async function faultOf(bench, form, input, errors) {
+  const { errors: told } = await bench.ask(["explain", `--${form}`], input);
+  return lineOf(told || errors);
+}
 
 /* Whether a schedule that lines have is the front of a text's. */
 function isFrontOf({ instructions }, state) {
@@ -22,7 +30,7 @@ const TAKERS = {
 
   async image(bench, kind, bytes, name) {
     const { status, output, errors } = await bench.ask(["dis"], bytes);
-    if (status) bench.dispatch({ do: "notice", notice: `${name || "This"} is no image of a schedule: ${firstLine(errors)}.` });
+    if (status) bench.dispatch({ do: "notice", notice: `${name || "This"} is no image of a schedule: ${await faultOf(bench, "image", bytes, errors)}.` });
     else bench.dispatch({ do: "open", text: text(output), title: name });
   },
 
@@ -34,17 +42,15 @@ const TAKERS = {
   async plan(bench, { text: input }, bytes, name) {
     const plan = JSON.stringify({ ...JSON.parse(input), workers: 1 }); // a page has one thread
     const { status, output, errors } = await bench.ask(["threads"], plan);
-    if (status) bench.dispatch({ do: "notice", notice: `The plan ${name} is not carried out: ${firstLine(errors)}.` });
+    if (status) bench.dispatch({ do: "notice", notice: `The plan ${name} is not carried out: ${await faultOf(bench, "plan", plan, errors)}.` });
     else bench.dispatch({ do: "open", text: text(output), title: name });
   },
 
   async trace(bench, { text: input }, bytes, name) {
-    const { status, output, errors } = await bench.ask(["judge"], input);
-    if (status && output.length === 0) {
-      bench.dispatch({ do: "notice", notice: `The trace ${name} is not judged: ${firstLine(errors)}.` });
-      return undefined;
-    }
-    return { trace: JSON.parse(input), verdict: readVerdict(text(output)) };
+    const { output, errors } = await bench.ask(["explain", "--trace"], input);
+    if (output.length > 0) return { trace: JSON.parse(input), verdict: readVerdict(text(output)) };
+    bench.dispatch({ do: "notice", notice: `The trace ${name} is not judged: ${lineOf(errors)}.` });
+    return undefined;
   },
 
   lines(bench, { text: input }, bytes, name) {

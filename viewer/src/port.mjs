@@ -4,7 +4,7 @@ import { lastUpTo, textOf } from "./document.mjs";
 import { SERVER } from "./fold.mjs";
 import { documentAt, logLengthAt, stateAt } from "./places.mjs";
 
-const KEYS = ["at", "do", "client", "edit", "revision", "state", "outstanding", "buffer", "sent", "applied", "appended", "document"];
+const KEYS = ["at", "do", "client", "message", "edit", "revision", "state", "outstanding", "buffer", "sent", "applied", "appended", "document"];
 
 const isOpening = (line) => line.at === 0 && !("do" in line) && !("stopped" in line) && !("end" in line);
 
@@ -32,21 +32,28 @@ function cutIn(texts) {
   }
 }
 
-/* The values that ot.js has at a place, by the keys of `steps`. */
+/* What was taken from a client, or delivered to one; undefined where no operation came. */
+function messageOf({ do: word }, received) {
+  if (word === "take") return { revision: received.revision, operation: received.operation };
+  return word === "deliver" ? received.operation : undefined;
+}
+
+/* The values that ot.js has at a place, by the keys that a port prints. */
 function valuesAt(session, place) {
-  const { line, moved } = session.steps[place];
+  const { line, moved, received } = session.steps[place];
+  const message = messageOf(line, received);
   const document = textOf(documentAt(session, moved, place));
-  if (moved === SERVER) return { ...line, revision: logLengthAt(session, place), document };
+  if (moved === SERVER) return { ...line, message, revision: logLengthAt(session, place), document };
   const { revision, state, outstanding, buffer } = stateAt(session, moved, place);
   const applied = line.do === "edit" ? line.edit : line.applied;
-  return { ...line, applied, revision, state, outstanding, buffer, document };
+  return { ...line, message, applied, revision, state, outstanding, buffer, document };
 }
 
 /* Values are equal as JSON values; null says that there is none. A message's parts are compared where they are printed. */
 function sameValue(found, ours) {
   if (found === null || ours === null || ours === undefined) return found === null && (ours === null || ours === undefined);
   if (typeof found !== "object" || typeof ours !== "object") return found === ours;
-  if (Array.isArray(found)) return JSON.stringify(found) === JSON.stringify(ours);
+  if (Array.isArray(found) || Array.isArray(ours)) return JSON.stringify(found) === JSON.stringify(ours);
   return ["revision", "operation"].every((key) => found[key] === undefined || sameValue(found[key], ours[key]));
 }
 
@@ -85,10 +92,11 @@ export class Port {
     if (place === 0 || place > this.session.length) return [];
     if (!line || line.end !== undefined) return place === this.lines.length ? [{ key: "line", found: "nothing", ours: "a line" }] : [];
     if (line.text !== undefined) return [{ key: "line", found: inWords(line.text), ours: "a line of JSON" }];
-    if (line.stopped !== undefined) return [{ key: "stopped", found: inWords(line.stopped), ours: "performed" }];
     const ours = valuesAt(this.session, place);
     const differs = (key) => line[key] !== undefined && !sameValue(line[key], ours[key]);
-    return KEYS.filter(differs).map((key) => ({ key, found: inWords(line[key]), ours: inWords(ours[key]) }));
+    const differences = (keys) => keys.filter(differs).map((key) => ({ key, found: inWords(line[key]), ours: inWords(ours[key]) }));
+    if (line.stopped === undefined) return differences(KEYS);
+    return [{ key: "stopped", found: inWords(line.stopped), ours: "performed" }, ...differences(["message"])];
   }
 
   /* What the port printed last of a participant that is not what ot.js has. */

@@ -4,24 +4,13 @@ import { escapeMarkup } from "./words.mjs";
 
 const tagOf = ([origin, serial]) => `${origin}:${serial}`;
 
-/* What each verdict says, of its words: events first, then tags. */
-const SENTENCES = {
-  "bad-visibility": ([e]) => `event ${e} does not see exactly its replica’s earlier edits, sees edits that come later, or lacks what it follows`,
-  doubled: ([e, t]) => `the element ${t} stands twice in the list of event ${e}`,
-  missing: ([e, t]) => `the element ${t} is known at event ${e} and not known as deleted, and is not in its list`,
-  extra: ([e, t]) => `the element ${t} is in the list of event ${e} and is not known there, or known as deleted`,
-  "wrong-place": ([e, t]) => `the element ${t}, which event ${e} inserts, does not stand at its place`,
-  reversed: ([e, f, a, b]) => `${a} stands before ${b} in the list of event ${e}, and behind it in that of event ${f}`,
-};
-
-/** The line of `otbench judge`: { holds, words, events, tags }. */
-export function readVerdict(line) {
-  const [word, ...rest] = line.trim().split(" ");
-  if (word === "holds") return { holds: true, words: "the trace has the weak list property", events: [], tags: [] };
+/** What `otbench explain --trace` prints, the verdict's line and words below it: { holds, words, events, tags }. */
+export function readVerdict(printed) {
+  const [line, ...told] = printed.trim().split("\n");
+  const [word, ...rest] = line.split(" ");
   const events = rest.filter((part) => /^\d+$/.test(part)).map(Number);
   const tags = rest.filter((part) => part.includes(":"));
-  const words = Object.hasOwn(SENTENCES, word) ? SENTENCES[word](rest) : line.trim();
-  return { holds: false, words, events, tags };
+  return { holds: word === "holds", words: [line, ...told.map((it) => it.trim())].join("\n"), events, tags };
 }
 
 const ROOM = 300;

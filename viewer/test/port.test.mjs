@@ -45,6 +45,25 @@ test("what a client's port printed last stays beside it", () => {
   assert.deepEqual(port.differencesOf(1, 0), []);
 });
 
+test("a message that was changed on its way", () => {
+  const taken = { at: 6, message: { revision: 0, operation: [1, "y"] }, appended: [2, "y"] };
+  const delivered = { at: 7, message: ["d", 1], applied: null };
+  const others = [1, 2, 3, 4, 5].map((at) => ({ at, message: at === 5 ? { revision: 0, operation: ["c", 1] } : null }));
+  const port = beside([...others, taken, delivered].map((line) => JSON.stringify(line)));
+  assert.equal(port.first, 6);
+  assert.deepEqual(port.differencesAt(6)[0], { key: "message", found: '{"revision":0,"operation":[1,"y"]}', ours: '{"revision":0,"operation":[1,"z"]}' });
+  assert.deepEqual(port.differencesAt(7)[0], { key: "message", found: '["d",1]', ours: '["c",1]' });
+});
+
+test("a message that a port stopped over", () => {
+  const lines = linesOf(example("weak-order")).slice(0, 6);
+  const port = beside([...lines, '{"at":5,"message":{"revision":0,"operation":[2,"z"]},"stopped":"no more"}']);
+  assert.deepEqual(port.differencesAt(6), [
+    { key: "stopped", found: '"no more"', ours: "performed" },
+    { key: "message", found: '{"revision":0,"operation":[2,"z"]}', ours: '{"revision":0,"operation":[1,"z"]}' },
+  ]);
+});
+
 test("keys that are not printed are not compared, and null says that there is none", () => {
   assert.equal(beside(['{"at":1,"document":"xz"}', '{"at":2,"buffer":[1,"a",1]}']).first, 3);
   assert.deepEqual(beside(['{"at":1,"buffer":null,"document":"xz"}', '{"at":2,"buffer":null}']).differencesAt(2), [

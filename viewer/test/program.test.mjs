@@ -7,7 +7,7 @@ import fs from "node:fs";
 import { test } from "node:test";
 import { fileURLToPath } from "node:url";
 import { bugs } from "../../examples/port/bugs.js";
-import { merge } from "../../recorder/merge.js";
+import { merge } from "../../recorder/merging.js";
 import { readEvents } from "../../recorder/logs.js";
 import { liveSession } from "../../recorder/test/live_session.js";
 import { textOf } from "../src/document.mjs";

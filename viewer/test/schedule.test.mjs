@@ -4,7 +4,7 @@ import assert from "node:assert/strict";
 import { test } from "node:test";
 import { lineOfPlace, outlineOf, placeOfLine, withInstructions, withName, withoutInstruction } from "../src/schedule.mjs";
 import { readEvents } from "../../recorder/logs.js";
-import { merge } from "../../recorder/merge.js";
+import { merge } from "../../recorder/merging.js";
 import { liveSession } from "../../recorder/test/live_session.js";
 import { serveProgram, skip } from "./engines.mjs";
 import { example, seededSchedule } from "./sessions.mjs";

@@ -17,9 +17,9 @@ after(() => fs.rmSync(folder, { recursive: true }));
 
 /* Answers `steps` by the driver of examples/port, `conform` with two lines, `explain` with the fault of a text that begins with `edti`, and anything else with its words and input. */
 const PROGRAM = `#!/usr/bin/env node
-import("${new URL("sessions.mjs", import.meta.url)}").then(({ linesOf }) => {
+Promise.all([import("node:fs"), import("${new URL("sessions.mjs", import.meta.url)}")]).then(([fs, { linesOf }]) => {
   const [word, ...more] = process.argv.slice(2);
-  const input = require("node:fs").readFileSync(0, "utf8");
+  const input = fs.readFileSync(0, "utf8");
   const isSchedule = /^(;.*\\n)*clients/.test(input) && !input.includes("%%");
   process.exitCode = word === "conform" || (word === "steps" && !isSchedule) ? 1 : 0;
   if (word === "explain" && input.startsWith("edti")) console.error("otbench: line 1: NoClients\\n  column 1: of a text without clients");

@@ -1,16 +1,21 @@
-//! `explain --trace`: the verdict of a recorded trace; of an input that is none, where its first fault is, in words.
+//! `explain --trace`: the verdict of a recorded trace, with its words; of an input that is none, where its first fault is, in words.
 
-ghost use Rattle.std.specs.Prelude.{◌≡◌, ◌≢◌, ◌⊎◌, Ok, Err, IfErr, IfOk, IfSome, string_bytes};
-ghost use Rattle.ot_commands.specs.ExplainedTraces.{ExplainsTrace, IsReasonOfBytes, Tells};
+ghost use Rattle.std.specs.Prelude.{◌≡◌, ◌≢◌, ◌⊎◌, ◌++◌, Ok, Err, IfErr, IfOk, IfSome, string_bytes};
+ghost use Rattle.ot_commands.specs.ExplainedTraces.{ExplainsTrace, IsReasonOfBytes, MayTellVerdict, Tells};
 ghost use Rattle.ot_commands.specs.Judged.{trace_fault, trace_of_bytes};
 ghost use Rattle.ot_judge.specs.declared.fault.TraceFault.TheVariants as kind;
+ghost use Rattle.ot_judge.specs.Verdict.{IsVerdict};
+ghost use Rattle.ot_report.specs.Verdicts.{verdict_line};
+ghost use Rattle.ot_verdict_words.specs.Words.{verdict_words};
 
-use crate::judging::{fault_line, give_verdict};
+use crate::judging::{fault_line, status_of};
 use ot_asm::read_text;
-use ot_judge::Trace;
+use ot_judge::{Trace, Verdict, judge};
 use ot_reasons::{Reason, no_text, read_or_tell};
-use outcomes::{complain, complain_of_input};
-use std::alloc::Global;
+use ot_report::print_verdict;
+use ot_verdict_words::print_words;
+use outcomes::{complain, complain_of_input, complain_of_memory, give};
+use std::alloc::{AllocError, Global};
 use std::io::Write;
 use streams::{Sink, Source};
 
@@ -34,7 +39,39 @@ fn tell<F: Write>(reason: &Reason, faults: &mut F)
     complain(faults, reason.words.as_str());
 }
 
-/// Judges the trace that is the input, as `judge_input` does. Of an input that is no trace it writes the fault's line, and below it a line of
+// The verdict's line, and below it its words.
+fn verdict_text(alloc: Global, trace: &Trace, verdict: Verdict) -> Result<String, AllocError>
+    requires { IsVerdict trace.now verdict }
+    ensures { IfOk result (λ s. string_bytes s ≡ verdict_line verdict ++ verdict_words trace.now verdict) }
+{
+    let mut text = print_verdict(alloc, verdict)?;
+    let words = print_words(alloc, trace, verdict)?;
+    text.push_str(words.as_str())?;
+    Ok(text)
+}
+
+// Judges the trace, and prints the verdict with its words.
+fn tell_verdict<O: Sink, F: Write>(
+    alloc: Global,
+    trace: &Trace,
+    output: &mut O,
+    faults: &mut F,
+) -> u8
+    ensures { MayTellVerdict trace.now result (record { output = O.contents output.old; output' = O.contents output.new; broken = O.failed output.new; faults = F.contents faults.old; faults' = F.contents faults.new }) }
+{
+    let Ok(verdict) = judge(alloc, trace) else {
+        complain_of_memory(faults);
+        return 1;
+    };
+    let Ok(text) = verdict_text(alloc, trace, verdict) else {
+        complain_of_memory(faults);
+        return 1;
+    };
+    give(text.as_bytes(), status_of(verdict), output)
+}
+
+/// Judges the trace that is the input, as `judge_input` does, and writes below the verdict's line its words: which events, which elements,
+/// and what each list has. Of an input that is no trace it writes the fault's line, and below it a line of
 /// words: where the first fault is, what stands there and what is wanted.
 pub fn explain_trace<I: Source, O: Sink, F: Write>(
     alloc: Global,
@@ -52,7 +89,7 @@ pub fn explain_trace<I: Source, O: Sink, F: Write>(
         }
     };
     match trace_or_reason(alloc, bytes.as_slice()) {
-        Ok(trace) => give_verdict(alloc, &trace, output, faults),
+        Ok(trace) => tell_verdict(alloc, &trace, output, faults),
         Err(reason) => {
             tell(&reason, faults);
             1

@@ -12,7 +12,8 @@ use std::alloc::Global;
 use std::io::Write;
 use streams::{Sink, Source};
 
-fn status_of(verdict: Verdict) -> u8
+/// The status of a verdict.
+pub(crate) fn status_of(verdict: Verdict) -> u8
     ensures { result ≡ verdict_status verdict }
 {
     match verdict {
@@ -48,8 +49,8 @@ fn trace_in(alloc: Global, bytes: &[u8]) -> Result<Trace, TraceFault>
     }
 }
 
-/// Judges the trace and prints the verdict.
-pub(crate) fn give_verdict<O: Sink, F: Write>(
+// Judges the trace and prints the verdict.
+fn give_verdict<O: Sink, F: Write>(
     alloc: Global,
     trace: &Trace,
     output: &mut O,

@@ -6,7 +6,7 @@
 //!    debugging    debug: back and forth through a run, by commands
 //!    converting   asm, dis: between a schedule's text and its image
 //!    judging      judge: whether a recorded trace has the weak list property
-//!    explaining   explain --trace: its verdict, or in words where its first fault is
+//!    explaining   explain --trace: its verdict with words, or in words where its first fault is
 //!    describing   explain --plan: what a plan is, or in words where its first fault is
 //!    generating   generate: a session made at random
 //!    completing   complete: a schedule, and behind it what brings its run to quiet

@@ -17,6 +17,7 @@ use Rattle.ot_conform.specs.Due.{DueLine, step_due}
 use Rattle.ot_conform.specs.Keys.{is_told}
 use Rattle.ot_conform.specs.Laws.{Says, data_of}
 use Rattle.ot_conform.specs.Ports.{PortLine}
+use Rattle.ot_conform.specs.Received.{Received, receives}
 use Rattle.ot_conform.specs.Standing.{IsStanding}
 use Rattle.ot_conform.specs.Values.{value_at}
 use Rattle.ot_conform.specs.declared.comparison.Comparison.{Comparison}
@@ -70,17 +71,17 @@ stands due printed shows formed =
     let saying = says printed in
     record {
       agrees = λ bytes is.
-          subst (λ (port : PortLine). field_of due.line port ≡ None) (sym (line_told printed bytes formed (saying.under key.At) is)) (line_agrees due.line printed (line_data printed) shows saying);
+          subst (λ (port : PortLine). field_of due port ≡ None) (sym (line_told printed bytes formed (saying.under key.At) is)) (line_agrees due printed (line_data printed) shows saying);
       counts = λ bytes c is.
           ap (with_port_line c) (line_told printed bytes formed (saying.under key.At) is)
           ∙ same_counts (λ k. tells k (line_data printed)) (λ k. has k printed) c (tells_has printed (line_data printed) saying);
     }
 
 -- the line of the instruction at the place where a comparison stands
-pub step_stands : (documents : Bool) (s : Program) (c : Comparison) (i : Instr) (t : State) (shown : Option Shown) (sent : Bool) (delivered : Option (Operation ℕ)) → IsProgram s → IsStanding s (running c)
-    → slice_get s.instrs c.place ≡ Some i → step c.machine i ≡ Performed t shown → sent ≡ sends i c.machine → delivered ≡ applies i c.machine
-    → StandsFor (step_due (c.place + 1) i sent delivered t) (line_after documents (c.place + 1) i sent delivered t)
-step_stands documents s c i t shown sent delivered is standing here performed is_sent is_delivered =
+pub step_stands : (documents : Bool) (s : Program) (c : Comparison) (i : Instr) (t : State) (shown : Option Shown) (sent : Bool) (delivered : Option (Operation ℕ)) (received : Option Received) → IsProgram s → IsStanding s (running c)
+    → slice_get s.instrs c.place ≡ Some i → step c.machine i ≡ Performed t shown → sent ≡ sends i c.machine → delivered ≡ applies i c.machine → received ≡ receives i c.machine
+    → StandsFor (step_due (c.place + 1) i sent delivered received t) (line_after documents (c.place + 1) i sent delivered t)
+step_stands documents s c i t shown sent delivered received is standing here performed is_sent is_delivered is_received =
     let formed = step_line_formed documents s c.place (record { state = c.machine; shown = standing.shown }) i t shown is standing.at here performed in
-    rw (add-one c.place, is_sent, is_delivered)
-    (stands (step_due (suc c.place) i (sends i c.machine) (applies i c.machine) t) (step_line documents (suc c.place) i c.machine t) (step_shown documents (suc c.place) i c.machine t) formed)
+    rw (add-one c.place, is_sent, is_delivered, is_received)
+    (stands (step_due (suc c.place) i (sends i c.machine) (applies i c.machine) (receives i c.machine) t) (step_line documents (suc c.place) i c.machine t) (step_shown documents (suc c.place) i c.machine t) formed)

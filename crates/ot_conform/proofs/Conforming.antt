@@ -30,8 +30,9 @@ use Rattle.ot_values.specs.Values.{phase_word, refusal_text}
 use Rattle.ot_machine.specs.declared.state.Phase.{Phase}
 use Rattle.ot_machine.specs.declared.state.Phase.TheVariants as phase
 use Rattle.ot_conform.specs.Differences.{Ahead, Wanted, Outcome, Conforms, Stopped, ahead_from, ending, field_of, first_key, from_opening, is_limit, is_same, outcome, over, stopping}
+use Rattle.ot_conform.specs.Received.{message_agrees, receives}
 use Rattle.ot_conform.specs.Due.{DueLine, end_due, opening_due, step_due, stop_due, whole_line}
-use Rattle.ot_conform.specs.Keys.{agrees, agrees_at, all_keys, are_plain, found_at, is_told, is_written}
+use Rattle.ot_conform.specs.Keys.{agrees, agrees_at, are_plain, first_keys, found_at, is_told, is_written, other_keys}
 use Rattle.ot_conform.specs.Laws as laws
 use Rattle.ot_conform.specs.Laws.{IsOfTable, Say, Says, SaysLine, StepsConform, operation_data, outcome_at}
 use Rattle.ot_conform.specs.Ports.{PortLine, Told, OtherForm, NoText, Nothing, is_opening_line}
@@ -52,13 +53,13 @@ runs_plain (Keep n ∷ rs) = runs_plain rs
 runs_plain (Add s ∷ rs) = runs_plain rs
 runs_plain (Skip n ∷ rs) = runs_plain rs
 
-operation_written : (op : Operation ℕ) → is_written (value_text (Op op)) (operation_data op) ≡ true
+pub operation_written : (op : Operation ℕ) → is_written (value_text (Op op)) (operation_data op) ≡ true
 operation_written op = rw (runs_plain (normal_runs op)) (same_bytes (compact_text (operation_data op)))
 
 text_written : (bytes : List ℕ) → is_written (quoted bytes) (string bytes) ≡ true
 text_written bytes = same_bytes (quoted bytes)
 
-number_written : (n : ℕ) → is_written (value_text (Number n)) (laws.data_of (Number n)) ≡ true
+pub number_written : (n : ℕ) → is_written (value_text (Number n)) (laws.data_of (Number n)) ≡ true
 number_written n = same_bytes (value_text (Number n))
 
 -- a name stands in JSON as it is
@@ -151,11 +152,13 @@ same_stop : (b : Bool) → is_same b b ≡ true
 same_stop true = refl
 same_stop false = refl
 
-pub line_agrees : (line shown : Line) (d : Data) → Shows shown line → Says shown d → field_of line (Told d) ≡ None
-line_agrees line shown d shows says =
-    let stop : is_told (get (codes "stopped") d) ≡ is_some line.stopped = ap is_told says.stopped ∙ stop_agrees shown.stopped ∙ ap is_some shows.stopped in
-    let keys : first_key all_keys line d ≡ None = all_agree all_keys line d (key_agrees line shown d shows says) in
-    rw (stop, same_stop (is_some line.stopped), keys) refl
+pub line_agrees : (due : DueLine) (shown : Line) (d : Data) → Shows shown due.line → Says shown d → field_of due (Told d) ≡ None
+line_agrees due shown d shows says =
+    let stop : is_told (get (codes "stopped") d) ≡ is_some due.line.stopped = ap is_told says.stopped ∙ stop_agrees shown.stopped ∙ ap is_some shows.stopped in
+    let first : first_key first_keys due.line d ≡ None = all_agree first_keys due.line d (key_agrees due.line shown d shows says) in
+    let message : message_agrees due.received (get (codes "message") d) ≡ true = ap (message_agrees due.received) says.message in
+    let others : first_key other_keys due.line d ≡ None = all_agree other_keys due.line d (key_agrees due.line shown d shows says) in
+    rw (stop, same_stop (is_some due.line.stopped), first, message, others) refl
 
 -- ---- the line of an instruction shows what the run has there
 
@@ -236,18 +239,18 @@ step_shown documents at i s t =
 -- ---- all lines
 
 -- a port's line that says this one agrees
-pub says_agrees : (line shown : Line) (port : PortLine) → Shows shown line → SaysLine shown port → field_of line port ≡ None
-says_agrees line shown (Told d) shows says = line_agrees line shown d shows says
-says_agrees line shown (OtherForm bytes) shows says = absurd says
-says_agrees line shown NoText shows says = absurd says
-says_agrees line shown Nothing shows says = absurd says
+pub says_agrees : (due : DueLine) (shown : Line) (port : PortLine) → Shows shown due.line → SaysLine shown port → field_of due port ≡ None
+says_agrees due shown (Told d) shows says = line_agrees due shown d shows says
+says_agrees due shown (OtherForm bytes) shows says = absurd says
+says_agrees due shown NoText shows says = absurd says
+says_agrees due shown Nothing shows says = absurd says
 
 -- the first line that is due agrees, and so it goes on with the rest
 first_agrees : (last : ℕ) (due : DueLine) (ahead : List Ahead) (shown : Line) (shows : Shows shown due.line) (rest : List Line) (ports : List PortLine) (o : Outcome)
     → ((left : List PortLine) → Say rest left → over false due.line.at ahead left ≡ o) → Say (shown ∷ rest) ports → over false last (Wanted due ∷ ahead) ports ≡ o
 first_agrees last due ahead shown shows rest [] o on say = absurd say
 first_agrees last due ahead shown shows rest (port ∷ ports) o on say =
-    over_agrees false last due ahead port ports refl (says_agrees due.line shown port shows say.0) ∙ on ports say.1
+    over_agrees false last due ahead port ports refl (says_agrees due shown port shows say.0) ∙ on ports say.1
 
 -- from any place on
 steps_agree : (documents : Bool) (is : List Instr) (n at end : ℕ) (p q : Place) (tail : List Line) (ports : List PortLine) (o : Outcome)
@@ -267,9 +270,9 @@ steps_agree documents (i ∷ is) (suc n) at end p q tail ports o few so here on 
         → (out : Stepped)
         → (elim out [ Performed t list ↦ run (take n is) (record { state = t; shown = with_shown p.shown list }) | Refused r ↦ None | NoRow ↦ None ]) ≡ Some q
         → Say ((elim out [ Performed t list ↦ step_line documents (suc at) i p.state t ∷ lines_from documents (suc at) t (take n is) | Refused r ↦ [] | NoRow ↦ [] ]) ++ tail) ports
-        → over false at (elim out [ Performed t list ↦ Wanted (step_due (suc at) i (sends i p.state) (applies i p.state) t) ∷ ahead_from (suc at) t is | Refused r ↦ stopping at p.state i r | NoRow ↦ [] ]) ports ≡ o
+        → over false at (elim out [ Performed t list ↦ Wanted (step_due (suc at) i (sends i p.state) (applies i p.state) (receives i p.state) t) ∷ ahead_from (suc at) t is | Refused r ↦ stopping at p.state i r | NoRow ↦ [] ]) ports ≡ o
     go next (Performed t list) here say =
-        first_agrees at (step_due (suc at) i (sends i p.state) (applies i p.state) t) (ahead_from (suc at) t is)
+        first_agrees at (step_due (suc at) i (sends i p.state) (applies i p.state) (receives i p.state) t) (ahead_from (suc at) t is)
         (step_line documents (suc at) i p.state t) (step_shown documents (suc at) i p.state t)
         (lines_from documents (suc at) t (take n is) ++ tail) ports o
         (next t list here)

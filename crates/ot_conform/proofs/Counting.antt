@@ -1,5 +1,5 @@
--- Of the lines of `steps` values are counted, and of places alone none.
-use Rattle.std.proofs.Common.{◌≡◌, ℕ, ◌≤◌, List, [], ◌∷◌, Bool, true, false, refl, ap, subst, arith}
+-- Of the lines of `steps` values are counted, and of places and messages alone none.
+use Rattle.std.proofs.Common.{◌≡◌, ℕ, ◌≤◌, List, [], ◌∷◌, map, Bool, true, false, Option, Some, None, refl, ap, ◌∙◌, subst, arith}
 use Rattle.std.proofs.lemmas.Bool.{eqb-true}
 use Rattle.std.specs.Prelude.{◌==◌}
 use Rattle.serde_json.specs.Data.{Data}
@@ -8,7 +8,7 @@ use Rattle.ot_steps.specs.Lines.{Line}
 use Rattle.ot_steps.specs.Steps.{opening_line}
 use Rattle.ot_conform.specs.Counted.{counted, is_nothing, no_counts, one_more, tells, with_line, with_port_line}
 use Rattle.ot_conform.specs.Keys.{is_told}
-use Rattle.ot_conform.specs.Laws.{PlacesAreNotCounted, Say, Says, SaysLine, StepsAreCounted}
+use Rattle.ot_conform.specs.Laws.{PlacesAreNotCounted, Say, Says, SaysLine, StepsAreCounted, place_with}
 use Rattle.ot_conform.specs.Ports.{PortLine, Told, OtherForm, NoText, Nothing}
 use Rattle.ot_conform.specs.declared.counts.Counts.{Counts}
 use Rattle.ot_conform.specs.declared.keys.Key.TheVariants as key
@@ -62,8 +62,13 @@ run_counts s others (port ∷ ports) say = is_something (counted no_counts (port
 pub steps_are_counted : StepsAreCounted
 steps_are_counted documents s stopped lines ports are say = run_counts s _ ports (subst (λ (ls : List Line). Say ls ports) are.are say)
 
--- ---- places alone
+-- ---- places, with messages or without
+
+place_not_counted : (n : ℕ) (message : Option Data) → with_port_line no_counts (place_with n message) ≡ no_counts
+place_not_counted n None = refl
+place_not_counted n (Some message) = refl
 
 pub places_are_not_counted : PlacesAreNotCounted
 places_are_not_counted [] = refl
-places_are_not_counted (n ∷ places) = places_are_not_counted places
+places_are_not_counted (line ∷ lines) =
+    ap (λ (c : Counts). is_nothing (counted c (map (λ (l : ℕ × Option Data). place_with l.0 l.1) lines))) (place_not_counted line.0 line.1) ∙ places_are_not_counted lines

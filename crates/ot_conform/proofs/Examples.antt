@@ -1,10 +1,10 @@
--- A printed line, read back; lines for some instructions alone; and code points.
-use Rattle.std.proofs.Common.{◌≡◌, ℕ, List, [], ◌∷◌, negsuc, true, false, refl, Some}
+-- A printed line, read back; lines for some instructions alone; messages; and code points.
+use Rattle.std.proofs.Common.{◌≡◌, ℕ, List, [], ◌∷◌, negsuc, true, false, refl, Some, None}
 use Rattle.std.specs.Prelude.{codes}
 use Rattle.std.specs.Fmt.{digits}
 use lib.Utf8.{encode}
 use Rattle.json.specs.Print.{escape_byte}
-use Rattle.serde_json.specs.Data.{Data, number, unsigned, negative, string, array, object, no_items, item, no_members, member}
+use Rattle.serde_json.specs.Data.{Data, null, number, unsigned, negative, string, array, object, no_items, item, no_members, member}
 use Rattle.serde_json.specs.Read.{read}
 use Rattle.serde_json.proofs.OnLiterals.{serde_json_on_literals}
 use Rattle.ot_text.specs.Run.{Keep, Add, Skip, operation_of}
@@ -12,13 +12,14 @@ use Rattle.ot_steps.specs.Lines.{Line, Take, bare}
 use Rattle.ot_steps.specs.Text.{line_text}
 use Rattle.ot_conform.proofs.LineTrees.{body_text, line_data}
 use Rattle.ot_isa.specs.declared.instruction.Instr.TheVariants as instr
-use Rattle.ot_conform.specs.Differences.{Ahead, Wanted, Conforms, Differs, LeftOver, first_key, over}
+use Rattle.ot_conform.specs.Differences.{Ahead, Wanted, Conforms, Differs, LeftOver, field_of, first_key, over}
 use Rattle.ot_conform.specs.Due.{DueLine, Instruction, end_due}
 use Rattle.ot_conform.specs.Laws.{place_alone}
 use Rattle.ot_conform.specs.Points.{points_rows}
 use Rattle.ot_conform.specs.Ports.{PortLine, Told}
-use Rattle.ot_conform.specs.declared.keys.Key.TheVariants.{At}
-use Rattle.ot_conform.specs.declared.meeting.Field.TheVariants.{Key}
+use Rattle.ot_conform.specs.Received.{Received, Taken, Delivered, received_agrees}
+use Rattle.ot_conform.specs.declared.keys.Key.TheVariants.{At, Document}
+use Rattle.ot_conform.specs.declared.meeting.Field.TheVariants.{Key, Message}
 
 -- a message is taken, transformed against what the log has gained
 abbrev taken : Line
@@ -48,7 +49,7 @@ read_back = refl
 -- ---- three reads, and the end
 
 abbrev reading : ℕ → DueLine
-reading at = record { what = Instruction (instr.Read 0); line = bare at; shown = bare at }
+reading at = record { what = Instruction (instr.Read 0); received = None; line = bare at; shown = bare at }
 
 abbrev three : List Ahead
 three = Wanted (reading 1) ∷ Wanted (reading 2) ∷ Wanted (reading 3) ∷ Wanted (end_due 3 true) ∷ []
@@ -86,6 +87,49 @@ ends = refl
 behind_the_end : over true 0 three (ended 3 ∷ place_alone 4 ∷ []) ≡ LeftOver 3 (place_alone 4)
 unfolding first_key digits encode escape_byte
 behind_the_end = refl
+
+-- ---- the message that a take receives
+
+abbrev sent : Received
+sent = Taken (record { revision = 1; operation = operation_of (Keep 1 ∷ Add (97 ∷ []) ∷ []) })
+
+abbrev operation : List ℕ → Data
+operation letters = array (item (number (unsigned 1)) (item (string letters) no_items))
+
+abbrev message : ℕ → Data → Data
+message revision op = object (member (codes "operation") op (member (codes "revision") (number (unsigned revision)) no_members))
+
+right : received_agrees (Some sent) (message 1 (operation (97 ∷ []))) ≡ true
+unfolding digits encode escape_byte
+right = refl
+
+earlier : received_agrees (Some sent) (message 0 (operation (97 ∷ []))) ≡ false
+unfolding digits encode escape_byte
+earlier = refl
+
+changed : received_agrees (Some sent) (message 1 (operation (98 ∷ []))) ≡ false
+unfolding digits encode escape_byte
+changed = refl
+
+-- a deliver receives an array
+array_alone : received_agrees (Some (Delivered (operation_of (Keep 1 ∷ Add (97 ∷ []) ∷ [])))) (operation (97 ∷ [])) ≡ true
+unfolding digits encode escape_byte
+array_alone = refl
+
+none_received : received_agrees None null ≡ true
+none_received = refl
+
+-- a wrong message is told, and not the document that comes of it
+abbrev taking : DueLine
+taking = record { what = Instruction (instr.Take 0); received = Some sent; line = record (bare 1) { document = Some (97 ∷ []) }; shown = bare 1 }
+
+message_first : field_of taking (Told (object (member (codes "at") (number (unsigned 1)) (member (codes "document") (string (98 ∷ [])) (member (codes "message") null no_members))))) ≡ Some Message
+unfolding first_key digits
+message_first = refl
+
+document_then : field_of taking (Told (object (member (codes "at") (number (unsigned 1)) (member (codes "document") (string (98 ∷ [])) no_members)))) ≡ Some (Key Document)
+unfolding first_key digits encode escape_byte
+document_then = refl
 
 -- ---- values that may look alike
 

@@ -35,6 +35,17 @@ key_differs ks i k line d within differs = ap (λ (xs : List Key). first_key xs 
 pub no_key : (ks : List Key) (i : ℕ) (line : Line) (d : Data) → length ks ≤ i → first_key (drop i ks) line d ≡ None
 no_key ks i line d past = ap (λ (xs : List Key). first_key xs line d) (drop_all i ks past) ∙ nil line d
 
+pub same_first : (ks : List Key) (line : Line) (d e : Data) → ((k : Key) → found_at k d ≡ found_at k e) → first_key ks line d ≡ first_key ks line e
+same_first [] line d e same = nil line d ∙ sym (nil line e)
+same_first (k ∷ ks) line d e same = go (same_first ks line d e same) (agrees_in line e k) refl
+  where
+    here : agrees_in line d k ≡ agrees_in line e k
+    here = ap (agrees_at k (text_at k line)) (same k)
+
+    go : first_key ks line d ≡ first_key ks line e → (b : Bool) → agrees_in line e k ≡ b → first_key (k ∷ ks) line d ≡ first_key (k ∷ ks) line e
+    go others true is = cons_agrees k ks line d (here ∙ is) ∙ others ∙ sym (cons_agrees k ks line e is)
+    go others false is = cons_differs k ks line d (here ∙ is) ∙ sym (cons_differs k ks line e is)
+
 pub all_agree : (ks : List Key) (line : Line) (d : Data) → ((k : Key) → agrees_at k (text_at k line) (found_at k d) ≡ true) → first_key ks line d ≡ None
 all_agree [] line d each = nil line d
 all_agree (k ∷ ks) line d each = cons_agrees k ks line d (each k) ∙ all_agree ks line d each

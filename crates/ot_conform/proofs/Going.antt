@@ -16,6 +16,7 @@ use Rattle.ot_conform.specs.Differences.{Ahead, Wanted, ahead_from, ending, fiel
 use Rattle.ot_conform.specs.Due.{DueLine, end_due, opening_due, step_due, stop_due}
 use Rattle.ot_conform.specs.Passed.{passes, passes_step}
 use Rattle.ot_conform.specs.Ports.{PortLine, Told, OtherForm, NoText, Nothing, front, is_opening_line}
+use Rattle.ot_conform.specs.Received.{Received, receives}
 use Rattle.ot_conform.specs.Standing.{AgreesAt, EndsAt, Goes, IsAtOpening, IsPassed, IsStanding, IsVerdict, Passes, rest, rest_at}
 use Rattle.ot_conform.proofs.Outcomes.{IsThere, ahead_past, ahead_performed, ahead_refused, goes_on, never, nothing_left, over_agrees, over_passes}
 use Rattle.ot_conform.specs.declared.comparison.Comparison.{Comparison}
@@ -171,12 +172,13 @@ goes_last s c c' line i r standing here refused none (inr at) = goes_past_stop s
 -- ---- the line of an instruction that is performed
 
 -- what is due then
-pub due_is : (at : ℕ) (i : Instr) (sent : Bool) (delivered : Option (Operation ℕ)) (s t : State) → sent ≡ sends i s → delivered ≡ applies i s
-    → step_due (at + 1) i sent delivered t ≡ step_due (suc at) i (sends i s) (applies i s) t
-due_is at i sent delivered s t is_sent is_delivered =
-    ap (λ (n : ℕ). step_due n i sent delivered t) (add-one at)
-    ∙ ap (λ (b : Bool). step_due (suc at) i b delivered t) is_sent
-    ∙ ap (λ (o : Option (Operation ℕ)). step_due (suc at) i (sends i s) o t) is_delivered
+pub due_is : (at : ℕ) (i : Instr) (sent : Bool) (delivered : Option (Operation ℕ)) (received : Option Received) (s t : State) → sent ≡ sends i s → delivered ≡ applies i s → received ≡ receives i s
+    → step_due (at + 1) i sent delivered received t ≡ step_due (suc at) i (sends i s) (applies i s) (receives i s) t
+due_is at i sent delivered received s t is_sent is_delivered is_received =
+    ap (λ (n : ℕ). step_due n i sent delivered received t) (add-one at)
+    ∙ ap (λ (b : Bool). step_due (suc at) i b delivered received t) is_sent
+    ∙ ap (λ (o : Option (Operation ℕ)). step_due (suc at) i (sends i s) o received t) is_delivered
+    ∙ ap (λ (o : Option Received). step_due (suc at) i (sends i s) (applies i s) o t) is_received
 
 -- whether the line passes over it
 pub passed_next : (c : Comparison) (line : PortLine) (b : Bool) → (c.sparse && passes_step (c.place + 1) line) ≡ b → (c.sparse && passes_step (suc c.place) line) ≡ b
@@ -193,12 +195,12 @@ stands_next s c i t shown standing here performed =
     }
 
 pub goes_step : (s : Program) (c c' : Comparison) (line : PortLine) (i : Instr) (t : State) (shown : Option Shown) (due : DueLine) → IsStanding s (running c) → slice_get s.instrs c.place ≡ Some i → step c.machine i ≡ Performed t shown
-    → due ≡ step_due (suc c.place) i (sends i c.machine) (applies i c.machine) t → (c.sparse && passes_step (c.place + 1) line) ≡ false → field_of due.line line ≡ None
+    → due ≡ step_due (suc c.place) i (sends i c.machine) (applies i c.machine) (receives i c.machine) t → (c.sparse && passes_step (c.place + 1) line) ≡ false → field_of due line ≡ None
     → c' ≡ record c { machine = t; place = c.place + 1; stage = Running; counts = with_port_line c.counts line } → Goes s (running c) line c'
 goes_step s c c' line i t shown due standing here performed due_is kept agrees is =
     let to : Comparison = record c { machine = t; place = c.place + 1; stage = Running; counts = with_port_line c.counts line } in
-    let wanted : DueLine = step_due (suc c.place) i (sends i c.machine) (applies i c.machine) t in
-    let agrees' : field_of wanted.line line ≡ None = subst (λ (d : DueLine). field_of d.line line ≡ None) due_is agrees in
+    let wanted : DueLine = step_due (suc c.place) i (sends i c.machine) (applies i c.machine) (receives i c.machine) t in
+    let agrees' : field_of wanted line ≡ None = subst (λ (d : DueLine). field_of d line ≡ None) due_is agrees in
     let next : c.place + 1 ≡ suc c.place = add-one c.place in
     let stands = stands_next s c i t shown standing here performed in
     let goes : Goes s (running c) line to = record {
@@ -232,7 +234,7 @@ passes_one : (s : Program) (c : Comparison) (line : PortLine) (i : Instr) (t : S
     → (c.sparse && passes_step (c.place + 1) line) ≡ true → Passes s (running c) line (record c { machine = t; place = c.place + 1; stage = Running })
 passes_one s c line i t shown standing here performed passed =
     let to : Comparison = record c { machine = t; place = c.place + 1; stage = Running } in
-    let wanted : DueLine = step_due (suc c.place) i (sends i c.machine) (applies i c.machine) t in
+    let wanted : DueLine = step_due (suc c.place) i (sends i c.machine) (applies i c.machine) (receives i c.machine) t in
     let next : c.place + 1 ≡ suc c.place = add-one c.place in
     let parts = both c.sparse (passes_step (c.place + 1) line) passed in
     let at : (lines : List PortLine) → rest s (running c) (line ∷ lines) ≡ rest s to (line ∷ lines) = λ (lines : List PortLine).

@@ -16,6 +16,8 @@ pub mod LineSays
 pub mod PrintedLines
 pub mod Printed
 pub mod DueLines
+pub mod Receiving
 pub mod Alike
 pub mod Counting
+pub mod Messages
 mod Examples

@@ -17,7 +17,7 @@ abbrev pub under_key : List ℕ → List Field → Option Data → Option Data
 under_key k [] old = old
 under_key k (f ∷ fs) old = under_key k fs (if bytes_eq k f.key then Some (data_of f.value) else old)
 
-got_put : (k l : List ℕ) (d : Data) (ms : Members) → get_member k (put l d ms) ≡ (if bytes_eq k l then Some d else get_member k ms)
+pub got_put : (k l : List ℕ) (d : Data) (ms : Members) → get_member k (put l d ms) ≡ (if bytes_eq k l then Some d else get_member k ms)
 got_put k l d ms = go (bytes_eq k l) refl
   where
     go : (same : Bool) → bytes_eq k l ≡ same → get_member k (put l d ms) ≡ (if bytes_eq k l then Some d else get_member k ms)

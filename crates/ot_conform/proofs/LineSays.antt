@@ -51,4 +51,4 @@ stopped line = got_key (codes "stopped") line ∙ told_alone (λ r. Name (refusa
     go (Some r) = refl
 
 pub says : (line : Line) → Says line (line_data line)
-says line = record { under = under line; stopped = stopped line }
+says line = record { under = under line; stopped = stopped line; message = got_key (codes "message") line }

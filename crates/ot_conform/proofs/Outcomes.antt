@@ -16,6 +16,7 @@ use Rattle.ot_conform.specs.Differences.{Ahead, Wanted, Limit, Outcome, ahead_fr
 use Rattle.ot_conform.specs.Due.{DueLine, What, Opening, Instruction, End, step_due, stop_due}
 use Rattle.ot_conform.specs.Passed.{passes}
 use Rattle.ot_conform.specs.Ports.{PortLine, Told, OtherForm, NoText, Nothing, front}
+use Rattle.ot_conform.specs.Received.{receives}
 use Rattle.ot_conform.specs.Standing.{IsVerdict}
 use Rattle.ot_conform.specs.declared.comparison.Comparison.{Comparison}
 use Rattle.ot_conform.specs.declared.comparison.Verdict.{Verdict}
@@ -26,11 +27,11 @@ use Rattle.ot_conform.specs.declared.meeting.Field.TheVariants as field
 
 -- ---- a line that agrees, one that does not, and one that passes over what is due
 
-pub over_agrees : (sparse : Bool) (last : ℕ) (due : DueLine) (ahead : List Ahead) (line : PortLine) (lines : List PortLine) → passes sparse due line ≡ false → field_of due.line line ≡ None
+pub over_agrees : (sparse : Bool) (last : ℕ) (due : DueLine) (ahead : List Ahead) (line : PortLine) (lines : List PortLine) → passes sparse due line ≡ false → field_of due line ≡ None
     → over sparse last (Wanted due ∷ ahead) (line ∷ lines) ≡ over sparse due.line.at ahead lines
 over_agrees sparse last due ahead line lines kept none = rw (kept, none) refl
 
-over_differs : (sparse : Bool) (last : ℕ) (due : DueLine) (ahead : List Ahead) (line : PortLine) (lines : List PortLine) (f : Field) → passes sparse due line ≡ false → field_of due.line line ≡ Some f
+over_differs : (sparse : Bool) (last : ℕ) (due : DueLine) (ahead : List Ahead) (line : PortLine) (lines : List PortLine) (f : Field) → passes sparse due line ≡ false → field_of due line ≡ Some f
     → over sparse last (Wanted due ∷ ahead) (line ∷ lines) ≡ differences.Differs due f line
 over_differs sparse last due ahead line lines f kept some = rw (kept, some) refl
 
@@ -72,7 +73,7 @@ missing_is sparse (Instruction i) due needed dense = rw dense refl
 missing_is sparse End due needed dense = absurd needed
 
 pub front_differs : (sparse : Bool) (last : ℕ) (due : DueLine) (ahead : List Ahead) (line : PortLine) (lines : List PortLine) (f : Field) → IsNeeded due.what ⊎ IsThere line → (line ≡ Nothing → sparse ≡ false)
-    → passes sparse due line ≡ false → field_of due.line line ≡ Some f → over sparse last (Wanted due ∷ ahead) (front line lines) ≡ differences.Differs due f line
+    → passes sparse due line ≡ false → field_of due line ≡ Some f → over sparse last (Wanted due ∷ ahead) (front line lines) ≡ differences.Differs due f line
 front_differs sparse last due ahead (Told d) lines f which there kept some = over_differs sparse last due ahead (Told d) lines f kept some
 front_differs sparse last due ahead (OtherForm bytes) lines f which there kept some = over_differs sparse last due ahead (OtherForm bytes) lines f kept some
 front_differs sparse last due ahead NoText lines f which there kept some = over_differs sparse last due ahead NoText lines f kept some
@@ -103,11 +104,11 @@ at_place is p i at =
     ∙ ap (λ (j : Instr). j ∷ drop (suc p) is) (get_or_from_slice_get is p i i at)
 
 ahead_cons : (at : ℕ) (s t : State) (i : Instr) (is : List Instr) (shown : Option Shown) → step s i ≡ Performed t shown
-    → ahead_from at s (i ∷ is) ≡ Wanted (step_due (suc at) i (sends i s) (applies i s) t) ∷ ahead_from (suc at) t is
+    → ahead_from at s (i ∷ is) ≡ Wanted (step_due (suc at) i (sends i s) (applies i s) (receives i s) t) ∷ ahead_from (suc at) t is
 ahead_cons at s t i is shown e = rw (ahead_from, e) refl
 
 pub ahead_performed : (at : ℕ) (s t : State) (i : Instr) (is : List Instr) (shown : Option Shown) → slice_get is at ≡ Some i → step s i ≡ Performed t shown
-    → ahead_from at s (drop at is) ≡ Wanted (step_due (suc at) i (sends i s) (applies i s) t) ∷ ahead_from (suc at) t (drop (suc at) is)
+    → ahead_from at s (drop at is) ≡ Wanted (step_due (suc at) i (sends i s) (applies i s) (receives i s) t) ∷ ahead_from (suc at) t (drop (suc at) is)
 ahead_performed at s t i is shown here e = ap (ahead_from at s) (at_place is at i here) ∙ ahead_cons at s t i (drop (suc at) is) shown e
 
 ahead_stop : (at : ℕ) (s : State) (i : Instr) (is : List Instr) (r : Refusal) → step s i ≡ Refused r → ahead_from at s (i ∷ is) ≡ stopping at s i r

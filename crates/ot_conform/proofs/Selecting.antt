@@ -25,6 +25,7 @@ use Rattle.ot_conform.specs.Keys.{is_told}
 use Rattle.ot_conform.specs.Laws.{ChosenStepsConform, IsOfTable, Say, Says, SaysLine, chosen, data_of, has_last, is_last, outcome_at, outcome_of_chosen}
 use Rattle.ot_conform.specs.Passed.{is_end, is_past, is_stop, passes, passes_step, passes_stop}
 use Rattle.ot_conform.specs.Ports.{PortLine, Told, OtherForm, NoText, Nothing, is_opening_line, is_zero}
+use Rattle.ot_conform.specs.Received.{receives}
 use Rattle.ot_conform.specs.declared.keys.Key.TheVariants as key
 use Rattle.ot_conform.proofs.Conforming.{Shows, all_shown, is_the_opening, refused_by_table, says_agrees, step_shown, stop_agrees}
 use Rattle.ot_conform.proofs.Outcomes.{ahead_past, ahead_refused, goes_on, never, nothing_left, over_agrees, over_passes}
@@ -141,7 +142,7 @@ met : (last : ℕ) (due : DueLine) (ahead : List Ahead) (shown : Line) → Shows
     → Say (shown ∷ lines) ports → over true last (Wanted due ∷ ahead) ports ≡ o
 met last due ahead shown shows kept lines [] o on say = absurd say
 met last due ahead shown shows kept lines (port ∷ ports) o on say =
-    over_agrees true last due ahead port ports (kept port say.0) (says_agrees due.line shown port shows say.0) ∙ on ports say.1
+    over_agrees true last due ahead port ports (kept port say.0) (says_agrees due shown port shows say.0) ∙ on ports say.1
 
 -- ---- the lines of instructions
 
@@ -216,13 +217,13 @@ steps_agree documents (i ∷ is) (suc n) at end p q tail which ports stopped few
     -- by whether the line of this instruction is chosen
     by : (t : State) → ((bs : List Bool) (left : List PortLine) → Say (chosen bs (lines_from documents (suc at) t (take n is) ++ tail)) left → over true (suc at) (ahead_from (suc at) t is) left ≡ judged stopped (has_last (chosen bs (lines_from documents (suc at) t (take n is) ++ tail))))
         → (bs : List Bool) → Say (chosen bs (step_line documents (suc at) i p.state t ∷ (lines_from documents (suc at) t (take n is) ++ tail))) ports
-        → over true at (Wanted (step_due (suc at) i (sends i p.state) (applies i p.state) t) ∷ ahead_from (suc at) t is) ports ≡ judged stopped (has_last (chosen bs (step_line documents (suc at) i p.state t ∷ (lines_from documents (suc at) t (take n is) ++ tail))))
-    by t next [] say = skipped at (step_due (suc at) i (sends i p.state) (applies i p.state) t) (ahead_from (suc at) t is) (λ line. ⊥) (λ line port none says. absurd none) [] ports tt say ∙ next [] ports say
+        → over true at (Wanted (step_due (suc at) i (sends i p.state) (applies i p.state) (receives i p.state) t) ∷ ahead_from (suc at) t is) ports ≡ judged stopped (has_last (chosen bs (step_line documents (suc at) i p.state t ∷ (lines_from documents (suc at) t (take n is) ++ tail))))
+    by t next [] say = skipped at (step_due (suc at) i (sends i p.state) (applies i p.state) (receives i p.state) t) (ahead_from (suc at) t is) (λ line. ⊥) (λ line port none says. absurd none) [] ports tt say ∙ next [] ports say
     by t next (false ∷ bs) say =
-        skipped at (step_due (suc at) i (sends i p.state) (applies i p.state) t) (ahead_from (suc at) t is) (Behind (suc at)) (behind_passes (suc at)) (chosen bs (lines_from documents (suc at) t (take n is) ++ tail)) ports (chosen_all (Behind (suc at)) bs (lines_from documents (suc at) t (take n is) ++ tail) (all_behind t)) say
+        skipped at (step_due (suc at) i (sends i p.state) (applies i p.state) (receives i p.state) t) (ahead_from (suc at) t is) (Behind (suc at)) (behind_passes (suc at)) (chosen bs (lines_from documents (suc at) t (take n is) ++ tail)) ports (chosen_all (Behind (suc at)) bs (lines_from documents (suc at) t (take n is) ++ tail) (all_behind t)) say
         ∙ next bs ports say
     by t next (true ∷ bs) say =
-        met at (step_due (suc at) i (sends i p.state) (applies i p.state) t) (ahead_from (suc at) t is) (step_line documents (suc at) i p.state t) (step_shown documents (suc at) i p.state t) (step_kept documents (suc at) i p.state t)
+        met at (step_due (suc at) i (sends i p.state) (applies i p.state) (receives i p.state) t) (ahead_from (suc at) t is) (step_line documents (suc at) i p.state t) (step_shown documents (suc at) i p.state t) (step_kept documents (suc at) i p.state t)
         (chosen bs (lines_from documents (suc at) t (take n is) ++ tail)) ports (judged stopped (has_last (chosen bs (lines_from documents (suc at) t (take n is) ++ tail)))) (next bs) say
         ∙ ap (λ (b : Bool). judged stopped (b || has_last (chosen bs (lines_from documents (suc at) t (take n is) ++ tail)))) (sym (step_not_last documents (suc at) i p.state t))
 
@@ -232,7 +233,7 @@ steps_agree documents (i ∷ is) (suc n) at end p q tail which ports stopped few
         → (elim out [ Performed t list ↦ run (take n is) (record { state = t; shown = with_shown p.shown list }) | Refused r ↦ None | NoRow ↦ None ]) ≡ Some q
         → (bs : List Bool)
         → Say (chosen bs ((elim out [ Performed t list ↦ step_line documents (suc at) i p.state t ∷ lines_from documents (suc at) t (take n is) | Refused r ↦ [] | NoRow ↦ [] ]) ++ tail)) ports
-        → over true at (elim out [ Performed t list ↦ Wanted (step_due (suc at) i (sends i p.state) (applies i p.state) t) ∷ ahead_from (suc at) t is | Refused r ↦ stopping at p.state i r | NoRow ↦ [] ]) ports
+        → over true at (elim out [ Performed t list ↦ Wanted (step_due (suc at) i (sends i p.state) (applies i p.state) (receives i p.state) t) ∷ ahead_from (suc at) t is | Refused r ↦ stopping at p.state i r | NoRow ↦ [] ]) ports
         ≡ judged stopped (has_last (chosen bs ((elim out [ Performed t list ↦ step_line documents (suc at) i p.state t ∷ lines_from documents (suc at) t (take n is) | Refused r ↦ [] | NoRow ↦ [] ]) ++ tail)))
     go next (Performed t list) here bs say = by t (next t list here) bs say
     go next (Refused r) here bs say = absurd (cc)

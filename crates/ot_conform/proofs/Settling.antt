@@ -16,6 +16,7 @@ use Rattle.ot_conform.specs.Due.{DueLine, end_due, step_due, stop_due}
 use Rattle.ot_conform.specs.Passed.{passes, passes_step, passes_stop}
 use Rattle.ot_conform.specs.Ports.{PortLine, Told, OtherForm, NoText, Nothing, front, is_nothing}
 use Rattle.ot_conform.specs.Read.{read_as}
+use Rattle.ot_conform.specs.Received.{receives}
 use Rattle.ot_conform.specs.Standing.{AgreesAt, EndsAt, Goes, IsStanding, IsVerdict, rest, rest_at}
 use Rattle.ot_conform.proofs.Outcomes.{IsNeeded, IsThere, ahead_performed, ahead_refused, goes_on, is_difference, never, over_passes, stops, table_or_memory}
 use Rattle.ot_conform.proofs.Going.{ahead_of, front_there, goes_last, passed_next, rest_passed, running}
@@ -84,7 +85,7 @@ abbrev pub Keeps : Result Counts Difference → (Counts → Comparison) → Comp
 Keeps judged at c' = (counts : Counts) × (judged ≡ Ok counts) × (c' ≡ at counts)
 
 pub agreed : (due : DueLine) (line : PortLine) (counts : Counts) (judged : Result Counts Difference) (at : Counts → Comparison) (c' : Comparison) → IsJudged counts due line judged → Keeps judged at c'
-    → (field_of due.line line ≡ None) × (c' ≡ at (with_port_line counts line))
+    → (field_of due line ≡ None) × (c' ≡ at (with_port_line counts line))
 agreed due line counts judged at c' compared kept = let is = subst (IsJudged counts due line) kept.1 compared in (is.0, kept.2 ∙ ap at is.1)
 
 -- ---- the end's line
@@ -93,7 +94,7 @@ pub end_agrees : (c c' : Comparison) (line : PortLine) (quiet : Bool) (judged : 
     → Keeps judged (λ counts. record c { stage = Over; counts = counts }) c' → AgreesAt (end_due c.place (is_quiet c.machine)) Over c line c'
 end_agrees c c' line quiet judged is compared kept =
     let both = agreed (end_due c.place quiet) line c.counts judged (λ counts. record c { stage = Over; counts = counts }) c' compared kept in
-    record { agrees = subst (λ (q : Bool). field_of (end_due c.place q).line line ≡ None) is both.0; is = both.1 }
+    record { agrees = subst (λ (q : Bool). field_of (end_due c.place q) line ≡ None) is both.0; is = both.1 }
 
 pub end_decides : (c : Comparison) (line : PortLine) (quiet : Bool) (judged : Result Counts Difference) (result : Option Verdict) → IsThere line → quiet ≡ is_quiet c.machine → IsJudged c.counts (end_due c.place quiet) line judged
     → IfSome result (λ v. (d : Difference) × (judged ≡ Err d) × (v ≡ Differs d))
@@ -184,14 +185,14 @@ same_verdict s c mid line v same given = subst (λ (x : Comparison). (lines : Li
 -- ---- the line of an instruction that is performed
 
 pub step_decides : (s : Program) (c : Comparison) (line : PortLine) (i : Instr) (t : State) (shown : Option Shown) (due : DueLine) (judged : Result Counts Difference) (result : Option Verdict)
-    → slice_get s.instrs c.place ≡ Some i → step c.machine i ≡ Performed t shown → due ≡ step_due (suc c.place) i (sends i c.machine) (applies i c.machine) t → (line ≡ Nothing → c.sparse ≡ false)
+    → slice_get s.instrs c.place ≡ Some i → step c.machine i ≡ Performed t shown → due ≡ step_due (suc c.place) i (sends i c.machine) (applies i c.machine) (receives i c.machine) t → (line ≡ Nothing → c.sparse ≡ false)
     → (c.sparse && passes_step (c.place + 1) line) ≡ false → IsJudged c.counts due line judged
     → IfSome result (λ v. (d : Difference) × (judged ≡ Err d) × (v ≡ Differs d))
     → IfSome result (λ v. (lines : List PortLine) → IsVerdict c line (over c.sparse c.place (ahead_of s c) (front line lines)) v)
 step_decides s c line i t shown due judged result here performed is there kept compared found =
     let P : List Ahead → Type 0 = λ ahead. IfSome result (λ v. (lines : List PortLine) → IsVerdict c line (over c.sparse c.place ahead (front line lines)) v) in
     subst P (sym (ahead_performed c.place c.machine t i s.instrs shown here performed))
-    (settled c c.place (step_due (suc c.place) i (sends i c.machine) (applies i c.machine) t) (ahead_from (suc c.place) t (drop (suc c.place) s.instrs)) line judged result (inl tt) there
+    (settled c c.place (step_due (suc c.place) i (sends i c.machine) (applies i c.machine) (receives i c.machine) t) (ahead_from (suc c.place) t (drop (suc c.place) s.instrs)) line judged result (inl tt) there
     (passed_next c line false kept) (subst (λ (d : DueLine). IsJudged c.counts d line judged) is compared) found)
 
 -- where an instruction stands at the place, the line does not pass over it

@@ -16,7 +16,7 @@ IsPrinted line bytes = bytes ++ 10 ∷ [] ≡ line_text line
 
 -- a port's line with these bytes agrees with the one that is due, and has the values that the line of `steps` has
 pub record StandsFor (due : DueLine) (printed : Line) : Type 0 where
-  pub agrees : (bytes : List ℕ) → IsPrinted printed bytes → field_of due.line (port_line bytes) ≡ None
+  pub agrees : (bytes : List ℕ) → IsPrinted printed bytes → field_of due (port_line bytes) ≡ None
   pub counts : (bytes : List ℕ) (c : Counts) → IsPrinted printed bytes → with_port_line c (port_line bytes) ≡ with_printed c printed
 
 -- a line agrees with the one that is due, and these are the counts with what it says; or this is the difference

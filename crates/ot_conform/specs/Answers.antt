@@ -17,6 +17,7 @@ use Rattle.ot_conform.specs.Differences.{Outcome, Conforms, Differs, LeftOver, S
 use Rattle.ot_conform.specs.Keys.{found_at, is_null, is_part, key_text}
 use Rattle.ot_conform.specs.Ports.{PortLine, Told, OtherForm, NoText, Nothing}
 use Rattle.ot_conform.specs.Counted.{is_nothing, tells}
+use Rattle.ot_conform.specs.Received.{received_text}
 use Rattle.ot_conform.specs.Values.{text_at}
 use Rattle.ot_conform.specs.declared.answers.Difference.{Difference}
 use Rattle.ot_conform.specs.declared.counts.Counts.{Counts}
@@ -73,9 +74,16 @@ owned Opening k = key_name k
 owned (Instruction i) k = if is_theirs k then with_owner (placed_client i) (key_name k) else key_name k
 owned End k = key_name k
 
+-- the message, with whose instruction it is
+abbrev pub message_name : What → List ℕ
+message_name Opening = codes "message"
+message_name (Instruction i) = with_owner (placed_client i) (codes "message")
+message_name End = codes "message"
+
 abbrev pub field_text : What → Field → List ℕ
 field_text what field.Line = codes "line"
 field_text what field.Stopped = codes "stopped"
+field_text what field.Message = message_name what
 field_text what (field.Key k) = owned what k
 
 -- differs at P: WHAT: FIELD
@@ -101,6 +109,7 @@ IsLineText Nothing text = text ≡ codes "nothing"
 abbrev pub IsToldText : Field → Data → List ℕ → Type 0
 IsToldText field.Line d text = IsJson d text
 IsToldText field.Stopped d text = IsValueText (codes "performed") (get (codes "stopped") d) text
+IsToldText field.Message d text = IsValueText (codes "none") (get (codes "message") d) text
 IsToldText (field.Key k) d text = IsValueText (codes "none") (found_at k d) text
 
 abbrev pub IsFoundText : Field → PortLine → List ℕ → Type 0
@@ -117,6 +126,7 @@ stopped_text (Some refusal) = refusal_text refusal
 abbrev pub wanted_text : Field → DueLine → List ℕ
 wanted_text field.Line due = line_text due.shown
 wanted_text field.Stopped due = stopped_text due.line.stopped
+wanted_text field.Message due = unwrap_or (option_map received_text due.received) (codes "none")
 wanted_text (field.Key k) due = unwrap_or (text_at k due.line) (codes "none")
 
 -- ---- for two texts, how many scalars at the front are equal
@@ -155,6 +165,7 @@ front_of (Some found) (Some wanted) = Some (same_front found wanted)
 abbrev pub told_front : Field → Line → Data → Option ℕ
 told_front field.Line line d = None
 told_front field.Stopped line d = None
+told_front field.Message line d = None
 told_front (field.Key k) line d = front_of (option_map chars (option_and_then as_str (found_at k d))) (letters_at k line)
 
 abbrev pub front_at : Field → Line → PortLine → Option ℕ
@@ -196,8 +207,8 @@ pub record IsDifference (due : DueLine) (f : Field) (line : PortLine) (d : Diffe
 
 -- a line agrees with the one that is due, or this is the difference
 abbrev pub IsCompared : DueLine → PortLine → Option Difference → Type 0
-IsCompared due line None = field_of due.line line ≡ None
-IsCompared due line (Some d) = (f : Field) × (field_of due.line line ≡ Some f) × IsDifference due f line d
+IsCompared due line None = field_of due line ≡ None
+IsCompared due line (Some d) = (f : Field) × (field_of due line ≡ Some f) × IsDifference due f line d
 
 -- a line behind the end
 pub record IsLeftOver (last : ℕ) (left : PortLine) (d : Difference) : Type 0 where
@@ -220,6 +231,7 @@ IsDifferenceOf (Stopped at refusal) d = ⊥
 abbrev pub wanted_row : Field → List ℕ → List ℕ
 wanted_row field.Line text = codes "ot.js " ++ text
 wanted_row field.Stopped text = codes "ot.js " ++ line text
+wanted_row field.Message text = codes "ot.js " ++ line text
 wanted_row (field.Key k) text = codes "ot.js " ++ line text
 
 abbrev pub front_rows : Option ℕ → List ℕ

@@ -11,9 +11,10 @@ use Rattle.ot_model.specs.Runs.{opening_of}
 use Rattle.ot_steps.specs.Lines.{Line}
 use Rattle.ot_steps.specs.Steps.{applies, is_quiet, sends}
 use Rattle.ot_conform.specs.Due.{DueLine, What, Opening, Instruction, End, end_due, opening_due, step_due, stop_due}
-use Rattle.ot_conform.specs.Keys.{agrees_at, all_keys, found_at, is_told}
+use Rattle.ot_conform.specs.Keys.{agrees_at, first_keys, found_at, is_told, other_keys}
 use Rattle.ot_conform.specs.Passed.{passes}
 use Rattle.ot_conform.specs.Ports.{PortLine, Told, OtherForm, NoText, Nothing, is_opening_line}
+use Rattle.ot_conform.specs.Received.{message_agrees, receives}
 use Rattle.ot_conform.specs.Values.{text_at}
 use Rattle.ot_conform.specs.declared.keys.Key.{Key}
 use Rattle.ot_conform.specs.declared.meeting.Field.{Field}
@@ -34,17 +35,32 @@ abbrev pub is_same : Bool → Bool → Bool
 is_same true b = b
 is_same false b = not b
 
+abbrev pub field_of_message : Bool → Option Field
+field_of_message true = None
+field_of_message false = Some field.Message
+
+-- the first of two
+abbrev pub or_next : Option Field → Option Field → Option Field
+or_next None next = next
+or_next (Some f) next = Some f
+
+-- the keys that say which line it is, then the message, and then the other keys
+abbrev pub keyed_field : DueLine → Data → Option Field
+keyed_field due d =
+    or_next (field_of_key (first_key first_keys due.line d))
+    (or_next (field_of_message (message_agrees due.received (get (codes "message") d))) (field_of_key (first_key other_keys due.line d)))
+
 -- whether both stop or none does, and then the keys in their order
-abbrev pub told_field : Line → Data → Option Field
-told_field line d =
-    if is_same (is_some line.stopped) (is_told (get (codes "stopped") d)) then field_of_key (first_key all_keys line d) else Some field.Stopped
+abbrev pub told_field : DueLine → Data → Option Field
+told_field due d =
+    if is_same (is_some due.line.stopped) (is_told (get (codes "stopped") d)) then keyed_field due d else Some field.Stopped
 
 -- where a port's line differs from the one that is due, if it does
-abbrev pub field_of : Line → PortLine → Option Field
-field_of line (Told d) = told_field line d
-field_of line (OtherForm bytes) = Some field.Line
-field_of line NoText = Some field.Line
-field_of line Nothing = Some field.Line
+abbrev pub field_of : DueLine → PortLine → Option Field
+field_of due (Told d) = told_field due d
+field_of due (OtherForm bytes) = Some field.Line
+field_of due NoText = Some field.Line
+field_of due Nothing = Some field.Line
 
 -- ---- all lines
 
@@ -82,7 +98,7 @@ over sparse last [] (line ∷ lines) = LeftOver last line
 over sparse last (Wanted due ∷ ahead) [] = missing sparse due.what due
 over sparse last (Wanted due ∷ ahead) (line ∷ lines) =
     if passes sparse due line then over sparse due.line.at ahead (line ∷ lines)
-    else unless_differs due line (field_of due.line line) (over sparse due.line.at ahead lines)
+    else unless_differs due line (field_of due line) (over sparse due.line.at ahead lines)
 over sparse last (Limit at refusal ∷ ahead) [] = unless_sparse sparse (Stopped at refusal)
 over sparse last (Limit at refusal ∷ ahead) (line ∷ lines) = Stopped at refusal
 
@@ -116,7 +132,7 @@ abbrev pub ahead_from : ℕ → State → List Instr → List Ahead
 ahead_from at s [] = ending at s
 ahead_from at s (i ∷ is) =
     elim (step s i) [
-      | Performed t shown ↦ Wanted (step_due (suc at) i (sends i s) (applies i s) t) ∷ ahead_from (suc at) t is
+      | Performed t shown ↦ Wanted (step_due (suc at) i (sends i s) (applies i s) (receives i s) t) ∷ ahead_from (suc at) t is
       | Refused r ↦ stopping at s i r
       | NoRow ↦ []
     ]

@@ -15,6 +15,7 @@ use Rattle.ot_machine.specs.declared.state.Phase.{Phase}
 use Rattle.ot_machine.specs.Readers.{phase_name}
 use Rattle.ot_steps.specs.Lines.{Line, Message, plain_message, plain_operation, word_of}
 use Rattle.ot_steps.specs.Steps.{appended_by, buffer_of, client_in, document_in, edit_of, end_line, line_after, message_in, opening_line, outstanding_of, stop_line}
+use Rattle.ot_conform.specs.Received.{Received, received_in}
 use Rattle.ot_conform.specs.declared.due.Step.{Step}
 use Rattle.ot_conform.specs.declared.due.Due.{Due}
 use Rattle.ot_conform.specs.declared.due.Due.TheVariants as due
@@ -97,29 +98,31 @@ instr_of Opening = None
 instr_of (Instruction i) = Some i
 instr_of End = None
 
--- a line that is due: all values that it has, and the line as `steps` prints it
+-- a line that is due: what the instruction receives, all values that it has, and the line as `steps` prints it
 pub record DueLine : Type 0 where
   pub what : What
+  pub received : Option Received
   pub line : Line
   pub shown : Line
 
 abbrev pub opening_due : Program → DueLine
-opening_due s = record { what = Opening; line = opening_line s; shown = opening_line s }
+opening_due s = record { what = Opening; received = None; line = opening_line s; shown = opening_line s }
 
-abbrev pub step_due : ℕ → Instr → Bool → Option (Operation ℕ) → State → DueLine
-step_due at i sent delivered t =
-    record { what = Instruction i; line = whole_line at i sent delivered t; shown = line_after false at i sent delivered t }
+abbrev pub step_due : ℕ → Instr → Bool → Option (Operation ℕ) → Option Received → State → DueLine
+step_due at i sent delivered received t =
+    record { what = Instruction i; received = received; line = whole_line at i sent delivered t; shown = line_after false at i sent delivered t }
 
 abbrev pub stop_due : ℕ → Instr → Refusal → DueLine
-stop_due at i refusal = record { what = Instruction i; line = stop_line at i refusal; shown = stop_line at i refusal }
+stop_due at i refusal = record { what = Instruction i; received = None; line = stop_line at i refusal; shown = stop_line at i refusal }
 
 abbrev pub end_due : ℕ → Bool → DueLine
-end_due at quiet = record { what = End; line = end_line at quiet; shown = end_line at quiet }
+end_due at quiet = record { what = End; received = None; line = end_line at quiet; shown = end_line at quiet }
 
 -- the line that the program has at hand
 abbrev pub due_of : Due → DueLine
 due_of (due.Opening schedule) = opening_due schedule.now
-due_of (due.Step step) = step_due step.at step.instr.now step.sent (option_map plain_operation (option_copied step.delivered)) step.machine.now
+due_of (due.Step step) =
+    step_due step.at step.instr.now step.sent (option_map plain_operation (option_copied step.delivered)) (received_in step.machine.now step.received.now) step.machine.now
 due_of (due.Stop stop) = stop_due stop.at stop.instr.now stop.refusal
 due_of (due.End at quiet) = end_due at quiet
 

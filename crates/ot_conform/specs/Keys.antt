@@ -7,16 +7,14 @@ use Rattle.serde_json.specs.Written.{compact_text}
 use Rattle.ot_conform.specs.declared.keys.Key.{Key}
 use Rattle.ot_conform.specs.declared.keys.Key.TheVariants as key
 
--- the keys in the order in which they are compared
-abbrev pub all_keys : List Key
-all_keys =
-    key.At
-    ∷ key.Clients
-    ∷ key.Present
-    ∷ key.Start
-    ∷ key.Do
-    ∷ key.Client
-    ∷ key.Edit
+-- the keys in the order in which they are compared: those that say which line it is, before the message,
+abbrev pub first_keys : List Key
+first_keys = key.At ∷ key.Clients ∷ key.Present ∷ key.Start ∷ key.Do ∷ key.Client ∷ []
+
+-- and the others behind it
+abbrev pub other_keys : List Key
+other_keys =
+    key.Edit
     ∷ key.Revision
     ∷ key.State
     ∷ key.Outstanding

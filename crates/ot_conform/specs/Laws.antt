@@ -1,13 +1,14 @@
 -- What comes of the lines of `steps` themselves.
 use Rattle.std.specs.Prelude.{◌≡◌, ◌≢◌, ◌||◌, ℕ, List, [], ◌∷◌, map, Bool, false, true, Option, Some, None, codes, is_some, option_map, if◌then◌else◌}
 use Rattle.std.specs.Str.{encode_utf8_all}
-use Rattle.serde_json.specs.Data.{Data, number, unsigned, string, object, no_members, member}
+use Rattle.serde_json.specs.Data.{Data, null, boolean, number, unsigned, string, array, object, no_members, member, put}
 use Rattle.serde_json.specs.Find.{get}
 use Rattle.line_reader.specs.Lines.{lines_of}
 use Rattle.ot_text.specs.Run.{normal_runs}
 use Rattle.ot_json.specs.Writing.{array_of}
 use Rattle.ot_isa.specs.Program.{IsProgram, Program}
 use Rattle.ot_model.specs.Operation.{Operation}
+use Rattle.ot_model.specs.Runs.{opening_of}
 use Rattle.ot_model.specs.declared.shown.Refusal.{Refusal}
 use Rattle.ot_model.specs.declared.shown.Refusal.TheVariants.{Memory}
 use Rattle.ot_values.specs.Values.{refusal_text}
@@ -15,9 +16,10 @@ use Rattle.ot_steps.specs.Lines.{Line, Message}
 use Rattle.ot_steps.specs.Text.{Value, Number, Name, Text, Op, Sent, lines_text}
 use Rattle.ot_steps.specs.Written.{AreRunLines}
 use Rattle.ot_conform.specs.Counted.{counted, is_nothing, no_counts}
-use Rattle.ot_conform.specs.Differences.{Outcome, Conforms, Stopped, is_limit, outcome}
+use Rattle.ot_conform.specs.Differences.{Ahead, Wanted, Limit, Outcome, Conforms, Stopped, ahead_from, is_limit, outcome}
 use Rattle.ot_conform.specs.Keys.{found_at}
-use Rattle.ot_conform.specs.Ports.{PortLine, Told, OtherForm, NoText, Nothing, counted_lines}
+use Rattle.ot_conform.specs.Ports.{PortLine, Told, OtherForm, NoText, Nothing, counted_lines, is_opening_line}
+use Rattle.ot_conform.specs.Received.{Received, Taken, Delivered}
 use Rattle.ot_conform.specs.Values.{value_at}
 use Rattle.ot_conform.specs.declared.keys.Key.{Key}
 
@@ -35,10 +37,11 @@ data_of (Text text) = string (encode_utf8_all text)
 data_of (Op op) = operation_data op
 data_of (Sent m) = message_data m
 
--- an object says under each key what the line has there, and nothing where it has nothing
+-- an object says under each key what the line has there, and nothing where it has nothing; lines of `steps` have no message
 pub record Says (line : Line) (d : Data) : Type 0 where
   pub under : (k : Key) → found_at k d ≡ option_map data_of (value_at k line)
   pub stopped : get (codes "stopped") d ≡ option_map (λ r. string (refusal_text r)) line.stopped
+  pub message : get (codes "message") d ≡ None
 
 -- a port's lines say these, one by one
 abbrev pub SaysLine : Line → PortLine → Type 0
@@ -52,6 +55,41 @@ Say [] [] = Unit {0}
 Say [] (port ∷ ports) = ⊥
 Say (line ∷ lines) [] = ⊥
 Say (line ∷ lines) (port ∷ ports) = SaysLine line port × Say lines ports
+
+-- what an instruction receives as JSON
+abbrev pub received_data : Received → Data
+received_data (Taken m) = message_data m
+received_data (Delivered op) = operation_data op
+
+-- an object with the message too; other lines are what they are
+abbrev pub with_message : Option Received → PortLine → PortLine
+with_message None line = line
+with_message (Some received) (Told null) = Told null
+with_message (Some received) (Told (boolean b)) = Told (boolean b)
+with_message (Some received) (Told (number n)) = Told (number n)
+with_message (Some received) (Told (string s)) = Told (string s)
+with_message (Some received) (Told (array ds)) = Told (array ds)
+with_message (Some received) (Told (object ms)) = Told (object (put (codes "message") (received_data received) ms))
+with_message (Some received) (OtherForm bytes) = OtherForm bytes
+with_message (Some received) NoText = NoText
+with_message (Some received) Nothing = Nothing
+
+-- each line with what the instruction received of which it is
+abbrev pub with_messages : List Ahead → List PortLine → List PortLine
+with_messages [] lines = lines
+with_messages (Wanted due ∷ ahead) [] = []
+with_messages (Wanted due ∷ ahead) (line ∷ lines) = with_message due.received line ∷ with_messages ahead lines
+with_messages (Limit at refusal ∷ ahead) lines = lines
+
+-- behind the opening's line, if there is one
+abbrev pub messages_told : Program → List PortLine → List PortLine
+messages_told s [] = []
+messages_told s (line ∷ lines) =
+    if is_opening_line line then line ∷ with_messages (ahead_from 0 (opening_of s) s.instrs) lines else with_messages (ahead_from 0 (opening_of s) s.instrs) (line ∷ lines)
+
+-- a port that conforms does so too where it prints what each instruction received
+abbrev pub MessagesConform : Type 0
+MessagesConform = (s : Program) (lines : List PortLine) → outcome false s lines ≡ Conforms → outcome false s (messages_told s lines) ≡ Conforms
 
 -- what comes of a run that ends so
 abbrev pub outcome_at : Option (ℕ × Refusal) → Outcome
@@ -119,6 +157,11 @@ StepsAreCounted =
 abbrev pub place_alone : ℕ → PortLine
 place_alone n = Told (object (member (codes "at") (number (unsigned n)) no_members))
 
--- of lines with places alone nothing is counted
+-- an object with a place, and a message where one is given
+abbrev pub place_with : ℕ → Option Data → PortLine
+place_with n None = place_alone n
+place_with n (Some message) = Told (object (member (codes "at") (number (unsigned n)) (member (codes "message") message no_members)))
+
+-- of lines with places and messages alone nothing is counted
 abbrev pub PlacesAreNotCounted : Type 0
-PlacesAreNotCounted = (places : List ℕ) → is_nothing (counted no_counts (map place_alone places)) ≡ true
+PlacesAreNotCounted = (lines : List (ℕ × Option Data)) → is_nothing (counted no_counts (map (λ (l : ℕ × Option Data). place_with l.0 l.1) lines)) ≡ true

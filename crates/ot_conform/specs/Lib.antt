@@ -2,6 +2,7 @@ pub mod Keys
 pub mod Ports
 pub mod Read
 pub mod Counted
+pub mod Received
 pub mod Due
 pub mod Values
 pub mod Passed

@@ -37,24 +37,27 @@ ruled_key key.Appended = value.Appended
 ruled_key key.Document = value.Document
 ruled_key key.End = value.End
 
-abbrev pub ruled_field : Field → rules.Field
-ruled_field field.Line = value.Line
-ruled_field field.Stopped = value.Stopped
-ruled_field (field.Key k) = ruled_key k
+-- no rule makes the message: one that differs was changed on its way
+abbrev pub ruled_field : Field → Option rules.Field
+ruled_field field.Line = Some value.Line
+ruled_field field.Stopped = Some value.Stopped
+ruled_field field.Message = None
+ruled_field (field.Key k) = Some (ruled_key k)
 
--- what the rules are asked of a difference
-abbrev pub asked : Difference → explained.Difference
-asked d = record { field = ruled_field d.field; found = string_bytes d.found; wanted = string_bytes d.wanted; printed = d.tells_operation }
+-- what the rules are asked of a difference at a value
+abbrev pub asked : Difference → rules.Field → explained.Difference
+asked d f = record { field = f; found = string_bytes d.found; wanted = string_bytes d.wanted; printed = d.tells_operation }
 
--- what they say of it at an instruction of the schedule's run; nothing where none was performed
-abbrev pub AreRules : Program → Option ℕ → explained.Difference → List ℕ → Type 0
-AreRules s None d text = text ≡ []
-AreRules s (Some number) d text = Explains s number d text
+-- what they say of it at an instruction of the schedule's run; nothing where none was performed, or no rule makes the value
+abbrev pub AreRules : Program → Option ℕ → Option rules.Field → Difference → List ℕ → Type 0
+AreRules s None f d text = text ≡ []
+AreRules s (Some number) None d text = text ≡ []
+AreRules s (Some number) (Some f) d text = Explains s number (asked d f) text
 
 -- the rows of a difference, the code points of what may look alike, and behind them what the rules say
 pub record IsDifferenceText (s : Program) (d : Difference) (text : List ℕ) : Type 0 where
   pub rules : List ℕ
-  pub said : AreRules s d.number (asked d) rules
+  pub said : AreRules s d.number (ruled_field d.field) d rules
   pub is : text ≡ difference_text d ++ (difference_points d ++ rules)
 
 -- the lines of the answer

@@ -48,7 +48,7 @@ rest s c lines = rest_at s c c.stage lines
 
 -- the line agrees with the one that is due, and then that of the next stage is
 pub record AgreesAt (due : DueLine) (stage : Stage) (c : Comparison) (line : PortLine) (c' : Comparison) : Type 0 where
-  pub agrees : field_of due.line line ≡ None
+  pub agrees : field_of due line ≡ None
   pub is : c' ≡ record c { stage = stage; counts = with_port_line c.counts line }
 
 -- the line agrees, and the comparison goes on

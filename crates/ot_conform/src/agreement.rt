@@ -37,8 +37,8 @@ fn is_plain(value: &Value) -> bool
     }
 }
 
-// Whether the value is written so, without blanks.
-fn is_written(alloc: Global, value: &Value, text: &str) -> Result<bool, AllocError>
+/// Whether the value is written so, without blanks; out of memory for writing it down.
+pub(crate) fn is_written(alloc: Global, value: &Value, text: &str) -> Result<bool, AllocError>
     ensures { IfOk result (λ is. is ≡ is_written text.now (view value.now)) }
 {
     if !is_plain(value) {

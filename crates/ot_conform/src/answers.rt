@@ -4,7 +4,7 @@ ghost use Rattle.std.specs.Prelude.{◌≡◌, IfOk, option_and_then, option_map
 ghost use Rattle.std.specs.Str.{chars};
 ghost use Rattle.serde_json.specs.Find.{as_str};
 ghost use Rattle.serde_json.specs.View.{view};
-ghost use Rattle.ot_conform.specs.Answers.{IsDifference, IsFoundText, IsJson, IsLeftOver, IsLineText, IsToldText, IsValueText, field_text, front_at, instr_text, is_theirs, key_name, owned, same_front, tells_operation, told_front, wanted_text, what_text};
+ghost use Rattle.ot_conform.specs.Answers.{IsDifference, IsFoundText, IsJson, IsLeftOver, IsLineText, IsToldText, IsValueText, field_text, front_at, instr_text, is_theirs, key_name, message_name, owned, same_front, tells_operation, told_front, wanted_text, what_text, with_owner};
 ghost use Rattle.json.specs.Print.{quoted};
 ghost use Rattle.ot_conform.specs.Due.{Instruction, IsOfMachine, due_of};
 ghost use Rattle.ot_conform.specs.Keys.{found_at};
@@ -87,6 +87,16 @@ fn key_name(alloc: Global, key: Key) -> Result<String, AllocError>
     String::from_str(alloc, name)
 }
 
+// A name, with whose value it is.
+fn with_owner(alloc: Global, owner: Option<u16>, name: &str) -> Result<String, AllocError>
+    ensures { IfOk result (λ s. string_bytes s ≡ with_owner owner name.now) }
+{
+    match owner {
+        Some(client) => format!(in alloc; "client {client} {name}"),
+        None => format!(in alloc; "server {name}"),
+    }
+}
+
 // A key of an instruction's line, with whose value it is.
 fn owned(alloc: Global, instr: &Instr, key: Key) -> Result<String, AllocError>
     ensures { IfOk result (λ s. string_bytes s ≡ owned (Instruction instr.now) key) }
@@ -95,9 +105,18 @@ fn owned(alloc: Global, instr: &Instr, key: Key) -> Result<String, AllocError>
     if !is_theirs(key) {
         return Ok(name);
     }
-    match placed_client(instr) {
-        Some(client) => format!(in alloc; "client {client} {name}"),
-        None => format!(in alloc; "server {name}"),
+    with_owner(alloc, placed_client(instr), name.as_str())
+}
+
+// The message, with whose instruction it is.
+fn message_name(alloc: Global, due: &Due<'_>) -> Result<String, AllocError>
+    ensures { IfOk result (λ s. string_bytes s ≡ message_name (due_of due.now).what) }
+{
+    match due {
+        Due::Step(step) => with_owner(alloc, placed_client(step.instr), "message"),
+        Due::Stop(stop) => with_owner(alloc, placed_client(stop.instr), "message"),
+        Due::Opening(_) => String::from_str(alloc, "message"),
+        Due::End { .. } => String::from_str(alloc, "message"),
     }
 }
 
@@ -108,6 +127,7 @@ fn field_text(alloc: Global, due: &Due<'_>, field: Field) -> Result<String, Allo
     let key = match field {
         Field::Line => return String::from_str(alloc, "line"),
         Field::Stopped => return String::from_str(alloc, "stopped"),
+        Field::Message => return message_name(alloc, due),
         Field::Key(key) => key,
     };
     match due {
@@ -142,6 +162,7 @@ fn told_text(alloc: Global, line: &Value, field: Field) -> Result<String, AllocE
     match field {
         Field::Line => json_text(alloc, line),
         Field::Stopped => value_text(alloc, "performed", line.get("stopped")),
+        Field::Message => value_text(alloc, "none", line.get("message")),
         Field::Key(key) => value_text(alloc, "none", found(line, key)),
     }
 }
@@ -188,6 +209,10 @@ fn wanted_text(alloc: Global, due: &Due<'_>, field: Field) -> Result<String, All
         Field::Stopped => match due.refusal() {
             Some(refusal) => String::from_str(alloc, refusal_name(refusal)),
             None => String::from_str(alloc, "performed"),
+        },
+        Field::Message => match due.message(alloc)? {
+            Some(text) => Ok(text),
+            None => String::from_str(alloc, "none"),
         },
         Field::Key(key) => match due.text(alloc, key)? {
             Some(text) => Ok(text),

@@ -11,6 +11,7 @@ ghost use Rattle.ot_conform.specs.Differences.{is_limit};
 ghost use Rattle.ot_conform.specs.Due.{IsOfMachine, due_of, step_due};
 ghost use Rattle.ot_conform.specs.Ports.{is_nothing};
 ghost use Rattle.ot_conform.specs.Read.{given_as, read_as};
+ghost use Rattle.ot_conform.specs.Received.{received_in};
 
 use crate::answers::{Difference, differs, left_over};
 use crate::counts::Counts;
@@ -18,6 +19,7 @@ use crate::due::{Due, Step, Stop};
 use crate::lines::{Given, PortLine, is_opening_line, read_line};
 use crate::meeting::meet;
 use crate::passing::{passes_step, passes_stop};
+use crate::received::Received;
 use crate::same_bytes::printed_form;
 use ot_isa::{Instr, Schedule, Tagged};
 use ot_machine::{Machine, Refusal};
@@ -115,10 +117,11 @@ fn compare_step<'a>(
     instr: &'a Instr,
     sent: bool,
     delivered: Option<&'a TextOp<Tagged>>,
+    received: &'a Received,
 ) -> Result<Result<Counts, Difference>, AllocError>
     requires there { IsForClients (length machine.now.clients) instr.now }
-    requires printed { (documents : Bool) → StandsFor (step_due at instr.now sent (option_map plain_operation (option_copied delivered)) machine.now) (line_after documents at instr.now sent (option_map plain_operation (option_copied delivered)) machine.now) }
-    ensures { IfOk result (λ judged. IsJudged counts (step_due at instr.now sent (option_map plain_operation (option_copied delivered.entry)) machine.now) (given_as line.entry) judged) }
+    requires printed { (documents : Bool) → StandsFor (step_due at instr.now sent (option_map plain_operation (option_copied delivered)) (received_in machine.now received.now) machine.now) (line_after documents at instr.now sent (option_map plain_operation (option_copied delivered)) machine.now) }
+    ensures { IfOk result (λ judged. IsJudged counts (step_due at instr.now sent (option_map plain_operation (option_copied delivered.entry)) (received_in machine.now received.now) machine.now) (given_as line.entry) judged) }
 {
     let step = Step {
         machine,
@@ -126,6 +129,7 @@ fn compare_step<'a>(
         instr,
         sent,
         delivered,
+        received,
     };
     if let Given::Bytes(bytes) = line {
         if let Some(documents) = printed_form(alloc, &step, bytes) {
@@ -355,6 +359,7 @@ impl Comparison {
         // For the proof: the invariant of every schedule.
         let _clients = schedule.clients();
         let sent = sends(&self.machine, instr);
+        let received = Received::of(&self.machine, instr)?;
         let applied = match perform(&mut self.machine, instr) {
             Ok(applied) => applied,
             Err(refusal) => return self.take_refused(alloc, schedule, instr, refusal, line),
@@ -371,6 +376,7 @@ impl Comparison {
             instr,
             sent,
             delivered,
+            &received,
         )?;
         Ok(self.settle(judged))
     }

@@ -12,9 +12,12 @@ ghost use Rattle.ot_values.specs.Values.{phase_word};
 ghost use Rattle.ot_conform.specs.Answers.{letters_at, number_before, number_of};
 ghost use Rattle.ot_conform.specs.Counted.{has};
 ghost use Rattle.ot_conform.specs.Due.{IsOfMachine, applied_by, buffer_at, due_of, instr_of, is_read, message_if, messages, moved_client, outstanding_at, placed_client, printed_line, revision_at, state_at};
+ghost use Rattle.ot_conform.specs.Received.{received_agrees, received_text};
 ghost use Rattle.ot_conform.specs.Values.{text_at};
+ghost use Rattle.serde_json.specs.View.{view};
 
 use crate::keys::Key;
+use crate::received::Received;
 use crate::texts::{letters_text, list_text, name_text, number_text, operation_text, sent_text};
 use ot_client::{Client, Sent};
 use ot_isa::{Instr, Schedule, Tagged};
@@ -24,6 +27,7 @@ use ot_sections::Held;
 use ot_steps::{plain_held, print_end, print_opening, print_step, print_stop, word};
 use ot_text::{Doc, TextOp};
 use ot_values::phase_name;
+use serde_json::Value;
 use std::alloc::{AllocError, Global};
 
 /// An instruction that was performed.
@@ -38,6 +42,8 @@ pub struct Step<'a> {
     pub sent: bool,
     /// What it applied by a delivery.
     pub delivered: Option<&'a TextOp<Tagged>>,
+    /// What it received.
+    pub received: &'a Received,
 }
 
 /// An instruction that was not performed.
@@ -551,6 +557,26 @@ impl Due<'_> {
             Due::Step(step) => step.text(alloc, key),
             Due::Stop(stop) => stop_text(alloc, stop, key),
             Due::End { at, quiet } => end_option(alloc, *at, *quiet, key),
+        }
+    }
+
+    /// The text of the message that the instruction receives, if it receives one; or out of memory.
+    pub fn message(&self, alloc: Global) -> Result<Option<String>, AllocError>
+        ensures { IfOk result (λ o. option_map string_bytes o ≡ option_map received_text (due_of self.now).received) }
+    {
+        match self {
+            Due::Step(step) => step.received.text(alloc, step.machine),
+            _ => Ok(None),
+        }
+    }
+
+    /// Whether that is what a port printed for it; `null` says that nothing is received. Out of memory for writing it down.
+    pub(crate) fn receives(&self, alloc: Global, found: &Value) -> Result<bool, AllocError>
+        ensures { IfOk result (λ does. does ≡ received_agrees (due_of self.now).received (view found.now)) }
+    {
+        match self {
+            Due::Step(step) => step.received.agrees(alloc, step.machine, found),
+            _ => Ok(found.is_null()),
         }
     }
 

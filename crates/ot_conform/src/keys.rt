@@ -30,14 +30,18 @@ pub enum Key {
     End,
 }
 
-/// The keys in the order in which they are compared.
-pub const KEYS: [Key; 18] = [
+/// The keys that say which line it is, in the order in which they are compared. Behind them the message is.
+pub const FIRST_KEYS: [Key; 6] = [
     Key::At,
     Key::Clients,
     Key::Present,
     Key::Start,
     Key::Do,
     Key::Client,
+];
+
+/// The other keys in the order in which they are compared, behind the message.
+pub const OTHER_KEYS: [Key; 12] = [
     Key::Edit,
     Key::Revision,
     Key::State,

@@ -1,6 +1,6 @@
 //! What comes of every run's own lines, as the contracts of functions that do nothing.
 
-ghost use Rattle.ot_conform.specs.Laws.{ChosenStepsConform, PlacesAreNotCounted, PrintedChosenStepsConform, PrintedStepsConform, StepsAreCounted, StepsConform};
+ghost use Rattle.ot_conform.specs.Laws.{ChosenStepsConform, MessagesConform, PlacesAreNotCounted, PrintedChosenStepsConform, PrintedStepsConform, StepsAreCounted, StepsConform};
 
 /// A port whose lines say what the lines of `steps` say of a schedule's run, with or without documents, conforms; where the run is
 /// refused for a limit of the bench alone, the comparison stops there.
@@ -30,7 +30,12 @@ pub fn steps_are_counted()
     ensures { StepsAreCounted }
 {}
 
-/// A port whose lines are places alone gets that answer, wherever they agree.
+/// A port whose lines are places, with messages or without, gets that answer, wherever they agree.
 pub fn places_are_not_counted()
     ensures { PlacesAreNotCounted }
+{}
+
+/// A port that conforms does so too where its lines have what each instruction received as well, each instruction with its line.
+pub fn messages_conform()
+    ensures { MessagesConform }
 {}

@@ -12,6 +12,8 @@
 //!   printed is not compared, and `null` says that there is none (`specs/Keys.antt`).
 //! - *What is due* (`specs/Due.antt`, `specs/Values.antt`): all values that the run has for a line, from the written table's states before and
 //!   after the instruction (`ot_model`'s specs/Table.antt), in the form of `ot_steps`.
+//! - *The message* (`specs/Received.antt`): what a take or a deliver receives. It is compared before the values that come of it, so that
+//!   a message that was changed on its way is not held against a method.
 //! - *Lines of `steps`* (`specs/Alike.antt`): where the port's bytes are those of the line that `steps` prints of an instruction, nothing is read
 //!   as JSON. That the answer is the same then is proved of each such line (`step_stands` in proofs/Alike.antt).
 //! - *The first difference* (`specs/Differences.antt`): `field_of` of one line, `outcome` of all.
@@ -24,7 +26,7 @@
 //! - *Laws* (`specs/Laws.antt`): [`steps_conform`], that a port with the lines of `steps` conforms, and [`printed_steps_conform`], the same of
 //!   the bytes that `steps` prints; [`chosen_steps_conform`] and [`printed_chosen_steps_conform`], the same of any selection of those lines
 //!   where the comparison is sparse. [`steps_are_counted`] and [`places_are_not_counted`]: those lines are never said to show nothing, and
-//!   lines with places alone always are.
+//!   lines with places and messages alone always are. [`messages_conform`]: a port that conforms does so too where it prints the messages.
 //! - *A comparison under way* (`specs/Standing.antt`, `specs/Compared.antt`): [`Comparison`] is a machine that goes along; no run is kept
 //!   whole, so memory is bounded by a line. [`compare_lines`] compares the lines of a reader as they come.
 //!
@@ -44,6 +46,7 @@ mod passing;
 mod points;
 mod printing;
 mod reading;
+mod received;
 mod ruling;
 mod same_bytes;
 mod texts;
@@ -52,12 +55,13 @@ pub use answers::{Difference, differs, left_over};
 pub use comparison::{Comparison, Stage, Verdict};
 pub use counts::Counts;
 pub use due::{Due, Step, Stop};
-pub use keys::{KEYS, Key, found, key_text};
+pub use keys::{FIRST_KEYS, Key, OTHER_KEYS, found, key_text};
 pub use laws::{
-    chosen_steps_conform, places_are_not_counted, printed_chosen_steps_conform,
+    chosen_steps_conform, messages_conform, places_are_not_counted, printed_chosen_steps_conform,
     printed_steps_conform, steps_are_counted, steps_conform,
 };
 pub use lines::{PortLine, is_opening_line, read_line};
 pub use meeting::{Field, meet};
 pub use printing::print_verdict;
 pub use reading::{CompareStop, compare_lines};
+pub use received::Received;

@@ -1,16 +1,18 @@
 //! A port's line against the one that is due.
 
-ghost use Rattle.std.specs.Prelude.{◌≡◌, IfOk};
+ghost use Rattle.std.specs.Prelude.{◌≡◌, IfOk, codes};
+ghost use Rattle.serde_json.specs.Find.{get};
 ghost use Rattle.serde_json.specs.View.{view};
 ghost use Rattle.ot_conform.specs.Due.{IsOfMachine, due_of};
-ghost use Rattle.ot_conform.specs.Differences.{field_of, first_key, told_field};
+ghost use Rattle.ot_conform.specs.Differences.{field_of, first_key, keyed_field, told_field};
 ghost use Rattle.ot_conform.specs.Keys.{agrees_at, found_at};
 ghost use Rattle.ot_conform.specs.Read.{read_as};
+ghost use Rattle.ot_conform.specs.Received.{message_agrees};
 ghost use Rattle.ot_conform.specs.Values.{text_at};
 
 use crate::agreement::agrees;
 use crate::due::Due;
-use crate::keys::{KEYS, Key, found, says};
+use crate::keys::{FIRST_KEYS, Key, OTHER_KEYS, found, says};
 use crate::lines::PortLine;
 use serde_json::Value;
 use std::alloc::{AllocError, Global};
@@ -22,6 +24,8 @@ pub enum Field {
     Line,
     /// One of the two stops, and the other does not.
     Stopped,
+    /// The message that the instruction receives.
+    Message,
     /// The value under a key.
     Key(Key),
 }
@@ -58,25 +62,49 @@ fn first_key(
     Ok(None)
 }
 
-// Where a line of the right form differs.
-fn told_field(alloc: Global, line: &Value, due: &Due<'_>) -> Result<Option<Field>, AllocError>
-    requires { IsOfMachine due.now }
-    ensures { IfOk result (λ f. f ≡ told_field (due_of due.now).line (view line.now)) }
+// Whether the message that is printed, if one is, agrees with what the instruction receives.
+fn message_agrees(alloc: Global, line: &Value, due: &Due<'_>) -> Result<bool, AllocError>
+    ensures { IfOk result (λ does. does ≡ message_agrees (due_of due.now).received (get (codes "message") (view line.now))) }
 {
-    if says(line, "stopped") != due.refusal().is_some() {
-        return Ok(Some(Field::Stopped));
+    match line.get("message") {
+        Some(message) => due.receives(alloc, message),
+        None => Ok(true),
     }
-    match first_key(alloc, &KEYS, line, due)? {
+}
+
+// Where the values of a line of the right form differ: the message is compared before the values that come of it.
+fn keyed_field(alloc: Global, line: &Value, due: &Due<'_>) -> Result<Option<Field>, AllocError>
+    requires { IsOfMachine due.now }
+    ensures { IfOk result (λ f. f ≡ keyed_field (due_of due.now) (view line.now)) }
+{
+    if let Some(key) = first_key(alloc, &FIRST_KEYS, line, due)? {
+        return Ok(Some(Field::Key(key)));
+    }
+    if !message_agrees(alloc, line, due)? {
+        return Ok(Some(Field::Message));
+    }
+    match first_key(alloc, &OTHER_KEYS, line, due)? {
         Some(key) => Ok(Some(Field::Key(key))),
         None => Ok(None),
     }
 }
 
-/// Where a port's line differs from the one that is due, if it does: first whether both stop or none does, then the keys in their
-/// order. Out of memory for the texts of values.
+// Where a line of the right form differs.
+fn told_field(alloc: Global, line: &Value, due: &Due<'_>) -> Result<Option<Field>, AllocError>
+    requires { IsOfMachine due.now }
+    ensures { IfOk result (λ f. f ≡ told_field (due_of due.now) (view line.now)) }
+{
+    if says(line, "stopped") != due.refusal().is_some() {
+        return Ok(Some(Field::Stopped));
+    }
+    keyed_field(alloc, line, due)
+}
+
+/// Where a port's line differs from the one that is due, if it does: first whether both stop or none does, then the keys that say which
+/// line it is, the message, and the other keys in their order. Out of memory for the texts of values.
 pub fn meet(alloc: Global, line: &PortLine<'_>, due: &Due<'_>) -> Result<Option<Field>, AllocError>
     requires { IsOfMachine due.now }
-    ensures { IfOk result (λ f. f ≡ field_of (due_of due.now).line (read_as line.now)) }
+    ensures { IfOk result (λ f. f ≡ field_of (due_of due.now) (read_as line.now)) }
 {
     match line {
         PortLine::Told(value) => told_field(alloc, value, due),

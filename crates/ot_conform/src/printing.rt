@@ -22,6 +22,7 @@ fn wanted_row(alloc: Global, field: Field, wanted: &str) -> Result<String, Alloc
     match field {
         Field::Line => format!(in alloc; "ot.js {wanted}"),
         Field::Stopped => format!(in alloc; "ot.js {wanted}\n"),
+        Field::Message => format!(in alloc; "ot.js {wanted}\n"),
         Field::Key(_) => format!(in alloc; "ot.js {wanted}\n"),
     }
 }
@@ -149,8 +150,8 @@ fn print_explained(
 /// The lines of a verdict on a port's lines for the schedule: `conforms` with how much was compared, or `nothing counted` where no value
 /// was; the first difference with what was
 /// found, what ot.js has, for two texts how much of them is equal, the code points of what may look alike, and where an instruction was
-/// performed which rule of ot.js makes the value, what that is given, and the first note that is true of what was found; or where the run
-/// stopped for a limit of the bench. For the rules the schedule is run again up to the difference.
+/// performed which rule of ot.js makes the value, if one does, what that is given, and the first note that is true of what was found; or
+/// where the run stopped for a limit of the bench. For the rules the schedule is run again up to the difference.
 pub fn print_verdict(
     alloc: Global,
     schedule: &Schedule,

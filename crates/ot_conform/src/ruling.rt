@@ -1,7 +1,7 @@
 //! What the rules of ot.js say of the first difference.
 
 ghost use Rattle.std.specs.Prelude.{◌≡◌, IfOk, string_bytes};
-ghost use Rattle.ot_conform.specs.Ruled.{AreRules, asked, ruled_field, ruled_key};
+ghost use Rattle.ot_conform.specs.Ruled.{AreRules, ruled_field, ruled_key};
 
 use crate::answers::Difference;
 use crate::keys::Key;
@@ -36,30 +36,35 @@ fn ruled_key(key: Key) -> Ruled
     }
 }
 
-fn ruled_field(field: Field) -> Ruled
+// No rule makes the message: one that differs was changed on its way.
+fn ruled_field(field: Field) -> Option<Ruled>
     ensures { result ≡ ruled_field field }
 {
     match field {
-        Field::Line => Ruled::Line,
-        Field::Stopped => Ruled::Stopped,
-        Field::Key(key) => ruled_key(key),
+        Field::Line => Some(Ruled::Line),
+        Field::Stopped => Some(Ruled::Stopped),
+        Field::Message => None,
+        Field::Key(key) => Some(ruled_key(key)),
     }
 }
 
 /// The lines that the rules of ot.js say of a difference in the schedule's run: the rule, what it is given, and the first note that is
-/// true. None where no instruction was performed. Out of memory comes from the run up to there, or from the lines.
+/// true. None where no instruction was performed, and of a message. Out of memory comes from the run up to there, or from the lines.
 pub(crate) fn rules_of(
     alloc: Global,
     schedule: &Schedule,
     difference: &Difference,
 ) -> Result<String, AllocError>
-    ensures { IfOk result (λ s. AreRules schedule.now difference.now.number (asked difference.now) (string_bytes s)) }
+    ensures { IfOk result (λ s. AreRules schedule.now difference.now.number (ruled_field difference.now.field) difference.now (string_bytes s)) }
 {
     let Some(number) = difference.number else {
         return Ok(String::new(alloc));
     };
+    let Some(field) = ruled_field(difference.field) else {
+        return Ok(String::new(alloc));
+    };
     let asked = Asked {
-        field: ruled_field(difference.field),
+        field,
         found: difference.found.as_str(),
         wanted: difference.wanted.as_str(),
         printed: difference.tells_operation,

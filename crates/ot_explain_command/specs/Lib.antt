@@ -1,1 +1,2 @@
 pub mod Explains
+pub mod ExplainsImages

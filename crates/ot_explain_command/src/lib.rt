@@ -1,22 +1,31 @@
-//! `explain`: the run of a schedule's text in words.
+//! `explain`: the run of a schedule in words, of its text or of its image.
 //!
 //! ```text
 //!    text ── ot_asm ──▶ Schedule ── ot_explain ──▶ paragraphs on the output, written while the run goes
-//!      └── refused: the fault's line on the faults, and behind it words about its cause; nothing on the output
+//!     ▲ └── refused: the fault's line on the faults, and behind it words about its cause; nothing on the output
+//!     └── ot_asm, the canonical text
+//!    image ── ot_image ──▶ Schedule
+//!       └── refused: the fault's line on the faults, and behind it the words of `ot_image_words`
 //! ```
 //!
-//! [`run_explain`] does the whole work over any reader and two writers; `specs/Explains.antt` says what it writes and answers, over the
-//! paragraphs of `ot_explain` (specs/Told.antt, specs/Reasons.antt and specs/Explained.antt there). The text is read whole, since an
+//! [`run_explain`] does the whole work for a text, over any reader and two writers; `specs/Explains.antt` says what it writes and answers, over
+//! the paragraphs of `ot_explain` (specs/Told.antt, specs/Reasons.antt and specs/Explained.antt there). The text is read whole, since an
 //! instruction is shown with its line, and a fault with its column; comments anywhere in it name clients (`ot_names`).
+//! [`run_explain_image`] does the same for an image, by the schedule's canonical text (`specs/ExplainsImages.antt`).
 #![tactic(auto)]
 
-ghost use Rattle.std.specs.Prelude.{IfSome};
+ghost use Rattle.std.specs.Prelude.{◌≡◌, IfSome, option_map};
+ghost use Rattle.outcomes.specs.Outcomes.{Complains};
+ghost use Rattle.ot_image_words.specs.Words.{refusal_text};
 ghost use Rattle.ot_input.specs.Faults.{line_fault};
 ghost use Rattle.ot_explain_command.specs.Explains.{Explains, ExplainsText, MayExplain, Tells};
+ghost use Rattle.ot_explain_command.specs.ExplainsImages.{ExplainsBytes, ExplainsCanonical, ExplainsImage, TellsImage, image_words};
 
-use ot_asm::{AsmFault, assemble_from};
+use ot_asm::{AsmFault, assemble_from, disassemble};
 use ot_explain::{explain, fault_words, places};
-use ot_input::complain_of_line;
+use ot_image::{ImageFault, Kind, load};
+use ot_image_words::{Refusal, first_refusal, refusal_text};
+use ot_input::{complain_of_byte, complain_of_line};
 use ot_isa::Schedule;
 use ot_names::{Comments, comments_of};
 use ot_steps::StepsFault;
@@ -102,6 +111,91 @@ pub fn run_explain<I: Source, O: Sink, F: Write>(
 {
     match input.read_whole(alloc) {
         Ok(text) => explain_text(alloc, text.as_slice(), output, faults),
+        Err(fault) => {
+            complain_of_input(fault, faults);
+            1
+        }
+    }
+}
+
+// The field of this fault of the bytes; memory that ran out has none.
+fn refusal_for(bytes: &[u8], fault: ImageFault) -> Option<Refusal>
+    ensures { option_map (refusal_text bytes.now) result ≡ image_words bytes.now fault }
+{
+    match fault.kind {
+        Kind::Memory => None,
+        _ => first_refusal(bytes),
+    }
+}
+
+// Writes the words for a field that is refused.
+fn complain_of_refusal<F: Write>(alloc: Global, bytes: &[u8], refusal: &Refusal, faults: &mut F)
+    ensures { Complains (refusal_text bytes.now refusal.now) (F.contents faults.old) (F.contents faults.new) }
+{
+    match refusal_text(alloc, bytes, refusal) {
+        Ok(words) => complain(faults, words.as_str()),
+        Err(_) => complain_of_memory(faults),
+    }
+}
+
+// Writes the fault of an image, and below it the words for the field.
+fn complain_of_image<F: Write>(alloc: Global, bytes: &[u8], fault: ImageFault, faults: &mut F)
+    ensures { TellsImage bytes.now fault (F.contents faults.old) (F.contents faults.new) }
+{
+    complain_of_byte(alloc, fault, faults);
+    match refusal_for(bytes, fault) {
+        Some(refusal) => complain_of_refusal(alloc, bytes, &refusal, faults),
+        None => {}
+    }
+}
+
+// Explains the canonical text of a schedule.
+fn explain_canonical<O: Sink, F: Write>(
+    alloc: Global,
+    schedule: &Schedule,
+    output: &mut O,
+    faults: &mut F,
+) -> u8
+    ensures { ExplainsCanonical schedule.now result (record { output = O.contents output.old; output' = O.contents output.new; broken = O.failed output.new; faults = F.contents faults.old; faults' = F.contents faults.new }) }
+{
+    let Ok(text) = disassemble(alloc, schedule) else {
+        complain_of_memory(faults);
+        return 1;
+    };
+    explain_text(alloc, text.as_bytes(), output, faults)
+}
+
+// Explains an image.
+fn explain_bytes<O: Sink, F: Write>(
+    alloc: Global,
+    bytes: &[u8],
+    output: &mut O,
+    faults: &mut F,
+) -> u8
+    ensures { ExplainsBytes bytes.now result (record { output = O.contents output.old; output' = O.contents output.new; broken = O.failed output.new; faults = F.contents faults.old; faults' = F.contents faults.new }) }
+{
+    match load(alloc, bytes) {
+        Ok(schedule) => explain_canonical(alloc, &schedule, output, faults),
+        Err(fault) => {
+            complain_of_image(alloc, bytes, fault, faults);
+            1
+        }
+    }
+}
+
+/// Writes the run of the schedule whose image is the input in words, and answers the status, as [`run_explain`] does for its canonical text; lines
+/// are those of that text. Of bytes that are no image it writes the fault's line as `dis` does, and below it a line of words: the field, what
+/// stands there and what is wanted; nothing on the output, status 1. The image is read whole, at most 2^30 bytes.
+pub fn run_explain_image<I: Source, O: Sink, F: Write>(
+    alloc: Global,
+    input: &mut I,
+    output: &mut O,
+    faults: &mut F,
+) -> u8
+    ensures { IfSome (I.remaining input.old) (λ bytes. ExplainsImage (I.failed input.new) bytes result (record { output = O.contents output.old; output' = O.contents output.new; broken = O.failed output.new; faults = F.contents faults.old; faults' = F.contents faults.new })) }
+{
+    match input.read_whole(alloc) {
+        Ok(bytes) => explain_bytes(alloc, bytes.as_slice(), output, faults),
         Err(fault) => {
             complain_of_input(fault, faults);
             1

@@ -1,5 +1,6 @@
-mod ByByte
+mod ByNumber
 mod Examples
 mod Joined
 mod Listing
 mod Reading
+mod Runs

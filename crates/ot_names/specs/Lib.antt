@@ -1,3 +1,4 @@
 pub mod Plain
 pub mod Comments
 pub mod Named
+pub mod Passed

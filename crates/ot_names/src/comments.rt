@@ -1,6 +1,6 @@
 //! What the comments of a schedule's text tell.
 
-ghost use Rattle.std.specs.Prelude.{◌≡◌, ◌++◌, get_or, map, [], IfOk, OnOk, is_some};
+ghost use Rattle.std.specs.Prelude.{◌≡◌, ◌==◌, ◌++◌, get_or, length, map, not, [], IfOk, OnOk, is_some};
 ghost use Rattle.ot_names.specs.Comments.{behind_colon, behind_sign, client_in, comment_words, comments_of, cut_text, cut_words, is_cut, is_quoted, name_in, nothing_said, with_name, with_words};
 
 use crate::plain::shown;
@@ -114,6 +114,10 @@ impl Comments {
     fn add(&mut self, alloc: Global, words: &[u8]) -> Result<(), AllocError>
         ensures { OnOk result (self.new ≡ with_words self.old words.now) }
     {
+        // Most lines are no comments.
+        if words.is_empty() {
+            return Ok(());
+        }
         match client_in(words) {
             Some(client) => {
                 if client < CLIENT_LIMIT as u32 {
@@ -139,6 +143,13 @@ impl Comments {
             Some(name) => name.as_slice(),
             None => &[],
         }
+    }
+
+    /// Whether a comment names a client. If none does, [`named`](crate::named) changes nothing.
+    pub fn has_names(&self) -> bool
+        ensures { result ≡ not (length self.now.names == 0) }
+    {
+        !self.names.is_empty()
     }
 
     /// Whether the recorded session went on after the schedule's last instruction.

@@ -277,7 +277,7 @@ shape-fits x t range h =
     let events = map-some _ (all_of (event_of x.replicas) x.events) t start.2 in
     ap has_shape (sym events.2) ∙ and_from _ _ (in_range x.replicas range) (all-fit x.replicas x.events events.0 events.1)
 
-data-range : (d : Data) (x : TraceData) → trace_data d ≡ Some x → is_replicas x.replicas ≡ true
+pub data-range : (d : Data) (x : TraceData) → trace_data d ≡ Some x → is_replicas x.replicas ≡ true
 data-range d x h =
     let replicas = then-some _ (keep_if is_replicas (number_at (codes "replicas") d)) x h in
     let start = then-some _ (items_at (codes "start") d) x replicas.2 in

@@ -21,14 +21,13 @@ use Rattle.ot_plan.specs.declared.survey.Survey.{Survey}
 use Rattle.ot_reasons.specs.declared.place.Fault.{Fault}
 use Rattle.ot_reasons.specs.declared.place.Field.TheVariants as field
 use Rattle.ot_reasons.specs.declared.place.Place.{Place}
-use Rattle.ot_reasons.specs.declared.place.Wanted.{Wanted}
 use Rattle.ot_reasons.specs.declared.place.Wanted.TheVariants as wanted
 use Rattle.ot_reasons.specs.declared.plan_faults.PlanRefusal.{PlanRefusal}
 use Rattle.ot_reasons.specs.Places.{here, in_field, in_key, in_part, row_place}
 use Rattle.ot_reasons.specs.Faults.{count_items, each_fault, of_array, or_else, unless, wants}
 use Rattle.ot_reasons.specs.PlanFaults.{action_fault, action_numbers, action_shape, actions_fault, fault_in, fault_of_data, first_kind, kind_in, length_fault_in, number_fault_in, of_number, of_plan, own_numbers, plan_fault, plan_layout, row_fault, rows_fault, shape_fault_in}
 use Rattle.ot_reasons.specs.PlanWords.{action_count}
-use Rattle.ot_reasons.proofs.Exact.{all-one, free-both, free-two, free-unless}
+use Rattle.ot_reasons.proofs.Exact.{all-one, free-two, free-unless}
 
 -- ---- items
 

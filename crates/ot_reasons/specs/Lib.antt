@@ -1,5 +1,6 @@
 pub mod Places
 pub mod Faults
+pub mod Satisfied
 pub mod Namings
 pub mod Words
 pub mod PlanFaults

@@ -1,6 +1,6 @@
 -- The first place of a value that keeps it from being a plan, and what is wanted there: first of what its shape lacks, then of its numbers, of lengths, and of
 -- how many actions there are; each in the order in which the value is read.
-use Rattle.std.specs.Prelude.{ℕ, ◌&&◌, List, length, Option, Some, None, Result, Ok, Err, codes, is_some, nat_le, nat_lt, option_and_then}
+use Rattle.std.specs.Prelude.{ℕ, ◌&&◌, length, Option, Some, None, Result, Ok, Err, codes, is_some, nat_le, nat_lt, option_and_then}
 use Rattle.serde_json.specs.Data.{Data, Items}
 use Rattle.serde_json.specs.Find.{as_array, as_object, get}
 use Rattle.json_fields.specs.Fields.{items_at, number_at, number_or, text_or_empty}

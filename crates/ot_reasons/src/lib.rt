@@ -11,10 +11,12 @@
 //! - *Places* (`specs/Places.antt`): a [`Place`] is a path into the JSON value of a trace or a plan, and `found_at` what stands there.
 //! - *The first fault of a trace* (`specs/Faults.antt`): `trace_fault`, in the order in which `ot_judge::trace_of` looks: the keys of the trace, the
 //!   tags of `start`, and then event by event its keys, whether they fit the trace, and the items of its arrays. [`shape_fault`] finds it, and its
-//!   contract says that there is one exactly where `ot_judge` has no trace of the value.
+//!   contract says that there is one exactly where `ot_judge` has no trace of the value, and that what stands there is not what is wanted there
+//!   (`specs/Satisfied.antt`).
 //! - *Tags that are named twice* (`specs/Namings.antt`): the first two places that name a tag.
 //! - *The first fault of a plan* (`specs/PlanFaults.antt`): `plan_fault`, of the kinds of `ot_plan` in their order: what its shape lacks, numbers,
-//!   lengths, how many actions. [`plan_fault`] finds it, and its contract says that its kind is the fault of `ot_plan`.
+//!   lengths, how many actions. [`plan_fault`] finds it, and its contract says that its kind is the fault of `ot_plan`, and
+//!   of what stands there the same as for a trace.
 //! - *Words* (`specs/Words.antt`, `specs/PlanWords.antt`): [`read_or_tell`] and [`read_plan_or_tell`] read a trace and a plan, or tell why there is none.
 //!
 //! Begin with `trace_fault` in specs/Faults.antt, then with [`read_or_tell`].

@@ -1,11 +1,13 @@
 //! The first fault of a value as a plan; takes no memory.
 
-ghost use Rattle.std.specs.Prelude.{◌≡◌, ◌&&◌, None, nat_le, nat_lt};
+ghost use Rattle.std.specs.Prelude.{◌≡◌, ◌&&◌, IfSome, None, false, nat_le, nat_lt};
 ghost use Rattle.serde_json.specs.Find.{as_array};
 ghost use Rattle.serde_json.specs.View.{items_view, view};
 ghost use Rattle.ot_plan.specs.Layout.{layout_view, text_action};
 ghost use Rattle.ot_plan.specs.Reading.{are_clients, plan_of_shape, shape_of};
 ghost use Rattle.ot_reasons.specs.Faults.{of_array};
+ghost use Rattle.ot_reasons.specs.Places.{found_at};
+ghost use Rattle.ot_reasons.specs.Satisfied.{is_met};
 ghost use Rattle.ot_reasons.specs.PlanFaults.{action_fault, action_keys, action_numbers, action_shape, actions_fault, fault_in, fault_of_data, first_kind, kind_in, length_fault_in, number_fault_in, other_keys, own_numbers, plan_fault, plan_keys, plan_layout, refuses, row_fault, rows_fault, shape_fault_in};
 
 use crate::checks::{count, unless, wants};
@@ -316,11 +318,12 @@ fn first_fault(value: &Value) -> Option<PlanRefusal>
     }
 }
 
-/// The first fault of a value as a plan; none exactly where `ot_plan::plan_of` has no fault, and of the kind of that one. In time linear in
-/// the value.
+/// The first fault of a value as a plan; none exactly where `ot_plan::plan_of` has no fault, and of the kind of that one. What stands at its
+/// place is not what is wanted there. In time linear in the value.
 pub fn plan_fault(value: &Value) -> Option<PlanRefusal>
     ensures first { result ≡ plan_fault (view value.now) }
     ensures exact { kind_in result ≡ fault_in (plan_of_shape (shape_of (view value.now))) }
+    ensures unmet { IfSome result (λ r. is_met r.fault.wanted (found_at r.fault.place (view value.now)) ≡ false) }
 {
     first_fault(value)
 }

@@ -1,9 +1,11 @@
 //! The first fault of a value as a trace; takes no memory.
 
-ghost use Rattle.std.specs.Prelude.{◌≡◌, ◌-◌, ◌==◌, ◌||◌, is_none, is_some};
+ghost use Rattle.std.specs.Prelude.{◌≡◌, ◌-◌, ◌==◌, ◌||◌, IfSome, false, is_none, is_some};
 ghost use Rattle.serde_json.specs.View.{items_view, view};
 ghost use Rattle.ot_judge.specs.Layout.{fields_view};
 ghost use Rattle.ot_judge.specs.Reading.{shape_of};
+ghost use Rattle.ot_reasons.specs.Places.{found_at};
+ghost use Rattle.ot_reasons.specs.Satisfied.{is_met};
 ghost use Rattle.ot_reasons.specs.Faults.{count_items, event_fault, events_fault, fields_fault, fit_fault, items_fault, keys_fault, layout_fault, parts_fault, read_fault, trace_fault};
 
 use crate::checks::{all_placed_fault, count, counts_fault, tags_fault, unless, wants};
@@ -167,10 +169,11 @@ fn trace_fault(value: &Value) -> Option<Fault>
 }
 
 /// The first place of a value that keeps it from having the shape of a trace, and what is wanted there; none exactly where
-/// `ot_judge::trace_of` does not answer `BadShape`. In time linear in the value.
+/// `ot_judge::trace_of` does not answer `BadShape`. What stands there is not what is wanted. In time linear in the value.
 pub fn shape_fault(value: &Value) -> Option<Fault>
     ensures first { result ≡ trace_fault (view value.now) }
     ensures exact { is_none result ≡ is_some (shape_of (view value.now)) }
+    ensures unmet { IfSome result (λ f. is_met f.wanted (found_at f.place (view value.now)) ≡ false) }
 {
     trace_fault(value)
 }

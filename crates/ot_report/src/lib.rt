@@ -23,5 +23,5 @@ pub use ending::print_end;
 pub use findings::{Findings, find};
 pub use lines::{print_client, print_read, print_server, print_stop, push_read, quiet_text};
 pub use running::print_run;
-pub use verdicts::{print_convergence, print_unsettled, print_verdict};
+pub use verdicts::{print_convergence, print_unsettled, print_verdict, tag_name};
 pub use writing::{ReportFault, write_report};

@@ -11,8 +11,8 @@ use ot_judge::Verdict;
 use ot_machine::Machine;
 use std::alloc::{AllocError, Global};
 
-// A tag: `origin:serial`.
-fn tag_name(alloc: Global, tag: Tag) -> Result<String, AllocError>
+/// A tag: `origin:serial`.
+pub fn tag_name(alloc: Global, tag: Tag) -> Result<String, AllocError>
     ensures { IfOk result (λ s. string_bytes s ≡ tag_text tag) }
 {
     let origin = tag.origin;

@@ -17,6 +17,7 @@ use Rattle.ot_commands.specs.Checked.{MayFind}
 use Rattle.ot_commands.specs.Debugged.{Debugs}
 use Rattle.ot_steps_command.specs.Stepped.{Steps as DoesSteps}
 use Rattle.ot_explain_command.specs.Explains.{Explains}
+use Rattle.ot_explain_command.specs.ExplainsImages.{ExplainsImage}
 use Rattle.ot_conform_command.specs.Conformed.{Compares}
 use Rattle.ot_threads.specs.Threaded.{Threads as DoesThreads}
 use Rattle.ot_words.specs.declared.words.Form.TheVariants as form
@@ -41,6 +42,7 @@ Serves Disassemble unread = OfImage MayGiveText unread
 Serves Judge unread = Judges unread
 Serves (Steps documents) unread = DoesSteps documents
 Serves (Explain subject.Schedule) unread = Explains unread
+Serves (Explain subject.Image) unread = ExplainsImage unread
 Serves (Explain subject.Trace) unread = ExplainsTrace unread
 Serves (Explain subject.Plan) unread = ExplainsPlan unread
 Serves (Conform sparse) unread = Compares sparse

@@ -14,7 +14,7 @@ use ot_commands::{
     explain_trace, generate_session, judge_input, run_image, run_text,
 };
 use ot_conform_command::run_conform;
-use ot_explain_command::run_explain;
+use ot_explain_command::{run_explain, run_explain_image};
 use ot_steps_command::run_steps;
 use ot_threads::run_threads;
 use ot_words::{Asked, Form, Request, Subject, read_request};
@@ -68,6 +68,7 @@ fn carry_out<I: Source, O: Sink, F: Write>(
         Request::Judge => judge_input(alloc, input, output, faults),
         Request::Steps(documents) => run_steps(alloc, documents, input, output, faults),
         Request::Explain(Subject::Schedule) => run_explain(alloc, input, output, faults),
+        Request::Explain(Subject::Image) => run_explain_image(alloc, input, output, faults),
         Request::Explain(Subject::Trace) => explain_trace(alloc, input, output, faults),
         Request::Explain(Subject::Plan) => explain_plan(alloc, input, output, faults),
         Request::Conform(sparse) => run_conform(alloc, sparse, input, output, faults),

@@ -31,7 +31,7 @@ flagged_app name flag = with_rule (new_app name) (flag_rule flag)
 
 -- the subcommand `explain`
 abbrev pub explain_app : App
-explain_app = with_rule (flagged_app (codes "explain") (codes "trace")) (flag_rule (codes "plan"))
+explain_app = with_rule (with_rule (flagged_app (codes "explain") (codes "trace")) (flag_rule (codes "plan"))) (flag_rule (codes "image"))
 
 -- the subcommand `generate`
 abbrev pub generate_app : App
@@ -87,19 +87,22 @@ flag_among id rows = is_true (first_of id rows)
 abbrev pub form_among : List Row → Form
 form_among rows = if flag_among (codes "image") rows then form.Image else form.Text
 
--- what is explained, by whether `--trace` and `--plan` were given: they exclude one another
-abbrev pub subject_of : Bool → Bool → Option Subject
-subject_of false false = Some subject.Schedule
-subject_of true false = Some subject.Trace
-subject_of false true = Some subject.Plan
-subject_of true true = None
+-- what is explained, by whether `--trace`, `--plan` and `--image` were given: they exclude one another
+abbrev pub subject_of : Bool → Bool → Bool → Option Subject
+subject_of false false false = Some subject.Schedule
+subject_of true false false = Some subject.Trace
+subject_of false true false = Some subject.Plan
+subject_of false false true = Some subject.Image
+subject_of true true image = None
+subject_of true false true = None
+subject_of false true true = None
 
 abbrev pub explains : Option Subject → Option Asked
 explains None = None
 explains (Some what) = Some (Plainly (Explain what))
 
 abbrev pub explain_among : List Row → Option Asked
-explain_among rows = explains (subject_of (flag_among (codes "trace") rows) (flag_among (codes "plan") rows))
+explain_among rows = explains (subject_of (flag_among (codes "trace") rows) (flag_among (codes "plan") rows) (flag_among (codes "image") rows))
 
 -- the number of an option's text, or this one where there is none
 abbrev pub number_or : ℕ → Option Text → Option ℕ

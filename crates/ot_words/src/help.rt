@@ -72,6 +72,8 @@ The lines: docs/FORMATS.md, 'Steps'.";
 pub const EXPLAIN: &str = "\
 Reads a schedule's text on standard input. Tells its run in words: what each instruction did, with its line of the text and its
 number, why one is refused and what would repair it. Of a text that is no schedule: the column and the cause of its fault.
+With --image it reads a schedule's image and tells the run of the text that 'otbench dis' writes of it; of bytes that are no image: the
+field of the first fault, what stands there and what is wanted.
 With --trace it reads a trace as 'otbench judge' does, and judges it. With --plan it reads a plan as 'otbench threads' does, and
 says what it is. Of a text that is none: where its first fault is, what stands there and what is wanted; of one that is no JSON,
 the line, the column and the cause.

@@ -25,6 +25,8 @@ pub enum Form {
 pub enum Subject {
     /// The run of a schedule's text.
     Schedule,
+    /// The run of a schedule's image.
+    Image,
     /// A trace.
     Trace,
     /// A plan.
@@ -49,7 +51,8 @@ pub enum Request {
     Judge,
     /// Runs a schedule and prints what each instruction changes, as lines of JSON; whether the documents too.
     Steps(bool),
-    /// Says in words what each instruction of a schedule did; or what the verdict of a trace is, or what a plan is, and why it is refused.
+    /// Says in words what each instruction of a schedule, as text or as image, did; or what the verdict of a trace is, or what a plan is; and why
+    /// it is refused.
     Explain(Subject),
     /// Compares the lines that a port printed with the run of its schedule; whether instructions without a line are passed over.
     Conform(bool),
@@ -188,11 +191,17 @@ fn explain_command<'a>(alloc: Global) -> Result<Command<'a>, AllocError>
         "trace",
         "Read a trace (JSON) in place of a schedule: judge it, and tell why it is refused",
     )?;
-    flagged(
+    let command = flagged(
         alloc,
         command,
         "plan",
         "Read a plan (JSON) in place of a schedule: tell what it is, or why it is refused",
+    )?;
+    flagged(
+        alloc,
+        command,
+        "image",
+        "Read a schedule's image in place of its text",
     )
 }
 
@@ -324,15 +333,16 @@ fn form_in(matches: &ArgMatches<'_>) -> Form
     }
 }
 
-// What these flags say is explained; none where both are set.
-fn subject_of(trace: bool, plan: bool) -> Option<Subject>
-    ensures { result ≡ subject_of trace plan }
+// What these flags say is explained; none where two are set.
+fn subject_of(trace: bool, plan: bool, image: bool) -> Option<Subject>
+    ensures { result ≡ subject_of trace plan image }
 {
-    match (trace, plan) {
-        (false, false) => Some(Subject::Schedule),
-        (true, false) => Some(Subject::Trace),
-        (false, true) => Some(Subject::Plan),
-        (true, true) => None,
+    match (trace, plan, image) {
+        (false, false, false) => Some(Subject::Schedule),
+        (true, false, false) => Some(Subject::Trace),
+        (false, true, false) => Some(Subject::Plan),
+        (false, false, true) => Some(Subject::Image),
+        _ => None,
     }
 }
 
@@ -340,7 +350,10 @@ fn subject_of(trace: bool, plan: bool) -> Option<Subject>
 fn explain_in(matches: &ArgMatches<'_>) -> Option<Asked>
     ensures { result ≡ explain_among (rows_of (found_of matches.now)) }
 {
-    match subject_of(is_set(matches, "trace"), is_set(matches, "plan")) {
+    let trace = is_set(matches, "trace");
+    let plan = is_set(matches, "plan");
+    let image = is_set(matches, "image");
+    match subject_of(trace, plan, image) {
         Some(subject) => Some(Asked::Plainly(Request::Explain(subject))),
         None => None,
     }
@@ -491,26 +504,35 @@ fn refused_session(alloc: Global, matches: &ArgMatches<'_>) -> Result<Error, All
     command.error(ErrorKind::ValueValidation, words.as_str())
 }
 
+// The first two flags that were given for `explain` and exclude one another.
+fn two_subjects(matches: &ArgMatches<'_>) -> &'static str {
+    if !is_set(matches, "trace") {
+        return "the argument '--plan' cannot be used with '--image'";
+    }
+    if is_set(matches, "plan") {
+        "the argument '--trace' cannot be used with '--plan'"
+    } else {
+        "the argument '--trace' cannot be used with '--image'"
+    }
+}
+
 // That the matches of `explain` ask for two subjects: `clap`'s error, with the usage of `explain`.
-fn refused_subject(alloc: Global) -> Result<Error, AllocError> {
+fn refused_subject(alloc: Global, matches: &ArgMatches<'_>) -> Result<Error, AllocError> {
     let mut command = explain_command(alloc)?.bin_name("otbench explain")?;
-    command.error(
-        ErrorKind::ArgumentConflict,
-        "the argument '--trace' cannot be used with '--plan'",
-    )
+    command.error(ErrorKind::ArgumentConflict, two_subjects(matches))
 }
 
 // Why the matches ask for nothing that the program does.
 fn refused_request(alloc: Global, matches: &ArgMatches<'_>) -> Result<Error, AllocError> {
     match matches.subcommand() {
-        Some((name, _)) if name == "explain" => refused_subject(alloc),
+        Some((name, found)) if name == "explain" => refused_subject(alloc, found),
         Some((_, found)) => refused_session(alloc, found),
         None => command(alloc)?.error(ErrorKind::MissingSubcommand, "a subcommand is missing"),
     }
 }
 
 /// What the words ask for, the program's name being the first of them. Where they ask for nothing that the program does, for a session with
-/// a number out of its range, for `explain` of a trace and of a plan at once, or for help, the answer is `clap`'s error with its text: of a
+/// a number out of its range, for `explain` of two kinds of input at once, or for help, the answer is `clap`'s error with its text: of a
 /// number that is refused, the option, what it takes and the usage of `generate`. `ErrorKind::OutOfMemory` means out of memory.
 pub fn read_request<'a, S: AsStr>(alloc: Global, words: &'a [S]) -> Result<Asked, Error>
     ensures ok { IfOk result (λ r. request_of (map S.text words.entry.now) ≡ Some r) }

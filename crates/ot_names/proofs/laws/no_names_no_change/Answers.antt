@@ -1,4 +1,4 @@
-use Rattle.ot_names.proofs.ByByte.{same}
+use Rattle.ot_names.proofs.ByNumber.{same}
 use Rattle.ot_names.proofs.laws.no_names_no_change.Goals as goal
 
 pub returns : goal.returns

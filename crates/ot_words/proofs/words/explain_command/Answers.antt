@@ -7,4 +7,5 @@ use Rattle.ot_words.proofs.words.explain_command.Goals as goal
 pub returns : goal.returns
 returns c =
     let one = c.in_ok-command.ensures ∙ ap (λ (a : App). with_rule a (flag_rule (codes "trace"))) c.plain-command.ensures in
-    IfOk-weaker c.flagged-2.result _ _ (λ r h. h ∙ ap (λ (a : App). with_rule a (flag_rule (codes "plan"))) one) c.flagged-2.ensures
+    let two = c.in_ok-command-2.ensures ∙ ap (λ (a : App). with_rule a (flag_rule (codes "plan"))) one in
+    IfOk-weaker c.flagged-3.result _ _ (λ r h. h ∙ ap (λ (a : App). with_rule a (flag_rule (codes "image"))) two) c.flagged-3.ensures

@@ -6,10 +6,12 @@ use Rattle.ot_steps.specs.Lines.{plain_operation}
 use Rattle.ot_steps.proofs.Progress.{leads_within}
 use Rattle.ot_conform.specs.Due.{step_due}
 use Rattle.ot_conform.specs.Read.{given_as}
+use Rattle.ot_conform.specs.Received.{received_in}
 use Rattle.ot_conform.specs.declared.comparison.Comparison.{Comparison}
 use Rattle.ot_conform.specs.declared.comparison.Stage.TheVariants.{Running}
 use Rattle.ot_conform.proofs.Alike.{step_stands}
 use Rattle.ot_conform.proofs.Going.{due_is, goes_step}
+use Rattle.ot_conform.proofs.Receiving.{still_held}
 use Rattle.ot_conform.proofs.Settling.{agreed, if_ok, if_some, same_refused, same_verdict, step_decides}
 use Rattle.ot_conform.proofs.comparison.Comparison.take_step.Goals as goal
 
@@ -38,7 +40,8 @@ compare_step-requires c =
     record {
       there = leads_within here.machine t i c.in-Ok.ensures.done;
       printed = λ documents.
-          step_stands documents c.args.schedule.now here i t performed.0 c.sends-sent.result delivered c.clients-clients.ensures.limits c.requires.standing c.requires.here performed.1 c.sends-sent.ensures is;
+          step_stands documents c.args.schedule.now here i t performed.0 c.sends-sent.result delivered (received_in t c.in_ok-received.received) c.clients-clients.ensures.limits c.requires.standing c.requires.here performed.1 c.sends-sent.ensures is
+          (still_held i here.machine t performed.0 c.in_ok-received.received performed.1 c.in_ok-received.ensures);
     }
 
 pub returns-clause-goes : goal.returns-clause-goes
@@ -48,9 +51,11 @@ returns-clause-goes c =
     let t = c.perform.new.machine in
     let line = given_as c.args.line in
     let delivered = option_map plain_operation (option_copied c.operation-delivered.result) in
-    let due = step_due (here.place + 1) i c.sends-sent.result delivered t in
+    let received = received_in t c.in_ok-received.received in
+    let due = step_due (here.place + 1) i c.sends-sent.result delivered received t in
     let performed = c.in-Ok.ensures.done in
-    let is = due_is here.place i c.sends-sent.result delivered here.machine t c.sends-sent.ensures (ap (λ (o : Option (Operation Tagged)). option_map plain_operation o) c.operation-delivered.ensures ∙ c.in-Ok.ensures.applied) in
+    let is = due_is here.place i c.sends-sent.result delivered received here.machine t c.sends-sent.ensures (ap (λ (o : Option (Operation Tagged)). option_map plain_operation o) c.operation-delivered.ensures ∙ c.in-Ok.ensures.applied)
+    (still_held i here.machine t performed.0 c.in_ok-received.received performed.1 c.in_ok-received.ensures) in
     λ none.
     let both = agreed due line here.counts c.in_ok-judged.judged (λ counts. record here { machine = t; place = here.place + 1; stage = Running; counts = counts }) c.settle.new.self
     c.in_ok-judged.ensures (c.settle.ensures.none none) in
@@ -63,7 +68,9 @@ returns-clause-decided c =
     let t = c.perform.new.machine in
     let line = given_as c.args.line in
     let delivered = option_map plain_operation (option_copied c.operation-delivered.result) in
-    let due = step_due (here.place + 1) i c.sends-sent.result delivered t in
+    let received = received_in t c.in_ok-received.received in
+    let due = step_due (here.place + 1) i c.sends-sent.result delivered received t in
     let performed = c.in-Ok.ensures.done in
-    let is = due_is here.place i c.sends-sent.result delivered here.machine t c.sends-sent.ensures (ap (λ (o : Option (Operation Tagged)). option_map plain_operation o) c.operation-delivered.ensures ∙ c.in-Ok.ensures.applied) in
+    let is = due_is here.place i c.sends-sent.result delivered received here.machine t c.sends-sent.ensures (ap (λ (o : Option (Operation Tagged)). option_map plain_operation o) c.operation-delivered.ensures ∙ c.in-Ok.ensures.applied)
+    (still_held i here.machine t performed.0 c.in_ok-received.received performed.1 c.in_ok-received.ensures) in
     step_decides c.args.schedule.now here line i t performed.0 due c.in_ok-judged.judged c.settle.result c.requires.here performed.1 is c.requires.there c.requires.kept c.in_ok-judged.ensures c.settle.ensures.some

@@ -1,0 +1,4 @@
+pub mod Searches
+pub mod Causes
+pub mod Finds
+pub mod Words

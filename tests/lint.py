@@ -1,0 +1,60 @@
+#!/usr/bin/env python3
+"""Says what linters find in the scripts of the repository.
+
+    python3 tests/lint.py
+
+Python is looked through by pyflakes, but for lines with `# noqa`; JavaScript by node, for its syntax, and by TypeScript's compiler, for names that are not used, not
+defined or not exported. A linter that is not there is reported and left out; `tests/set-up` installs them. The last line says how many files
+there are and how much was found; the status is 1 where something was.
+"""
+import pathlib
+import re
+import shutil
+import subprocess
+import sys
+
+TOP = pathlib.Path(__file__).resolve().parent.parent
+COMPILER = "tsc --noEmit --allowJs --checkJs --noUnusedLocals --skipLibCheck --target es2022 --module es2022 --moduleResolution node"
+# Of a name that is not known, or of a module beside the file; of one that is not exported; of one that is not used.
+NAMES = re.compile(r"error TS(?:2304|2552|2307(?=: Cannot find module '\.)|2305|2724|6133|6192|6196|6198|6199): ")
+NOT_YET_KNOWN = re.compile(r"'(?:Dec|C)ompressionStream'")  # of browsers, by the compiler of Debian 12
+
+
+def listed(*patterns):
+    """The repository's files, without those that a release made."""
+    names = subprocess.run(["git", "ls-files", *patterns], cwd=TOP, capture_output=True, text=True, check=True).stdout.split("\n")
+    return [name for name in names if (TOP / name).is_file() and not name.startswith("dist/")]
+
+
+def is_python(name):
+    with open(TOP / name, "rb") as file:
+        return name.endswith(".py") or re.match(rb"#!.*python", file.readline(99)) is not None
+
+
+def said(linter, *names):
+    """What a linter says, line by line."""
+    if not shutil.which(linter.split()[0]):
+        print(f"lint: without {linter.split()[0]}, which is not there")
+        return []
+    ran = subprocess.run([*linter.split(), *names], cwd=TOP, capture_output=True, text=True, check=False)
+    return [line for line in (ran.stdout + ran.stderr).splitlines() if line.strip()]
+
+
+def has_noqa(finding):
+    at = re.match(r"([^:]+):(\d+):", finding)
+    return at is not None and "# noqa" in (TOP / at[1]).read_text(encoding="utf-8").split("\n")[int(at[2]) - 1]
+
+
+def main():
+    scripts = [name for name in listed("*.py") + listed(":!:*.*") if is_python(name)]
+    modules = listed("*.js", "*.mjs")
+    findings = [line for line in said("pyflakes3", *scripts) if not has_noqa(line)]
+    findings += [line for name in modules for line in said("node --check", name)]
+    findings += [line for line in said(COMPILER, *modules) if NAMES.search(line) and not NOT_YET_KNOWN.search(line)]
+    print("".join(f"{line}\n" for line in findings), end="")
+    print(f"lint: {len(scripts)} scripts of Python, {len(modules)} of JavaScript, {len(findings)} lines of findings")
+    return 1 if findings or not scripts or not modules else 0
+
+
+if __name__ == "__main__":
+    sys.exit(main())

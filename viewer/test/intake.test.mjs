@@ -1,0 +1,37 @@
+// What the page says of a file that is refused: the words of `explain`, or the fault alone where it has none.
+
+import assert from "node:assert/strict";
+import { test } from "node:test";
+import { takeIn } from "../src/intake.mjs";
+
+const NOTHING = new Uint8Array(0);
+const refused = (errors) => ({ status: 1, output: NOTHING, errors });
+
+/* What a page does with a file, where its engine answers words so: what is dispatched, and the judged trace. */
+async function taken(input, answers) {
+  const dispatched = [];
+  const bench = { settled: async () => {}, ask: async (words) => answers[words.join(" ")], dispatch: (it) => dispatched.push(it), state: {} };
+  const judged = await takeIn(bench, new TextEncoder().encode(input), "a");
+  return { dispatched, judged };
+}
+
+const notice = async (input, answers) => (await taken(input, answers)).dispatched.map((it) => it.notice);
+
+test("an image and a plan that are refused", async () => {
+  const rows = [
+    ["OTS2\0", "dis", "byte 5: Cut", "explain --image", "count of instructions: found 0 of 4 bytes", "a is no image of a schedule"],
+    ['{"typing":[]}', "threads", "BadShape", "explain --plan", "clients: found nothing; wanted a number from 1 to 64", "The plan a is not carried out"],
+  ];
+  for (const [input, command, fault, asked, words, said] of rows) {
+    assert.deepEqual(await notice(input, { [command]: refused(`otbench: ${fault}\n`), [asked]: refused(`otbench: ${fault}\n  ${words}\n`) }), [`${said}: otbench: ${fault}: ${words}.`]);
+    assert.deepEqual(await notice(input, { [command]: refused("otbench: Memory\n"), [asked]: refused("") }), [`${said}: otbench: Memory.`]);
+  }
+});
+
+test("a trace that is refused, and one that is judged", async () => {
+  const words = "replicas: found nothing; wanted a number from 1 to 65";
+  assert.deepEqual(await notice('{"events":[]}', { "explain --trace": refused(`otbench: BadShape\n  ${words}\n`) }), [`The trace a is not judged: otbench: BadShape: ${words}.`]);
+  const output = new TextEncoder().encode("doubled 0 0:0\n  event 0 is a read\n");
+  const { judged } = await taken('{"events":[]}', { "explain --trace": { status: 1, output, errors: "" } });
+  assert.deepEqual(judged, { trace: { events: [] }, verdict: { holds: false, words: "doubled 0 0:0\nevent 0 is a read", events: [0], tags: ["0:0"] } });
+});
