@@ -34,7 +34,7 @@ class Verdict:
         self.place = int(at[1]) if at else None
         self.ended = trouble is not None and trouble.startswith(ENDED)
         self.is_limit = said.startswith("stopped at ")
-        self.is_of_the_way = was_changed(said, printed)
+        self.is_of_the_way = was_changed(said)
         self.compared = Compared.of(sessions[-1], printed, said) if self.conforms else Compared()
 
     def is_slow(self):

@@ -1,5 +1,4 @@
 """Whether a message was changed on its way."""
-import json
 import unittest
 
 import paths  # noqa: F401
@@ -17,26 +16,7 @@ class Changed(unittest.TestCase):
             ("conforms\n", False),
         ]
         for said, changed in rows:
-            self.assertEqual(was_changed(said, b""), changed, said)
-
-    def test_a_stop_over_a_message(self):
-        take = 'differs at 3: take 0: stopped\nfound "no"\not.js performed\nrule Server.receiveOperation\ngiven revision 0\ngiven operation ["a"]\ngiven concurrent ["b"]\n'
-        deliver = 'differs at 3: deliver 0: stopped\nfound "no"\not.js performed\nrule Synchronized.applyServer\ngiven operation ["a"]\n'
-        rows = [
-            (take, {"revision": 0, "operation": ["a"]}, False),
-            (take, {"revision": 0, "operation": ["a", 1]}, True),
-            (take, {"revision": 1, "operation": ["a"]}, True),
-            (take, {"operation": ["a"], "client": 0}, False),
-            (deliver, ["a"], False),
-            (deliver, ["a", 1], True),
-            (deliver, None, False),
-            (deliver.replace("deliver 0: stopped", "deliver 0: line"), ["b"], False),
-            ("differs at 2: ack 0: stopped\nfound \"no\"\n", ["b"], False),
-        ]
-        for said, message, changed in rows:
-            printed = f'{{"at":2,"message":["b"]}}\n{json.dumps({"at": 2, "message": message, "stopped": "no"})}\n'
-            self.assertEqual(was_changed(said, printed.encode()), changed, (said, message))
-        self.assertFalse(was_changed(deliver, b'{"at":2,"stopped":"no"}\n'))
+            self.assertEqual(was_changed(said), changed, said)
 
 
 if __name__ == "__main__":

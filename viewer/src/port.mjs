@@ -96,7 +96,7 @@ export class Port {
     const differs = (key) => line[key] !== undefined && !sameValue(line[key], ours[key]);
     const differences = (keys) => keys.filter(differs).map((key) => ({ key, found: inWords(line[key]), ours: inWords(ours[key]) }));
     if (line.stopped === undefined) return differences(KEYS);
-    return [{ key: "stopped", found: inWords(line.stopped), ours: "performed" }, ...differences(["message"])];
+    return [...differences(["message"]), { key: "stopped", found: inWords(line.stopped), ours: "performed" }];
   }
 
   /* What the port printed last of a participant that is not what ot.js has. */

@@ -59,8 +59,8 @@ test("a message that a port stopped over", () => {
   const lines = linesOf(example("weak-order")).slice(0, 6);
   const port = beside([...lines, '{"at":5,"message":{"revision":0,"operation":[2,"z"]},"stopped":"no more"}']);
   assert.deepEqual(port.differencesAt(6), [
-    { key: "stopped", found: '"no more"', ours: "performed" },
     { key: "message", found: '{"revision":0,"operation":[2,"z"]}', ours: '{"revision":0,"operation":[1,"z"]}' },
+    { key: "stopped", found: '"no more"', ours: "performed" },
   ]);
 });
 

@@ -19,7 +19,7 @@ use Rattle.ot_conform.specs.Points.{points_rows}
 use Rattle.ot_conform.specs.Ports.{PortLine, Told}
 use Rattle.ot_conform.specs.Received.{Received, Taken, Delivered, received_agrees}
 use Rattle.ot_conform.specs.declared.keys.Key.TheVariants.{At, Document}
-use Rattle.ot_conform.specs.declared.meeting.Field.TheVariants.{Key, Message}
+use Rattle.ot_conform.specs.declared.meeting.Field.TheVariants.{Key, Message, Stopped}
 
 -- a message is taken, transformed against what the log has gained
 abbrev taken : Line
@@ -130,6 +130,22 @@ message_first = refl
 document_then : field_of taking (Told (object (member (codes "at") (number (unsigned 1)) (member (codes "document") (string (98 ∷ [])) no_members)))) ≡ Some (Key Document)
 unfolding first_key digits encode escape_byte
 document_then = refl
+
+-- the message that a port stopped over is told before the stop, and a right one is not
+abbrev stopping_over : Data → PortLine
+stopping_over d = Told (object (member (codes "at") (number (unsigned 0)) (member (codes "message") d (member (codes "stopped") (string (codes "no")) no_members))))
+
+wrong_then_stopped : field_of taking (stopping_over (message 1 (operation (98 ∷ [])))) ≡ Some Message
+unfolding digits encode escape_byte
+wrong_then_stopped = refl
+
+right_then_stopped : field_of taking (stopping_over (message 1 (operation (97 ∷ [])))) ≡ Some Stopped
+unfolding digits encode escape_byte
+right_then_stopped = refl
+
+-- an instruction that receives nothing
+nothing_received : field_of (reading 1) (stopping_over (operation (97 ∷ []))) ≡ Some Stopped
+nothing_received = refl
 
 -- ---- values that may look alike
 

@@ -4,7 +4,7 @@ use Rattle.std.specs.Prelude.{codes, is_some, if◌then◌else◌}
 use Rattle.serde_json.specs.Data.{Data, Members, null, boolean, number, string, array, object, put}
 use Rattle.serde_json.specs.Find.{get}
 use Rattle.ot_model.specs.Runs.{opening_of}
-use Rattle.ot_conform.specs.Differences.{Ahead, Wanted, Limit, Conforms, ahead_from, field_of, field_of_key, field_of_message, first_key, from_opening, is_same, or_next, over, unless_differs}
+use Rattle.ot_conform.specs.Differences.{Ahead, Wanted, Limit, Conforms, ahead_from, field_of, field_of_key, field_of_message, first_key, from_opening, is_same, message_of_stop, or_next, over, unless_differs}
 use Rattle.ot_conform.specs.Due.{DueLine, opening_due}
 use Rattle.ot_conform.specs.Keys.{first_keys, found_at, is_told, other_keys}
 use Rattle.ot_conform.specs.Laws.{MessagesConform, received_data, with_message, with_messages}
@@ -58,13 +58,14 @@ same_stopped received ms = got_put (codes "stopped") (codes "message") (received
 -- ---- one line
 
 -- no difference is one with a message that agrees either
-none_still : (stop message : Bool) (first others : Option Key)
-    → (if stop then or_next (field_of_key first) (or_next (field_of_message message) (field_of_key others)) else Some field.Stopped) ≡ None
-    → (if stop then or_next (field_of_key first) (or_next (field_of_message true) (field_of_key others)) else Some field.Stopped) ≡ None
-none_still true true first others e = e
-none_still true false None others e = absurd (cc)
-none_still true false (Some k) others e = e
-none_still false message first others e = e
+none_still : (stop message : Bool) (first others : Option Key) (before after : Option Field)
+    → (if stop then or_next (field_of_key first) (or_next (field_of_message message) (field_of_key others)) else or_next before (Some field.Stopped)) ≡ None
+    → (if stop then or_next (field_of_key first) (or_next (field_of_message true) (field_of_key others)) else or_next after (Some field.Stopped)) ≡ None
+none_still true true first others before after e = e
+none_still true false None others before after e = absurd (cc)
+none_still true false (Some k) others before after e = e
+none_still false message first others None after e = absurd (cc)
+none_still false message first others (Some f) after e = absurd (cc)
 
 object_still : (due : DueLine) (received : Received) (ms : Members) → due.received ≡ Some received → field_of due (Told (object ms)) ≡ None → field_of due (Told (with_it received ms)) ≡ None
 object_still due received ms is agrees =
@@ -75,7 +76,8 @@ object_still due received ms is agrees =
     ap (message_agrees due.received) (message_there received ms) ∙ ap (λ (o : Option Received). message_agrees o (Some (received_data received))) is ∙ own_message received in
     rw (same_stopped received ms, first, others, message)
     (none_still (is_same (is_some due.line.stopped) (is_told (get (codes "stopped") (object ms)))) (message_agrees due.received (get (codes "message") (object ms)))
-    (first_key first_keys due.line (object ms)) (first_key other_keys due.line (object ms)) agrees)
+    (first_key first_keys due.line (object ms)) (first_key other_keys due.line (object ms))
+    (message_of_stop due.received (message_agrees due.received (get (codes "message") (object ms)))) (message_of_stop due.received true) agrees)
 
 line_still : (due : DueLine) (received : Option Received) (line : PortLine) → due.received ≡ received → field_of due line ≡ None → field_of due (with_message received line) ≡ None
 line_still due None line is agrees = agrees

@@ -14,7 +14,7 @@ use Rattle.ot_conform.specs.Due.{DueLine, What, Opening, Instruction, End, end_d
 use Rattle.ot_conform.specs.Keys.{agrees_at, first_keys, found_at, is_told, other_keys}
 use Rattle.ot_conform.specs.Passed.{passes}
 use Rattle.ot_conform.specs.Ports.{PortLine, Told, OtherForm, NoText, Nothing, is_opening_line}
-use Rattle.ot_conform.specs.Received.{message_agrees, receives}
+use Rattle.ot_conform.specs.Received.{Received, message_agrees, receives}
 use Rattle.ot_conform.specs.Values.{text_at}
 use Rattle.ot_conform.specs.declared.keys.Key.{Key}
 use Rattle.ot_conform.specs.declared.meeting.Field.{Field}
@@ -50,10 +50,19 @@ keyed_field due d =
     or_next (field_of_key (first_key first_keys due.line d))
     (or_next (field_of_message (message_agrees due.received (get (codes "message") d))) (field_of_key (first_key other_keys due.line d)))
 
+-- a message counts where something is received
+abbrev pub message_of_stop : Option Received → Bool → Option Field
+message_of_stop None agrees = None
+message_of_stop (Some received) agrees = field_of_message agrees
+
+-- one of the two stops, and the other does not: the message that the port stopped over, and then the stop
+abbrev pub stopped_field : DueLine → Data → Option Field
+stopped_field due d = or_next (message_of_stop due.received (message_agrees due.received (get (codes "message") d))) (Some field.Stopped)
+
 -- whether both stop or none does, and then the keys in their order
 abbrev pub told_field : DueLine → Data → Option Field
 told_field due d =
-    if is_same (is_some due.line.stopped) (is_told (get (codes "stopped") d)) then keyed_field due d else Some field.Stopped
+    if is_same (is_some due.line.stopped) (is_told (get (codes "stopped") d)) then keyed_field due d else stopped_field due d
 
 -- where a port's line differs from the one that is due, if it does
 abbrev pub field_of : DueLine → PortLine → Option Field

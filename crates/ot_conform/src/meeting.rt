@@ -4,7 +4,7 @@ ghost use Rattle.std.specs.Prelude.{◌≡◌, IfOk, codes};
 ghost use Rattle.serde_json.specs.Find.{get};
 ghost use Rattle.serde_json.specs.View.{view};
 ghost use Rattle.ot_conform.specs.Due.{IsOfMachine, due_of};
-ghost use Rattle.ot_conform.specs.Differences.{field_of, first_key, keyed_field, told_field};
+ghost use Rattle.ot_conform.specs.Differences.{field_of, first_key, keyed_field, stopped_field, told_field};
 ghost use Rattle.ot_conform.specs.Keys.{agrees_at, found_at};
 ghost use Rattle.ot_conform.specs.Read.{read_as};
 ghost use Rattle.ot_conform.specs.Received.{message_agrees};
@@ -89,19 +89,30 @@ fn keyed_field(alloc: Global, line: &Value, due: &Due<'_>) -> Result<Option<Fiel
     }
 }
 
+// Where one of the two stops and the other does not: a port that was handed a wrong message may stop over it.
+fn stopped_field(alloc: Global, line: &Value, due: &Due<'_>) -> Result<Option<Field>, AllocError>
+    ensures { IfOk result (λ f. f ≡ stopped_field (due_of due.now) (view line.now)) }
+{
+    if due.message(alloc)?.is_some() && !message_agrees(alloc, line, due)? {
+        return Ok(Some(Field::Message));
+    }
+    Ok(Some(Field::Stopped))
+}
+
 // Where a line of the right form differs.
 fn told_field(alloc: Global, line: &Value, due: &Due<'_>) -> Result<Option<Field>, AllocError>
     requires { IsOfMachine due.now }
     ensures { IfOk result (λ f. f ≡ told_field (due_of due.now) (view line.now)) }
 {
     if says(line, "stopped") != due.refusal().is_some() {
-        return Ok(Some(Field::Stopped));
+        return stopped_field(alloc, line, due);
     }
     keyed_field(alloc, line, due)
 }
 
 /// Where a port's line differs from the one that is due, if it does: first whether both stop or none does, then the keys that say which
-/// line it is, the message, and the other keys in their order. Out of memory for the texts of values.
+/// line it is, the message, and the other keys in their order. Where the port alone stops at an instruction that receives a message, the
+/// message is compared before the stop. Out of memory for the texts of values.
 pub fn meet(alloc: Global, line: &PortLine<'_>, due: &Due<'_>) -> Result<Option<Field>, AllocError>
     requires { IsOfMachine due.now }
     ensures { IfOk result (λ f. f ≡ field_of (due_of due.now) (read_as line.now)) }
