@@ -121,6 +121,16 @@ function upTo32(buffer, operation) {
 }
 
 const others = {
+  /* Results of `transform` are kept under the components as one text, in which a length and a text can be alike. */
+  "transforms-kept-by-text"({ TextOperation }) {
+    const { transform } = TextOperation;
+    const kept = new Map();
+    TextOperation.transform = (first, second) => {
+      const key = `${first.ops}|${second.ops}`;
+      if (!kept.has(key)) kept.set(key, transform(first, second));
+      return kept.get(key);
+    };
+  },
   /* The port has room for 32 clients. */
   "clients-up-to-32"(port) {
     const { Client, Server } = port;

@@ -105,6 +105,7 @@ const KINDS = {
   "log-above-": ["log-cut-at-40", "log-cut-at-100", "log-cut-at-1000", "log-cut-at-1024"],
   "one-place-equal-texts": ["equal-texts-once"],
   "operations-of-many-components": ["components-up-to-1000"],
+  "texts-like-lengths": ["transforms-kept-by-text"],
   "texts-like-numbers": ["text-0-is-empty", "text-minus-1-is-a-deletion"],
   [TOGETHER]: ["log-shared"],
 };
