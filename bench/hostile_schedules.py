@@ -227,7 +227,7 @@ def alternate(delivered, clients=64, entries=24000, text=""):
 
 
 def just_long(entries=14900, length=33000):
-    """A client that deletes every second character of a start text of 33,000, and 14,900 operations that each change both ends: little more components than go into sections."""
+    """A client that deletes every second character of a start text of 33,000, and 14,900 operations that each change both ends."""
     lines = [*opening(2, length), every_second(0, length)]
     for k in range(entries):
         lines += [f"edit 1 {places(2, length, k % 2)}", "take 1", "ack 1"]

@@ -120,17 +120,22 @@ function upTo32(buffer, operation) {
   return edits === 32 ? buffer : Object.assign(buffer.compose(operation), { edits: edits + 1 });
 }
 
-const others = {
-  /* Results of `transform` are kept under the components as one text, in which a length and a text can be alike. */
-  "transforms-kept-by-text"({ TextOperation }) {
+/* Results of `transform` are kept under the components, joined into one text, in which a length and a text can be alike. */
+export function keptBy(separator) {
+  return ({ TextOperation }) => {
     const { transform } = TextOperation;
     const kept = new Map();
     TextOperation.transform = (first, second) => {
-      const key = `${first.ops}|${second.ops}`;
+      const key = `${first.ops.join(separator)}|${second.ops.join(separator)}`;
       if (!kept.has(key)) kept.set(key, transform(first, second));
       return kept.get(key);
     };
-  },
+  };
+}
+
+const others = {
+  "transforms-kept-by-text": keptBy(","),
+  "transforms-kept-by-words": keptBy(" "),
   /* The port has room for 32 clients. */
   "clients-up-to-32"(port) {
     const { Client, Server } = port;

@@ -8,6 +8,8 @@ import shutil
 MOST_SEED = 999_999_999
 MOST_START = 40_000
 MOST_SECONDS = 1_000_000  # what a wait can be given
+WITHIN = 8  # seconds after the start of a run when reducing ends, unless --reduce-seconds is given
+A_PART = 4  # reducing may take a fourth of the time that finding took, whatever time it is
 
 
 def whole(least, most=None):
@@ -79,7 +81,9 @@ def words_of():
     driver = words.add_argument_group("the driver")
     driver.add_argument("--utf16", action="store_true", help="it counts UTF-16 units, as ot.js does; without the word Unicode scalar values")
     driver.add_argument("--keep-driver", action="store_true", help="one process is given several sessions, a line %%%% behind each")
-    driver.add_argument("--seconds", type=seconds, default=10, help="the most that it may take for a session (10)")
+    driver.add_argument("--seconds", type=seconds, default=5,
+                        help="how long it may take for a session (5); twice that for one of more than 8,192 bytes, or if none has conformed yet; "
+                             "always 3 times as long as the longest that conformed")
     driver.add_argument("--most-bytes", type=whole(1), default=1 << 24, help="the most that it may print of one (16,777,216)")
     driver.add_argument("--jobs", type=whole(1), default=cores(), metavar="J", help="how many sessions are tried at a time (one for each core)")
 
@@ -101,7 +105,8 @@ def words_of():
     said.add_argument("--tap", action="store_true", help="as --all, in the Test Anything Protocol")
     said.add_argument("--junit", type=to_write, metavar="FILE", help="as --all, and JUnit's XML is written there")
     said.add_argument("--save", type=to_write, metavar="FILE", help="where the first reduced schedule is written")
-    said.add_argument("--reduce-seconds", type=seconds, default=60, help="about how long a failing session is reduced (60)")
+    said.add_argument("--reduce-seconds", type=seconds, metavar="R",
+                      help="how long a failing session is reduced; without the word until 8 seconds after the start, or a fourth of the time that finding took")
     said.add_argument("--judge", help="the program that compares; without it `otbench conform`")
     return words
 

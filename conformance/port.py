@@ -12,21 +12,27 @@ MARK = b"%%\n"  # the line that ends a session where a process is given several
 MARKED = re.compile(rb"(?:^|(?<=\n))%%\r?\n\Z")  # and the one that ends what it prints of it
 
 
+STEP = 0.05  # seconds between two looks at how long a session may take, which changes while it runs
+
+
 class Limits:
-    """The seconds that a session may take, and the bytes that may be printed in it."""
+    """The seconds that a session may take, as a call answers them, and the bytes that may be printed in it."""
 
     def __init__(self, seconds, most_bytes):
         self.seconds, self.most_bytes = seconds, most_bytes
-        self.until = time.monotonic() + seconds
+        self.began = time.monotonic()
 
     def left(self):
-        return max(self.until - time.monotonic(), 0)
+        return max(self.began + self.seconds() - time.monotonic(), 0)
+
+    def step(self):
+        return min(self.left(), STEP)
 
     def passed(self, printed):
         """What is said where a limit is passed, or None."""
         if max(map(len, printed)) > self.most_bytes:
             return f"{ENDED} printed more than {self.most_bytes:,} bytes"
-        return None if self.left() else f"{ENDED} took more than {self.seconds:g} s"
+        return None if self.left() else took_more(self.seconds())
 
 
 class Driver:
@@ -36,8 +42,11 @@ class Driver:
         self.command, self.seconds, self.most_bytes = command, seconds, most_bytes
         self.performed = []  # whoever calls may note here what the process has performed
 
-    def perform(self, text):
-        """What the driver printed, and what there is to say of how it ended, or None."""
+    def perform(self, text, seconds=None):
+        """
+        What the driver printed, and what there is to say of how it ended, or None. It may take the seconds that a call answers, while it
+        runs; without one those that were given at first.
+        """
         self.performed = []
         with tempfile.TemporaryFile() as given:
             given.write(text.encode())
@@ -45,20 +54,19 @@ class Driver:
             child = started(self.command, given)
         with child.stdout, child.stderr:
             try:
-                printed, trouble = self._read(child)
+                printed, trouble = self._read(child, Limits(seconds or (lambda: self.seconds), self.most_bytes))
             finally:
                 end(child)
         return bytes(printed[child.stdout]), said_of(trouble or how_ended(child.returncode), printed[child.stderr])
 
-    def _read(self, child):
+    def _read(self, child, limits):
         """Reads until both outputs end, or a limit is passed."""
-        limits = Limits(self.seconds, self.most_bytes)
         printed = {child.stdout: bytearray(), child.stderr: bytearray()}
         with selectors.DefaultSelector() as streams:
             for stream in printed:
                 streams.register(stream, selectors.EVENT_READ)
             while streams.get_map():
-                for key, _ in streams.select(limits.left()):
+                for key, _ in streams.select(limits.step()):
                     if not read_piece(key.fileobj, printed):
                         streams.unregister(key.fileobj)
                 if trouble := limits.passed(printed.values()):
@@ -76,27 +84,27 @@ class KeptDriver:
         self.command, self.seconds, self.most_bytes = command, seconds, most_bytes
         self.child, self.performed = None, []  # as for `Driver`, of the process that runs
 
-    def perform(self, text):
-        """What the driver printed of this session, and what there is to say of how it ended, or None."""
+    def perform(self, text, seconds=None):
+        """What the driver printed of this session, and what there is to say of how it ended, or None. The time is as for `Driver`."""
         if self.child is None:
             self.child, self.performed = started(self.command, subprocess.PIPE), []
             os.set_blocking(self.child.stdin.fileno(), False)
         child = self.child
-        printed, trouble = self._exchange(text.encode() + MARK)
+        printed, trouble = self._exchange(text.encode() + MARK, Limits(seconds or (lambda: self.seconds), self.most_bytes))
         if trouble:
             self._end()
         return MARKED.sub(b"", printed[child.stdout]), said_of(trouble, printed[child.stderr])
 
-    def _exchange(self, given):
+    def _exchange(self, given, limits):
         """Writes a session and reads its lines, until the mark stands behind them."""
-        child, limits, given = self.child, Limits(self.seconds, self.most_bytes), memoryview(given)
+        child, given = self.child, memoryview(given)
         printed = {child.stdout: bytearray(), child.stderr: bytearray()}
         with selectors.DefaultSelector() as streams:
             streams.register(child.stdin, selectors.EVENT_WRITE)
             for stream in printed:
                 streams.register(stream, selectors.EVENT_READ)
             while not MARKED.search(printed[child.stdout]):
-                for key, _ in streams.select(limits.left()):
+                for key, _ in streams.select(limits.step()):
                     if key.fileobj is child.stdin:
                         given = given[written(child.stdin, given):]
                         goes_on = bool(given)
@@ -119,9 +127,9 @@ class KeptDriver:
         """Ends the input; what there is to say of how the driver ended, or None."""
         if self.child is None:
             return None
-        child, limits = self.child, Limits(self.seconds, self.most_bytes)
+        child, limits = self.child, Limits(lambda: self.seconds, self.most_bytes)
         child.stdin.close()
-        trouble = how_ended(child.returncode) if ends_in_time(child, limits) else f"{ENDED} took more than {self.seconds:g} s"
+        trouble = how_ended(child.returncode) if ends_in_time(child, limits) else took_more(self.seconds)
         self._end()
         return trouble and f"{trouble} behind its last session"
 
@@ -155,11 +163,13 @@ def written(stream, given):
 
 def ends_in_time(child, limits):
     """Whether a process, whose outputs have ended, ends too."""
-    try:
-        child.wait(max(limits.left(), 0.1))
-    except subprocess.TimeoutExpired:
-        return False
-    return True
+    while True:
+        try:
+            child.wait(max(limits.step(), 0.1))
+            return True
+        except subprocess.TimeoutExpired:
+            if not limits.left():
+                return False
 
 
 def end(child):
@@ -170,6 +180,10 @@ def end(child):
         except ProcessLookupError:
             pass
         child.wait()
+
+
+def took_more(seconds):
+    return f"{ENDED} took more than {float(f'{seconds:.3g}'):g} s"
 
 
 def how_ended(status):

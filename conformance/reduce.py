@@ -62,10 +62,14 @@ def without_runs(items):
 
 
 def fewer_instructions(schedule):
-    """Without a run of instructions; a short schedule also without two or three that stand apart."""
-    instructions = schedule.instructions
-    for kept in without_runs(instructions):
+    """Without a run of instructions."""
+    for kept in without_runs(schedule.instructions):
         yield with_instructions(schedule, kept)
+
+
+def without_some_apart(schedule):
+    """A short schedule without two or three instructions that stand apart. There are many of these, and each leaves out little."""
+    instructions = schedule.instructions
     for count, most in ((2, 24), (3, 12)):
         if count <= len(instructions) <= most:
             for kept in itertools.combinations(instructions, len(instructions) - count):
@@ -179,7 +183,8 @@ def each_session(way):
     return smaller
 
 
-WAYS = [fewer_sessions] + [each_session(way) for way in (fewer_instructions, longer_start, fewer_clients, no_texts, fewer_texts, fewer_components, shorter_texts)]
+WAYS = [fewer_sessions] + [each_session(way) for way in (fewer_instructions, longer_start, fewer_clients, no_texts, fewer_texts, fewer_components, without_some_apart,
+                                                       shorter_texts)]
 
 
 class Reduction:

@@ -9,7 +9,7 @@ from program import program
 from schedule import read_schedule
 
 MARK = re.compile(r"^[ \t]*%%[ \t]*\r?$", re.MULTILINE)
-LARGE = 8192  # bytes
+LARGE, LONG = 8192, 1000  # bytes and lines of a session that takes long
 FOLDER = pathlib.Path(__file__).resolve().parent / "sessions"
 
 
@@ -18,9 +18,20 @@ class Refused(Exception):
 
 
 def corpus():
-    """The sessions by name, those of large texts last: each of them takes as long as several others."""
-    for path in sorted(FOLDER.glob("*.ots"), key=lambda path: (path.stat().st_size > LARGE, path)):
-        yield path.stem, read_schedule(path.read_text(encoding="utf-8"))
+    """The sessions by name; one of those of large texts, which take long, behind each tenth of the others; and long ones last."""
+    paths = sorted(FOLDER.glob("*.ots"), key=lambda path: (path.read_bytes().count(b"\n") > LONG, path))
+    large = [path for path in paths if path.stat().st_size > LARGE]
+    plain = [path for path in paths if path not in large]
+    for number, path in enumerate(plain, 1):
+        yield named(path)
+        if number % 10 == 0 and large[:-1]:
+            yield named(large.pop(0))
+    yield from map(named, large)
+
+
+def named(path):
+    """A session of the corpus: its name, and what it performs."""
+    return path.stem, read_schedule(path.read_text(encoding="utf-8"))
 
 
 def at_random(words):

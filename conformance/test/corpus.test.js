@@ -7,7 +7,7 @@ import { test } from "node:test";
 import { fileURLToPath } from "node:url";
 import { makePort } from "../../oracle/otjs.js";
 import { drive } from "../../oracle/scalars.js";
-import { bugs } from "../faults.js";
+import { bugs, keptBy } from "../faults.js";
 import { TOGETHER, coverage, page, readCorpus } from "../finders.js";
 import { comparable, faultyPort, firstDifference, stepsOf } from "../lines.js";
 
@@ -105,7 +105,7 @@ const KINDS = {
   "log-above-": ["log-cut-at-40", "log-cut-at-100", "log-cut-at-1000", "log-cut-at-1024"],
   "one-place-equal-texts": ["equal-texts-once"],
   "operations-of-many-components": ["components-up-to-1000"],
-  "texts-like-lengths": ["transforms-kept-by-text"],
+  "texts-like-lengths": ["transforms-kept-by-text", "transforms-kept-by-words"],
   "texts-like-numbers": ["text-0-is-empty", "text-minus-1-is-a-deletion"],
   [TOGETHER]: ["log-shared"],
 };
@@ -120,6 +120,12 @@ test("each kind of session has a fault that passes the rest of the corpus", () =
   assert.deepEqual(found.get("lengths-of-16-bits"), ["lengths-above-65535"]);
   assert.deepEqual(found.get("message-read-in-pieces"), ["lengths-of-messages"]);
   assert.deepEqual(found.get("log-cut-at-1000"), ["log-above-1000"]);
+});
+
+test("transforms kept by their components are found, whatever joins these", () => {
+  const session = comparable(fs.readFileSync(beside("sessions/texts-like-lengths.ots"), "utf8"));
+  for (const separator of [..." ,|;:/-\t\n", "", ", "])
+    assert.notEqual(firstDifference(session, faultyPort(keptBy(separator))), null, JSON.stringify(separator));
 });
 
 test("a fault of another file on the driver's command line", () => {

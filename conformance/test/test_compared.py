@@ -61,7 +61,7 @@ class Kinds(unittest.TestCase):
             ("differs at 12: after the end: line\nfound 1\n", None, "after the end: line"),
             ("differs at 1: edit 0: line\nrule Synchronized.applyClient\n", "the driver ended with status 1: oh", "Synchronized.applyClient: line"),
             ("conforms\ncompared do 1\n", "the driver ended with status 12: oh", "driver: ended with status 12"),
-            ("conforms\ncompared do 1\n", "the driver was ended: it took more than 0.5 s", "driver: was ended: it took more than 0.5 s"),
+            ("conforms\ncompared do 1\n", "the driver was ended: it took more than 0.5 s", "driver: was ended: it took too long"),
             ("conforms\ncompared do 1\n", "the driver was ended: it printed more than 16,777,216 bytes: y", "driver: was ended: it printed more than 16,777,216 bytes"),
             ("conforms\ncompared do 1\n", "the driver ended before the line %%", "driver: ended before the line %%"),
             ("stopped at 12: ClientFull\n", None, "stopped: ClientFull"),

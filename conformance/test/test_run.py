@@ -100,7 +100,7 @@ class Shown(unittest.TestCase):
 
 class Kit(unittest.TestCase):
     def run_kit(self, driver, *words, judge=JUDGE, need=("--need", "")):
-        call = [KIT / "run", "--judge", judge, "--sessions", "5", "--jobs", "2", *need, *words, *driver]
+        call = [KIT / "run", "--judge", judge, "--sessions", "5", "--jobs", "2", "--reduce-seconds", "60", *need, *words, *driver]
         ran = subprocess.run(call, capture_output=True, encoding="utf-8", check=False, env={**os.environ, "OTBENCH": STUB})
         return ran.returncode, ran.stdout, ran.stderr
 
@@ -154,7 +154,7 @@ class Runs(Kit):
             driver = ["sh", "-c", f"if grep -q join && mkdir {room}/seen 2>/dev/null; then sleep 60; fi"]
             _, printed, _ = self.run_kit(driver, "--jobs", "1", "--seconds", "5")
         note = "the driver did not do this each time; on a busy machine --seconds gives it more time"
-        self.assertTrue(printed.endswith(f"\nthe driver was ended: it took more than 5 s\n{note}\n"), printed)
+        self.assertRegex(printed, f"\nthe driver was ended: it took more than [0-9.]+ s\n{note}\n$")
 
     def test_a_port_that_fails_once_in_a_smaller_session_is_shown_as_it_fails_each_time(self):
         with tempfile.TemporaryDirectory() as room:
@@ -180,6 +180,48 @@ class Runs(Kit):
         self.assertIn("differs at 99: deliver 0: line\n", printed)
         self.assertNotIn("took more than", printed)
         self.assertNotIn("each time", printed)
+
+    def test_a_port_that_hangs_is_reduced(self):
+        status, printed, _ = self.run_kit(["sh", "-c", "if grep -q join; then sleep 60; fi"], "--seconds", "3")
+        self.assertEqual(status, 1)
+        self.assertRegex(printed, "^fails: join-an-emptied-document, 15 instructions of 2 clients; here reduced to 1 of 1\n\nclients 1\npresent 0\njoin 0\n\n"
+                         "the driver was ended: it took more than [0-9.]+ s\n"
+                         "note as it was found the session took more than [0-9.]+ s; --seconds gives a slow driver more time\n$")
+
+    def test_a_port_that_hangs_at_once(self):
+        status, printed, _ = self.run_kit(["sleep", "60"], "--seconds", "1", "--reduce-seconds", "1")
+        self.assertEqual(status, 1)
+        self.assertRegex(printed, "\nthe driver was ended: it took more than 2 s\n")
+
+    def test_a_slow_port_is_given_more_than_the_time_that_it_took_before(self):
+        driver = ["sh", "-c", "text=$(cat); case $text in *join*) sleep 5;; *) sleep 2.5;; esac"]
+        self.assertEqual(self.run_kit(driver, *self.own(READS, JOINS), "--seconds", "2", "--jobs", "1")[0], 0)
+
+    def test_a_session_that_takes_longer_than_others_conforms(self):
+        driver = ["sh", "-c", "text=$(cat); case $text in *join*) sleep 3;; esac"]
+        for jobs in ("1", "2"):
+            self.assertEqual(self.run_kit(driver, *self.own(READS, JOINS, READS), "--seconds", "60", "--jobs", jobs)[0], 0)
+
+    def test_drivers_under_way_are_not_waited_for(self):
+        driver = ["sh", "-c", "text=$(cat); case $text in *take*) sleep 300;; *join*) echo wrong 1;; esac"]
+        began = time.monotonic()
+        status, printed, _ = self.run_kit(driver, *self.own(READS, JOINS, "clients 1\nedit 0 []\ntake 0\n"), "--seconds", "300", "--jobs", "3")
+        self.assertRegex(printed, "\ndiffers at 1: ")
+        self.assertEqual(status, 1)
+        self.assertLess(time.monotonic() - began, 100)
+
+    def test_reducing_ends_where_its_time_is_over(self):
+        driver = ["sh", "-c", "text=$(cat); case $text in *join*) if [ $(echo \"$text\" | wc -l) -lt 12 ]; then sleep 300; fi; echo wrong 99;; esac"]
+        began = time.monotonic()
+        status, printed, _ = self.run_kit(driver, "--seconds", "300", "--reduce-seconds", "1")
+        self.assertRegex(printed, "\ndiffers at 99: (.*\n)*note the time for reducing was over; --reduce-seconds gives it more\n$")
+        self.assertEqual(status, 1)
+        self.assertLess(time.monotonic() - began, 100)
+
+    def test_a_session_for_which_no_time_is_left_is_shown_as_it_was_found(self):
+        _, printed, _ = self.run_kit(["sh", "-c", "if grep -q join; then echo wrong 99; fi"], "--reduce-seconds", "0.000001")
+        self.assertRegex(printed, "^fails: join-an-emptied-document, 15 instructions of 2 clients; here reduced to 15 of 2\n(.*\n)*differs at 99: "
+                         "(.*\n)*note the time for reducing was over; --reduce-seconds gives it more\n$")
 
     def test_a_port_that_differs_in_a_session_made_at_random(self):
         driver = ["sh", "-c", "if grep -q 'clients 7'; then echo wrong 0; fi"]
@@ -319,6 +361,18 @@ class All(Kit):
         self.assertTrue(printed.startswith("of one's own: 1 of 4 sessions conform\nknown: deliver: line: 2 sessions\n"
                                            "known: driver: ended with status 7: 1 session\nknown, and no longer there: read: document\ncompared"), printed)
 
+    def test_that_a_driver_hangs_can_be_known(self):
+        known = self.known("driver: was ended: it took too long\n")
+        status, printed, _ = self.run_kit(["sh", "-c", "if grep -q take; then sleep 60; fi"], *self.words, *known, "--seconds", "1")
+        self.assertEqual((status, printed[:printed.index("compared")]),
+                         (0, "of one's own: 3 of 4 sessions conform\nknown: driver: was ended: it took too long: 1 session\n"))
+
+    def test_of_those_that_hang_the_shortest_is_reduced(self):
+        status, printed, _ = self.run_kit(["sh", "-c", "if grep -q join; then sleep 60; fi"], *self.words, "--all", "--seconds", "1")
+        self.assertEqual(status, 1)
+        self.assertRegex(printed, "^of one's own: 2 of 4 sessions conform\n\ndriver: was ended: it took too long: 2 sessions\n"
+                         "the shortest: .*/1.ots, 1 instruction of 1 client; here reduced to 1 of 1\n\nclients 1\npresent 0\njoin 0\n\nthe driver was ended: it took more than ")
+
     def test_an_unknown_one_fails_beside_a_known_one(self):
         status, printed, _ = self.run_kit(DRIVER, *self.words, *self.known("deliver: line\n"))
         self.assertEqual(status, 1)
@@ -408,7 +462,7 @@ class WithoutBuilding(unittest.TestCase):
 @needs_node
 class Together(unittest.TestCase):
     def run_kit(self, *words):
-        ran = subprocess.run([KIT / "run", "--jobs", "2", *words], capture_output=True, encoding="utf-8", check=False, env={**os.environ, "OTBENCH": PROGRAM})
+        ran = subprocess.run([KIT / "run", "--jobs", "2", "--reduce-seconds", "60", *words], capture_output=True, encoding="utf-8", check=False, env={**os.environ, "OTBENCH": PROGRAM})
         return ran.returncode, ran.stdout, ran.stderr
 
     def test_a_fault_of_the_sample_port(self):
@@ -459,7 +513,7 @@ class Together(unittest.TestCase):
         session = KIT / "sessions" / "client-awaiting-confirm-deliver.ots"
         status, printed, _ = self.run_kit("--utf16", "--session", session, "--reduce-seconds", "5", *SAMPLE, "--bug", "message-changed-by-its-sender")
         self.assertEqual(status, 1)
-        self.assertTrue(printed.endswith(f"\n{TOLD}\n"), printed)
+        self.assertIn(f"\n{TOLD}\n", printed)
 
     def test_messages_can_be_needed(self):
         session = KIT / "sessions" / "transform-tie.ots"

@@ -5,7 +5,7 @@ use Rattle.std.specs.Io.KnownBytes.{prepend_known}
 use Rattle.line_reader.specs.Lines.{lines_of}
 use Rattle.line_reader.specs.Taken.{TakesLine, Spends, LosesPiece}
 use Rattle.ot_isa.specs.Program.{Program}
-use Rattle.ot_asm.specs.Stepping.{BodyView, line_step, ended, outcome_of_lines, IsFaultlessBefore, HidesOnlyJson, WantsMemoryIn}
+use Rattle.ot_asm.specs.Stepping.{BodyView, line_step, ended, outcome_of_lines, IsFaultlessBefore, HidesOnlyJson, OutOfMemoryIn}
 use Rattle.ot_asm.specs.Words.{trimmed, first_word, keyword_of}
 use Rattle.ot_asm.specs.Parts.{is_mark, lines_before, TakesPart, StopsIn}
 use Rattle.ot_asm.specs.declared.fault.Kind.{Kind}
@@ -35,7 +35,7 @@ faulted_known marked (Some text) None next l line draft kind h t other e = absur
 faulted_known marked (Some text) (Some now) None l line draft kind h t other e = absurd t
 faulted_known marked (Some text) (Some now) (Some next) l line draft kind h t other e = let taken = rw t at h in taken_fault l (lines_of next) taken other e
 
-pub wanting_known : (marked : Bool) (text now next : Option (List ℕ)) (l : List ℕ) (line : ℕ) (draft : Option BodyView) → IsTakenKnown marked text now line draft → TakesLine now next true l → (marked && is_mark l) ≡ false → HidesOnlyJson (keyword_of (first_word (trimmed l))) (line_step draft l) → IfSome text (λ t. WantsMemoryIn (lines_before marked (lines_of t)) line)
+pub wanting_known : (marked : Bool) (text now next : Option (List ℕ)) (l : List ℕ) (line : ℕ) (draft : Option BodyView) → IsTakenKnown marked text now line draft → TakesLine now next true l → (marked && is_mark l) ≡ false → HidesOnlyJson (keyword_of (first_word (trimmed l))) (line_step draft l) → IfSome text (λ t. OutOfMemoryIn (lines_before marked (lines_of t)) line)
 wanting_known marked None now next l line draft h t other hides = tt
 wanting_known marked (Some text) None next l line draft h t other hides = absurd h
 wanting_known marked (Some text) (Some now) None l line draft h t other hides = absurd t

@@ -4,7 +4,7 @@ use Rattle.std.specs.Prelude.{IfOk}
 use Rattle.std.proofs.Math.Seq.{take-append-add, drop-append-add}
 use Rattle.line_reader.specs.Lines.{lines_of, lacks}
 use Rattle.line_reader.proofs.Ends.{lines_last}
-use Rattle.ot_asm.specs.Stepping.{BodyView, line_step, go_on, run, ended, outcome_of_lines, IsFaultlessBefore, HidesOnlyJson, WantsMemoryIn}
+use Rattle.ot_asm.specs.Stepping.{BodyView, line_step, go_on, run, ended, outcome_of_lines, IsFaultlessBefore, HidesOnlyJson, OutOfMemoryIn}
 use Rattle.ot_asm.specs.Words.{trimmed, first_word, keyword_of}
 use Rattle.ot_asm.specs.Parts.{is_mark, lines_before, lines_behind}
 use Rattle.ot_isa.specs.Program.{Program}
@@ -85,7 +85,7 @@ back_of front rest =
     rw (← z) (drop-append-add front rest 0)
 
 -- memory ran out in the line after those that were read
-pub wanting : {lines : List (List ℕ)} (l : List ℕ) (below : List (List ℕ)) {line : ℕ} {draft : Option BodyView} → HasRead lines (l ∷ below) line draft → HidesOnlyJson (keyword_of (first_word (trimmed l))) (line_step draft l) → WantsMemoryIn lines line
+pub wanting : {lines : List (List ℕ)} (l : List ℕ) (below : List (List ℕ)) {line : ℕ} {draft : Option BodyView} → HasRead lines (l ∷ below) line draft → HidesOnlyJson (keyword_of (first_word (trimmed l))) (line_step draft l) → OutOfMemoryIn lines line
 wanting l below {line} {draft} h hides =
     let back : line - 1 ≡ length h.before = omega (arith, h.number) in
     record {
@@ -161,7 +161,7 @@ taken_step {marked} {lines} l ls h other e =
 pub taken_fault : {marked : Bool} {lines : List (List ℕ)} (l : List ℕ) (ls : List (List ℕ)) {line : ℕ} {draft : Option BodyView} {kind : Kind} → IsTaken marked lines (l ∷ ls) line draft → (marked && is_mark l) ≡ false → line_step draft l ≡ Err kind → outcome_of_lines (lines_before marked lines) ≡ Err (record { line = line; kind = kind })
 taken_fault {marked} l ls h other e = let read = rw (before_other marked l ls other) at h.read in faulted l (lines_before marked ls) read e
 
-pub taken_want : {marked : Bool} {lines : List (List ℕ)} (l : List ℕ) (ls : List (List ℕ)) {line : ℕ} {draft : Option BodyView} → IsTaken marked lines (l ∷ ls) line draft → (marked && is_mark l) ≡ false → HidesOnlyJson (keyword_of (first_word (trimmed l))) (line_step draft l) → WantsMemoryIn (lines_before marked lines) line
+pub taken_want : {marked : Bool} {lines : List (List ℕ)} (l : List ℕ) (ls : List (List ℕ)) {line : ℕ} {draft : Option BodyView} → IsTaken marked lines (l ∷ ls) line draft → (marked && is_mark l) ≡ false → HidesOnlyJson (keyword_of (first_word (trimmed l))) (line_step draft l) → OutOfMemoryIn (lines_before marked lines) line
 taken_want {marked} l ls h other hides = let read = rw (before_other marked l ls other) at h.read in wanting l (lines_before marked ls) read hides
 
 pub taken_mark : {marked : Bool} {lines : List (List ℕ)} (l : List ℕ) (ls : List (List ℕ)) {line : ℕ} {draft : Option BodyView} {result : Result Program AsmFault} → IsTaken marked lines (l ∷ ls) line draft → (marked && is_mark l) ≡ true → ((count : ℕ) → count + 1 ≡ line → ended count (Ok draft) ≡ result) → outcome_of_lines (lines_before marked lines) ≡ result

@@ -197,7 +197,7 @@ HidesOnlyJson keyword (Ok x) = Unit {0}
 HidesOnlyJson keyword (Err kind) = IsBehindJson keyword kind
 
 -- memory ran out in line number `line`: no line before it has a fault, and it has none itself, except perhaps in its JSON text
-pub record WantsMemoryIn (lines : List (List ℕ)) (line : ℕ) : Type 0 where
+pub record OutOfMemoryIn (lines : List (List ℕ)) (line : ℕ) : Type 0 where
   pub draft : Option BodyView
   pub before : run 1 None (take (line - 1) lines) ≡ Ok draft
   pub text : List ℕ

@@ -3,7 +3,7 @@
 ghost use Rattle.std.specs.Prelude.{◌≡◌, ◌⊎◌, ◌∷◌, ◌+◌, ◌<◌, ℕ, Ok, Err, IfOk, IfErr, length};
 ghost use Rattle.line_reader.specs.Lines.{lines_of};
 ghost use Rattle.ot_isa.specs.Program.{IsProgram, Program};
-ghost use Rattle.ot_asm.specs.Stepping.{ended, outcome, IsFaultlessBefore, WantsMemoryIn};
+ghost use Rattle.ot_asm.specs.Stepping.{ended, outcome, IsFaultlessBefore, OutOfMemoryIn};
 ghost use Rattle.ot_asm.specs.Spelling.{Spells};
 
 use crate::body::Body;
@@ -52,7 +52,7 @@ fn assembled(alloc: Global, text: &str) -> Result<Schedule, AsmFault>
     ensures limits { IfOk result (λ s. IsProgram s) }
     ensures err { IfErr result (λ f. (f.kind ≡ Kind.Memory) ⊎ (outcome text.now ≡ Err f)) }
     ensures faultless { IfErr result (λ f. IsFaultlessBefore (lines_of text.now) f.line) }
-    ensures memory { IfErr result (λ f. f.kind ≡ Kind.Memory → WantsMemoryIn (lines_of text.now) f.line) }
+    ensures memory { IfErr result (λ f. f.kind ≡ Kind.Memory → OutOfMemoryIn (lines_of text.now) f.line) }
 {
     let mut body: Option<Body> = None;
     let mut rest = text.as_bytes();
@@ -78,7 +78,7 @@ pub fn assemble(alloc: Global, text: &str) -> Result<Schedule, AsmFault>
     ensures only { (p : Program) → Spells text.now p → IfOk result (λ s. s ≡ p) × IfErr result (λ f. f.kind ≡ Kind.Memory) }
     ensures err { IfErr result (λ f. (f.kind ≡ Kind.Memory) ⊎ (outcome text.now ≡ Err f)) }
     ensures faultless { IfErr result (λ f. IsFaultlessBefore (lines_of text.now) f.line) }
-    ensures memory { IfErr result (λ f. f.kind ≡ Kind.Memory → WantsMemoryIn (lines_of text.now) f.line) }
+    ensures memory { IfErr result (λ f. f.kind ≡ Kind.Memory → OutOfMemoryIn (lines_of text.now) f.line) }
 {
     assembled(alloc, text)
 }

@@ -4,7 +4,7 @@ ghost use Rattle.std.specs.Prelude.{◌≡◌, ◌≢◌, ◌⊎◌, ◌+◌, �
 ghost use Rattle.std.specs.Io.KnownBytes.{IsAtEnd};
 ghost use Rattle.line_reader.specs.Lines.{lines_of};
 ghost use Rattle.line_reader.specs.Taken.{may_take, before};
-ghost use Rattle.ot_asm.specs.Stepping.{ended, outcome, outcome_of_lines, IsFaultlessBefore, WantsMemoryIn};
+ghost use Rattle.ot_asm.specs.Stepping.{ended, outcome, outcome_of_lines, IsFaultlessBefore, OutOfMemoryIn};
 ghost use Rattle.ot_asm.specs.Spelling.{Spells};
 ghost use Rattle.ot_isa.specs.Program.{Program};
 ghost use Rattle.ot_asm.specs.Parts.{lines_before, TakesPart, StopsIn};
@@ -46,7 +46,7 @@ fn assemble_part<R: Read>(
     ensures short { OnOk result (marked ≡ false → IfSome (before ahead.old (R.remaining reader.old)) (λ text. length text < may_take ahead.old)) }
     ensures err { IfErr result (λ f. f.kind ≢ Kind.Memory → f.kind ≢ Kind.ReadFault → IfSome (before ahead.old (R.remaining reader.old)) (λ text. outcome_of_lines (lines_before marked (lines_of text)) ≡ Err f)) }
     ensures faultless { IfErr result (λ f. IfSome (before ahead.old (R.remaining reader.old)) (λ text. IsFaultlessBefore (lines_before marked (lines_of text)) f.line)) }
-    ensures memory { IfErr result (λ f. f.kind ≡ Kind.Memory → IfSome (before ahead.old (R.remaining reader.old)) (λ text. WantsMemoryIn (lines_before marked (lines_of text)) f.line) ⊎ StopsIn (before ahead.old (R.remaining reader.old)) (before ahead.new (R.remaining reader.new)) f.line) }
+    ensures memory { IfErr result (λ f. f.kind ≡ Kind.Memory → IfSome (before ahead.old (R.remaining reader.old)) (λ text. OutOfMemoryIn (lines_before marked (lines_of text)) f.line) ⊎ StopsIn (before ahead.old (R.remaining reader.old)) (before ahead.new (R.remaining reader.new)) f.line) }
     ensures stop { IfErr result (λ f. f.kind ≡ Kind.ReadFault → StopsIn (before ahead.old (R.remaining reader.old)) (R.remaining reader.new) f.line) }
 {
     // For the proof: the invariant of every reader.
@@ -120,7 +120,7 @@ pub fn assemble_until_mark<R: Read>(
     ensures err { IfErr result (λ f. f.kind ≢ Kind.Memory → f.kind ≢ Kind.ReadFault → IfSome (before ahead.old (R.remaining reader.old)) (λ text. outcome_of_lines (lines_before true (lines_of text)) ≡ Err f)) }
     ensures faultless { IfErr result (λ f. IfSome (before ahead.old (R.remaining reader.old)) (λ text. IsFaultlessBefore (lines_before true (lines_of text)) f.line)) }
     // Out of memory names a line that has no fault but one of its JSON text, or one that was not read to its end.
-    ensures memory { IfErr result (λ f. f.kind ≡ Kind.Memory → IfSome (before ahead.old (R.remaining reader.old)) (λ text. WantsMemoryIn (lines_before true (lines_of text)) f.line) ⊎ StopsIn (before ahead.old (R.remaining reader.old)) (before ahead.new (R.remaining reader.new)) f.line) }
+    ensures memory { IfErr result (λ f. f.kind ≡ Kind.Memory → IfSome (before ahead.old (R.remaining reader.old)) (λ text. OutOfMemoryIn (lines_before true (lines_of text)) f.line) ⊎ StopsIn (before ahead.old (R.remaining reader.old)) (before ahead.new (R.remaining reader.new)) f.line) }
     ensures stop { IfErr result (λ f. f.kind ≡ Kind.ReadFault → StopsIn (before ahead.old (R.remaining reader.old)) (R.remaining reader.new) f.line) }
 {
     assemble_part(alloc, ahead, reader, true)

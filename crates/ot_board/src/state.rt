@@ -53,8 +53,7 @@ impl ClientState for Synchronized {
     }
 
     fn delivered(&self, op: &TextOp<Tagged>) -> Result<(Synchronized, TextOp<Tagged>), AllocError> {
-        let (next, op) = self.deliver(op);
-        Ok((next, op.copy()?))
+        Ok(self.copy().deliver(op.copy()?))
     }
 }
 
@@ -85,7 +84,10 @@ impl ClientState for AwaitingConfirm<Tagged> {
         &self,
         op: &TextOp<Tagged>,
     ) -> Result<(AwaitingConfirm<Tagged>, TextOp<Tagged>), AllocError> {
-        self.deliver(op)
+        match self.copy()?.deliver(op.copy()?) {
+            Ok(given) => Ok(given),
+            Err((_state, _op)) => Err(AllocError),
+        }
     }
 }
 
@@ -114,7 +116,10 @@ impl ClientState for AwaitingWithBuffer<Tagged> {
         &self,
         op: &TextOp<Tagged>,
     ) -> Result<(AwaitingWithBuffer<Tagged>, TextOp<Tagged>), AllocError> {
-        self.deliver(op)
+        match self.copy()?.deliver(op.copy()?) {
+            Ok(given) => Ok(given),
+            Err((_state, _op)) => Err(AllocError),
+        }
     }
 }
 

@@ -9,7 +9,7 @@ ghost use Rattle.ot_client.specs.declared.TheConstants.{REVISION_LIMIT};
 use crate::prepared::PreparedStep;
 use crate::waiting::Waiting;
 use crate::{AwaitingWithBuffer, Synchronized};
-use ot_sections::Held;
+use ot_algebra::{prepare_transform, transform_second};
 use ot_text::{Element, TextOp};
 use std::alloc::AllocError;
 use std::marker::Model;
@@ -18,7 +18,7 @@ use std::marker::Model;
 #[derive(Drop)]
 pub struct AwaitingConfirm<T> {
     revision: u32,
-    outstanding: Held<T>,
+    outstanding: TextOp<T>,
 }
 
 impl<T> Model for AwaitingConfirm<T> {
@@ -31,7 +31,7 @@ impl<T> Model for AwaitingConfirm<T> {
 
 impl<T: Element> AwaitingConfirm<T> {
     // The client that has sent this operation.
-    pub(crate) fn new(revision: u32, outstanding: Held<T>) -> AwaitingConfirm<T>
+    pub(crate) fn new(revision: u32, outstanding: TextOp<T>) -> AwaitingConfirm<T>
         ensures { result ≡ record { revision = revision; outstanding = outstanding } }
     {
         AwaitingConfirm {
@@ -48,7 +48,7 @@ impl<T: Element> AwaitingConfirm<T> {
     }
 
     /// The operation that was sent, over the server's document at the client's revision.
-    pub fn outstanding(&self) -> &Held<T>
+    pub fn outstanding(&self) -> &TextOp<T>
         ensures { result.now ≡ self.now.outstanding }
     {
         &self.outstanding
@@ -69,25 +69,32 @@ impl<T: Element> AwaitingConfirm<T> {
         requires { op.base ≡ length self.outstanding.image }
         ensures { buffering result ≡ edited (confirming self) op }
     {
-        AwaitingWithBuffer::new(self.revision, self.outstanding, Held::new(op))
+        AwaitingWithBuffer::new(self.revision, self.outstanding, op)
     }
 
-    /// The client after the next entry of the server's log, an operation of another client over the base of the outstanding one, which is
-    /// transformed against it; and what the document is to be changed by. The revision, below 1,000,000, rises by 1. The base and what both insert
-    /// are at most 1,000,000 items together. The client and the operation are only read: `Err` comes where memory was refused, and nothing is copied.
-    pub fn deliver(&self, op: &TextOp<T>) -> Result<(AwaitingConfirm<T>, TextOp<T>), AllocError>
-        requires revision { self.now.revision < REVISION_LIMIT }
-        requires base { op.now.base ≡ self.now.outstanding.base }
-        requires fits { op.now.base + length (news self.now.outstanding.image) + length (news op.now.image) ≤ LIMIT }
-        ensures state { IfOk result (λ given. confirming given.0 ≡ delivered (confirming self.now) op.now) }
-        ensures applied { IfOk result (λ given. given.1 ≡ carried (confirming self.now).phase op.now) }
+    /// Takes the next entry of the server's log, an operation of another client over the base of the outstanding one: gives the client after it, whose
+    /// outstanding operation is transformed against the entry, and what the document is to be changed by. The revision, below 1,000,000, rises by 1. The
+    /// base and what both insert are at most 1,000,000 items together. The outstanding operation changes where it lies, at the components that the entry
+    /// touches. If memory runs out, the client and the entry come back.
+    pub fn deliver(
+        self,
+        op: TextOp<T>,
+    ) -> Result<(AwaitingConfirm<T>, TextOp<T>), (AwaitingConfirm<T>, TextOp<T>)>
+        requires revision { self.revision < REVISION_LIMIT }
+        requires base { op.base ≡ self.outstanding.base }
+        requires fits { op.base + length (news self.outstanding.image) + length (news op.image) ≤ LIMIT }
+        ensures state { IfOk result (λ given. confirming given.0 ≡ delivered (confirming self) op) }
+        ensures applied { IfOk result (λ given. given.1 ≡ carried (confirming self).phase op) }
+        ensures back { IfErr result (λ back. back ≡ (self, op)) }
     {
-        let (outstanding, applied) = self.outstanding.transform(op)?;
-        let next = AwaitingConfirm {
-            revision: self.revision + 1,
-            outstanding,
-        };
-        Ok((next, applied))
+        let revision = self.revision;
+        match prepare_transform(self.outstanding, &op) {
+            Ok((outstanding, applied)) => {
+                let client = AwaitingConfirm::new(revision + 1, outstanding.commit());
+                Ok((client, applied))
+            }
+            Err(outstanding) => Err((AwaitingConfirm::new(revision, outstanding), op)),
+        }
     }
 
     /// What the document is to be changed by at that entry, the second of what `deliver` gives, under its conditions but for the revision. Costs
@@ -97,7 +104,7 @@ impl<T: Element> AwaitingConfirm<T> {
         requires fits { op.now.base + length (news self.now.outstanding.image) + length (news op.now.image) ≤ LIMIT }
         ensures { IfOk result (λ applied. applied ≡ carried (confirming self.now).phase op.now) }
     {
-        self.outstanding.carry(op)
+        transform_second(&self.outstanding, op)
     }
 
     /// Takes the confirmation of the operation that was sent: nothing is under way. The revision, below 1,000,000, rises by 1. It takes no memory.
@@ -109,7 +116,7 @@ impl<T: Element> AwaitingConfirm<T> {
     }
 
     // The operation that was sent.
-    pub(crate) fn into_outstanding(self) -> Held<T>
+    pub(crate) fn into_outstanding(self) -> TextOp<T>
         ensures { result ≡ self.outstanding }
     {
         self.outstanding
@@ -127,17 +134,15 @@ impl<T: Element> AwaitingConfirm<T> {
         Ok(PreparedStep {
             from: self.revision,
             to: self.revision,
-            waiting: Waiting::Second(self.outstanding, Held::new(copy)),
+            waiting: Waiting::Second(self.outstanding, copy),
             sent: None,
         })
     }
 
-    // The step of `deliver`, with what the document is to be changed by, where `kept` asks for an undo record. If memory runs out, the
-    // client comes back.
+    // The step of `deliver`, over an entry that is only read, with what the document is to be changed by. If memory runs out, the client comes back.
     pub(crate) fn prepare_deliver(
         self,
         op: &TextOp<T>,
-        kept: bool,
     ) -> Result<(PreparedStep<T>, TextOp<T>), AwaitingConfirm<T>>
         requires revision { self.revision < REVISION_LIMIT }
         requires base { op.now.base ≡ self.outstanding.base }
@@ -147,7 +152,7 @@ impl<T: Element> AwaitingConfirm<T> {
         ensures back { IfErr result (λ client. client ≡ self) }
     {
         let revision = self.revision;
-        match self.outstanding.prepare_transform(op, kept) {
+        match prepare_transform(self.outstanding, op) {
             Ok((outstanding, applied)) => {
                 let step = PreparedStep {
                     from: revision,

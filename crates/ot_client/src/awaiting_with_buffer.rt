@@ -2,6 +2,7 @@
 
 ghost use Rattle.std.specs.Prelude.{◌≡◌, ◌+◌, ◌<◌, ◌≤◌, length, IfOk, IfErr, None};
 ghost use Rattle.ot_text.specs.Operation.{news};
+ghost use Rattle.ot_algebra.specs.Merge.{first_after, second_after};
 ghost use Rattle.ot_client.specs.Client.{message_of};
 ghost use Rattle.ot_client.specs.State.{buffering, carried, confirming, delivered, edited, IsJoined};
 ghost use Rattle.ot_text.specs.declared.TheConstants.{LIMIT};
@@ -10,8 +11,8 @@ ghost use Rattle.ot_client.specs.declared.TheConstants.{REVISION_LIMIT};
 use crate::prepared::PreparedStep;
 use crate::waiting::Waiting;
 use crate::{AwaitingConfirm, Sent};
-use ot_sections::Held;
-use ot_text::{Element, TextOp};
+use ot_algebra::{prepare_compose, prepare_transform, transform_second};
+use ot_text::{Element, Prepared, TextOp};
 use std::alloc::AllocError;
 use std::marker::Model;
 
@@ -19,8 +20,8 @@ use std::marker::Model;
 #[derive(Drop)]
 pub struct AwaitingWithBuffer<T> {
     revision: u32,
-    outstanding: Held<T>,
-    buffer: Held<T>,
+    outstanding: TextOp<T>,
+    buffer: TextOp<T>,
 }
 
 impl<T> Model for AwaitingWithBuffer<T> {
@@ -35,9 +36,42 @@ impl<T> Model for AwaitingWithBuffer<T> {
     ghost invariant = { λ s. IsJoined (record { revision = s.revision; outstanding = s.outstanding; buffer = s.buffer }) };
 }
 
+// Prepares the outstanding operation to be transformed against another's, and the buffer against what the outstanding operation leaves of that; and gives what
+// both leave of it. If memory runs out, both come back.
+fn transform_both<T: Element>(
+    outstanding: TextOp<T>,
+    buffer: TextOp<T>,
+    op: &TextOp<T>,
+) -> Result<(Prepared<T>, Prepared<T>, TextOp<T>), (TextOp<T>, TextOp<T>)>
+    requires joined { buffer.base ≡ length outstanding.image }
+    requires base { op.now.base ≡ outstanding.base }
+    requires fits { op.now.base + length (news outstanding.image) + length (news buffer.image) + length (news op.now.image) ≤ LIMIT }
+    ensures outstanding { IfOk result (λ given. given.0 ≡ record { before = outstanding; after = first_after outstanding op.now }) }
+    ensures buffer { IfOk result (λ given. given.1 ≡ record { before = buffer; after = first_after buffer (second_after outstanding op.now) }) }
+    ensures applied { IfOk result (λ given. given.2 ≡ second_after buffer (second_after outstanding op.now)) }
+    ensures joined { IfOk result (λ given. given.1.after.base ≡ length given.0.after.image) }
+    ensures back { IfErr result (λ back. back ≡ (outstanding, buffer)) }
+{
+    // For the proof: the invariant of every operation.
+    let _operation = outstanding.base_len();
+    let _operation = op.base_len();
+    let (outstanding, passed) = match prepare_transform(outstanding, op) {
+        Ok(given) => given,
+        Err(outstanding) => return Err((outstanding, buffer)),
+    };
+    match prepare_transform(buffer, &passed) {
+        Ok((buffer, applied)) => Ok((outstanding, buffer, applied)),
+        Err(buffer) => Err((outstanding.roll_back(), buffer)),
+    }
+}
+
 impl<T: Element> AwaitingWithBuffer<T> {
     // The client that has sent this operation and has these edits in its buffer.
-    pub(crate) fn new(revision: u32, outstanding: Held<T>, buffer: Held<T>) -> AwaitingWithBuffer<T>
+    pub(crate) fn new(
+        revision: u32,
+        outstanding: TextOp<T>,
+        buffer: TextOp<T>,
+    ) -> AwaitingWithBuffer<T>
         requires { buffer.base ≡ length outstanding.image }
         ensures { result ≡ record { revision = revision; outstanding = outstanding; buffer = buffer } }
     {
@@ -56,14 +90,14 @@ impl<T: Element> AwaitingWithBuffer<T> {
     }
 
     /// The operation that was sent, over the server's document at the client's revision.
-    pub fn outstanding(&self) -> &Held<T>
+    pub fn outstanding(&self) -> &TextOp<T>
         ensures { result.now ≡ self.now.outstanding }
     {
         &self.outstanding
     }
 
     /// The edits since, as one operation over what the outstanding operation makes.
-    pub fn buffer(&self) -> &Held<T>
+    pub fn buffer(&self) -> &TextOp<T>
         ensures value { result.now ≡ self.now.buffer }
         ensures joined { IsJoined self.now }
     {
@@ -93,34 +127,38 @@ impl<T: Element> AwaitingWithBuffer<T> {
     {
         let revision = self.revision;
         let outstanding = self.outstanding;
-        match self.buffer.prepare_compose(&op, false) {
+        match prepare_compose(self.buffer, &op) {
             Ok(buffer) => Ok(AwaitingWithBuffer::new(revision, outstanding, buffer.commit())),
             Err(buffer) => Err((AwaitingWithBuffer::new(revision, outstanding, buffer), op)),
         }
     }
 
-    /// The client after the next entry of the server's log, an operation of another client over the base of the outstanding one: the outstanding
-    /// operation is transformed against it, and the buffer against what that leaves of it; and what the document is to be changed by. The revision,
-    /// below 1,000,000, rises by 1. The base and what all three insert are at most 1,000,000 items together. The client and the operation are only
-    /// read: `Err` comes where memory was refused, and nothing is copied.
-    pub fn deliver(&self, op: &TextOp<T>) -> Result<(AwaitingWithBuffer<T>, TextOp<T>), AllocError>
-        requires revision { self.now.revision < REVISION_LIMIT }
-        requires base { op.now.base ≡ self.now.outstanding.base }
-        requires fits { op.now.base + length (news self.now.outstanding.image) + length (news self.now.buffer.image) + length (news op.now.image) ≤ LIMIT }
-        ensures state { IfOk result (λ given. buffering given.0 ≡ delivered (buffering self.now) op.now) }
-        ensures applied { IfOk result (λ given. given.1 ≡ carried (buffering self.now).phase op.now) }
+    /// Takes the next entry of the server's log, an operation of another client over the base of the outstanding one: gives the client after it, and
+    /// what the document is to be changed by. The outstanding operation is transformed against the entry, and the buffer against what the outstanding
+    /// operation leaves of it. The revision, below 1,000,000, rises by 1. The base and what all three insert are at most 1,000,000 items together. Both
+    /// operations change where they lie, at the components that the entry touches. If memory runs out, the client and the entry come back.
+    pub fn deliver(
+        self,
+        op: TextOp<T>,
+    ) -> Result<(AwaitingWithBuffer<T>, TextOp<T>), (AwaitingWithBuffer<T>, TextOp<T>)>
+        requires revision { self.revision < REVISION_LIMIT }
+        requires base { op.base ≡ self.outstanding.base }
+        requires fits { op.base + length (news self.outstanding.image) + length (news self.buffer.image) + length (news op.image) ≤ LIMIT }
+        ensures state { IfOk result (λ given. buffering given.0 ≡ delivered (buffering self) op) }
+        ensures applied { IfOk result (λ given. given.1 ≡ carried (buffering self).phase op) }
+        ensures back { IfErr result (λ back. back ≡ (self, op)) }
     {
-        // For the proof: the invariant of every operation.
-        let _operation = self.outstanding.base_len();
-        let _operation = op.base_len();
-        let (outstanding, passed) = self.outstanding.transform(op)?;
-        let (buffer, applied) = self.buffer.transform(&passed)?;
-        let next = AwaitingWithBuffer {
-            revision: self.revision + 1,
-            outstanding,
-            buffer,
-        };
-        Ok((next, applied))
+        let revision = self.revision;
+        match transform_both(self.outstanding, self.buffer, &op) {
+            Ok((outstanding, buffer, applied)) => {
+                let outstanding = outstanding.commit();
+                let client = AwaitingWithBuffer::new(revision + 1, outstanding, buffer.commit());
+                Ok((client, applied))
+            }
+            Err((outstanding, buffer)) => {
+                Err((AwaitingWithBuffer::new(revision, outstanding, buffer), op))
+            }
+        }
     }
 
     /// What the document is to be changed by at that entry, the second of what `deliver` gives, under its conditions but for the revision. Costs
@@ -133,8 +171,8 @@ impl<T: Element> AwaitingWithBuffer<T> {
         // For the proof: the invariant of every operation.
         let _operation = self.outstanding.base_len();
         let _operation = op.base_len();
-        let passed = self.outstanding.carry(op)?;
-        self.buffer.carry(&passed)
+        let passed = transform_second(&self.outstanding, op)?;
+        transform_second(&self.buffer, &passed)
     }
 
     /// Takes the confirmation of the operation that was sent: the revision, below 1,000,000, rises by 1, and the buffer is sent with the risen
@@ -152,7 +190,7 @@ impl<T: Element> AwaitingWithBuffer<T> {
     // So, with the operation that was confirmed.
     pub(crate) fn confirm(
         self,
-    ) -> Result<(AwaitingConfirm<T>, Sent<T>, Held<T>), AwaitingWithBuffer<T>>
+    ) -> Result<(AwaitingConfirm<T>, Sent<T>, TextOp<T>), AwaitingWithBuffer<T>>
         requires { self.revision < REVISION_LIMIT }
         ensures state { IfOk result (λ given. given.0 ≡ record { revision = self.revision + 1; outstanding = self.buffer }) }
         ensures sent { IfOk result (λ given. message_of given.1 ≡ record { revision = self.revision + 1; op = self.buffer }) }
@@ -160,7 +198,7 @@ impl<T: Element> AwaitingWithBuffer<T> {
         ensures joined { IsJoined self }
         ensures back { IfErr result (λ back. back ≡ self) }
     {
-        let Ok(copy) = self.buffer.to_op() else {
+        let Ok(copy) = self.buffer.copy() else {
             return Err(self);
         };
         let revision = self.revision + 1;
@@ -170,18 +208,17 @@ impl<T: Element> AwaitingWithBuffer<T> {
     }
 
     // The operation that was sent, and the buffer.
-    pub(crate) fn into_operations(self) -> (Held<T>, Held<T>)
+    pub(crate) fn into_operations(self) -> (TextOp<T>, TextOp<T>)
         ensures operations { result ≡ (self.outstanding, self.buffer) }
         ensures joined { IsJoined self }
     {
         (self.outstanding, self.buffer)
     }
 
-    // The step of `edit`, over an edit that is only read, where `kept` asks for an undo record. If memory runs out, the client comes back.
+    // The step of `edit`, over an edit that is only read. If memory runs out, the client comes back.
     pub(crate) fn prepare_edit(
         self,
         op: &TextOp<T>,
-        kept: bool,
     ) -> Result<PreparedStep<T>, AwaitingWithBuffer<T>>
         requires { op.now.base ≡ length self.buffer.image }
         ensures step { IfOk result (λ step. step ≡ record { before = buffering self; after = edited (buffering self) op.now; sent = None }) }
@@ -189,7 +226,7 @@ impl<T: Element> AwaitingWithBuffer<T> {
     {
         let revision = self.revision;
         let outstanding = self.outstanding;
-        match self.buffer.prepare_compose(op, kept) {
+        match prepare_compose(self.buffer, op) {
             Ok(buffer) => Ok(PreparedStep {
                 from: revision,
                 to: revision,
@@ -200,12 +237,10 @@ impl<T: Element> AwaitingWithBuffer<T> {
         }
     }
 
-    // The step of `deliver`, with what the document is to be changed by, where `kept` asks for an undo record. If memory runs out, the
-    // client comes back.
+    // The step of `deliver`, over an entry that is only read, with what the document is to be changed by. If memory runs out, the client comes back.
     pub(crate) fn prepare_deliver(
         self,
         op: &TextOp<T>,
-        kept: bool,
     ) -> Result<(PreparedStep<T>, TextOp<T>), AwaitingWithBuffer<T>>
         requires revision { self.revision < REVISION_LIMIT }
         requires base { op.now.base ≡ self.outstanding.base }
@@ -214,19 +249,9 @@ impl<T: Element> AwaitingWithBuffer<T> {
         ensures applied { IfOk result (λ given. given.1 ≡ carried (buffering self).phase op.now) }
         ensures back { IfErr result (λ client. client ≡ self) }
     {
-        // For the proof: the invariant of every operation.
-        let _operation = self.outstanding.base_len();
-        let _operation = op.base_len();
         let revision = self.revision;
-        let buffer = self.buffer;
-        let (outstanding, passed) = match self.outstanding.prepare_transform(op, kept) {
-            Ok(given) => given,
-            Err(outstanding) => {
-                return Err(AwaitingWithBuffer::new(revision, outstanding, buffer));
-            }
-        };
-        match buffer.prepare_transform(&passed, kept) {
-            Ok((buffer, applied)) => {
+        match transform_both(self.outstanding, self.buffer, op) {
+            Ok((outstanding, buffer, applied)) => {
                 let step = PreparedStep {
                     from: revision,
                     to: revision + 1,
@@ -235,7 +260,9 @@ impl<T: Element> AwaitingWithBuffer<T> {
                 };
                 Ok((step, applied))
             }
-            Err(buffer) => Err(AwaitingWithBuffer::new(revision, outstanding.roll_back(), buffer)),
+            Err((outstanding, buffer)) => {
+                Err(AwaitingWithBuffer::new(revision, outstanding, buffer))
+            }
         }
     }
 }

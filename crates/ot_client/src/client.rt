@@ -31,36 +31,35 @@ impl<T: Element> Client<T> {
         }
     }
 
-    /// The client after the next entry of the server's log, an operation of another client, and what the document is to be changed by; `None` there
-    /// where that is the operation as it came, as for a synchronized client. The calls of the three states say what each asks. The client and the
-    /// operation are only read: `Err` comes where memory was refused, and nothing is copied.
-    pub fn deliver(&self, op: &TextOp<T>) -> Result<(Client<T>, Option<TextOp<T>>), AllocError>
-        requires revision { (state_of self.now).revision < REVISION_LIMIT }
-        requires operations { MayDeliver (state_of self.now).phase op.now }
-        ensures state { IfOk result (λ given. state_of given.0 ≡ delivered (state_of self.now) op.now) }
-        ensures applied { IfOk result (λ given. unwrap_or given.1 op.now ≡ carried (state_of self.now).phase op.now) }
+    /// Takes the next entry of the server's log, an operation of another client: gives the client after it, and what the document is to be changed by.
+    /// The calls of the three states say what each asks, and what it costs. If memory runs out, the client and the entry come back.
+    pub fn deliver(self, op: TextOp<T>) -> Result<(Client<T>, TextOp<T>), (Client<T>, TextOp<T>)>
+        requires revision { (state_of self).revision < REVISION_LIMIT }
+        requires operations { MayDeliver (state_of self).phase op }
+        ensures state { IfOk result (λ given. state_of given.0 ≡ delivered (state_of self) op) }
+        ensures applied { IfOk result (λ given. given.1 ≡ carried (state_of self).phase op) }
+        ensures back { IfErr result (λ back. back ≡ (self, op)) }
     {
         match self {
             Client::Synchronized(client) => {
-                let (client, _op) = client.deliver(op);
-                Ok((Client::Synchronized(client), None))
+                let (client, applied) = client.deliver(op);
+                Ok((Client::Synchronized(client), applied))
             }
-            Client::AwaitingConfirm(client) => {
-                let (client, applied) = client.deliver(op)?;
-                Ok((Client::AwaitingConfirm(client), Some(applied)))
-            }
-            Client::AwaitingWithBuffer(client) => {
-                let (client, applied) = client.deliver(op)?;
-                Ok((Client::AwaitingWithBuffer(client), Some(applied)))
-            }
+            Client::AwaitingConfirm(client) => match client.deliver(op) {
+                Ok((client, applied)) => Ok((Client::AwaitingConfirm(client), applied)),
+                Err((client, op)) => Err((Client::AwaitingConfirm(client), op)),
+            },
+            Client::AwaitingWithBuffer(client) => match client.deliver(op) {
+                Ok((client, applied)) => Ok((Client::AwaitingWithBuffer(client), applied)),
+                Err((client, op)) => Err((Client::AwaitingWithBuffer(client), op)),
+            },
         }
     }
 
     /// Prepares the client to take the user's edit, which is in the user's document already; the edit is only read. Of the pending operations only the
     /// buffer changes, at the components that the edit touches; beyond that it costs a copy of the edit where that is pending from now on, and a second
-    /// one where it is sent. Where an undo record will be asked for (`kept`), the buffer is one list of components from now on. If memory runs out, the
-    /// client comes back.
-    pub fn prepare_edit(self, op: &TextOp<T>, kept: bool) -> Result<PreparedStep<T>, Client<T>>
+    /// one where it is sent. If memory runs out, the client comes back.
+    pub fn prepare_edit(self, op: &TextOp<T>) -> Result<PreparedStep<T>, Client<T>>
         requires { MayEdit (state_of self).phase op.now }
         ensures step { IfOk result (λ step. step ≡ record { before = state_of self; after = edited (state_of self) op.now; sent = message_edited (state_of self).revision (state_of self).phase op.now }) }
         ensures back { IfErr result (λ client. client ≡ self) }
@@ -74,7 +73,7 @@ impl<T: Element> Client<T> {
                 Ok(step) => Ok(step),
                 Err(client) => Err(Client::AwaitingConfirm(client)),
             },
-            Client::AwaitingWithBuffer(client) => match client.prepare_edit(op, kept) {
+            Client::AwaitingWithBuffer(client) => match client.prepare_edit(op) {
                 Ok(step) => Ok(step),
                 Err(client) => Err(Client::AwaitingWithBuffer(client)),
             },
@@ -83,12 +82,10 @@ impl<T: Element> Client<T> {
 
     /// Prepares the client to take the next entry of the server's log, an operation of another client, under the conditions of `deliver`, with what
     /// the document is to be changed by; `None` there where that is the operation as it came, as for a synchronized client. The operation is only
-    /// read, and the pending operations change at the components that it touches. Where an undo record will be asked for (`kept`), each pending operation
-    /// is one list of components from now on. If memory runs out, the client comes back.
+    /// read, and the pending operations change at the components that it touches. If memory runs out, the client comes back.
     pub fn prepare_deliver(
         self,
         op: &TextOp<T>,
-        kept: bool,
     ) -> Result<(PreparedStep<T>, Option<TextOp<T>>), Client<T>>
         requires revision { (state_of self).revision < REVISION_LIMIT }
         requires operations { MayDeliver (state_of self).phase op.now }
@@ -98,11 +95,11 @@ impl<T: Element> Client<T> {
     {
         match self {
             Client::Synchronized(client) => Ok((client.prepare_deliver(op), None)),
-            Client::AwaitingConfirm(client) => match client.prepare_deliver(op, kept) {
+            Client::AwaitingConfirm(client) => match client.prepare_deliver(op) {
                 Ok((step, applied)) => Ok((step, Some(applied))),
                 Err(client) => Err(Client::AwaitingConfirm(client)),
             },
-            Client::AwaitingWithBuffer(client) => match client.prepare_deliver(op, kept) {
+            Client::AwaitingWithBuffer(client) => match client.prepare_deliver(op) {
                 Ok((step, applied)) => Ok((step, Some(applied))),
                 Err(client) => Err(Client::AwaitingWithBuffer(client)),
             },

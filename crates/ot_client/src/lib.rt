@@ -10,16 +10,13 @@
 //!   the client's document = the server's at the client's revision, with `outstanding` and then `buffer` applied
 //! ```
 //!
-//! An edit and an acknowledgement take the state by value and give the next one, so what was sent is never sent or confirmed twice, and
-//! an acknowledgement of nothing does not compile; where memory runs out, the state and the operation come back as they were. `deliver`
-//! receives another's operation, and only reads the state and the operation: each pending operation becomes the first result of `transform`,
-//! so the next state is a fresh one, and so is what the document is to be changed by.
+//! An edit, a delivery and an acknowledgement take the state by value and give the next one: what was sent is never sent or confirmed twice, an entry of
+//! the log is never taken twice by one state, and an acknowledgement of nothing does not compile. Where memory runs out, the state and the operation come
+//! back as they were. `deliver` receives another's operation: each pending operation becomes the first result of `transform`, where it lies.
 //! [`Client::prepare_edit`] and [`Client::prepare_deliver`] take the same steps in two moves, at the cost of what changes: all memory that the step
 //! takes is there in a [`PreparedStep`], which then gives the client after it (`commit`) or the one before it (`roll_back`) and cannot fail. So a
 //! caller can change more than the client, or nothing. The undo record of a step is a [`Past`], and [`Past::prepare_back`] undoes the step,
 //! at the cost of what is recorded.
-//! Pending operations are held by `ot_sections` (`Held`), each as one list of components or, where it has many, in sections: a small step then costs what
-//! it touches and a look at each section. A step whose undo record will be asked for holds one list, to which the [`Past`] refers.
 //! These are the functions `applyClient`, `applyServer` and `serverAck` of the three states in ot.js' `Client`.
 //!
 //! Contracts see a state as `State` of `specs/State.antt`: a revision and a `Phase`. `edited` and `delivered` are two of the rules, `carried` what a

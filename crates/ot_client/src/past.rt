@@ -1,7 +1,6 @@
 //! Undo records: a client's pending operations before a step, recorded as changes of those after it.
 
 ghost use Rattle.std.specs.Prelude.{◌≡◌, length, IfErr, IfOk};
-ghost use Rattle.ot_text.specs.Patch.{patched, LeadsFrom};
 ghost use Rattle.ot_client.specs.Client.{state_of};
 ghost use Rattle.ot_client.specs.Past.{phase_before, FitsPhase, LeadsBack};
 ghost use Rattle.ot_client.specs.State as state;
@@ -9,8 +8,7 @@ ghost use Rattle.ot_client.specs.State as state;
 use crate::prepared::PreparedBack;
 use crate::waiting::Waiting;
 use crate::{AwaitingConfirm, AwaitingWithBuffer, Client};
-use ot_sections::{Held, PreparedHeld};
-use ot_text::{Element, Patch};
+use ot_text::{Element, Patch, TextOp};
 use std::alloc::AllocError;
 
 /// A client's pending operations before a step, by the kind of the step. What the step leaves as it was is not recorded.
@@ -27,25 +25,12 @@ pub enum Past<T> {
     /// The outstanding operation, which still is, and the buffer, into which an edit was composed.
     Buffer(Patch<T>),
     /// This operation, which was confirmed, and then what is outstanding now, if anything is.
-    Confirmed(Held<T>),
-}
-
-// Prepares a pending operation to become what the patch makes of it, both as one list of components. If memory runs out, it comes back.
-fn prepare_back<T: Element>(patch: &Patch<T>, op: Held<T>) -> Result<PreparedHeld<T>, Held<T>>
-    requires { LeadsFrom patch.now op }
-    ensures before { IfOk result (λ change. change.before ≡ op) }
-    ensures after { IfOk result (λ change. change.after ≡ patched patch.now op) }
-    ensures back { IfErr result (λ same. same ≡ op) }
-{
-    match patch.prepare_back(op.into_op()?) {
-        Ok(change) => Ok(PreparedHeld::whole(change)),
-        Err(op) => Err(Held::new(op)),
-    }
+    Confirmed(TextOp<T>),
 }
 
 impl<T: Element> Past<T> {
-    /// Prepares the client after the step to become the one before it, at that one's revision. Costs what is recorded, which is copied, and where an
-    /// operation that changes is held in sections, to make one list of it. If memory runs out, the client comes back.
+    /// Prepares the client after the step to become the one before it, at that one's revision. Costs what is recorded, which is copied. If memory runs
+    /// out, the client comes back.
     pub fn prepare_back(
         &self,
         client: Client<T>,
@@ -101,14 +86,14 @@ impl<T: Element> Past<T> {
     }
 
     // The step back where this operation is outstanding now.
-    fn over_outstanding(&self, op: Held<T>) -> Result<Waiting<T>, Held<T>>
+    fn over_outstanding(&self, op: TextOp<T>) -> Result<Waiting<T>, TextOp<T>>
         requires { FitsPhase self.now (state.AwaitingConfirm op) }
         ensures ok { IfOk result (λ waiting. LeadsBack self.now (state.AwaitingConfirm op) waiting) }
         ensures err { IfErr result (λ same. same ≡ op) }
     {
         match self {
             Past::Nothing => Ok(Waiting::Unsent(op)),
-            Past::Outstanding(patch) => Ok(Waiting::Outstanding(prepare_back(patch, op)?)),
+            Past::Outstanding(patch) => Ok(Waiting::Outstanding(patch.prepare_back(op)?)),
             Past::Confirmed(first) => match first.copy() {
                 Ok(first) => Ok(Waiting::Unconfirmed(first, op)),
                 Err(_) => Err(op),
@@ -120,9 +105,9 @@ impl<T: Element> Past<T> {
     // The step back where there is a buffer now.
     fn over_both(
         &self,
-        outstanding: Held<T>,
-        buffer: Held<T>,
-    ) -> Result<Waiting<T>, (Held<T>, Held<T>)>
+        outstanding: TextOp<T>,
+        buffer: TextOp<T>,
+    ) -> Result<Waiting<T>, (TextOp<T>, TextOp<T>)>
         requires fits { FitsPhase self.now (state.AwaitingWithBuffer outstanding buffer) }
         requires joined { buffer.base ≡ length outstanding.image }
         ensures ok { IfOk result (λ waiting. LeadsBack self.now (state.AwaitingWithBuffer outstanding buffer) waiting) }
@@ -130,17 +115,17 @@ impl<T: Element> Past<T> {
     {
         match self {
             Past::Unbuffered => Ok(Waiting::Unbuffered(outstanding, buffer)),
-            Past::Buffer(patch) => match prepare_back(patch, buffer) {
+            Past::Buffer(patch) => match patch.prepare_back(buffer) {
                 Ok(buffer) => Ok(Waiting::Buffer(outstanding, buffer)),
                 Err(buffer) => Err((outstanding, buffer)),
             },
             Past::Both(both) => {
                 let (first, second) = &**both;
-                let outstanding = match prepare_back(first, outstanding) {
+                let outstanding = match first.prepare_back(outstanding) {
                     Ok(outstanding) => outstanding,
                     Err(outstanding) => return Err((outstanding, buffer)),
                 };
-                match prepare_back(second, buffer) {
+                match second.prepare_back(buffer) {
                     Ok(buffer) => Ok(Waiting::Both(outstanding, buffer)),
                     Err(buffer) => Err((outstanding.roll_back(), buffer)),
                 }

@@ -55,8 +55,7 @@ impl<T: Element> PreparedStep<T> {
         self.waiting.roll_back(self.from)
     }
 
-    /// The undo record of the step, in memory of `alloc`. Costs the components that change where the step
-    /// was prepared to be `kept`, else all pending operations. `AllocError` where a growth was refused.
+    /// The undo record of the step, in memory of `alloc`. Costs the components that change. `AllocError` where a growth was refused.
     pub fn past(&self, alloc: Global) -> Result<Past<T>, AllocError>
         ensures phase { IfOk result (λ past. phase_before past self.now.after.phase ≡ self.now.before.phase) }
         ensures fits { IfOk result (λ past. FitsPhase past self.now.after.phase) }

@@ -8,7 +8,6 @@ ghost use Rattle.ot_client.specs.declared.TheConstants.{REVISION_LIMIT};
 use crate::prepared::PreparedStep;
 use crate::waiting::Waiting;
 use crate::{AwaitingConfirm, Sent};
-use ot_sections::Held;
 use ot_text::{Element, TextOp};
 use std::marker::Model;
 
@@ -65,20 +64,17 @@ impl Synchronized {
             revision: self.revision,
             op: copy,
         };
-        Ok((AwaitingConfirm::new(self.revision, Held::new(op)), sent))
+        Ok((AwaitingConfirm::new(self.revision, op), sent))
     }
 
-    /// The client after the next entry of the server's log, an operation of another client, and what the document is to be changed by: the operation
-    /// as it came. The revision, below 1,000,000, rises by 1. It takes no memory.
-    pub fn deliver<'a, T: Element>(&self, op: &'a TextOp<T>) -> (Synchronized, &'a TextOp<T>)
-        requires { self.now < REVISION_LIMIT }
-        ensures state { synchronized result.0 ≡ delivered (synchronized self.now) op.now }
-        ensures applied { result.1.now ≡ op.now }
+    /// Takes the next entry of the server's log, an operation of another client: gives the client after it, and what the document is to be changed by,
+    /// the operation as it came. The revision, below 1,000,000, rises by 1. It takes no memory.
+    pub fn deliver<T: Element>(self, op: TextOp<T>) -> (Synchronized, TextOp<T>)
+        requires { self < REVISION_LIMIT }
+        ensures state { synchronized result.0 ≡ delivered (synchronized self) op }
+        ensures applied { result.1 ≡ op }
     {
-        let next = Synchronized {
-            revision: self.revision + 1,
-        };
-        (next, op)
+        (Synchronized::new(self.revision + 1), op)
     }
 
     // The step of `edit`, over an edit that is only read.
@@ -102,7 +98,7 @@ impl Synchronized {
         Ok(PreparedStep {
             from: self.revision,
             to: self.revision,
-            waiting: Waiting::First(Held::new(outstanding)),
+            waiting: Waiting::First(outstanding),
             sent: Some(sent),
         })
     }

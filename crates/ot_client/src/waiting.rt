@@ -5,8 +5,7 @@ ghost use Rattle.ot_client.specs.Client.{state_of};
 ghost use Rattle.ot_client.specs.Step.{phase_from, phase_to, IsStepJoined};
 
 use crate::{AwaitingConfirm, AwaitingWithBuffer, Client, Synchronized};
-use ot_sections::{Held, PreparedHeld};
-use ot_text::Element;
+use ot_text::{Element, Prepared, TextOp};
 
 // The pending operations before a step and after it, each once.
 #[derive(Drop)]
@@ -14,21 +13,21 @@ pub(crate) enum Waiting<T> {
     // Nothing, before and after.
     Nothing,
     // Nothing, and then the edit that is sent.
-    First(Held<T>),
+    First(TextOp<T>),
     // The outstanding operation, which is transformed against another's.
-    Outstanding(PreparedHeld<T>),
+    Outstanding(Prepared<T>),
     // The outstanding operation, and then the edit that begins the buffer too.
-    Second(Held<T>, Held<T>),
+    Second(TextOp<T>, TextOp<T>),
     // The outstanding operation and the buffer, which are transformed against another's.
-    Both(PreparedHeld<T>, PreparedHeld<T>),
+    Both(Prepared<T>, Prepared<T>),
     // The outstanding operation, and the buffer with an edit composed into it.
-    Buffer(Held<T>, PreparedHeld<T>),
+    Buffer(TextOp<T>, Prepared<T>),
     // An edit that was sent, and then nothing: the edit is undone.
-    Unsent(Held<T>),
+    Unsent(TextOp<T>),
     // The outstanding operation and the edit that began the buffer, which is undone.
-    Unbuffered(Held<T>, Held<T>),
+    Unbuffered(TextOp<T>, TextOp<T>),
     // Of these two the second, and then both: the confirmation of the first is undone.
-    Unconfirmed(Held<T>, Held<T>),
+    Unconfirmed(TextOp<T>, TextOp<T>),
 }
 
 impl<T: Element> Waiting<T> {

@@ -1,4 +1,5 @@
-mod Talked
+mod Looped
 mod Ran
 mod Told
 mod ToldPlans
+mod Inputs

@@ -7,7 +7,7 @@ use Rattle.ot_model.specs.declared.shown.Refusal.{Refusal}
 use Rattle.ot_machine.specs.declared.outcome.Ending.{Ending}
 use Rattle.ot_machine.specs.Ended.{IsEnding}
 use Rattle.ot_report.specs.Findings.{findings}
-use Rattle.outcomes.specs.Outcomes.{Streams, Gives, WantsMemory}
+use Rattle.outcomes.specs.Outcomes.{Streams, Gives, OutOfMemory}
 use Rattle.ot_commands.specs.Ran.{stop_status}
 
 -- 1 for an instruction that was not performed and for a trace that is too large, else 0
@@ -22,4 +22,4 @@ pub record Finds (all : Bool) (schedule : Program) (status : ℕ) (streams : Str
 
 -- what is found, or out of memory
 abbrev pub MayFind : Bool → Program → ℕ → Streams → Type 0
-MayFind all schedule status streams = Finds all schedule status streams ⊎ WantsMemory status streams
+MayFind all schedule status streams = Finds all schedule status streams ⊎ OutOfMemory status streams

@@ -6,7 +6,7 @@ use Rattle.ot_generate.specs.Completed.{IsCompletion, IsIncomplete}
 use Rattle.ot_generate.specs.declared.completing.Incomplete.{Incomplete}
 use Rattle.ot_generate.specs.declared.completing.Incomplete.TheVariants.{Refused, TooMany, Memory}
 use Rattle.ot_report.specs.Printed.{stop_line}
-use Rattle.outcomes.specs.Outcomes.{Streams, Gives, Refuses, WantsMemory, memory_fault}
+use Rattle.outcomes.specs.Outcomes.{Streams, Gives, Refuses, OutOfMemory, memory_fault}
 
 -- the line of a schedule that is not completed
 abbrev pub incomplete_line : Incomplete → List ℕ
@@ -29,4 +29,4 @@ pub record LeavesIncomplete (schedule : Program) (status : ℕ) (streams : Strea
 
 -- the completion, or why there is none, or out of memory
 abbrev pub MayComplete : Program → ℕ → Streams → Type 0
-MayComplete schedule status streams = GivesCompletion schedule status streams ⊎ LeavesIncomplete schedule status streams ⊎ WantsMemory status streams
+MayComplete schedule status streams = GivesCompletion schedule status streams ⊎ LeavesIncomplete schedule status streams ⊎ OutOfMemory status streams

@@ -7,26 +7,26 @@ use Rattle.ot_asm.specs.declared.fault.Kind.TheVariants as line
 use Rattle.ot_asm.specs.Parts.{lines_before, lines_behind}
 use Rattle.ot_asm.specs.Stepping.{outcome_of_lines}
 use Rattle.ot_debug.specs.Session.{Session, started}
-use Rattle.ot_console.specs.declared.talking.TalkStop.{TalkStop}
-use Rattle.ot_console.specs.declared.talking.TalkStop.TheVariants as stop
-use Rattle.ot_console.specs.Talking.{Talks, IsCaused, IsWritten, IsNumber}
-use Rattle.outcomes.specs.Outcomes.{Streams, Complains, Gives, WantsMemory}
+use Rattle.ot_console.specs.declared.looping.LoopStop.{LoopStop}
+use Rattle.ot_console.specs.declared.looping.LoopStop.TheVariants as stop
+use Rattle.ot_console.specs.Looping.{Loops, IsCaused, IsWritten, IsNumber}
+use Rattle.outcomes.specs.Outcomes.{Streams, Complains, Gives, OutOfMemory}
 use Rattle.ot_input.specs.Faults.{RefusesLines, line_fault}
 
 -- 1 where a reply was `bad command`, a refused instruction or `no memory`, else 0
-abbrev pub talk_status : Bool → ℕ
-talk_status faulted = if faulted then 1 else 0
+abbrev pub loop_status : Bool → ℕ
+loop_status faulted = if faulted then 1 else 0
 
 -- from the schedule's opening on, each line is answered
 pub record Converses (schedule : Program) (lines : List (List ℕ)) (status : ℕ) (streams : Streams) : Type 0 where
   pub after : Session
   pub text : List ℕ
   pub faulted : Bool
-  pub talks : Talks (started schedule) lines after text faulted
-  pub gives : Gives (talk_status faulted) text status streams
+  pub loops : Loops (started schedule) lines after text faulted
+  pub gives : Gives (loop_status faulted) text status streams
 
 -- the fault's line of a command loop that breaks off; none where writing failed
-abbrev pub TellsStop : TalkStop → Option (List ℕ) → Option (List ℕ) → Type 0
+abbrev pub TellsStop : LoopStop → Option (List ℕ) → Option (List ℕ) → Type 0
 TellsStop (stop.ReadFault number) old new = Complains (line_fault (record { line = number; kind = line.ReadFault })) old new
 TellsStop (stop.Memory number) old new = Complains (line_fault (record { line = number; kind = line.Memory })) old new
 TellsStop stop.WriteFault old new = Keeps old new
@@ -34,14 +34,14 @@ TellsStop stop.WriteFault old new = Keeps old new
 -- a command loop that breaks off: the first lines are answered, and the next one could not be read, or, only where a write failed, a reply is not
 -- written whole. The fault's line counts the lines before the commands too
 pub record BreaksOff (schedule : Program) (lines : List (List ℕ)) (earlier : ℕ) (status : ℕ) (streams : Streams) : Type 0 where
-  pub stop : TalkStop
+  pub stop : LoopStop
   pub answered : List (List ℕ)
   pub left : List (List ℕ)
   pub front : lines ≡ answered ++ left
   pub after : Session
   pub text : List ℕ
   pub faulted : Bool
-  pub talks : Talks (started schedule) answered after text faulted
+  pub loops : Loops (started schedule) answered after text faulted
   pub written : IsWritten stop streams.output streams.output' text
   pub cause : IsCaused stop streams.broken
   pub number : IsNumber stop (earlier + length answered)
@@ -51,7 +51,7 @@ pub record BreaksOff (schedule : Program) (lines : List (List ℕ)) (earlier : �
 -- a command loop about the schedule, a first part of one, or out of memory
 abbrev pub MayConverse : Program → List (List ℕ) → ℕ → ℕ → Streams → Type 0
 MayConverse schedule lines earlier status streams =
-    Converses schedule lines status streams ⊎ BreaksOff schedule lines earlier status streams ⊎ WantsMemory status streams
+    Converses schedule lines status streams ⊎ BreaksOff schedule lines earlier status streams ⊎ OutOfMemory status streams
 
 -- how many lines stand before those behind the mark: the schedule's, and the mark
 abbrev pub lines_up_to_mark : List (List ℕ) → ℕ

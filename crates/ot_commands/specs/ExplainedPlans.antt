@@ -2,7 +2,7 @@
 use Rattle.std.specs.Prelude.{◌≡◌, ◌≢◌, ◌⊎◌, ℕ, List, Bool, true, Ok, Err}
 use Rattle.std.specs.Io.KnownBytes.{Keeps}
 use Rattle.std.specs.Str.{is_utf8}
-use Rattle.outcomes.specs.Outcomes.{Streams, Gives, GivesUp, WantsMemory}
+use Rattle.outcomes.specs.Outcomes.{Streams, Gives, GivesUp, OutOfMemory}
 use Rattle.ot_plan.specs.Lines.{fault_line}
 use Rattle.ot_plan.specs.Plan.{PlanView}
 use Rattle.ot_plan.specs.Reading.{plan_of_bytes}
@@ -28,7 +28,7 @@ pub record TellsFault (bytes : List ℕ) (status : ℕ) (streams : Streams) : Ty
 
 -- the line that says what the plan is, or out of memory
 abbrev pub MayGivePlan : PlanView → ℕ → Streams → Type 0
-MayGivePlan plan status streams = Gives 0 (plan_text plan) status streams ⊎ WantsMemory status streams
+MayGivePlan plan status streams = Gives 0 (plan_text plan) status streams ⊎ OutOfMemory status streams
 
 -- the bytes were not read whole (`unread`: the input has failed), or they are refused, or they are a plan, which is told
 abbrev pub ExplainsPlan : Bool → List ℕ → ℕ → Streams → Type 0

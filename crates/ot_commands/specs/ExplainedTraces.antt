@@ -3,7 +3,7 @@ use Rattle.std.specs.Prelude.{◌≡◌, ◌≢◌, ◌⊎◌, ◌++◌, ℕ, Li
 use Rattle.std.specs.Io.KnownBytes.{Keeps}
 use Rattle.std.specs.Str.{is_utf8}
 use Rattle.streams.specs.Streams.{WritesPart}
-use Rattle.outcomes.specs.Outcomes.{Streams, Gives, GivesUp, WantsMemory}
+use Rattle.outcomes.specs.Outcomes.{Streams, Gives, GivesUp, OutOfMemory}
 use Rattle.ot_judge.specs.declared.fault.TraceFault.{TraceFault}
 use Rattle.ot_judge.specs.declared.fault.TraceFault.TheVariants as kind
 use Rattle.ot_judge.specs.declared.verdict.Verdict.{Verdict}
@@ -43,7 +43,7 @@ pub record TellsVerdict (trace : TraceView) (status : ℕ) (streams : Streams) :
 
 -- the verdict with its words, or out of memory
 abbrev pub MayTellVerdict : TraceView → ℕ → Streams → Type 0
-MayTellVerdict trace status streams = TellsVerdict trace status streams ⊎ WantsMemory status streams
+MayTellVerdict trace status streams = TellsVerdict trace status streams ⊎ OutOfMemory status streams
 
 -- the bytes were not read whole (`unread`: the input has failed), or they are refused, or they are a trace, which is judged
 abbrev pub ExplainsTrace : Bool → List ℕ → ℕ → Streams → Type 0

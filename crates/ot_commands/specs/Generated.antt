@@ -4,7 +4,7 @@ use Rattle.ot_isa.specs.Program.{Program, IsProgram}
 use Rattle.ot_asm.specs.Canonical.{canonical}
 use Rattle.ot_generate.specs.Generated.{IsGenerated}
 use Rattle.ot_generate.specs.Shapes.{ShapeView}
-use Rattle.outcomes.specs.Outcomes.{Streams, Gives, WantsMemory}
+use Rattle.outcomes.specs.Outcomes.{Streams, Gives, OutOfMemory}
 
 -- the canonical text of a schedule within the limits, that was made as the shape asks: each instruction is performed, and unless the end
 -- may be open all is quiet there and everybody is read
@@ -16,4 +16,4 @@ pub record GivesSession (shape : ShapeView) (status : ℕ) (streams : Streams) :
 
 -- a session, or out of memory
 abbrev pub Generates : ShapeView → ℕ → Streams → Type 0
-Generates shape status streams = GivesSession shape status streams ⊎ WantsMemory status streams
+Generates shape status streams = GivesSession shape status streams ⊎ OutOfMemory status streams

@@ -9,7 +9,7 @@ use Rattle.ot_judge.specs.Reading.{trace_of_text}
 use Rattle.ot_judge.specs.Verdict.{IsVerdict}
 use Rattle.ot_model.specs.Trace.{TraceView}
 use Rattle.ot_report.specs.Verdicts.{verdict_line}
-use Rattle.outcomes.specs.Outcomes.{Streams, Refuses, Gives, GivesUp, WantsMemory}
+use Rattle.outcomes.specs.Outcomes.{Streams, Refuses, Gives, GivesUp, OutOfMemory}
 
 -- 0 where the property holds
 abbrev pub verdict_status : Verdict → ℕ
@@ -42,7 +42,7 @@ pub record GivesVerdict (trace : TraceView) (status : ℕ) (streams : Streams) :
 
 -- the verdict, or out of memory
 abbrev pub MayGiveVerdict : TraceView → ℕ → Streams → Type 0
-MayGiveVerdict trace status streams = GivesVerdict trace status streams ⊎ WantsMemory status streams
+MayGiveVerdict trace status streams = GivesVerdict trace status streams ⊎ OutOfMemory status streams
 
 -- the bytes were not read whole (`unread`: the input has failed), or they are refused, or they are a trace, which is judged
 abbrev pub Judges : Bool → List ℕ → ℕ → Streams → Type 0

@@ -3,11 +3,11 @@
 ghost use Rattle.std.specs.Prelude.{◌≡◌, Bool, IfSome};
 ghost use Rattle.line_reader.specs.Lines.{lines_of};
 ghost use Rattle.line_reader.specs.Taken.{before};
-ghost use Rattle.ot_commands.specs.Debugged.{talk_status, Debugs, MayConverse, TellsStop};
+ghost use Rattle.ot_commands.specs.Debugged.{loop_status, Debugs, MayConverse, TellsStop};
 
 use line_reader::ReadAhead;
 use ot_asm::{AsmFault, Kind, assemble_until_mark};
-use ot_console::{TalkStop, talk};
+use ot_console::{LoopStop, command_loop};
 use ot_debug::Stepper;
 use ot_input::complain_of_line;
 use ot_isa::Schedule;
@@ -17,11 +17,11 @@ use std::io::{Read, Write};
 use streams::Sink;
 
 // Writes why the command loop broke off.
-fn complain_of_stop<F: Write>(alloc: Global, stop: TalkStop, faults: &mut F)
+fn complain_of_stop<F: Write>(alloc: Global, stop: LoopStop, faults: &mut F)
     ensures { TellsStop stop (F.contents faults.old) (F.contents faults.new) }
 {
     match stop {
-        TalkStop::ReadFault(line) => complain_of_line(
+        LoopStop::ReadFault(line) => complain_of_line(
             alloc,
             AsmFault {
                 line,
@@ -29,7 +29,7 @@ fn complain_of_stop<F: Write>(alloc: Global, stop: TalkStop, faults: &mut F)
             },
             faults,
         ),
-        TalkStop::Memory(line) => complain_of_line(
+        LoopStop::Memory(line) => complain_of_line(
             alloc,
             AsmFault {
                 line,
@@ -37,13 +37,13 @@ fn complain_of_stop<F: Write>(alloc: Global, stop: TalkStop, faults: &mut F)
             },
             faults,
         ),
-        TalkStop::WriteFault => {}
+        LoopStop::WriteFault => {}
     }
 }
 
 // The status of a command loop.
-fn talk_status(faulted: bool) -> u8
-    ensures { result ≡ talk_status faulted }
+fn loop_status(faulted: bool) -> u8
+    ensures { result ≡ loop_status faulted }
 {
     if faulted { 1 } else { 0 }
 }
@@ -64,8 +64,8 @@ fn converse<I: Read, O: Sink, F: Write>(
         complain_of_memory(faults);
         return 1;
     };
-    match talk(alloc, &mut debugger, ahead, input, output, earlier) {
-        Ok(faulted) => talk_status(faulted),
+    match command_loop(alloc, &mut debugger, ahead, input, output, earlier) {
+        Ok(faulted) => loop_status(faulted),
         Err(stop) => {
             complain_of_stop(alloc, stop, faults);
             1

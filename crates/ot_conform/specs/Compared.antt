@@ -24,7 +24,7 @@ pub record Leads (s : Program) (c : Comparison) (lines : List PortLine) (c' : Co
 
 -- the first lines agree, and at the place where they lead, or up to which the next line passes over the instructions, memory ran out for
 -- the instruction
-pub record WantsMemory (sparse : Bool) (s : Program) (lines : List PortLine) (place : ℕ) (refusal : Refusal) : Type 0 where
+pub record OutOfMemory (sparse : Bool) (s : Program) (lines : List PortLine) (place : ℕ) (refusal : Refusal) : Type 0 where
   pub agreed : List PortLine
   pub next : PortLine
   pub behind : List PortLine
@@ -38,7 +38,7 @@ pub record WantsMemory (sparse : Bool) (s : Program) (lines : List PortLine) (pl
 abbrev pub IsVerdictOf : Bool → Program → List PortLine → Verdict → Type 0
 IsVerdictOf sparse s lines (Conforms counts) = (outcome sparse s lines ≡ differences.Conforms) × (counts ≡ counted no_counts lines)
 IsVerdictOf sparse s lines (Differs difference) = IsDifferenceOf (outcome sparse s lines) difference
-IsVerdictOf sparse s lines (Stopped place refusal) = (outcome sparse s lines ≡ differences.Stopped place refusal) ⊎ WantsMemory sparse s lines place refusal
+IsVerdictOf sparse s lines (Stopped place refusal) = (outcome sparse s lines ≡ differences.Stopped place refusal) ⊎ OutOfMemory sparse s lines place refusal
 
 -- the number of the line behind those that were compared, at most the greatest u64
 abbrev pub IsNumber : CompareStop → ℕ → Type 0

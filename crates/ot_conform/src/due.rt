@@ -23,8 +23,7 @@ use ot_client::{Client, Sent};
 use ot_isa::{Instr, Schedule, Tagged};
 use ot_json::write_op;
 use ot_machine::{Machine, Refusal};
-use ot_sections::Held;
-use ot_steps::{plain_held, print_end, print_opening, print_step, print_stop, word};
+use ot_steps::{print_end, print_opening, print_step, print_stop, word};
 use ot_text::{Doc, TextOp};
 use ot_values::phase_name;
 use serde_json::Value;
@@ -165,21 +164,8 @@ fn option_text(alloc: Global, op: Option<&TextOp<Tagged>>) -> Result<Option<Stri
     }
 }
 
-// The same of a pending operation.
-fn held_text(alloc: Global, op: Option<&Held<Tagged>>) -> Result<Option<String>, AllocError>
-    ensures { IfOk result (λ o. option_map string_bytes o ≡ option_map text_of_operation (option_map plain_operation (option_copied op.entry))) }
-{
-    match op {
-        Some(op) => {
-            let plain = plain_held(alloc, op)?;
-            Ok(Some(write_op(alloc, &plain)?))
-        }
-        None => Ok(None),
-    }
-}
-
 // The client's pending operations.
-fn outstanding(machine: &Machine, client: u16) -> Option<&Held<Tagged>>
+fn outstanding(machine: &Machine, client: u16) -> Option<&TextOp<Tagged>>
     requires { client < length machine.now.clients }
     ensures { option_map plain_operation (option_copied result) ≡ outstanding_of (client_in machine.now client).phase }
 {
@@ -194,7 +180,7 @@ fn outstanding(machine: &Machine, client: u16) -> Option<&Held<Tagged>>
 }
 
 // What it has done since.
-fn buffer(machine: &Machine, client: u16) -> Option<&Held<Tagged>>
+fn buffer(machine: &Machine, client: u16) -> Option<&TextOp<Tagged>>
     requires { client < length machine.now.clients }
     ensures { option_map plain_operation (option_copied result) ≡ buffer_of (client_in machine.now client).phase }
 {
@@ -208,9 +194,9 @@ fn buffer(machine: &Machine, client: u16) -> Option<&Held<Tagged>>
     }
 }
 
-fn component_count(op: Option<&Held<Tagged>>) -> usize {
+fn component_count(op: Option<&TextOp<Tagged>>) -> usize {
     match op {
-        Some(op) => op.components(),
+        Some(op) => op.components().len(),
         None => 0,
     }
 }
@@ -224,7 +210,7 @@ fn outstanding_text(
     ensures { IfOk result (λ o. option_map string_bytes o ≡ option_map text_of_operation (outstanding_at machine.now client)) }
 {
     match client {
-        Some(client) => held_text(alloc, outstanding(machine, client)),
+        Some(client) => option_text(alloc, outstanding(machine, client)),
         None => Ok(None),
     }
 }
@@ -238,7 +224,7 @@ fn buffer_text(
     ensures { IfOk result (λ o. option_map string_bytes o ≡ option_map text_of_operation (buffer_at machine.now client)) }
 {
     match client {
-        Some(client) => held_text(alloc, buffer(machine, client)),
+        Some(client) => option_text(alloc, buffer(machine, client)),
         None => Ok(None),
     }
 }

@@ -9,7 +9,7 @@ use Rattle.ot_asm.specs.Stepping.{outcome_of_lines}
 use Rattle.ot_asm.specs.declared.fault.AsmFault.{AsmFault}
 use Rattle.ot_names.specs.Comments.{Said, comments_of}
 use Rattle.ot_input.specs.Faults.{IsLineFault, line_fault}
-use Rattle.outcomes.specs.Outcomes.{Refuses, Streams, WantsMemory}
+use Rattle.outcomes.specs.Outcomes.{Refuses, Streams, OutOfMemory}
 use Rattle.ot_conform.specs.Compared.{IsVerdictOf, StopsBehind}
 use Rattle.ot_conform.specs.Ports.{counted_lines}
 use Rattle.ot_conform.specs.declared.comparison.Verdict.{Verdict}
@@ -52,7 +52,7 @@ compared sparse held (Some text) (Some behind) kept said schedule taken status s
 -- memory for their comments ran out
 pub wanted : (sparse : Bool) (held : List ℕ) (known : Option (List ℕ)) (schedule : Program) (status : ℕ) (streams : Streams) → held ≡ []
     → IfSome (prepend_known held known) (λ text. outcome_of_lines (lines_before true (lines_of text)) ≡ Ok schedule)
-    → WantsMemory status streams
+    → OutOfMemory status streams
     → IfSome known (λ text. Compares sparse text status streams)
 wanted sparse held None schedule status streams none spelled wants = tt
 wanted sparse held (Some text) schedule status streams none spelled wants = inr (schedule, rw none at spelled, inr (inr wants))

@@ -9,7 +9,7 @@ use Rattle.ot_asm.specs.Stepping.{outcome_of_lines}
 use Rattle.ot_names.specs.Comments.{Said, comments_among, cut_text}
 use Rattle.ot_names.specs.Named.{named}
 use Rattle.ot_input.specs.Faults.{RefusesLines, line_fault}
-use Rattle.outcomes.specs.Outcomes.{Streams, Complains, Gives, WantsMemory}
+use Rattle.outcomes.specs.Outcomes.{Streams, Complains, Gives, OutOfMemory}
 use Rattle.ot_conform.specs.Compared.{IsVerdictOf, StopsBehind, verdict_status}
 use Rattle.ot_conform.specs.Ports.{counted_lines}
 use Rattle.ot_conform.specs.Ruled.{IsAnswer}
@@ -42,7 +42,7 @@ pub record Answers (said : Said) (schedule : Program) (verdict : Verdict) (statu
 
 -- or memory for them ran out
 abbrev pub MayWrite : Said → Program → Verdict → ℕ → Streams → Type 0
-MayWrite said schedule verdict status streams = Answers said schedule verdict status streams ⊎ WantsMemory status streams
+MayWrite said schedule verdict status streams = Answers said schedule verdict status streams ⊎ OutOfMemory status streams
 
 -- the verdict on the port's lines is written; `sparse` allows lines for some instructions alone
 pub record Judges (sparse : Bool) (said : Said) (schedule : Program) (lines : List (List ℕ)) (status : ℕ) (streams : Streams) : Type 0 where
@@ -67,7 +67,7 @@ pub record BreaksOff (sparse : Bool) (schedule : Program) (lines : List (List �
 -- the verdict, a comparison that breaks off, or out of memory for the verdict's text
 abbrev pub MayJudge : Bool → Said → Program → List (List ℕ) → ℕ → ℕ → Streams → Type 0
 MayJudge sparse said schedule lines earlier status streams =
-    Judges sparse said schedule lines status streams ⊎ BreaksOff sparse schedule lines earlier status streams ⊎ WantsMemory status streams
+    Judges sparse said schedule lines status streams ⊎ BreaksOff sparse schedule lines earlier status streams ⊎ OutOfMemory status streams
 
 -- how many lines stand before those behind the mark: the schedule's, and the mark
 abbrev pub lines_up_to_mark : List (List ℕ) → ℕ

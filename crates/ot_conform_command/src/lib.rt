@@ -17,7 +17,7 @@ mod part;
 ghost use Rattle.std.specs.Prelude.{◌≡◌, IfOk, IfSome};
 ghost use Rattle.line_reader.specs.Lines.{lines_of};
 ghost use Rattle.line_reader.specs.Taken.{before};
-ghost use Rattle.outcomes.specs.Outcomes.{Gives, WantsMemory};
+ghost use Rattle.outcomes.specs.Outcomes.{Gives, OutOfMemory};
 ghost use Rattle.ot_conform.specs.Compared.{verdict_status};
 ghost use Rattle.ot_conform_command.specs.Conformed.{Compares, IsTold, MayJudge, MayWrite, TellsStop, answer_status, with_names};
 

@@ -1,3 +1,3 @@
 pub mod Commands
 pub mod Replies
-pub mod Talking
+pub mod Looping

@@ -6,21 +6,21 @@
 //! ```
 //!
 //! A line, once one CR at its end and then blanks at both ends are dropped, is passed over where it is empty. Any other
-//! line is a command, by its words, or is answered with `bad command`. [`talk`] reads a line, performs it and writes its
+//! line is a command, by its words, or is answered with `bad command`. [`command_loop`] reads a line, performs it and writes its
 //! reply before it reads the next one, over any reader and writer.
 //!
 //! The contracts' words: `specs/Commands.antt` (`command_of`, the command that a line is), `Replies.antt` (`IsReplyText`,
-//! the lines of a reply), `Talking.antt` (`IsTurn`, what one line is answered with; `Talks`, the whole command loop as a walk over
+//! the lines of a reply), `Looping.antt` (`IsTurn`, what one line is answered with; `Loops`, the whole command loop as a walk over
 //! the lines and the sessions between them). Begin with [`read_command`] in `commands.rt`, then [`print_reply`] and
-//! [`talk`].
+//! [`command_loop`].
 #![tactic(auto)]
 
 mod commands;
+mod looping;
 mod replies;
-mod talking;
 mod turns;
 
 pub use commands::read_command;
+pub use looping::{LoopStop, command_loop};
 pub use replies::print_reply;
-pub use talking::{TalkStop, talk};
 pub use turns::{Response, respond};

@@ -3,7 +3,7 @@
 ghost use Rattle.std.specs.Prelude.{◌≡◌};
 ghost use Rattle.std.specs.Cow.{cow_str_bytes};
 ghost use Rattle.ot_console.specs.Commands.{is_blank_line};
-ghost use Rattle.ot_console.specs.Talking.{IsCommandTurn, IsPrinted, IsTurn};
+ghost use Rattle.ot_console.specs.Looping.{IsCommandTurn, IsPrinted, IsTurn};
 
 use crate::commands::read_command;
 use crate::replies::{is_fault, print_reply};

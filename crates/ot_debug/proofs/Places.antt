@@ -20,7 +20,7 @@ use Rattle.ot_debug.specs.Stops.{IsRefusedAt}
 use Rattle.ot_debug.specs.declared.command.Watched.{Watched}
 use Rattle.ot_debug.specs.declared.recent.Recent.{Recent}
 use Rattle.ot_debug.specs.Session.{IsSession}
-use Rattle.ot_debug.specs.Stepping.{session_of, is_read, undos_in, Advances, AreLast, AreShownBefore, AreUndos, GoOn, IsAsBefore, IsKept, IsPushed, OneMore, shown_at, AreLists}
+use Rattle.ot_debug.specs.Stepping.{session_of, is_read, undos_in, Advances, AreLast, AreShownBefore, AreUndos, GoOn, IsKept, IsPushed, OneMore, shown_at, AreLists}
 use Rattle.ot_debug.proofs.Rows.{row_leaves}
 
 -- the place is there as far as the run goes
@@ -153,7 +153,8 @@ last_more s p q r undos records last at next one =
     rest : AreLast s p one.more.rest
     rest = last_behind s p one.more.gone one.more.rest (subst (AreLast s p) one.more.were last)
 
-pushed_some : (undo : Undo) (undos records : List Undo) → IsPushed undo undos records → records ≢ []
+-- behind what is pushed there are records
+pub pushed_some : (undo : Undo) (undos records : List Undo) → IsPushed undo undos records → records ≢ []
 pushed_some undo undos records pushed none =
     let e : length (pushed.rest ++ undo ∷ []) ≡ length pushed.rest + 1 = length-append pushed.rest (undo ∷ []) in
     let f : length (pushed.rest ++ undo ∷ []) ≡ 0 = ap length (sym pushed.are ∙ none) in
@@ -179,16 +180,6 @@ again_next s p q state t undos records i list leaves was last here performed on 
   where
     next : place_at s (suc p) ≡ Some (record { state = t; shown = with_shown was.shown list })
     next = place_at-next s p (record { state = state; shown = was.shown }) i t list was.at here performed
-
--- one that leaves a record has left one
-pub left_some : (state t : State) (undos records : Recent) (leaves : Bool) → leaves ≡ true → GoOn leaves state t undos records → undos_in records ≢ []
-left_some state t undos records true is_left on = pushed_some on.0.undo (undos_in undos) (undos_in records) on.0.more
-left_some state t undos records false is_left on = absurd (cc)
-
--- it is so too where the same records are held in another way afterwards
-pub go_on_later : (state t : State) (undos records later : Recent) (leaves : Bool) → IsAsBefore records later → GoOn leaves state t undos records → GoOn leaves state t undos later
-go_on_later state t undos records later true same on = (subst (λ us. OneMore state t (undos_in undos) us) (sym same.0) on.0, same.1 ∙ on.1)
-go_on_later state t undos records later false same on = (same.0 ∙ on.0, same.1 ∙ on.1)
 
 -- the debugger one instruction on
 kept_next :

@@ -23,24 +23,19 @@
 //!   of the schedule, a break before a `Run`, or the last instruction of a `Step`, and the one that a watch stops at; what is performed behind that place without one lets them go. So
 //!   the first few steps back take no time.
 //!   Where `Back` is to go further and there are no records, another machine performs the schedule once more, from the opening up to the place where one goes, and leaves a
-//!   record of each instruction that does not cost too much; then it takes the place of the first one. To the opening that is nothing.
-//!   The records are a stack: `Back` takes them off one by one, and once somebody has gone back all that is performed adds its own, if that does not cost too much, until the
-//!   opening is reached.
-//! - Where an operation of 32,768 components or more is pending, an instruction touches a few of them, and its undo record visits all (costs.rt). So such records are left within
-//!   bounds: going forth as long as there is credit, to which other instructions and steps back add; and where the schedule is performed once more by the last instructions alone,
-//!   over some 64 million components in all, or twice as many as were undone since (recent.rt).
+//!   record of each instruction; then it takes the place of the first one. To the opening that is nothing.
+//!   The records are a stack: `Back` takes them off one by one, and once somebody has gone back all that is performed adds its own, until the opening is reached.
 //! - The records together have a budget. Beyond it the oldest go, so they are those of the last performed instructions, of half a budget's worth at least where they were more.
 //!   So the memory that they take is bounded, and a `Back` performs once more at most, however far it goes.
 //! - What grows does so before anything is changed. After `Memory` the debugger stands after a whole number of instructions,
 //!   between its old place and the one to which the command would have gone.
 //!
-//! Begin reading at `Debugging` in debugger.rt, then stepping.rt (one instruction forth, and back), records.rt (the undo records), costs.rt (what these cost), recent.rt
-//! (their stack), watching.rt (what watches see), changing.rt (whether an operation changes a list) and moving.rt (the commands that move); settings.rt has the others.
+//! Begin reading at `Debugging` in debugger.rt, then stepping.rt (one instruction forth, and back), records.rt (the undo records), recent.rt (their stack),
+//! watching.rt (what watches see), changing.rt (whether an operation changes a list) and moving.rt (the commands that move); settings.rt has the others.
 #![tactic(auto)]
 
 mod changing;
 mod command;
-mod costs;
 mod debugger;
 pub mod laws;
 mod moving;

@@ -12,8 +12,8 @@ use crate::debugger::Debugging;
 use crate::watching::first_changed;
 use ot_machine::Refusal;
 
-/// So many instructions before a place where a command stops leave records, so that the first steps back from there take no time (where that costs little).
-pub(crate) const NEAR: usize = 16;
+/// So many instructions before a place where a command stops leave records, so that the first steps back from there take no time.
+const NEAR: usize = 16;
 
 // The answer where the next instruction is not performed.
 fn halted(at: usize, refusal: Refusal) -> Reply
@@ -48,12 +48,8 @@ impl<const LISTS: u8> Debugging<LISTS> {
             self.watches.as_slice(),
             self.firsts.as_slice(),
         )?;
-        let stop = if changed.is_some() {
-            Some(1)
-        } else {
-            self.stop_ahead(place)
-        };
-        self.forward(stop)?;
+        let near = changed.is_some() || self.is_stop_near(place);
+        self.forward(near)?;
         // For the proof: the invariant of every debugger.
         let _kept = self.schedule();
         Ok(changed)
@@ -66,19 +62,16 @@ impl<const LISTS: u8> Debugging<LISTS> {
         matches!(self.breaks.get(place), Some(true))
     }
 
-    // How many instructions there are up to the next break, or the end of the schedule, where that is near.
-    fn stop_ahead(&self, place: usize) -> Option<usize> {
-        let left = self.schedule.len().saturating_sub(place);
-        let next = place.saturating_add(1);
-        let end = next.saturating_add(left.min(NEAR));
-        if let Some(ahead) = self.breaks.get(next..end) {
-            for (between, is_set) in ahead.iter().enumerate() {
-                if *is_set {
-                    return Some(between.saturating_add(1));
-                }
-            }
+    // Whether the next break, or the end of the schedule, is near.
+    fn is_stop_near(&self, place: usize) -> bool {
+        if self.schedule.len().saturating_sub(place) <= NEAR {
+            return true;
         }
-        if left <= NEAR { Some(left) } else { None }
+        let next = place.saturating_add(1);
+        match self.breaks.get(next..next.saturating_add(NEAR)) {
+            Some(ahead) => ahead.contains(&true),
+            None => false,
+        }
     }
 
     /// Goes on to the next stop.
@@ -120,8 +113,7 @@ impl<const LISTS: u8> Debugging<LISTS> {
                 return Reply::Stopped { at, why: Why::End };
             }
             let left = ((count - performed) as usize).min(end - at);
-            let stop = if left <= NEAR { Some(left) } else { None };
-            if let Err(refusal) = self.forward(stop) {
+            if let Err(refusal) = self.forward(left <= NEAR) {
                 return halted(at, refusal);
             }
         }

@@ -9,10 +9,9 @@
 //! push there are records of half the budget's size at least, or all that were pushed since they were forgotten and not popped, and never more than two halves and what each
 //! has beyond its size, which is a part of one record.
 
-ghost use Rattle.std.specs.Prelude.{◌≡◌, ◌≢◌, ◌<◌, ◌↔◌, ◌++◌, ◌∷◌, ◌⊎◌, ◌||◌, [], true, false, is_some, vec_capacity, vec_len, IfOk, IfSome, IsTrue, None, OnOk};
+ghost use Rattle.std.specs.Prelude.{◌≡◌, ◌≢◌, ◌<◌, ◌↔◌, ◌++◌, ◌∷◌, ◌⊎◌, ◌||◌, [], true, false, vec_capacity, vec_len, IfOk, IfSome, IsTrue, None, OnOk};
 ghost use Rattle.ot_debug.specs.Stepping.{undos_in, IsAsBefore, IsPushed};
 
-use crate::moving::NEAR;
 use ot_machine::Undo;
 use std::alloc::{AllocError, Global};
 use std::mem;
@@ -39,25 +38,13 @@ impl Half {
     }
 }
 
-// For so many components that a record visits it takes 1 of the credit, and each instruction that leaves no such record adds 1: as measured these take about as long.
-const PRICED: usize = 1_000;
-
-// The most credit that there is, and what there is at first: for some 33 million components, a third of a second.
-const CREDIT: usize = 32_768;
-
-// Where the schedule is performed once more, the last records may visit so many components in all, or twice as many as were undone since that was done last.
-const REACH: usize = 64_000_000;
-
 /// The records of the last instructions, in two halves of which the older one is forgotten where the newer one is full.
 #[derive(Drop)]
 pub(crate) struct Recent {
     // where the newer half is as large, or larger, it is full
     limit: usize,
-    // whether all that is performed leaves records, where these do not cost too much: from where somebody goes back, until the opening is reached
+    // whether all that is performed leaves records: from where somebody goes back, until the opening is reached
     pub kept: bool,
-    // for records that cost much, and how many components those visited that were taken off, since the schedule was last performed once more
-    credit: usize,
-    taken: usize,
     older: Half,
     newer: Half,
 }
@@ -72,8 +59,6 @@ impl Recent {
         Recent {
             limit,
             kept: false,
-            credit: CREDIT,
-            taken: 0,
             older: Half::new(alloc),
             newer: Half::new(alloc),
         }
@@ -93,8 +78,6 @@ impl Recent {
         Ok(Recent {
             limit,
             kept: true,
-            credit: CREDIT,
-            taken: 0,
             older: Half::new(alloc),
             newer: Half { undos, size: 0 },
         })
@@ -132,65 +115,22 @@ impl Recent {
         let alloc = self.allocator();
         self.older = Half::new(alloc);
         self.newer = Half::new(alloc);
-        self.taken = 0;
     }
 
-    /// Notes that somebody has gone back, by a record that visited `cost` components: from then on all that is performed leaves some, unless it costs too much; at the
-    /// opening no more are needed, until somebody goes back again. What the record took of the credit is there again: who goes back and forth by turns loses none.
-    pub(crate) fn went_back_to(&mut self, position: usize, cost: usize)
+    /// Notes that somebody has gone back: from then on all that is performed leaves records; at the opening no more are needed, until somebody goes back again.
+    pub(crate) fn went_back_to(&mut self, position: usize)
         ensures same { undos_in self.new ≡ undos_in self.old }
         ensures limit { self.new.limit ≡ self.old.limit }
         ensures kept { IsTrue self.new.kept ↔ (0 < position) }
     {
         self.kept = position > 0;
-        self.credit = self.credit.saturating_add(cost / PRICED).min(CREDIT);
-        self.taken = self.taken.saturating_add(cost);
     }
 
-    /// How many components the last records may visit in all, where the schedule is performed once more.
-    pub(crate) fn reach(&self) -> usize {
-        self.taken.saturating_mul(2).max(REACH)
-    }
-
-    // Whether the next instruction is to leave a record if it costs little: where all do, or the next stop is near.
-    fn wants(&self, stop: Option<usize>) -> bool
-        ensures { result ≡ (self.now.kept || is_some stop) }
+    /// Whether the next instruction leaves a record: where all do, or the next stop is near.
+    pub(crate) fn leaves(&self, near: bool) -> bool
+        ensures { result ≡ (self.now.kept || near) }
     {
-        self.kept || stop.is_some()
-    }
-
-    /// How many components a record of the next instruction may visit at most, whatever comes behind it.
-    pub(crate) fn most(&self, stop: Option<usize>) -> usize {
-        if self.wants(stop) {
-            self.credit.saturating_mul(PRICED)
-        } else {
-            0
-        }
-    }
-
-    /// Whether the next instruction leaves a record: where all do, or the next stop is near, so many instructions from here. One that visits `cost` components leaves one only where
-    /// there is credit for as many of them as there are up to the stop; where that is not near, for sixteen.
-    pub(crate) fn leaves(&self, stop: Option<usize>, cost: usize) -> bool
-        ensures cheap { cost ≡ 0 → result ≡ (self.now.kept || is_some stop) }
-        ensures wanted { IsTrue result → IsTrue (self.now.kept || is_some stop) }
-    {
-        if !self.wants(stop) {
-            return false;
-        }
-        let price = cost / PRICED;
-        price.saturating_mul(stop.unwrap_or(NEAR)) <= self.credit
-    }
-
-    /// Accounts for an instruction that was performed: what its record takes of the credit, or what it adds.
-    pub(crate) fn account(&mut self, left: bool, cost: usize)
-        ensures same { IsAsBefore self.old self.new }
-        ensures limit { self.new.limit ≡ self.old.limit }
-    {
-        if left && cost > 0 {
-            self.credit = self.credit.saturating_sub(cost / PRICED);
-        } else {
-            self.credit = self.credit.saturating_add(1).min(CREDIT);
-        }
+        self.kept || near
     }
 
     /// Makes room for one more.

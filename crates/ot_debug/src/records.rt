@@ -7,7 +7,6 @@ ghost use Rattle.ot_model.specs.Table.{step, Refused};
 ghost use Rattle.ot_machine.specs.Undoing.{Undoes};
 ghost use Rattle.ot_debug.specs.Stepping.{undos_in, AreRecords, Gives, GoOn, IsAsBefore, OneMore};
 
-use crate::costs::cost;
 use crate::debugger::opening;
 use crate::recent::Recent;
 use ot_isa::{Instr, Schedule};
@@ -91,14 +90,12 @@ pub(crate) fn perform<const LISTS: u8>(
 }
 
 /// Performs so many of the schedule's instructions once more, from the opening on. Gives another machine, which stands after them, and the records of
-/// the last ones, of one at least where there is one: an instruction leaves none where its record, and as many like it as there are up to the last one, would visit more than `reach`
-/// components.
+/// the last ones, of one at least where there is one.
 pub(crate) fn perform_again(
     alloc: Global,
     schedule: &Schedule,
     count: usize,
     limit: usize,
-    reach: usize,
 ) -> Result<(Machine, Recent), AllocError>
     requires { count ≤ done schedule.now }
     ensures state { IfOk result (λ given. IsStateAt schedule.now count given.0) }
@@ -111,10 +108,7 @@ pub(crate) fn perform_again(
         let Some(instr) = schedule.get(place) else {
             unreachable!()
         };
-        let left = count - place;
-        let most = reach / left;
-        let leaves = left == 1 || cost(&machine, instr, most) <= most;
-        if let Err(refusal) = perform::<0>(&mut machine, &mut undos, instr, leaves) {
+        if let Err(refusal) = perform_recorded::<0>(&mut machine, &mut undos, instr) {
             match refusal {
                 Refusal::Memory => return Err(AllocError),
                 _ => unreachable!(),

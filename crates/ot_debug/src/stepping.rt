@@ -8,7 +8,6 @@ ghost use Rattle.ot_debug.specs.Stops.{IsRefusedAt};
 ghost use Rattle.ot_debug.specs.Answers.{Keeps};
 ghost use Rattle.ot_debug.specs.Stepping.{is_read, shown_at, Advances, AreLists, AreShownBefore};
 
-use crate::costs::{cost, cost_at};
 use crate::debugger::Debugging;
 use crate::records::{perform, perform_again};
 use ot_isa::{Instr, Schedule};
@@ -60,9 +59,9 @@ fn drop_shown(shown: &mut Vec<Shown>, schedule: &Schedule, from: usize, to: usiz
 }
 
 impl<const LISTS: u8> Debugging<LISTS> {
-    // Performs the next instruction, which leaves a record where somebody may soon go back, unless it would cost too much: `stop` is how many instructions there are up to the
-    // next stop, where it is near. `Memory` leaves all as it was, as every refusal does.
-    pub(crate) fn forward(&mut self, stop: Option<usize>) -> Result<(), Refusal>
+    // Performs the next instruction, which leaves a record where somebody may soon go back: where somebody went back before, or the next stop is `near`. `Memory`
+    // leaves all as it was, as every refusal does.
+    pub(crate) fn forward(&mut self, near: bool) -> Result<(), Refusal>
         requires { self.old.position < length self.old.schedule.instrs }
         ensures done { OnOk result (Advances self.old self.new) }
         ensures refused { IfErr result (λ r. r ≢ Memory → IsRefusedAt self.old.schedule self.old.position r) }
@@ -72,12 +71,10 @@ impl<const LISTS: u8> Debugging<LISTS> {
         let Some(instr) = self.schedule.get(self.position) else {
             unreachable!()
         };
-        let cost = cost(&self.machine, instr, self.undos.most(stop));
-        let leaves = self.undos.leaves(stop, cost);
+        let leaves = self.undos.leaves(near);
         let list = perform::<LISTS>(&mut self.machine, &mut self.undos, instr, leaves)?;
         self.position += 1;
         keep_shown(&mut self.shown, list);
-        self.undos.account(leaves, cost);
         Ok(())
     }
 
@@ -89,13 +86,12 @@ impl<const LISTS: u8> Debugging<LISTS> {
         ensures unchanged { OnErr result (self.new ≡ self.old) }
     {
         let (alloc, limit) = (self.undos.allocator(), self.undos.limit());
-        let reach = self.undos.reach();
-        let (machine, undos) = perform_again(alloc, &self.schedule, place, limit, reach)?;
+        let (machine, undos) = perform_again(alloc, &self.schedule, place, limit)?;
         drop_shown(&mut self.shown, &self.schedule, place, self.position);
         self.position = place;
         self.machine = machine;
         self.undos = undos;
-        self.undos.went_back_to(place, 0);
+        self.undos.went_back_to(place);
         Ok(())
     }
 
@@ -120,8 +116,7 @@ impl<const LISTS: u8> Debugging<LISTS> {
         let before = self.position - 1;
         drop_shown(&mut self.shown, &self.schedule, before, self.position);
         self.position = before;
-        let cost = cost_at(before, &self.machine, &self.schedule);
-        self.undos.went_back_to(before, cost);
+        self.undos.went_back_to(before);
         Ok(())
     }
 }

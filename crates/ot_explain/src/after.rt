@@ -10,7 +10,7 @@ ghost use Rattle.ot_explain.specs.Words.{of_client};
 ghost use Rattle.ot_explain.specs.Told as told;
 ghost use Rattle.ot_explain.specs.Told.{appended_words, client_words, read_words, server_words, waiting};
 
-use crate::values::{list_text, made_text, operation_text, push_held};
+use crate::values::{list_text, made_text, operation_text, push_operation};
 use ot_client::Client;
 use ot_isa::{Instr, Tagged};
 use ot_machine::Machine;
@@ -29,13 +29,13 @@ fn push_waiting_state(
         Client::Synchronized(_) => text.push_str(" is synchronized"),
         Client::AwaitingConfirm(client) => {
             text.push_str(" awaits the confirmation of ")?;
-            push_held(alloc, text, client.outstanding())
+            push_operation(alloc, text, client.outstanding())
         }
         Client::AwaitingWithBuffer(client) => {
             text.push_str(" awaits the confirmation of ")?;
-            push_held(alloc, text, client.outstanding())?;
+            push_operation(alloc, text, client.outstanding())?;
             text.push_str(", with the buffer ")?;
-            push_held(alloc, text, client.buffer())
+            push_operation(alloc, text, client.buffer())
         }
     }
 }

@@ -11,7 +11,7 @@ ghost use Rattle.ot_explain.specs.Told as told;
 ghost use Rattle.ot_explain.specs.Words.{of_client};
 ghost use Rattle.ot_explain.specs.Told.{acknowledge_words, against_log, against_waiting, confirmed, deliver_start, edit_goes, edit_text, edit_words, join_words, message_words, take_words};
 
-use crate::values::{operation_text, push_edit, push_entry, push_held, push_made};
+use crate::values::{operation_text, push_edit, push_entry, push_made, push_operation};
 use ot_client::{Client, Sent};
 use ot_isa::{Instr, Tagged};
 use ot_machine::{Machine, Phase};
@@ -126,13 +126,13 @@ fn push_against_state(
         Client::Synchronized(_) => Ok(()),
         Client::AwaitingConfirm(client) => {
             text.push_str(", transforms it against its outstanding operation ")?;
-            push_held(alloc, text, client.outstanding())
+            push_operation(alloc, text, client.outstanding())
         }
         Client::AwaitingWithBuffer(client) => {
             text.push_str(", transforms it against its outstanding operation ")?;
-            push_held(alloc, text, client.outstanding())?;
+            push_operation(alloc, text, client.outstanding())?;
             text.push_str(" and its buffer ")?;
-            push_held(alloc, text, client.buffer())
+            push_operation(alloc, text, client.buffer())
         }
     }
 }
@@ -182,13 +182,13 @@ fn push_confirmed_state(
     match client {
         Client::Synchronized(_) => text.push_str("nothing"),
         Client::AwaitingConfirm(client) => {
-            push_held(alloc, text, client.outstanding())?;
+            push_operation(alloc, text, client.outstanding())?;
             text.push_str("; it has no buffer")
         }
         Client::AwaitingWithBuffer(client) => {
-            push_held(alloc, text, client.outstanding())?;
+            push_operation(alloc, text, client.outstanding())?;
             text.push_str("; it sends its buffer ")?;
-            push_held(alloc, text, client.buffer())
+            push_operation(alloc, text, client.buffer())
         }
     }
 }

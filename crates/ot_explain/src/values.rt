@@ -4,12 +4,9 @@ ghost use Rattle.std.specs.Prelude.{◌≡◌, ◌++◌, ◌<◌, length, IfOk, 
 ghost use Rattle.std.specs.Option.{option_copied, option_map};
 ghost use Rattle.ot_machine.specs.Readers.{ClientHas};
 ghost use Rattle.ot_steps.specs.Lines.{plain_operation};
-ghost use Rattle.ot_text.specs.Run.{normal_runs};
-ghost use Rattle.ot_json.specs.Writing.{text_of_operation};
 ghost use Rattle.ot_explain.specs.Words.{document_text, entry_text, is_short, list_text, made_text, operation_text, operation_words, size_text, size_words};
 
 use ot_isa::{Tagged, plain};
-use ot_sections::Held;
 use ot_server::Entry;
 use ot_steps::{push_array, push_decimal, push_plain_array};
 use ot_text::{Doc, Element, TextOp};
@@ -32,14 +29,6 @@ fn is_short<T: Element>(op: &TextOp<T>) -> bool
     op.components().len() <= FEW_COMPONENTS && op.inserted() <= FEW_INSERTED
 }
 
-// Whether a pending operation of so many components is shown whole.
-fn is_held_short<T: Element>(op: &Held<T>, count: usize) -> bool
-    requires { count ≡ length (normal_runs op.now) }
-    ensures { result ≡ is_short op.now }
-{
-    count <= FEW_COMPONENTS && op.inserted() <= FEW_INSERTED
-}
-
 // So many components, which make documents of the target length of those of the base length.
 fn size_words(alloc: Global, count: usize, base: usize, target: usize) -> Result<String, AllocError>
     ensures { IfOk result (λ s. string_bytes s ≡ size_words count base target) }
@@ -56,20 +45,6 @@ fn push_size<T: Element>(alloc: Global, text: &mut String, op: &TextOp<T>) -> Re
     ensures { OnOk result (string_bytes text.new ≡ string_bytes text.old ++ size_text op.now) }
 {
     let size = size_words(alloc, op.components().len(), op.base_len(), op.target_len())?;
-    text.push_str(size.as_str())
-}
-
-// Adds a pending operation of so many components by its size.
-fn push_held_size<T: Element>(
-    alloc: Global,
-    text: &mut String,
-    op: &Held<T>,
-    count: usize,
-) -> Result<(), AllocError>
-    requires { count ≡ length (normal_runs op.now) }
-    ensures { OnOk result (string_bytes text.new ≡ string_bytes text.old ++ size_text op.now) }
-{
-    let size = size_words(alloc, count, op.base_len(), op.target_len())?;
     text.push_str(size.as_str())
 }
 
@@ -100,33 +75,6 @@ pub(crate) fn push_operation(
         push_plain_array(alloc, text, op)
     } else {
         push_size(alloc, text, op)
-    }
-}
-
-// Adds a pending operation without its tags, whole. Where it is held in sections it is copied.
-fn push_held_array(alloc: Global, text: &mut String, op: &Held<Tagged>) -> Result<(), AllocError>
-    ensures { OnOk result (string_bytes text.new ≡ string_bytes text.old ++ text_of_operation (plain_operation op.now)) }
-{
-    match op.whole() {
-        Some(op) => push_plain_array(alloc, text, op),
-        None => push_plain_array(alloc, text, &op.to_op()?),
-    }
-}
-
-/// Adds a pending operation without its tags, whole where it is short, else by its size. One in sections is copied only where it is short.
-pub(crate) fn push_held(
-    alloc: Global,
-    text: &mut String,
-    op: &Held<Tagged>,
-) -> Result<(), AllocError>
-    ensures { OnOk result (string_bytes text.new ≡ string_bytes text.old ++ operation_text op.now) }
-{
-    // (They are counted once: of an operation in sections that is a look at each.)
-    let count = op.components();
-    if is_held_short(op, count) {
-        push_held_array(alloc, text, op)
-    } else {
-        push_held_size(alloc, text, op, count)
     }
 }
 

@@ -95,6 +95,28 @@ impl<T: Element> Inverse<T> {
         kept.saturating_add(1)
     }
 
+    /// The operation: a copy of it where it is stored whole, and built of the numbers and the elements that come back where it changes one place.
+    /// `AllocError` where a growth was refused.
+    pub fn operation(&self) -> Result<TextOp<T>, AllocError>
+        ensures { IfOk result (λ op. op ≡ self.now) }
+    {
+        match &self.form {
+            Form::Whole(op) => op.copy(),
+            Form::OnePlace {
+                before,
+                gone,
+                behind,
+                text,
+            } => place::build(
+                *text.allocator(),
+                *before as usize,
+                *gone as usize,
+                text.as_slice(),
+                *behind as usize,
+            ),
+        }
+    }
+
     /// Makes the document what the inverse makes of it, which has to fit: costs what `Doc::change` does, and the elements that come back.
     /// `AllocError` where a growth was refused; then the document is as it was.
     pub fn change(&self, document: &mut Doc<T>) -> Result<(), AllocError>
@@ -104,19 +126,8 @@ impl<T: Element> Inverse<T> {
     {
         match &self.form {
             Form::Whole(op) => document.change(op),
-            Form::OnePlace {
-                before,
-                gone,
-                behind,
-                text,
-            } => {
-                let op = place::build(
-                    document.allocator(),
-                    *before as usize,
-                    *gone as usize,
-                    text.as_slice(),
-                    *behind as usize,
-                )?;
+            Form::OnePlace { .. } => {
+                let op = self.operation()?;
                 document.change(&op)
             }
         }

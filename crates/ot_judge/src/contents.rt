@@ -6,6 +6,7 @@ ghost use Rattle.ot_model.specs.Trace.{contains, occurrences, same_tag, event_at
 ghost use Rattle.ot_judge.specs.Views.{event_view, views};
 ghost use Rattle.ot_judge.specs.Numbers.{IsNumbered};
 ghost use Rattle.ot_judge.specs.Contents.{first_doubled, first_misplaced, first_outside, stands_at_place};
+ghost use Rattle.ot_model.specs.Visibility.{edits_before};
 ghost use Rattle.ot_model.specs.WeakList.{knows, known_deletions, required};
 
 use crate::seed::Seed;
@@ -16,14 +17,15 @@ use ot_model::Placed;
 use std::alloc::{AllocError, Global};
 use std::collections::HashSet;
 
-/// Whether the event at `e` knows the one at `d`: its own edit, or one that it sees.
-pub fn knows(events: &[Event], numbers: &[usize], e: usize, d: usize) -> bool
-    requires numbered { IsNumbered (views events.now) numbers.now }
+/// Whether the event at `e` knows the one at `d`: its own edit, or one that it sees. `before` is how many edits of its replica stand before
+/// the one at `d`.
+pub fn knows(events: &[Event], e: usize, d: usize, before: usize) -> bool
     requires within { e < length events.now }
     requires other { d < length events.now }
+    requires counted { before ≡ edits_before (views events.now) d (event_at (views events.now) d).replica }
     ensures { result ≡ knows (views events.now) e d }
 {
-    d == e || sees(events, numbers, e, d)
+    d == e || sees(events, e, d, before)
 }
 
 // Adds tags to a set.
@@ -45,7 +47,7 @@ fn known_deleted<'a>(events: &'a [Event], numbers: &[usize], e: usize, d: usize)
     requires other { d < length events.now }
     ensures { result.now ≡ (if knows (views events.now) e d then (event_at (views events.now) d).deleted else []) }
 {
-    if knows(events, numbers, e, d) {
+    if knows(events, e, d, numbers[d]) {
         let x = &events[d];
         x.deleted.as_slice()
     } else {
@@ -61,7 +63,7 @@ fn known_inserted<'a>(events: &'a [Event], numbers: &[usize], e: usize, d: usize
     requires other { d < length events.now }
     ensures { result.now ≡ (if knows (views events.now) e d then (event_at (views events.now) d).inserted else []) }
 {
-    if knows(events, numbers, e, d) {
+    if knows(events, e, d, numbers[d]) {
         let x = &events[d];
         x.inserted.as_slice()
     } else {
@@ -206,8 +208,8 @@ pub fn first_doubled(alloc: Global, list: &[Tag]) -> Result<Option<Tag>, AllocEr
     Ok(first_in(&twice, list))
 }
 
-// Whether an inserted element stands at its place.
-fn stands_at_place(list: &[Tag], p: &Placed) -> bool
+/// Whether an inserted element stands at its place.
+pub fn stands_at_place(list: &[Tag], p: &Placed) -> bool
     ensures { result ≡ stands_at_place list.now p.now }
 {
     match list.get(p.place) {

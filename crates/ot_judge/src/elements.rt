@@ -216,17 +216,17 @@ pub fn is_gone(x: &Element, events: &[Event], numbers: &[usize], e: usize) -> bo
     ensures { SeesRightly (views events.now) e → result ≡ contains (known_deletions (views events.now) e) x.now.tag }
 {
     if let Some(d) = x.last {
-        if knows(events, numbers, e, d) {
+        if knows(events, e, d, numbers[d]) {
             return true;
         }
     }
     if let Ok(d) = find_deleter(x.others.as_slice(), events, events[e].replica) {
-        if knows(events, numbers, e, d) {
+        if knows(events, e, d, numbers[d]) {
             return true;
         }
     }
     for d in &x.others {
-        if knows(events, numbers, e, *d) {
+        if knows(events, e, *d, numbers[*d]) {
             return true;
         }
     }

@@ -24,6 +24,7 @@
 //! confirms each event from the last one of its replica and from what it newly knows (`confirm.rt`), because it notes once who
 //! deletes each element (`elements.rt`), and because it gives elements places that rise along the lists (`graph.rt`) and checks them.
 //! Where they do not rise, it holds lists beside the order of another replica's elements (`seats.rt`, `falls.rt`, `search.rt`), and never list beside list.
+//! What an event sees, follows and knows are calls of their own, for words about a verdict: [`seen_of`], [`follows`], [`knows`].
 //!
 //! Traces as lists and their weak list property are defined in `ot_model`, in its `specs/Trace.antt`,
 //! `specs/Visibility.antt` and `specs/WeakList.antt`: the judge decides the same property that `ot_model::laws::weak_list`
@@ -52,9 +53,11 @@ pub mod value;
 mod verdict;
 mod visibility;
 
+pub use contents::{knows, stands_at_place};
 pub use decide::judge;
 pub use fault::TraceFault;
 pub use ot_model::Placed;
 pub use reading::{read_trace, trace_of};
 pub use trace::{Event, MOST_ENTRIES, MOST_EVENTS, Trace};
 pub use verdict::Verdict;
+pub use visibility::{edits_before, follows, seen_of};

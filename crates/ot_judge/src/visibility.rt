@@ -21,9 +21,9 @@ pub fn is_edit_of(x: &Event, replica: usize) -> bool
     x.edit && x.replica == replica
 }
 
-// How many edits of a replica stand before the event at `e`.
+/// How many edits of a replica stand before the event at `e`.
 #[tactic(auto, using(crate::proofs::Views::view_steps))]
-fn edits_before(events: &[Event], e: usize, replica: usize) -> usize
+pub fn edits_before(events: &[Event], e: usize, replica: usize) -> usize
     requires { e ≤ length events.now }
     ensures value { result ≡ edits_before (views events.now) e replica }
     ensures bound { result ≤ e }
@@ -37,7 +37,7 @@ fn edits_before(events: &[Event], e: usize, replica: usize) -> usize
     count
 }
 
-// How many edits of a replica an event sees.
+/// How many edits of a replica an event sees.
 pub fn seen_of(x: &Event, replica: usize) -> usize
     ensures { result ≡ seen_of (event_view x.now) replica }
 {
@@ -87,17 +87,17 @@ pub fn numbers_of(alloc: Global, events: &[Event]) -> Result<Vec<usize>, AllocEr
     Ok(numbers)
 }
 
-// Whether the event at `e` sees the one at `d`.
+/// Whether the event at `e` sees the one at `d`, `before` being how many edits of its replica stand before that one.
 #[tactic(auto, using(crate::proofs::Views::view_steps))]
-pub fn sees(events: &[Event], numbers: &[usize], e: usize, d: usize) -> bool
-    requires numbered { IsNumbered (views events.now) numbers.now }
+pub fn sees(events: &[Event], e: usize, d: usize, before: usize) -> bool
     requires within { e < length events.now }
     requires other { d < length events.now }
+    requires counted { before ≡ edits_before (views events.now) d (event_at (views events.now) d).replica }
     ensures { result ≡ sees (views events.now) e d }
 {
     let x = &events[e];
     let y = &events[d];
-    y.edit && numbers[d] < seen_of(x, y.replica)
+    y.edit && before < seen_of(x, y.replica)
 }
 
 // Whether one event sees no more than another, at any replica.
@@ -127,16 +127,16 @@ fn sees_past(events: &[Event], e: usize) -> bool
     true
 }
 
-// Whether the event at `e` has to see what the one at `d` sees.
+/// Whether the event at `e` has to see what the one at `d` sees, `before` being how many edits of its replica stand before that one.
 #[tactic(auto, using(crate::proofs::Views::view_steps))]
-fn follows(events: &[Event], numbers: &[usize], e: usize, d: usize) -> bool
-    requires numbered { IsNumbered (views events.now) numbers.now }
+pub fn follows(events: &[Event], e: usize, d: usize, before: usize) -> bool
     requires within { e < length events.now }
     requires other { d < length events.now }
+    requires counted { before ≡ edits_before (views events.now) d (event_at (views events.now) d).replica }
     ensures { result ≡ follows (views events.now) e d }
 {
     let same = events[d].replica == events[e].replica;
-    sees(events, numbers, e, d) || same
+    sees(events, e, d, before) || same
 }
 
 // Whether the event sees what those see that it follows.
@@ -148,7 +148,7 @@ fn sees_closed(events: &[Event], numbers: &[usize], e: usize) -> bool
 {
     let x = &events[e];
     for d in 0..e {
-        if follows(events, numbers, e, d) {
+        if follows(events, e, d, numbers[d]) {
             let y = &events[d];
             if !sees_at_most(y, x) {
                 return false;

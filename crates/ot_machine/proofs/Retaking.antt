@@ -81,11 +81,11 @@ unfolding history
 history_of server seats steps s value = ap (λ (t : State). history t) value
 
 pub take_undo :
-    (server : History Tagged) (seats : List Seat) (steps c : ℕ) (message : Sent Tagged) (inverse : Operation Tagged) (earlier s : State)
-    → state_from server seats steps ≡ s → IsRecord earlier s (Taken c message inverse) → IsUndo (history earlier) server inverse
+    (server : History Tagged) (seats : List Seat) (steps c : ℕ) (message : Sent Tagged) (inverse op : Operation Tagged) (earlier s : State)
+    → state_from server seats steps ≡ s → op ≡ inverse → IsRecord earlier s (Taken c message inverse) → IsUndo (history earlier) server op
 unfolding history
-take_undo server seats steps c message inverse earlier s value is =
-    subst (λ h. IsUndo (history earlier) h inverse) (sym (history_of server seats steps s value)) is.step.undo
+take_undo server seats steps c message inverse op earlier s value same is =
+    rw same (subst (λ h. IsUndo (history earlier) h inverse) (sym (history_of server seats steps s value)) is.step.undo)
 
 pub take_there :
     (server : History Tagged) (seats : List Seat) (steps c : ℕ) (message : Sent Tagged) (inverse : Operation Tagged) (earlier s : State)

@@ -19,7 +19,6 @@ use ot_client::{Client, Past, PreparedStep, Sent, Synchronized};
 use ot_inverse::Inverse;
 use ot_isa::Tagged;
 use ot_links::{Downlink, Uplink};
-use ot_sections::Held;
 use ot_server::{Entry, Server, ServerFault};
 use ot_text::{Doc, TextOp};
 use std::alloc::{AllocError, Global};
@@ -141,7 +140,7 @@ pub(crate) fn edit<const KEPT: bool>(
     let Some(client) = seat.client.take() else {
         unreachable!()
     };
-    let step = match client.prepare_edit(op, KEPT) {
+    let step = match client.prepare_edit(op) {
         Ok(step) => step,
         Err(client) => {
             seat.client = Some(client);
@@ -256,7 +255,7 @@ pub(crate) fn deliver<const KEPT: bool>(
         unreachable!()
     };
     let number = client.revision() as usize;
-    let (step, carried) = match client.prepare_deliver(op, KEPT) {
+    let (step, carried) = match client.prepare_deliver(op) {
         Ok(prepared) => prepared,
         Err(client) => {
             seat.client = Some(client);
@@ -370,24 +369,6 @@ fn receive<const KEPT: bool>(
     }
 }
 
-// The server receives a pending operation, which it does not refuse: one that is held as one list of components as it is, another one as a copy.
-fn receive_held<const KEPT: bool>(
-    server: &mut Server<Tagged>,
-    client: u16,
-    revision: u32,
-    op: &Held<Tagged>,
-) -> Result<Option<Inverse<Tagged>>, AllocError>
-    requires { fault_of server.old revision op.now ≡ None }
-    ensures ok { OnOk result (server.new ≡ received server.old client revision op.now) }
-    ensures err { OnErr result (server.new ≡ server.old) }
-    ensures undo { IsTrue KEPT → IfOk result (λ kept. IsSomeAnd kept (λ undo. IsUndo server.old server.new undo)) }
-{
-    match op.whole() {
-        Some(op) => receive::<KEPT>(server, client, revision, op),
-        None => receive::<KEPT>(server, client, revision, &op.to_op()?),
-    }
-}
-
 // The server receives what is under way from the client. The outstanding operation is the message transformed against what the client has
 // seen of the log, so only the entries that it has not seen are left to transform it against.
 fn receive_outstanding<const KEPT: bool>(
@@ -402,10 +383,10 @@ fn receive_outstanding<const KEPT: bool>(
 {
     match &seat.client {
         Some(Client::AwaitingConfirm(sender)) => {
-            receive_held::<KEPT>(server, client, sender.revision(), sender.outstanding())
+            receive::<KEPT>(server, client, sender.revision(), sender.outstanding())
         }
         Some(Client::AwaitingWithBuffer(sender)) => {
-            receive_held::<KEPT>(server, client, sender.revision(), sender.outstanding())
+            receive::<KEPT>(server, client, sender.revision(), sender.outstanding())
         }
         _ => unreachable!(),
     }

@@ -180,7 +180,11 @@ impl Machine {
         ensures err { OnErr result (self.new ≡ self.old) }
         ensures back { IfErr result (λ e. (e.1 ≡ message) × (e.2 ≡ inverse)) }
     {
-        if let Err(e) = self.server.retract(&inverse) {
+        let op = match inverse.operation() {
+            Ok(op) => op,
+            Err(e) => return Err((e, message, inverse)),
+        };
+        if let Err(e) = self.server.retract(&op) {
             return Err((e, message, inverse));
         }
         kept::unsend_all(&mut self.seats);

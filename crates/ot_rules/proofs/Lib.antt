@@ -1,4 +1,2 @@
 mod Over
 mod Reached
-mod Behind
-mod Meeting

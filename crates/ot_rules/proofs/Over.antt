@@ -1,13 +1,14 @@
 -- One more item of a loop's list.
 use Rattle.std.proofs.Common.{◌≡◌, ℕ, ◌+◌, ◌<◌, ◌≤◌, List, ◌∷◌, ◌++◌, length, drop, get_or, refl, sym, ap, ◌∙◌, subst, arith, add-one, length-drop, drop-cons, append_assoc, Option, Some, None, Bool, true}
 use Rattle.std.specs.Prelude.{codes}
+use Rattle.std.specs.Option.{option_map}
 use Rattle.ot_text.specs.declared.Component.{Component}
 use Rattle.ot_text.specs.Operation.{Operation}
 use Rattle.ot_text.specs.Run.{Run, Keep, Add, Skip}
 use Rattle.ot_text.specs.Components.{run_of, runs}
 use Rattle.ot_rules.specs.Text.{concurrent_lines, given_operation}
 use Rattle.ot_rules.specs.Units.{IsAdded, behind, unit_run, units_from, with_one_more}
-use Rattle.ot_rules.specs.Wrong.{Pair, first_of, turned, turned_over}
+use Rattle.ot_rules.specs.Wrong.{Pair, second_of, swapped, transformed, turned_over}
 
 pub drop_here : {A : Type 0} (xs : List A) (i : ℕ) (x : A) → i < length xs → x ≡ get_or xs i x → drop i xs ≡ x ∷ drop (i + 1) xs
 drop_here xs i x here is =
@@ -20,19 +21,19 @@ abbrev over_rest : Option (Operation ℕ) → List (Operation ℕ) → Option (O
 over_rest None rest = None
 over_rest (Some next) rest = turned_over next rest
 
-over_pair : (p : Option Pair) (rest : List (Operation ℕ)) → (elim p as (λ _. Option (Operation ℕ)) [ None ↦ None | Some pair ↦ turned_over pair.0 rest ]) ≡ over_rest (first_of p) rest
+over_pair : (p : Option Pair) (rest : List (Operation ℕ)) → (elim (option_map swapped p) as (λ _. Option (Operation ℕ)) [ None ↦ None | Some pair ↦ turned_over pair.0 rest ]) ≡ over_rest (second_of p) rest
 over_pair None rest = refl
 over_pair (Some pair) rest = refl
 
 module _ (op carried other : Operation ℕ) (xs : List (Operation ℕ)) (i : ℕ) (here : i < length xs) (is : other ≡ get_or xs i other)
     (so_far : turned_over carried (drop i xs) ≡ turned_over op xs) where
-  left : over_rest (first_of (turned carried other)) (drop (i + 1) xs) ≡ turned_over op xs
-  left = sym (over_pair (turned carried other) (drop (i + 1) xs)) ∙ ap (turned_over carried) (sym (drop_here xs i other here is)) ∙ so_far
+  left : over_rest (second_of (transformed other carried)) (drop (i + 1) xs) ≡ turned_over op xs
+  left = sym (over_pair (transformed other carried) (drop (i + 1) xs)) ∙ ap (turned_over carried) (sym (drop_here xs i other here is)) ∙ so_far
 
-  pub over_none : first_of (turned carried other) ≡ None → None ≡ turned_over op xs
+  pub over_none : second_of (transformed other carried) ≡ None → None ≡ turned_over op xs
   over_none e = ap (λ o. over_rest o (drop (i + 1) xs)) (sym e) ∙ left
 
-  pub over_more : (next : Operation ℕ) → first_of (turned carried other) ≡ Some next → turned_over next (drop (i + 1) xs) ≡ turned_over op xs
+  pub over_more : (next : Operation ℕ) → second_of (transformed other carried) ≡ Some next → turned_over next (drop (i + 1) xs) ≡ turned_over op xs
   over_more next e = ap (λ o. over_rest o (drop (i + 1) xs)) (sym e) ∙ left
 
 -- ---- components over a text

@@ -13,7 +13,7 @@ use crate::call::{Call, Waiting};
 use ot_client::Client;
 use ot_isa::Instr;
 use ot_machine::Machine;
-use ot_steps::{plain_held, plain_operation};
+use ot_steps::plain_operation;
 use ot_text::TextOp;
 use std::alloc::{AllocError, Global};
 
@@ -28,11 +28,11 @@ fn waiting(alloc: Global, machine: &Machine, client: u16) -> Result<Option<Waiti
     Ok(Some(match machine.client(client) {
         Client::Synchronized(_) => Waiting::Nothing,
         Client::AwaitingConfirm(client) => {
-            Waiting::Outstanding(plain_held(alloc, client.outstanding())?)
+            Waiting::Outstanding(plain_operation(alloc, client.outstanding())?)
         }
         Client::AwaitingWithBuffer(client) => {
-            let outstanding = plain_held(alloc, client.outstanding())?;
-            Waiting::Buffered(outstanding, plain_held(alloc, client.buffer())?)
+            let outstanding = plain_operation(alloc, client.outstanding())?;
+            Waiting::Buffered(outstanding, plain_operation(alloc, client.buffer())?)
         }
     }))
 }

@@ -24,7 +24,6 @@
 
 mod call;
 mod calling;
-mod carried;
 mod explaining;
 mod field;
 mod note;

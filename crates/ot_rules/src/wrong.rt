@@ -1,15 +1,12 @@
 //! What typical wrong rules make of a call.
 
-ghost use Rattle.std.specs.Prelude.{◌≡◌, length, IfOk, Some};
-ghost use Rattle.ot_text.specs.Operation.{news, IsOperation};
+ghost use Rattle.std.specs.Prelude.{◌≡◌, IfOk, Some};
 ghost use Rattle.ot_rules.specs.Call.{call_value};
 ghost use Rattle.ot_rules.specs.Wrong as wrong;
 
 use crate::call::{Call, Waiting};
-use crate::carried::carried_behind;
 use crate::field::Field;
-use ot_algebra::transform;
-use ot_sections::Held;
+use ot_algebra::{transform, transform_second};
 use ot_text::{LIMIT, TextOp};
 use std::alloc::{AllocError, Global};
 
@@ -107,16 +104,15 @@ pub fn first_transformed(
 
 // Its second result.
 fn second_transformed(
-    alloc: Global,
     a: &TextOp<char>,
     b: &TextOp<char>,
 ) -> Result<Option<TextOp<char>>, AllocError>
     ensures { IfOk result (λ op. op ≡ wrong.second_of (wrong.transformed a.now b.now)) }
 {
-    match transformed(alloc, a, b)? {
-        Some((_first, second)) => Ok(Some(second)),
-        None => Ok(None),
+    if !may_transform(a, b) {
+        return Ok(None);
     }
+    Ok(Some(transform_second(a, b)?))
 }
 
 // Both, with the text of the second argument first where both insert at one place.
@@ -176,66 +172,25 @@ fn turned_delivery(alloc: Global, waiting: &Waiting, op: &TextOp<char>) -> Resul
     }
 }
 
-// Transform takes the other one and an operation that may be in sections, and inserts nothing.
-fn may_follow(op: &Held<char>, other: &TextOp<char>) -> bool
-    requires { length (news op.now.image) ≡ 0 }
-    ensures may { result ≡ wrong.may_transform other.now op.now }
-    ensures operation { IsOperation op.now }
-    ensures other { IsOperation other.now }
-{
-    other.base_len() == op.base_len()
-        && other.base_len() + (other.inserted() + op.inserted()) <= LIMIT
-}
-
-// The first of both, for an operation that is no longer needed and inserts nothing: it makes no difference whose text goes first.
-fn followed(op: Held<char>, other: &TextOp<char>) -> Result<Option<Held<char>>, AllocError>
-    requires { length (news op.image) ≡ 0 }
-    ensures { IfOk result (λ next. next ≡ wrong.first_of (wrong.turned op other.now)) }
-{
-    if !may_follow(&op, other) {
-        return Ok(None);
-    }
-    Ok(Some(op.follow(other)?))
-}
-
-// The first of both, for an operation that is no longer needed. Where it inserts nothing it may be in sections from then on.
-fn turned_first(op: Held<char>, other: &TextOp<char>) -> Result<Option<Held<char>>, AllocError>
-    ensures { IfOk result (λ next. next ≡ wrong.first_of (wrong.turned op other.now)) }
-{
-    if op.inserted() == 0 {
-        return followed(op, other);
-    }
-    let Ok(op) = op.into_op() else {
-        return Err(AllocError);
-    };
-    if !may_transform(other, &op) {
-        return Ok(None);
-    }
-    Ok(Some(Held::new(carried_behind(op, other)?)))
-}
-
-// A message transformed against the log. It is copied once; each entry changes the copy.
+// A message transformed against the log, where the text of each entry goes first.
 fn turned_over(
     op: &TextOp<char>,
     concurrent: &[TextOp<char>],
 ) -> Result<Option<TextOp<char>>, AllocError>
     ensures { IfOk result (λ carried. carried ≡ wrong.turned_over op.now concurrent.now) }
 {
-    let mut carried = Held::new(op.copy()?);
+    let mut carried = op.copy()?;
     for other in concurrent {
-        let Some(next) = turned_first(carried, other)? else {
+        let Some(next) = second_transformed(other, &carried)? else {
             return Ok(None);
         };
         carried = next;
     }
-    match carried.into_op() {
-        Ok(op) => Ok(Some(op)),
-        Err(_) => Err(AllocError),
-    }
+    Ok(Some(carried))
 }
 
 /// The rule with a transform in which the text of the second argument goes first. A message transformed against the log costs for each entry what
-/// `carried_behind` does, and where it inserts nothing what `Held::follow` does.
+/// `transform_second` of `ot_algebra` does.
 pub fn made_turned(alloc: Global, call: &Call) -> Result<Made, AllocError>
     ensures { IfOk result (λ made. made ≡ wrong.made_turned (call_value call.now)) }
 {
@@ -289,7 +244,7 @@ fn by_half(alloc: Global, waiting: &Waiting, op: &TextOp<char>) -> Result<Made, 
     Ok(Made {
         outstanding: None,
         buffer,
-        applied: second_transformed(alloc, outstanding, op)?,
+        applied: second_transformed(outstanding, op)?,
         appended: None,
     })
 }

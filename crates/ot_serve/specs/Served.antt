@@ -4,7 +4,7 @@ use Rattle.std.specs.Io.KnownBytes.{Keeps}
 use Rattle.streams.specs.Streams.{WritesPart}
 use Rattle.clap.specs.Words.{Text, takes}
 use Rattle.ot_input.specs.Inputs.{OfText, OfImage}
-use Rattle.outcomes.specs.Outcomes.{Streams, WantsMemory}
+use Rattle.outcomes.specs.Outcomes.{Streams, OutOfMemory}
 use Rattle.ot_words.specs.Requests.{otbench_app, request_of}
 use Rattle.ot_commands.specs.Ran.{MayReport}
 use Rattle.ot_commands.specs.Completes.{MayComplete}
@@ -15,9 +15,9 @@ use Rattle.ot_commands.specs.ExplainedTraces.{ExplainsTrace}
 use Rattle.ot_commands.specs.ExplainedPlans.{ExplainsPlan}
 use Rattle.ot_commands.specs.Checked.{MayFind}
 use Rattle.ot_commands.specs.Debugged.{Debugs}
-use Rattle.ot_steps_command.specs.Stepped.{Steps as DoesSteps}
-use Rattle.ot_explain_command.specs.Explains.{Explains}
-use Rattle.ot_explain_command.specs.ExplainsImages.{ExplainsImage}
+use Rattle.ot_commands.specs.Stepped.{Steps as DoesSteps}
+use Rattle.ot_commands.specs.Explains.{Explains}
+use Rattle.ot_commands.specs.ExplainsImages.{ExplainsImage}
 use Rattle.ot_conform_command.specs.Conformed.{Compares}
 use Rattle.ot_threads.specs.Threaded.{Threads as DoesThreads}
 use Rattle.ot_words.specs.declared.words.Form.TheVariants as form
@@ -63,4 +63,4 @@ abbrev pub ServesWords : List Text → Bool → List ℕ → ℕ → Streams →
 ServesWords words unread input status streams =
     ((asked : Asked) × (request_of words ≡ Some asked) × ServesAsked asked unread input status streams)
     ⊎ ((takes otbench_app words ≡ true → request_of words ≡ None) × Advises status streams)
-    ⊎ WantsMemory status streams
+    ⊎ OutOfMemory status streams

@@ -1,9 +1,7 @@
 //! The whole program over any reader and two writers, as a library.
 //!
 //! ```text
-//!    words ── ot_words ──▶ Asked ── serve ──▶ ot_commands         run, check, debug, asm, dis, judge, generate, complete
-//!                                    ├──▶ ot_steps_command    steps: a run as lines of JSON
-//!                                    ├──▶ ot_explain_command  explain: a run in words
+//!    words ── ot_words ──▶ Asked ── serve ──▶ ot_commands         run, steps, explain, check, debug, asm, dis, judge, generate, complete
 //!                                    ├──▶ ot_conform_command  conform: a port's lines against the run
 //!                                    └──▶ ot_threads          threads: a plan that workers on threads type, as the schedule that they record
 //! ```
@@ -15,6 +13,6 @@
 
 mod serving;
 
-pub use ot_follow::follows;
 pub use ot_plan::{Plan, PlanFault, Typing, plan_of, read_plan};
+pub use ot_threads::follows;
 pub use serving::serve;

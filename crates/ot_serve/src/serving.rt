@@ -11,11 +11,10 @@ use clap::Error;
 use clap::error::ErrorKind;
 use ot_commands::{
     assemble, check_text, complete_text, debug_text, disassemble_image, explain_plan,
-    explain_trace, generate_session, judge_input, run_image, run_text,
+    explain_trace, generate_session, judge_input, run_explain, run_explain_image, run_image,
+    run_steps, run_text,
 };
 use ot_conform_command::run_conform;
-use ot_explain_command::{run_explain, run_explain_image};
-use ot_steps_command::run_steps;
 use ot_threads::run_threads;
 use ot_words::{Asked, Form, Request, Subject, read_request};
 use outcomes::{complain, complain_of_memory};

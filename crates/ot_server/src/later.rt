@@ -6,7 +6,6 @@ ghost use Rattle.ot_server.specs.History.{IsChain, base_at, inserted_in, transfo
 
 use crate::Entry;
 use ot_algebra::transform_first;
-use ot_sections::{Held, is_long};
 use ot_text::{Element, LIMIT, TextOp};
 use std::alloc::AllocError;
 
@@ -40,35 +39,6 @@ pub fn has_room<T: Element>(entries: &[Entry<T>], length: usize) -> bool
     true
 }
 
-// The operation after these entries, which lead to a document of length `end`. It has many components and is held in sections meanwhile: each entry
-// costs what it touches, and a look at each section.
-fn held_after<T: Element>(
-    op: &TextOp<T>,
-    entries: &[Entry<T>],
-    end: usize,
-) -> Result<TextOp<T>, AllocError>
-    requires base { op.now.base ≡ base_at entries.now end }
-    requires chain { IsChain entries.now end }
-    requires fits { op.now.base + inserted_in entries.now + length (news op.now.image) ≤ LIMIT }
-    ensures value { IfOk result (λ carried. carried ≡ transform_over op.now entries.now) }
-    ensures base { IfOk result (λ carried. carried.base ≡ end) }
-    ensures operation { IfOk result (λ carried. IsOperation carried) }
-{
-    let mut carried = Held::new(op.copy()?);
-    for entry in entries {
-        // For the proof: the invariant of every operation.
-        let _operation = carried.base_len();
-        let _operation = entry.operation().base_len();
-        carried = carried.follow(entry.operation())?;
-    }
-    let Ok(carried) = carried.into_op() else {
-        return Err(AllocError);
-    };
-    // For the proof: the invariant of every operation.
-    let _operation = carried.base_len();
-    Ok(carried)
-}
-
 // The operation after these entries, which lead to a document of length `end`.
 pub fn transform_after<T: Element>(
     op: &TextOp<T>,
@@ -82,9 +52,6 @@ pub fn transform_after<T: Element>(
     ensures base { IfOk result (λ carried. carried.base ≡ end) }
     ensures operation { IfOk result (λ carried. IsOperation carried) }
 {
-    if is_long(op) {
-        return held_after(op, entries, end);
-    }
     let mut carried = op.copy()?;
     for entry in entries {
         // For the proof: the invariant of every operation.

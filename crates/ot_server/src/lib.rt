@@ -118,8 +118,8 @@ impl<T: Element> Server<T> {
         Ok(())
     }
 
-    /// Does as `receive`, and gives the inverse of the appended operation over the document before it: with which `retract` undoes
-    /// the entry. The inverse is made first, so that every fault leaves the server as it was.
+    /// Does as `receive`, and gives the inverse of the appended operation over the document before it. With its operation
+    /// ([`Inverse::operation`]) `retract` undoes the entry. The inverse is made first, so that every fault leaves the server as it was.
     pub fn receive_kept(
         &mut self,
         maker: u16,
@@ -138,13 +138,14 @@ impl<T: Element> Server<T> {
         Ok(inverse)
     }
 
-    /// Removes the last entry: `undo` is its inverse over the document before it. Where memory runs out the server is as it was.
-    pub fn retract(&mut self, undo: &Inverse<T>) -> Result<(), AllocError>
+    /// Removes the last entry and changes the document back. The log must not be empty, and `undo` is the inverse of its last entry over the document before
+    /// that entry. `AllocError` where a growth was refused; then the server is as it was.
+    pub fn retract(&mut self, undo: &TextOp<T>) -> Result<(), AllocError>
         requires { IsRetractable self.old undo.now }
         ensures ok { (earlier : History T) → IsUndo earlier self.old undo.now → OnOk result (self.new ≡ earlier) }
         ensures err { OnErr result (self.new ≡ self.old) }
     {
-        undo.change(&mut self.document)?;
+        self.document.change(undo)?;
         self.log.pop();
         Ok(())
     }

@@ -12,7 +12,6 @@ use crate::items::Items;
 use crate::operations::{push_components, push_decimal};
 use ot_client::Sent;
 use ot_isa::Tagged;
-use ot_sections::Held;
 use ot_text::{Doc, TextOp};
 use ot_values::{push_letters, push_quoted};
 use std::alloc::{AllocError, Global};
@@ -122,27 +121,12 @@ pub(crate) fn push_operation(
     push_plain_array(alloc, text, op)
 }
 
-// The same of a pending operation: as it is where it is held as one list of components, else from a copy.
-fn push_held(
-    alloc: Global,
-    text: &mut String,
-    key: &str,
-    op: &Held<Tagged>,
-) -> Result<(), AllocError>
-    ensures { OnOk result (string_bytes text.new ≡ string_bytes text.old ++ field_text (record { key = key.now; value = Op (plain_operation op.now) })) }
-{
-    match op.whole() {
-        Some(op) => push_operation(alloc, text, key, op),
-        None => push_operation(alloc, text, key, &op.to_op()?),
-    }
-}
-
 /// The key and array of a pending operation, whose items may be cached.
 pub(crate) fn push_kept(
     alloc: Global,
     text: &mut String,
     key: &str,
-    op: &Held<Tagged>,
+    op: &TextOp<Tagged>,
     kept: &Option<Items>,
 ) -> Result<(), AllocError>
     requires { HoldsOf kept.now (Some op.now) }
@@ -155,7 +139,7 @@ pub(crate) fn push_kept(
             push_key(text, key)?;
             items.push(text)
         }
-        None => push_held(alloc, text, key, op),
+        None => push_operation(alloc, text, key, op),
     }
 }
 

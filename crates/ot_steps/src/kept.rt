@@ -25,14 +25,13 @@ use crate::moving::{perform, perform_kept};
 use ot_client::{Client, Past};
 use ot_isa::{Instr, Tagged};
 use ot_machine::{Applied, Machine, Refusal};
-use ot_sections::{Held, is_long};
-use ot_text::Patch;
+use ot_text::{Patch, TextOp};
 use std::alloc::{AllocError, Global};
 
 /// The text of an operation of fewer components is not cached.
 const LONG: usize = 512;
 
-/// Of a step by an operation of more components nothing is cached, unless what is pending is so long that it would go to sections.
+/// Of a step by an operation of more components nothing is cached.
 const FEW: usize = 16;
 
 /// The cached texts of a client's pending operations.
@@ -43,19 +42,16 @@ pub(crate) struct Kept {
 }
 
 // The text of `op`, from that of the operation that the patch makes of it, where that was cached. None where more than half of the components have
-// changed, or where these are few, or in sections.
+// changed, or where these are few.
 fn renewed(
     alloc: Global,
     kept: Option<Items>,
     patch: &Patch<Tagged>,
-    op: &Held<Tagged>,
+    op: &TextOp<Tagged>,
 ) -> Result<Option<Items>, AllocError>
     requires { LeadsFrom patch.now op.now }
     ensures { HoldsOf kept (Some (patched patch.now op.now)) → IfOk result (λ items. HoldsOf items (Some op.now)) }
 {
-    let Some(op) = op.whole() else {
-        return Ok(None);
-    };
     let components = op.components();
     let (front, back) = patch.shared(op);
     if components.len() < LONG || front + back < components.len() / 2 {
@@ -68,32 +64,18 @@ fn renewed(
     Ok(Some(items))
 }
 
+// Whether the text of the operation may be cached.
+fn may_be_cached(op: &TextOp<Tagged>) -> bool {
+    op.components().len() >= LONG
+}
+
 // Whether the client has a pending operation whose text may be cached.
 fn waits_for_much(client: &Client<Tagged>) -> bool {
     match client {
         Client::Synchronized(_) => false,
-        Client::AwaitingConfirm(client) => client.outstanding().components() >= LONG,
+        Client::AwaitingConfirm(client) => may_be_cached(client.outstanding()),
         Client::AwaitingWithBuffer(client) => {
-            client.outstanding().components() >= LONG || client.buffer().components() >= LONG
-        }
-    }
-}
-
-// Whether the operation is held in sections, or will be once it changes, unless an undo record is asked for.
-fn is_cut(op: &Held<Tagged>) -> bool {
-    match op.whole() {
-        Some(op) => is_long(op),
-        None => true,
-    }
-}
-
-// Whether a pending operation of the client is in sections, or would be after its next change. All of it is written at each line, and so it is best one list.
-fn waits_in_sections(client: &Client<Tagged>) -> bool {
-    match client {
-        Client::Synchronized(_) => false,
-        Client::AwaitingConfirm(client) => is_cut(client.outstanding()),
-        Client::AwaitingWithBuffer(client) => {
-            is_cut(client.outstanding()) || is_cut(client.buffer())
+            may_be_cached(client.outstanding()) || may_be_cached(client.buffer())
         }
     }
 }
@@ -120,14 +102,13 @@ fn changes_little(machine: &Machine, instr: &Instr, client: u16) -> bool
     }
 }
 
-// Whether the step of the client, who is there, is performed with its undo record: where it changes little of much, whose text is cached then, and where
-// what is pending would be put into sections.
+// Whether the step of the client, who is there, is performed with its undo record: where it changes little of much, whose text is cached then.
 fn is_followed(machine: &Machine, instr: &Instr, client: u16) -> bool
     requires { client < length machine.now.clients }
 {
     machine.joined(client)
         && waits_for_much(machine.client(client))
-        && (changes_little(machine, instr, client) || waits_in_sections(machine.client(client)))
+        && changes_little(machine, instr, client)
 }
 
 // Whether the instruction leaves each client's pending operations as they are.
@@ -152,7 +133,7 @@ impl Kept {
         self,
         alloc: Global,
         past: &Past<Tagged>,
-        op: &Held<Tagged>,
+        op: &TextOp<Tagged>,
     ) -> Result<Kept, AllocError>
         requires { FitsPhase past.now (state.AwaitingConfirm op.now) }
         ensures { IsKeptOf self (phase_in (phase_before past.now (state.AwaitingConfirm op.now))) → IfOk result (λ kept. IsKeptOf kept (table.AwaitingConfirm op.now)) }
@@ -178,8 +159,8 @@ impl Kept {
         self,
         alloc: Global,
         past: &Past<Tagged>,
-        op: &Held<Tagged>,
-        buffer: &Held<Tagged>,
+        op: &TextOp<Tagged>,
+        buffer: &TextOp<Tagged>,
     ) -> Result<Kept, AllocError>
         requires { FitsPhase past.now (state.AwaitingWithBuffer op.now buffer.now) }
         ensures { IsKeptOf self (phase_in (phase_before past.now (state.AwaitingWithBuffer op.now buffer.now))) → IfOk result (λ kept. IsKeptOf kept (table.AwaitingWithBuffer op.now buffer.now)) }

@@ -35,5 +35,5 @@ pub use laws::{downlinks_follow, fold_is_run, lines_fold};
 pub use lines::{print_end, print_opening, print_step, print_stop, word};
 pub use moving::{applies, perform, sends};
 pub use operations::push_decimal;
-pub use plain::{plain_held, plain_operation};
+pub use plain::plain_operation;
 pub use writing::{StepsFault, print_steps};

@@ -8,7 +8,6 @@ ghost use Rattle.ot_steps.specs.Lines.{plain_operation};
 ghost use Rattle.ot_text.specs.declared.TheConstants.{LIMIT};
 
 use ot_isa::Tagged;
-use ot_sections::Held;
 use ot_text::{Component, TextOp, only_memory};
 use std::alloc::{AllocError, Global};
 
@@ -48,14 +47,4 @@ pub fn plain_operation(alloc: Global, op: &TextOp<Tagged>) -> Result<TextOp<char
     let _base = op.base_len();
     let _target = op.target_len();
     plain_components(alloc, op.components())
-}
-
-/// The same of a pending operation. Where it is held in sections it costs a copy more.
-pub fn plain_held(alloc: Global, op: &Held<Tagged>) -> Result<TextOp<char>, AllocError>
-    ensures { IfOk result (λ plain. plain ≡ plain_operation op.now) }
-{
-    match op.whole() {
-        Some(op) => plain_operation(alloc, op),
-        None => plain_operation(alloc, &op.to_op()?),
-    }
 }

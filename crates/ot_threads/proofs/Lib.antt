@@ -1,2 +1,4 @@
-pub mod Ends
 pub mod Carried
+pub mod Ends
+pub mod Followed
+pub mod Recorded

@@ -6,8 +6,8 @@ use Rattle.ot_board.specs.declared.receipt.Receipt.{Receipt}
 use Rattle.ot_board.specs.Boards.{BoardView, IsBoard, AreIn, IsLeastOut}
 use Rattle.ot_board.specs.Tiling.{IsTiling, IsFault}
 use Rattle.ot_plan.specs.Plan.{PlanView}
-use Rattle.ot_follow.specs.Follows.{Follows}
-use Rattle.ot_record.specs.Record.{IsRecord}
+use Rattle.ot_threads.specs.Follows.{Follows}
+use Rattle.ot_threads.specs.Record.{IsRecord}
 use Rattle.ot_workers.specs.declared.fault.WorkFault.{WorkFault}
 use Rattle.ot_workers.specs.declared.working.WorkerEnd.{WorkerEnd}
 use Rattle.ot_threads.specs.declared.fault.ThreadsFault.{ThreadsFault}

@@ -1,2 +1,5 @@
 pub mod Concluded
+pub mod Follows
+pub mod Record
+pub mod Stepping
 pub mod Threaded

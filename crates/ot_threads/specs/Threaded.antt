@@ -1,7 +1,7 @@
 -- What `threads` writes and answers.
 use Rattle.std.specs.Prelude.{◌≡◌, ◌≢◌, ◌⊎◌, ℕ, ◌<◌, List, [], ◌∷◌, ◌++◌, length, Bool, true, Ok, Err, codes}
 use Rattle.std.specs.Str.{is_utf8}
-use Rattle.outcomes.specs.Outcomes.{Streams, Gives, GivesUp, Refuses, WantsMemory, memory_fault}
+use Rattle.outcomes.specs.Outcomes.{Streams, Gives, GivesUp, Refuses, OutOfMemory, memory_fault}
 use Rattle.ot_board.specs.declared.auditing.AuditFault.{AuditFault}
 use Rattle.ot_board.specs.declared.auditing.AuditFault.TheVariants as audit
 use Rattle.ot_board.specs.Boards.{BoardView}
@@ -74,7 +74,7 @@ pub record Ends (plan : PlanView) (status : ℕ) (streams : Streams) : Type 0 wh
 
 -- the plan is carried out, or memory for its workers ran out
 abbrev pub CarriesOut : PlanView → ℕ → Streams → Type 0
-CarriesOut plan status streams = WantsMemory status streams ⊎ Ends plan status streams
+CarriesOut plan status streams = OutOfMemory status streams ⊎ Ends plan status streams
 
 -- what is done with an input: it was not read whole (`unread`: it has failed), it is no plan, or it is a plan that is carried out
 abbrev pub Threads : Bool → List ℕ → ℕ → Streams → Type 0

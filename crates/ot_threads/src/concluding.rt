@@ -8,9 +8,9 @@ ghost use Rattle.ot_board.specs.Tiling.{lists};
 ghost use Rattle.ot_threads.specs.Concluded.{receipts_of, IsChecked, IsCheckFault, IsConcluded, IsFaultless, IsFirstFault, IsThreadsFault};
 
 use crate::fault::ThreadsFault;
+use crate::printing::print_record;
 use ot_board::{Board, Finished, Receipt, StillOut, audit};
 use ot_plan::Plan;
-use ot_record::print_record;
 use ot_workers::{WorkFault, WorkerEnd};
 use std::alloc::{AllocError, Global};
 

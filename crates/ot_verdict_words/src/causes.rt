@@ -6,8 +6,7 @@ ghost use Rattle.ot_model.specs.Visibility.{SeesRightly};
 ghost use Rattle.ot_verdict_words.specs.Causes.{NamesBefore, cause_of, first_lacked, first_passed, lacked_at, sees_own};
 ghost use Rattle.ot_verdict_words.specs.Searches.{first_below};
 
-use crate::seeing::{edits_before, follows, seen_of};
-use ot_judge::Event;
+use ot_judge::{Event, edits_before, follows, seen_of};
 
 /// Why an event does not see what it has to. Replicas and events are counted from 0.
 #[derive(Clone, Copy, Debug, PartialEq, Eq)]
@@ -66,7 +65,9 @@ fn lacked_at(events: &[Event], e: usize, d: usize) -> Option<Cause>
     ensures within { IfSome result (NamesBefore e) }
 {
     match first_lacked(&events[d], &events[e]) {
-        Some(r) if follows(events, e, d) => Some(Cause::Lacks(d, r)),
+        Some(r) if follows(events, e, d, edits_before(events, d, events[d].replica)) => {
+            Some(Cause::Lacks(d, r))
+        }
         _ => None,
     }
 }

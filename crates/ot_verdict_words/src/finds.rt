@@ -1,14 +1,12 @@
 //! Where elements stand, and which events insert and delete them.
 
 ghost use Rattle.std.specs.Prelude.{◌≡◌, ◌<◌, length};
-ghost use Rattle.ot_judge.specs.Contents.{stands_at_place};
 ghost use Rattle.ot_judge.specs.Views.{event_view, views};
 ghost use Rattle.ot_model.specs.Trace.{contains};
 ghost use Rattle.ot_verdict_words.specs.Finds.{deleter, inserter, inserts, misplaced, place_of, second_place};
 
-use crate::seeing::knows;
 use ot_isa::Tag;
-use ot_judge::{Event, Placed};
+use ot_judge::{Event, Placed, edits_before, knows, stands_at_place};
 
 /// The first place of a tag in a list, counted from 0.
 pub(crate) fn place_of(list: &[Tag], tag: Tag) -> Option<usize>
@@ -46,7 +44,8 @@ pub(crate) fn inserter(events: &[Event], e: usize, tag: Tag) -> Option<usize>
     ensures { result ≡ inserter (views events.now) e tag }
 {
     for d in 0..events.len() {
-        if inserts(&events[d], tag) && knows(events, e, d) {
+        let x = &events[d];
+        if inserts(x, tag) && knows(events, e, d, edits_before(events, d, x.replica)) {
             return Some(d);
         }
     }
@@ -60,20 +59,14 @@ pub(crate) fn deleter(events: &[Event], e: usize, tag: Tag) -> Option<usize>
     ensures { result ≡ deleter (views events.now) e tag }
 {
     for d in 0..events.len() {
-        if contains(events[d].deleted.as_slice(), tag) && knows(events, e, d) {
+        let x = &events[d];
+        if contains(x.deleted.as_slice(), tag)
+            && knows(events, e, d, edits_before(events, d, x.replica))
+        {
             return Some(d);
         }
     }
     None
-}
-
-fn stands_at_place(list: &[Tag], p: &Placed) -> bool
-    ensures { result ≡ stands_at_place list.now p.now }
-{
-    match list.get(p.place) {
-        Some(other) => p.tag == *other,
-        None => false,
-    }
 }
 
 /// The first inserted element that does not stand at its place.

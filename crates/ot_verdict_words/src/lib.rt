@@ -20,7 +20,6 @@
 
 mod causes;
 mod finds;
-mod seeing;
 mod words;
 
 pub use causes::{Cause, cause_of};

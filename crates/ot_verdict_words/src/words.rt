@@ -10,9 +10,8 @@ ghost use Rattle.ot_verdict_words.specs.Words.{absent_text, again_text, at_text,
 
 use crate::causes::{Cause, cause_of};
 use crate::finds::{contains, deleter, inserter, misplaced, place_of, second_place};
-use crate::seeing::{edits_before, seen_of};
 use ot_isa::Tag;
-use ot_judge::{Event, Placed, Trace, Verdict};
+use ot_judge::{Event, Placed, Trace, Verdict, edits_before, seen_of};
 use ot_report::tag_name;
 use std::alloc::{AllocError, Global};
 

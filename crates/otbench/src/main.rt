@@ -10,7 +10,7 @@ use std::{env, io};
 use streams::Device;
 
 // Says that memory for the program's own words ran out.
-fn wants_memory(rt: &impl Eprint) -> ExitCode {
+fn out_of_memory(rt: &impl Eprint) -> ExitCode {
     let _ = eprintln!(rt; "otbench: Memory");
     ExitCode::FAILURE
 }
@@ -25,11 +25,11 @@ fn main(rt: HostRuntime) -> ExitCode {
     let alloc = rt.alloc();
     let all = match env::args(&rt) {
         Ok(all) => all,
-        Err(error) if error.kind() == io::ErrorKind::OutOfMemory => return wants_memory(&rt),
+        Err(error) if error.kind() == io::ErrorKind::OutOfMemory => return out_of_memory(&rt),
         Err(_) => return is_not_text(&rt),
     };
     let Ok(words) = all.collect::<Vec<String>>(alloc) else {
-        return wants_memory(&rt);
+        return out_of_memory(&rt);
     };
     let mut input = Device::new(rt.reader());
     let mut output = Device::new(io::writer(&rt));

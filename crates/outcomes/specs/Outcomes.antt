@@ -34,8 +34,8 @@ abbrev pub Refuses : List ℕ → ℕ → Streams → Type 0
 Refuses line status streams = (status ≡ 1) × Keeps streams.output streams.output' × Complains line streams.faults streams.faults'
 
 -- status 1, nothing on the output, and on the faults that memory ran out
-abbrev pub WantsMemory : ℕ → Streams → Type 0
-WantsMemory status streams = (status ≡ 1) × Keeps streams.output streams.output' × WritesPart streams.faults streams.faults' memory_fault
+abbrev pub OutOfMemory : ℕ → Streams → Type 0
+OutOfMemory status streams = (status ≡ 1) × Keeps streams.output streams.output' × WritesPart streams.faults streams.faults' memory_fault
 
 -- status 1, nothing on the output, and on the faults why the input was not read whole: memory ran out, or, only where the input says that it has
 -- failed (`unread`), a read failed or the input is too long

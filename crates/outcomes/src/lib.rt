@@ -3,7 +3,7 @@
 //! ```text
 //!    the whole output, no fault    Gives right text    its own status; 1 only where a write failed, with a first part of the text
 //!    a refused input               Refuses line        1, nothing on the output, the fault's line
-//!    out of memory                 WantsMemory         1, nothing on the output, `otbench: Memory`
+//!    out of memory                 OutOfMemory         1, nothing on the output, `otbench: Memory`
 //!    out of memory on the way      StopsShort text     1, a first part of the output, `otbench: Memory`
 //!    an input that was not read    GivesUp unread      1, nothing on the output, `otbench: ReadFault` only where it has failed, or the line above
 //! ```

@@ -1,5 +1,5 @@
 use Rattle.line_reader.specs.Taken.{before}
-use Rattle.ot_commands.proofs.Talked.{debugged}
+use Rattle.ot_commands.proofs.Looped.{debugged}
 use Rattle.ot_commands.proofs.debugging.debug_text.Goals as goal
 
 pub returns-in-Ok : goal.returns-in-Ok

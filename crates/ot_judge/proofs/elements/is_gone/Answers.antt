@@ -9,6 +9,16 @@ use Rattle.ot_judge.proofs.elements.is_gone.Goals as goal
 pub knows-requires-clause-other : goal.knows-requires-clause-other
 knows-requires-clause-other c = c.requires.deleters.within c.in-Some.d (inl c.in-Some.is)
 
+pub bounds-numbers-d : goal.bounds-numbers-d
+bounds-numbers-d c = omega (arith, c.requires.deleters.within c.in-Some.d (inl c.in-Some.is), c.requires.numbered.long, length-views c.args.events.now)
+
+pub offset_bounds-numbers-d : goal.offset_bounds-numbers-d
+offset_bounds-numbers-d c = omega (arith, c.requires.deleters.within c.in-Some.d (inl c.in-Some.is), c.requires.numbered.long, length-views c.args.events.now)
+
+pub knows-requires-clause-counted : goal.knows-requires-clause-counted
+knows-requires-clause-counted c =
+    c.requires.numbered.each c.in-Some.d (omega (arith, c.requires.deleters.within c.in-Some.d (inl c.in-Some.is), length-views c.args.events.now))
+
 pub returns-then-knows : goal.returns-then-knows
 returns-then-knows c = λ visible.
     gone-here (views c.args.events.now) c.args.e c.in-Some.d c.args.x.now (is-element c.args.events.now c.args.x.now c.requires.deleters) (inl c.in-Some.is) (sym c.knows.ensures ∙ c.if-knows.true)
@@ -23,6 +33,21 @@ returns-then-knows-2 c = λ visible.
 
 pub knows-requires-in-loop-d-clause-other : goal.knows-requires-in-loop-d-clause-other
 knows-requires-in-loop-d-clause-other c = c.requires.deleters.within _ (inr (at-contains c.args.x.now.others.items c.deref-d-items.result.now c.loop-d.d-index c.deref-d-items.ensures.value c.loop-d-test.true))
+
+pub bounds-numbers-d-in-loop-d : goal.bounds-numbers-d-in-loop-d
+bounds-numbers-d-in-loop-d c =
+    let noted = at-contains c.args.x.now.others.items c.deref-d-items.result.now c.loop-d.d-index c.deref-d-items.ensures.value c.loop-d-test.true in
+    omega (arith, c.requires.deleters.within _ (inr noted), c.requires.numbered.long, length-views c.args.events.now)
+
+pub offset_bounds-numbers-d-in-loop-d : goal.offset_bounds-numbers-d-in-loop-d
+offset_bounds-numbers-d-in-loop-d c =
+    let noted = at-contains c.args.x.now.others.items c.deref-d-items.result.now c.loop-d.d-index c.deref-d-items.ensures.value c.loop-d-test.true in
+    omega (arith, c.requires.deleters.within _ (inr noted), c.requires.numbered.long, length-views c.args.events.now)
+
+pub knows-requires-in-loop-d-clause-counted : goal.knows-requires-in-loop-d-clause-counted
+knows-requires-in-loop-d-clause-counted c =
+    let noted = at-contains c.args.x.now.others.items c.deref-d-items.result.now c.loop-d.d-index c.deref-d-items.ensures.value c.loop-d-test.true in
+    c.requires.numbered.each _ (omega (arith, c.requires.deleters.within _ (inr noted), length-views c.args.events.now))
 
 pub returns-then-knows-3 : goal.returns-then-knows-3
 returns-then-knows-3 c = λ visible.

@@ -24,5 +24,5 @@ returns-clause-ok g c = λ earlier was.
     let undoing : IsUndo earlier (record { document = c.self.inside.document; log = c.self.inside.log.items }) c.args.undo.now =
     rw (← c.self.view_is) at was in
     let one = some _ _ _ undoing in
-    retracted _ _ _ undoing c.change.new.document c.pop.new.self.items (vec_len c.self.inside.log - 1)
+    retracted _ _ _ undoing _ c.pop.new.self.items (vec_len c.self.inside.log - 1)
     c.in_ok-change.ensures.ok c.pop.ensures.rest (omega (arith, one))

@@ -3,13 +3,13 @@ use Rattle.ot_algebra.specs.Merge.{second_after}
 use Rattle.ot_algebra.proofs.LengthLaws.{second_after-base, room_after}
 use Rattle.ot_client.proofs.awaiting_with_buffer.AwaitingWithBuffer.carry.Goals as goal
 
-pub carry-requires-2-clause-same_base : goal.carry-requires-2-clause-same_base
-carry-requires-2-clause-same_base g c =
+pub transform_second-requires-2-clause-same_base : goal.transform_second-requires-2-clause-same_base
+transform_second-requires-2-clause-same_base g c =
     let passed_is : c.in_ok-passed.passed ≡ second_after c.self.inside.outstanding c.args.op.now = c.in_ok-passed.ensures in
     rw passed_is (c.self.invariant ∙ sym (second_after-base c.self.inside.outstanding c.args.op.now))
 
-pub carry-requires-2-clause-fits : goal.carry-requires-2-clause-fits
-carry-requires-2-clause-fits g c =
+pub transform_second-requires-2-clause-fits : goal.transform_second-requires-2-clause-fits
+transform_second-requires-2-clause-fits g c =
     let passed_is : c.in_ok-passed.passed ≡ second_after c.self.inside.outstanding c.args.op.now = c.in_ok-passed.ensures in
     let same : c.self.inside.outstanding.base ≡ c.args.op.now.base = rw (← c.self.view_is) at (sym c.requires.base) in
     rw passed_is

@@ -1,0 +1,62 @@
+-- What `explain` writes and answers.
+use Rattle.std.specs.Prelude.{◌≡◌, ◌⊎◌, ℕ, List, Bool, true, Option, Ok, if◌then◌else◌}
+use Rattle.std.specs.Io.KnownBytes.{Keeps}
+use Rattle.streams.specs.Streams.{WritesPart}
+use Rattle.line_reader.specs.Lines.{lines_of}
+use Rattle.outcomes.specs.Outcomes.{Complains, GivesUp, Streams, memory_fault}
+use Rattle.ot_asm.specs.Stepping.{outcome}
+use Rattle.ot_asm.specs.declared.fault.AsmFault.{AsmFault}
+use Rattle.ot_input.specs.Faults.{IsLineFault, line_fault}
+use Rattle.ot_isa.specs.Program.{Program}
+use Rattle.ot_names.specs.Comments.{Said, comments_of}
+use Rattle.ot_explain.specs.Explained.{WritesFirst, WritesPartOfRun, WritesRun}
+use Rattle.ot_explain.specs.Placed.{places}
+
+-- 1 where an instruction was not performed, else 0
+abbrev pub explain_status : Bool → ℕ
+explain_status refused = if refused then 1 else 0
+
+-- the whole run in words, and nothing on the faults; `lines` are the lines of the instructions, and `said` is what the comments tell
+pub record WritesWords (lines : List ℕ) (said : Said) (schedule : Program) (status : ℕ) (streams : Streams) : Type 0 where
+  pub refused : Bool
+  pub status_is : status ≡ explain_status refused
+  pub run : WritesRun lines said schedule refused streams.output streams.output'
+  pub quiet : Keeps streams.faults streams.faults'
+
+-- only where a write failed: a first part of the run, and nothing on the faults
+abbrev pub BreaksOff : List ℕ → Said → Program → ℕ → Streams → Type 0
+BreaksOff lines said schedule status streams =
+    (status ≡ 1) × (streams.broken ≡ true) × WritesPartOfRun lines said schedule streams.output streams.output' × Keeps streams.faults streams.faults'
+
+-- memory ran out: whole paragraphs, and on the faults that it was
+abbrev pub OutOfMemory : List ℕ → Said → Program → ℕ → Streams → Type 0
+OutOfMemory lines said schedule status streams =
+    (status ≡ 1) × WritesFirst lines said schedule streams.output streams.output' × WritesPart streams.faults streams.faults' memory_fault
+
+abbrev pub MayExplain : List ℕ → Said → Program → ℕ → Streams → Type 0
+MayExplain lines said schedule status streams =
+    WritesWords lines said schedule status streams ⊎ BreaksOff lines said schedule status streams ⊎ OutOfMemory lines said schedule status streams
+
+-- the fault's line, as far as it could be written, and behind it some words
+pub record Tells (line : List ℕ) (old new : Option (List ℕ)) : Type 0 where
+  pub told : Option (List ℕ)
+  pub words : List ℕ
+  pub complains : Complains line old told
+  pub behind : WritesPart told new words
+
+-- a text that is refused: nothing on the output; on the faults the fault's line and words about its cause
+pub record Refuses (text : List ℕ) (status : ℕ) (streams : Streams) : Type 0 where
+  pub fault : AsmFault
+  pub is_fault : IsLineFault (lines_of text) fault
+  pub status_is : status ≡ 1
+  pub output : Keeps streams.output streams.output'
+  pub tells : Tells (line_fault fault) streams.faults streams.faults'
+
+-- the text is refused, or it spells a schedule, which is explained
+abbrev pub ExplainsText : List ℕ → ℕ → Streams → Type 0
+ExplainsText text status streams =
+    Refuses text status streams ⊎ ((schedule : Program) × (outcome text ≡ Ok schedule) × MayExplain (places text) (comments_of text) schedule status streams)
+
+-- the input was not read whole (`unread`: it has failed), or it is a text, which is explained
+abbrev pub Explains : Bool → List ℕ → ℕ → Streams → Type 0
+Explains unread text status streams = GivesUp unread status streams ⊎ ExplainsText text status streams

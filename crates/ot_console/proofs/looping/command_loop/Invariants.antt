@@ -1,0 +1,17 @@
+use Rattle.std.proofs.Common.{◌≤◌, ◌+◌}
+use Rattle.line_reader.specs.Taken.{may_take, before}
+use Rattle.ot_console.proofs.Loops.{IsLooped}
+use Rattle.ot_console.proofs.looping.command_loop.Given as goal
+
+-- the lines that were taken are answered
+abbrev pub invariant-loop-taken : goal.invariant-loop-taken
+invariant-loop-taken g l =
+    let remaining = g.R.Read.remaining in
+    let contents = g.W.Write.contents in
+    record {
+      looped : IsLooped l.fn.debugger l.debugger l.faulted l.taken (before l.fn.ahead (remaining l.fn.reader)) (before l.ahead (remaining l.reader)) (contents l.fn.writer) (contents l.writer);
+      few : l.taken + may_take l.ahead ≤ may_take l.fn.ahead;
+    }
+
+abbrev pub decreases-loop-taken : goal.decreases-loop-taken
+decreases-loop-taken g l = may_take l.ahead

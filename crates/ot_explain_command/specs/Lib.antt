@@ -1,2 +1,0 @@
-pub mod Explains
-pub mod ExplainsImages
