@@ -129,6 +129,58 @@ class Runs(Kit):
         self.assertEqual(names[-1], "log-above-1000")
         self.assertLess(len(large), 10)
 
+    def test_a_port_that_differs_is_reduced(self):
+        driver = ["sh", "-c", "if grep -q join; then echo wrong 99; fi"]
+        with tempfile.NamedTemporaryFile("r") as file:
+            status, printed, _ = self.run_kit(driver, "--save", file.name)
+            self.assertEqual(file.read(), "clients 1\npresent 0\njoin 0\n")
+        said = ("fails: join-an-emptied-document, 15 instructions of 2 clients; here reduced to 1 of 1\n\n"
+                "clients 1\npresent 0\njoin 0\n\ndiffers at 99: deliver 0: line\nfound \"wrong 99\"\n")
+        self.assertEqual((status, printed), (1, said))
+
+    def check_is_shown_as_found(self, driver, note):
+        status, printed, _ = self.run_kit(driver, "--jobs", "1")
+        self.assertEqual(status, 1)
+        self.assertRegex(printed, r"^fails: join-an-emptied-document, 15 instructions of 2 clients; here reduced to 15 of 2\n\nclients 2\n")
+        self.assertTrue(printed.endswith(f"differs at 99: deliver 0: line\nfound \"wrong 99\"\n{note}\n"), printed)
+
+    def test_a_port_that_fails_once_is_shown_as_it_failed(self):
+        with tempfile.TemporaryDirectory() as room:
+            driver = ["sh", "-c", f"if grep -q join && mkdir {room}/seen 2>/dev/null; then echo wrong 99; fi"]
+            self.check_is_shown_as_found(driver, "the driver did not do this each time")
+
+    def test_a_port_that_is_slow_once(self):
+        with tempfile.TemporaryDirectory() as room:
+            driver = ["sh", "-c", f"if grep -q join && mkdir {room}/seen 2>/dev/null; then sleep 60; fi"]
+            _, printed, _ = self.run_kit(driver, "--jobs", "1", "--seconds", "5")
+        note = "the driver did not do this each time; on a busy machine --seconds gives it more time"
+        self.assertRegex(printed, f"\nthe driver was ended: it took more than [0-9.]+ s\n{note}\n$")
+
+    def test_a_port_that_fails_once_in_a_smaller_session_is_shown_as_it_fails_each_time(self):
+        with tempfile.TemporaryDirectory() as room:
+            fails = f"[ $(echo \"$text\" | wc -l) -ge 17 ] || mkdir {room}/seen 2>/dev/null"
+            driver = ["sh", "-c", f"text=$(cat); case $text in *join*) if {fails}; then echo wrong 99; fi;; esac"]
+            self.check_is_shown_as_found(driver, "in a smaller session the driver did not do this each time")
+
+    def test_a_port_whose_fault_comes_of_what_stands_behind_it_is_reduced(self):
+        driver = ["sh", "-c", "if [ $(grep -c edit) -gt 3 ]; then echo wrong 2; fi"]
+        status, printed, _ = self.run_kit(driver)
+        self.assertEqual(status, 1)
+        said = "here reduced to 4 of 1\n\nclients 1\n" + 4 * "edit 0 []\n" + "\ndiffers at 2: deliver 0: line\nfound \"wrong 2\"\n"
+        self.assertTrue(printed.endswith(said), printed)
+
+    def test_one_client_is_no_clients(self):
+        driver = ["sh", "-c", "if grep -q 'clients 1$'; then echo wrong 0; fi"]
+        self.assertRegex(self.run_kit(driver)[1], r"^fails: [a-z-]+, [0-9]+ instructions of 1 client; here reduced to 0 of 1\n")
+
+    def test_a_port_that_differs_is_not_reduced_to_one_that_is_slow(self):
+        driver = ["sh", "-c", "text=$(cat); case $text in *join*) if [ $(echo \"$text\" | wc -l) -lt 12 ]; then sleep 60; fi; echo wrong 99;; esac"]
+        status, printed, _ = self.run_kit(driver, "--seconds", "3", "--reduce-seconds", "4", "--jobs", "8")
+        self.assertEqual(status, 1)
+        self.assertIn("differs at 99: deliver 0: line\n", printed)
+        self.assertNotIn("took more than", printed)
+        self.assertNotIn("each time", printed)
+
     def test_a_port_that_hangs_is_reduced(self):
         status, printed, _ = self.run_kit(["sh", "-c", "if grep -q join; then sleep 60; fi"], "--seconds", "3")
         self.assertEqual(status, 1)
