@@ -1,11 +1,10 @@
 #!/usr/bin/env python3
-"""Refuses each growth of two programs in turn, and looks at what each call answers then.
+"""Refuses each growth of a few programs in turn, and looks at what each call answers then.
 
     python3 tests/growths.py [NAME ..]
 
-The programs are the texts in `growths/`: `board` over a board (`lend`, `settle`, `audit`), `calls` over the machine, the debugger, the formats and the judge, `run` over
-`ot_machine::run`. Each is compiled
-once, with a check at each access, by `rt try` in a copy of the repository. `rt try` makes one numbered growth fail, the same in each run; a program first makes as many
+The programs are the texts in `growths/`: `board` over a board (`lend`, `settle`, `audit`), `calls` over the machine, the debugger, the formats and the judge, `documents`
+over documents, `run` over `ot_machine::run`. Each is compiled once, with a check at each access, by `rt try` in a copy of the repository. `rt try` makes one numbered growth fail, the same in each run; a program first makes as many
 growths as its input says, so that each of its own meets that number in one of the runs.
 
 A call that answers out of memory has to leave what it was lent as it was, and to succeed when it is made once more: then one line says so, and the other lines are those that
@@ -37,6 +36,7 @@ PROGRAMS = {
         2000,
         re.compile(r"(\w+): all is as it was"),
     ),
+    "documents": ("ot_text anyhow", ["change", "share"], 200, re.compile(r"(\w+): all is as it was")),
     "run": ("ot_isa ot_asm ot_machine anyhow", [], 300, None),
 }
 # What `run` prints with all memory, and where a run stops.

@@ -1,5 +1,5 @@
 //! The laws of operations, each as the contract of a function that does nothing: a proof that calls one has its law.
-ghost use Rattle.ot_algebra.specs.Laws.{ApplyKeepsOrder, ComposeApplies, ComposeAssociates, ComposeFits, ComposeKeepsNews, InvertFits, InvertGivesBack, TransformConverges, TransformFits, TransformIsMerge, TransformKeepsDeletions, TransformKeepsNews, TransformKeepsSides, TransformMeets};
+ghost use Rattle.ot_operation.specs.Laws.{ApplyKeepsOrder, ComposeApplies, ComposeAssociates, ComposeFits, ComposeKeepsNews, InvertFits, InvertGivesBack, TransformConverges, TransformFits, TransformIsMerge, TransformKeepsDeletions, TransformKeepsNews, TransformKeepsSides, TransformMeets};
 
 use ot_text::Element;
 

@@ -12,9 +12,9 @@ use Rattle.json.proofs.Printed.Tokens.{tokens-print}
 use Rattle.json.proofs.Printed.Trees.{value-json_tokens}
 use Rattle.serde_json.specs.Data.{Data, string}
 use Rattle.serde_json.specs.Read.{of_json, read, max_depth}
-use Rattle.ot_text.specs.Operation.{Item, New, Operation, olds, news}
-use Rattle.ot_text.specs.Run.{Run, Keep, Add, Skip, base_of, image_from, operation_of, IsNormal, normal_runs}
-use Rattle.ot_text.proofs.Normal.{runs_normal}
+use Rattle.ot_operation.specs.Operation.{Item, New, Operation, olds, news}
+use Rattle.ot_operation.specs.Run.{Run, Keep, Add, Skip, base_of, image_from, operation_of, IsNormal, normal_runs}
+use Rattle.ot_operation.proofs.Normal.{runs_normal}
 use Rattle.ot_json.specs.Writing.{HasForm, text_of_operation}
 use Rattle.ot_json.specs.Reading.{operation_of_text}
 use Rattle.ot_json.proofs.Built.{text_back}

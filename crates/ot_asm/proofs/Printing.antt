@@ -9,7 +9,7 @@ use Rattle.json.proofs.Printed.Strings.{escape_byte_plain}
 use Rattle.json.proofs.Printed.Utf8.{IsUtf8-are_ascii, IsUtf8-quoted}
 use Rattle.serde_json.specs.View.{items_of}
 use Rattle.serde_json.specs.Written.{compact_text, items_text, comma_if}
-use Rattle.ot_text.specs.Run.{Run, Keep, Add, Skip}
+use Rattle.ot_operation.specs.Run.{Run, Keep, Add, Skip}
 use Rattle.ot_json.specs.Writing.{HasForm, data_of, array_of}
 use Rattle.ot_asm.proofs.Visible.{visible, solid, visible_both, solid_end, decimal_visible, decimal_text}
 

@@ -7,7 +7,7 @@ use Rattle.ot_asm.specs.declared.fault.AsmFault.{AsmFault}
 use Rattle.ot_isa.specs.Program.{Program, IsProgram, opening, with_instr}
 use Rattle.ot_isa.specs.declared.instruction.Instr.{Instr}
 use Rattle.ot_isa.specs.declared.instruction.Instr.TheVariants.{Edit, Take, Deliver, Acknowledge, Read, Join, ReadServer}
-use Rattle.ot_text.specs.Operation.{Operation}
+use Rattle.ot_operation.specs.Operation.{Operation}
 use Rattle.ot_json.specs.declared.fault.OpFault.{OpFault}
 use Rattle.ot_json.specs.declared.fault.OpFault.TheVariants as op_fault
 use Rattle.ot_asm.specs.Words.{trimmed, counts, first_word, after_word, keyword_of}

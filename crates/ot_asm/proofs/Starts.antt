@@ -2,7 +2,7 @@
 use Rattle.std.proofs.Common.{◌≡◌, ◌<◌, ◌≤◌, ℕ, List, length, Bool, true, false, nat_le, nat_lt, Option, Some, Result, Ok, Err, refl, if◌then◌else◌}
 use Rattle.std.proofs.lemmas.Bool.{lt-ltb, le-ltb}
 use Rattle.serde_json.specs.Data.{Data}
-use Rattle.ot_text.specs.Operation.{Operation}
+use Rattle.ot_operation.specs.Operation.{Operation}
 use Rattle.ot_isa.specs.Program.{Program, opening, with_instr}
 use Rattle.ot_isa.specs.declared.instruction.Instr.TheVariants as instr
 use Rattle.ot_json.specs.Reading.{operation_of_json}

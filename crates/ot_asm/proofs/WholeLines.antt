@@ -9,8 +9,8 @@ use Rattle.json.specs.Print.{quoted}
 use Rattle.json.proofs.Printed.Utf8.{are_ascii, IsUtf8-are_ascii}
 use Rattle.line_reader.specs.Lines.{lines_of, lacks}
 use Rattle.line_reader.proofs.Ends.{lines_piece}
-use Rattle.ot_text.specs.Operation.{Operation, news}
-use Rattle.ot_text.specs.Run.{normal_runs}
+use Rattle.ot_operation.specs.Operation.{Operation, news}
+use Rattle.ot_operation.specs.Run.{normal_runs}
 use Rattle.ot_json.specs.Writing.{text_of_operation}
 use Rattle.ot_isa.specs.Program.{Program, IsProgram, IsInstr, IsWithinLimit, HasScalars}
 use Rattle.ot_isa.specs.declared.instruction.Instr.{Instr}

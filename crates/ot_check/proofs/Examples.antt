@@ -1,7 +1,7 @@
 -- Worked comparisons, by evaluation. A character is its number: 97 is 'a'.
 use Rattle.std.proofs.Common.{◌≡◌, ℕ, [], ◌∷◌, Option, Some, None, refl}
 use Rattle.std.specs.Prelude.{option_map}
-use Rattle.ot_text.specs.Run.{Add}
+use Rattle.ot_operation.specs.Run.{Add}
 use Rattle.ot_model.specs.Operation.{apply}
 use Rattle.ot_isa.specs.Program.{Program}
 use Rattle.ot_isa.specs.declared.instruction.Instr.TheVariants.{Edit, Take, Deliver, Acknowledge, Join}

@@ -1,18 +1,10 @@
 -- Insertions component by component.
-use Rattle.std.proofs.Common.{◌≡◌, ℕ, zero, suc, ◌+◌, ◌<◌, ◌≤◌, List, [], ◌∷◌, ◌++◌, map, max, length, get_or, refl, sym, ap, ◌∙◌, arith, length-append, append_assoc}
-use Rattle.std.proofs.Common.{inl, inr}
-use Rattle.std.proofs.lemmas.Bool.{cases_lt}
-use Rattle.std.proofs.lemmas.List.{append-nil, length-map}
-use Rattle.ot_text.specs.declared.Component.{Component}
-use Rattle.ot_text.specs.Texts.{Text}
-use Rattle.ot_text.specs.declared.Component.TheVariants.{Retain, Insert, Delete}
-use Rattle.ot_text.specs.Operation.{Item, Old, New, olds, Operation, news, empty, with_retain, with_insert, with_delete}
-use Rattle.ot_text.specs.Run.{base_of, image_from}
-use Rattle.ot_text.specs.Components.{runs}
-use Rattle.ot_isa.specs.declared.elements.Tagged.{Tagged}
-use Rattle.ot_isa.specs.Tagging.{tagged_chars}
-use Rattle.ot_isa.proofs.TagLists.{length-tagged_chars}
-use Rattle.ot_isa.proofs.TagSteps.{IsTaggedTo, tagged_none, next_retain, next_insert, next_delete, room_to_retain, room_to_insert, serials_fit}
+use Rattle.std.proofs.Common.{◌≡◌, ℕ, zero, suc, ◌+◌, ◌≤◌, List, [], ◌∷◌, ◌++◌, map, length, refl, sym, ap, ◌∙◌, arith, length-append, append_assoc, append-nil}
+use Rattle.std.proofs.lemmas.List.{length-map}
+use Rattle.ot_operation.specs.Operation.{Item, New, olds, news}
+use Rattle.ot_operation.specs.Run.{Run, Keep, Add, Skip, image_from}
+use Rattle.ot_operation.proofs.RunLemmas.{length-olds, length-news-append, length-news-olds, length-news-news}
+use Rattle.ot_isa.specs.Tagging.{tagged_items}
 use Rattle.ot_model.specs.declared.trace.Placed.{Placed}
 use Rattle.ot_model.specs.Events.{insertions_from}
 use Rattle.ot_check.specs.Insertions.{placed_run}
@@ -41,91 +33,91 @@ placed_run-push start before after origin first place count was is =
     ∙ append_assoc start (placed_run origin first place count) (placed origin (first + count) (place + count) ∷ [])
     ∙ ap (λ (ps : List Placed). start ++ ps) (sym (placed_run-more origin first place count) ∙ ap (placed_run origin first place) next)
 
-insertions-append : (place : ℕ) (xs ys : List (Item Tagged)) → insertions_from place (xs ++ ys) ≡ insertions_from place xs ++ insertions_from (place + length xs) ys
-insertions-append place [] ys = ap (λ (p : ℕ). insertions_from p ys) (let e : place ≡ place + 0 = omega arith in e)
-insertions-append place (Old i ∷ xs) ys = insertions-append (suc place) xs ys ∙ ap (λ (p : ℕ). insertions_from (suc place) xs ++ insertions_from p ys) (let e : suc place + length xs ≡ place + suc (length xs) = omega arith in e)
-insertions-append place (New x ∷ xs) ys =
-    ap (λ (ps : List Placed). record { tag = x.tag; place = place } ∷ ps)
-    (insertions-append (suc place) xs ys ∙ ap (λ (p : ℕ). insertions_from (suc place) xs ++ insertions_from p ys) (let e : suc place + length xs ≡ place + suc (length xs) = omega arith in e))
+-- neighbours that stay, in front of others
+insertions-olds :
+    (place origin serial from count : ℕ) (rest : List (Item ℕ))
+    → insertions_from place (tagged_items origin serial (olds from count ++ rest)) ≡ insertions_from (place + count) (tagged_items origin serial rest)
+insertions-olds place origin serial from zero rest = let e : place ≡ place + 0 = omega arith in ap (λ (p : ℕ). insertions_from p (tagged_items origin serial rest)) e
+insertions-olds place origin serial from (suc count) rest =
+    let e : suc place + count ≡ place + suc count = omega arith in
+    insertions-olds (suc place) origin serial (suc from) count rest ∙ ap (λ (p : ℕ). insertions_from p (tagged_items origin serial rest)) e
 
-insertions-olds : (place from count : ℕ) → insertions_from place (olds from count) ≡ []
-insertions-olds place from zero = refl
-insertions-olds place from (suc count) = insertions-olds (suc place) (suc from) count
+-- new ones
+insertions-news :
+    (place origin serial : ℕ) (text : List ℕ) (rest : List (Item ℕ))
+    → insertions_from place (tagged_items origin serial (map New text ++ rest))
+    ≡ placed_run origin serial place (length text) ++ insertions_from (place + length text) (tagged_items origin (serial + length text) rest)
+insertions-news place origin serial [] rest =
+    let e : place ≡ place + 0 = omega arith in
+    let f : serial ≡ serial + 0 = omega arith in
+    ap (λ (p : ℕ). insertions_from p (tagged_items origin serial rest)) e ∙ ap (λ (s : ℕ). insertions_from (place + 0) (tagged_items origin s rest)) f
+insertions-news place origin serial (ch ∷ text) rest =
+    let e : suc place + length text ≡ place + suc (length text) = omega arith in
+    let f : suc serial + length text ≡ serial + suc (length text) = omega arith in
+    let run : List Placed = placed_run origin (suc serial) (suc place) (length text) in
+    ap (λ (ps : List Placed). placed origin serial place ∷ ps)
+    (insertions-news (suc place) origin (suc serial) text rest
+    ∙ ap (λ (p : ℕ). run ++ insertions_from p (tagged_items origin (suc serial + length text) rest)) e
+    ∙ ap (λ (s : ℕ). run ++ insertions_from (place + suc (length text)) (tagged_items origin s rest)) f)
 
-insertions-news : (place origin first : ℕ) (text : List ℕ) → insertions_from place (map New (tagged_chars origin first text)) ≡ placed_run origin first place (length text)
-insertions-news place origin first [] = refl
-insertions-news place origin first (ch ∷ text) = ap (λ (ps : List Placed). placed origin first place ∷ ps) (insertions-news (suc place) origin (suc first) text)
+-- what the components insert that are passed, and where they end; the others are left
+pub record IsPlacedTo (all left : List (Run ℕ)) (origin first serial place : ℕ) (made : List Placed) : Type 0 where
+  pub from : ℕ
+  pub made_is : made ++ insertions_from place (tagged_items origin serial (image_from from left)) ≡ insertions_from 0 (tagged_items origin first (image_from 0 all))
+  pub serial_is : serial + length (news (image_from from left)) ≡ first + length (news (image_from 0 all))
+  pub place_is : place + length (image_from from left) ≡ length (image_from 0 all)
 
-length-olds : (from count : ℕ) → length (olds {A = Tagged} from count) ≡ count
-length-olds from zero = refl
-length-olds from (suc count) = ap suc (length-olds (suc from) count)
+pub placed_none : (all : List (Run ℕ)) (origin first : ℕ) → IsPlacedTo all all origin first first 0 []
+placed_none all origin first = record { from = 0; made_is = refl; serial_is = refl; place_is = omega arith }
 
--- what the first components insert, and where they end
-pub record IsPlacedTo (cs : List (Component ℕ)) (origin first i serial place : ℕ) (made : List Placed) : Type 0 where
-  pub op : Operation Tagged
-  pub tagged : IsTaggedTo cs origin first i serial op
-  pub made_is : made ≡ insertions_from 0 op.image
-  pub place_is : place ≡ length op.image
+pub placed_all : {all left : List (Run ℕ)} {origin first serial place : ℕ} {made : List Placed} → left ≡ [] → IsPlacedTo all left origin first serial place made
+    → made ≡ insertions_from 0 (tagged_items origin first (image_from 0 all))
+placed_all {made = made} past so_far = sym (append-nil made) ∙ (rw past at so_far.made_is)
 
-pub placed_none : (cs : List (Component ℕ)) (origin first : ℕ) → IsPlacedTo cs origin first 0 first 0 []
-placed_none cs origin first = record { op = empty; tagged = tagged_none cs origin first; made_is = refl; place_is = refl }
-
-module _ {cs : List (Component ℕ)} {origin first i serial place : ℕ} {made : List Placed} {c : Component ℕ} (here : i < length cs) (at_i : c ≡ get_or cs i c) (so_far : IsPlacedTo cs origin first i serial place made) where
-  pub placed_retain : (n : ℕ) → c ≡ Retain n → IsPlacedTo cs origin first (i + 1) serial (place + n) made
+module _ {all left next : List (Run ℕ)} {origin first serial place : ℕ} {made : List Placed} (so_far : IsPlacedTo all left origin first serial place made) where
+  pub placed_retain : (n : ℕ) → left ≡ Keep n ∷ next → IsPlacedTo all next origin first serial (place + n) made
   placed_retain n is =
-      let op = so_far.op in
-      let more = insertions-append 0 op.image (olds op.base n) in
-      let long = length-append op.image (olds op.base n) in
-      let kept : length (olds {A = Tagged} op.base n) ≡ n = length-olds op.base n in
-      let was = so_far.place_is in
+      let from = so_far.from in
+      let rest = image_from (from + n) next in
+      let m = rw (is, insertions-olds) at so_far.made_is in
+      let s = rw is at so_far.serial_is in
+      let p = rw is at so_far.place_is in
       record {
-        op = with_retain op n;
-        tagged = next_retain here at_i so_far.tagged n is;
-        made_is = so_far.made_is ∙ sym (more ∙ ap (λ (ps : List Placed). insertions_from 0 op.image ++ ps) (insertions-olds (0 + length op.image) op.base n) ∙ append-nil (insertions_from 0 op.image));
-        place_is = omega arith;
+        from = from + n;
+        made_is = m;
+        serial_is = omega (arith, s, length-news-append (olds from n) rest, length-news-olds ℕ from n);
+        place_is = omega (arith, p, length-append (olds from n) rest, length-olds ℕ from n);
       }
 
-  pub placed_delete : (n : ℕ) → c ≡ Delete n → IsPlacedTo cs origin first (i + 1) serial place made
-  placed_delete n is = record { op = with_delete so_far.op n; tagged = next_delete here at_i so_far.tagged n is; made_is = so_far.made_is; place_is = so_far.place_is }
+  pub placed_delete : (n : ℕ) → left ≡ Skip n ∷ next → IsPlacedTo all next origin first serial place made
+  placed_delete n is =
+      record {
+        from = so_far.from + n;
+        made_is = rw is at so_far.made_is;
+        serial_is = rw is at so_far.serial_is;
+        place_is = rw is at so_far.place_is;
+      }
 
-  pub placed_insert : (text : Text ℕ) → c ≡ Insert text → IsPlacedTo cs origin first (i + 1) (serial + length text.items) (place + length text.items) (made ++ placed_run origin serial place (length text.items))
+  pub placed_insert : (text : List ℕ) → left ≡ Add text ∷ next → IsPlacedTo all next origin first (serial + length text) (place + length text) (made ++ placed_run origin serial place (length text))
   placed_insert text is =
-      let op = so_far.op in
-      let new : List (Item Tagged) = map New (tagged_chars origin serial text.items) in
-      let long = length-append op.image new in
-      let size : length new ≡ length text.items = length-map (tagged_chars origin serial text.items) New ∙ length-tagged_chars origin serial text.items in
-      let was = so_far.place_is in
-      let from : 0 + length op.image ≡ place = omega arith in
+      let from = so_far.from in
+      let rest = image_from from next in
+      let m = rw (is, insertions-news) at so_far.made_is in
+      let s = rw is at so_far.serial_is in
+      let p = rw is at so_far.place_is in
       record {
-        op = with_insert op (tagged_chars origin serial text.items);
-        tagged = next_insert here at_i so_far.tagged text is;
-        made_is =
-            ap (λ (ps : List Placed). ps ++ placed_run origin serial place (length text.items)) so_far.made_is
-            ∙ sym (insertions-append 0 op.image new ∙ ap (λ (p : ℕ). insertions_from 0 op.image ++ insertions_from p new) from ∙ ap (λ (ps : List Placed). insertions_from 0 op.image ++ ps) (insertions-news place origin serial text.items));
-        place_is = omega arith;
+        from = from;
+        made_is = append_assoc made (placed_run origin serial place (length text)) _ ∙ m;
+        serial_is = omega (arith, s, length-news-append (map New text) rest, length-news-news text);
+        place_is = omega (arith, p, length-append (map New text) rest, length-map text (λ (x : ℕ). New x));
       }
 
--- the room for them
-short : (a b : ℕ) → (1000000 < max a b → ⊥) → b ≤ 1000000
-short a b h = elim (cases_lt 1000000 (max a b)) [ inl long ↦ absurd (h long) | inr le ↦ omega arith ]
+  -- the room for them
+  pub retain_fits : (n : ℕ) → left ≡ Keep n ∷ next → place + n ≤ length (image_from 0 all)
+  retain_fits n is = let next = placed_retain n is in let p = next.place_is in omega (arith, p)
 
-module _ {cs : List (Component ℕ)} {origin first i serial place : ℕ} {made : List Placed} {c : Component ℕ} (here : i < length cs) (at_i : c ≡ get_or cs i c) (so_far : IsPlacedTo cs origin first i serial place made)
-    (base : base_of (runs cs) ≤ 1000000) (target : length (image_from 0 (runs cs)) ≤ 1000000) where
-  pub retain_fits : (n : ℕ) → c ≡ Retain n → place + n ≤ 1000000
-  unfolding placed_retain
-  retain_fits n is =
-      let next = placed_retain here at_i so_far n is in
-      let end = next.place_is in
-      let room = short (next.op.base) (length next.op.image) (room_to_retain here at_i so_far.tagged base target n is) in
-      omega arith
+  pub insert_fits : (text : List ℕ) → left ≡ Add text ∷ next → place + length text ≤ length (image_from 0 all)
+  insert_fits text is = let next = placed_insert text is in let p = next.place_is in omega (arith, p)
 
-  pub insert_fits : (text : Text ℕ) → c ≡ Insert text → place + length text.items ≤ 1000000
-  unfolding placed_insert
-  insert_fits text is =
-      let next = placed_insert here at_i so_far text is in
-      let end = next.place_is in
-      let room = short (next.op.base) (length next.op.image) (room_to_insert here at_i so_far.tagged base target text is) in
-      omega arith
-
-  pub serials_fit_in : (text : Text ℕ) → c ≡ Insert text → first + length (news (image_from 0 (runs cs))) ≤ 15000 → serial + length text.items ≤ 15000
-  serials_fit_in text is most = let le = serials_fit cs origin first i serial so_far.op c here at_i so_far.tagged text is in omega arith
+  pub serials_fit : (text : List ℕ) → left ≡ Add text ∷ next → serial + length text ≤ first + length (news (image_from 0 all))
+  serials_fit text is = let next = placed_insert text is in let s = next.serial_is in omega (arith, s)

@@ -4,20 +4,19 @@ ghost use Rattle.std.specs.Prelude.{◌≡◌, ◌+◌, ◌≤◌, ◌<◌, ◌+
 ghost use Rattle.std.specs.HashSet.{contains as set_contains};
 ghost use Rattle.ot_isa.specs.declared.elements.Tag.{Tag};
 ghost use Rattle.ot_isa.specs.Tagging.{tagged_operation};
-ghost use Rattle.ot_text.specs.Operation.{news};
-ghost use Rattle.ot_text.specs.Run.{base_of, image_from, operation_of};
-ghost use Rattle.ot_text.specs.Components.{runs};
+ghost use Rattle.ot_operation.specs.Operation.{news};
+ghost use Rattle.ot_operation.specs.Run.{image_from, operation_of};
 ghost use Rattle.ot_model.specs.Trace.{contains, same_tag};
 ghost use Rattle.ot_model.specs.Events.{insertions_from, tags};
 ghost use Rattle.ot_judge.specs.Views.{event_view};
 ghost use Rattle.ot_check.specs.Insertions.{placed_run};
 ghost use Rattle.ot_check.specs.Rows.{edit_made, read_event};
 ghost use Rattle.ot_isa.specs.declared.tagging.TheConstants.{INSERTED_LIMIT};
-ghost use Rattle.ot_text.specs.declared.TheConstants.{LIMIT};
+ghost use Rattle.ot_operation.specs.declared.TheConstants.{LIMIT};
 
 use ot_isa::{Tag, Tagged};
 use ot_judge::{Event, Placed};
-use ot_text::{Component, Doc, TextOp};
+use ot_text::{ComponentRef, Components, Doc, TextOp};
 use std::alloc::{AllocError, Global};
 use std::collections::HashSet;
 
@@ -130,27 +129,26 @@ fn push_placed(
 // What the components insert, with its places in the list after them.
 fn insertions_of(
     alloc: Global,
-    components: &[Component<char>],
+    components: Components<'_, char>,
     origin: u16,
     first: u32,
 ) -> Result<Vec<Placed>, AllocError>
-    requires serials { first + length (news (image_from 0 (runs components.now))) ≤ INSERTED_LIMIT }
-    requires base { base_of (runs components.now) ≤ LIMIT }
-    requires target { length (image_from 0 (runs components.now)) ≤ LIMIT }
-    ensures { IfOk result (λ v. v.items ≡ insertions_from 0 (tagged_operation (operation_of (runs components.now)) origin first).image) }
+    requires serials { first + length (news (image_from 0 components)) ≤ INSERTED_LIMIT }
+    requires target { length (image_from 0 components) ≤ LIMIT }
+    ensures { IfOk result (λ v. v.items ≡ insertions_from 0 (tagged_operation (operation_of components.entry) origin first).image) }
 {
     let mut placed = Vec::new(alloc);
     let mut serial = first;
     let mut place: usize = 0;
     for component in components {
         match component {
-            Component::Retain(count) => place += *count,
-            Component::Insert(text) => {
+            ComponentRef::Retain(count) => place += count,
+            ComponentRef::Insert(text) => {
                 push_placed(&mut placed, origin, serial, place, text.len())?;
                 serial += text.len() as u32;
                 place += text.len();
             }
-            Component::Delete(_count) => {}
+            ComponentRef::Delete(_count) => {}
         }
     }
     Ok(placed)
@@ -166,9 +164,6 @@ fn insertions(
     requires { first + length (news op.now.image) ≤ INSERTED_LIMIT }
     ensures { IfOk result (λ v. v.items ≡ insertions_from 0 (tagged_operation op.now origin first).image) }
 {
-    // For the proof: the invariant of every operation.
-    let _base = op.base_len();
-    let _target = op.target_len();
     insertions_of(alloc, op.components(), origin, first)
 }
 

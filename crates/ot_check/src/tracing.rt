@@ -9,7 +9,7 @@ ghost use Rattle.ot_model.specs.Table.{absent, step};
 ghost use Rattle.ot_machine.specs.Answers.{IsRefusal};
 ghost use Rattle.ot_check.specs.Rows.{seen_by};
 ghost use Rattle.ot_check.specs.Following.{counts_of, events_of, FitsState, Follows, IsStuck, IsTracedTo, IsWithin, LeadsTo, Overflows, Stays};
-ghost use Rattle.ot_text.specs.declared.TheConstants.{LIMIT};
+ghost use Rattle.ot_operation.specs.declared.TheConstants.{LIMIT};
 
 use crate::event::{edit_event, read_event, tags_of};
 use crate::ledger::Ledger;

@@ -1,9 +1,9 @@
 -- A client: its pending operations, and what edits, deliveries and acknowledgements do to it.
 use Rattle.std.specs.Prelude.{◌≡◌, ℕ, suc, ◌+◌, ◌≤◌, length, Option, Some, None}
-use Rattle.ot_text.specs.Operation.{Operation, news}
-use Rattle.ot_algebra.specs.Compose.{compose}
-use Rattle.ot_algebra.specs.Merge.{first_after, second_after}
-use Rattle.ot_text.specs.declared.TheConstants.{LIMIT}
+use Rattle.ot_operation.specs.Operation.{Operation, news}
+use Rattle.ot_operation.specs.Compose.{compose}
+use Rattle.ot_operation.specs.Merge.{first_after, second_after}
+use Rattle.ot_operation.specs.declared.TheConstants.{LIMIT}
 
 -- nothing under way; an operation sent and not yet confirmed; that and a buffer of later edits
 pub data Phase (A : Type 0) : Type 0 where

@@ -1,15 +1,14 @@
 //! A client of which one operation is under way.
 
-ghost use Rattle.std.specs.Prelude.{◌≡◌, ◌+◌, ◌<◌, ◌≤◌, length, IfErr, IfOk, None};
-ghost use Rattle.ot_text.specs.Operation.{news};
+ghost use Rattle.std.specs.Prelude.{◌≡◌, ◌+◌, ◌<◌, ◌≤◌, length, IfErr, IfOk};
+ghost use Rattle.ot_operation.specs.Operation.{news};
 ghost use Rattle.ot_client.specs.State.{buffering, carried, confirming, delivered, edited};
-ghost use Rattle.ot_text.specs.declared.TheConstants.{LIMIT};
+ghost use Rattle.ot_operation.specs.declared.TheConstants.{LIMIT};
 ghost use Rattle.ot_client.specs.declared.TheConstants.{REVISION_LIMIT};
 
-use crate::prepared::PreparedStep;
-use crate::waiting::Waiting;
+use crate::transformed::transformed;
 use crate::{AwaitingWithBuffer, Synchronized};
-use ot_algebra::{prepare_transform, transform_second};
+use ot_algebra::transform_second;
 use ot_text::{Element, TextOp};
 use std::alloc::AllocError;
 use std::marker::Model;
@@ -74,8 +73,8 @@ impl<T: Element> AwaitingConfirm<T> {
 
     /// Takes the next entry of the server's log, an operation of another client over the base of the outstanding one: gives the client after it, whose
     /// outstanding operation is transformed against the entry, and what the document is to be changed by. The revision, below 1,000,000, rises by 1. The
-    /// base and what both insert are at most 1,000,000 items together. The outstanding operation changes where it lies, at the components that the entry
-    /// touches. If memory runs out, the client and the entry come back.
+    /// base and what both insert are at most 1,000,000 items together. The text of the outstanding operation stays where it lies. If memory runs out, the client
+    /// and the entry come back.
     pub fn deliver(
         self,
         op: TextOp<T>,
@@ -87,18 +86,17 @@ impl<T: Element> AwaitingConfirm<T> {
         ensures applied { IfOk result (λ given. given.1 ≡ carried (confirming self).phase op) }
         ensures back { IfErr result (λ back. back ≡ (self, op)) }
     {
-        let revision = self.revision;
-        match prepare_transform(self.outstanding, &op) {
-            Ok((outstanding, applied)) => {
-                let client = AwaitingConfirm::new(revision + 1, outstanding.commit());
-                Ok((client, applied))
-            }
-            Err(outstanding) => Err((AwaitingConfirm::new(revision, outstanding), op)),
-        }
+        let Ok((mut codes, applied)) = transformed(&self.outstanding, &op) else {
+            return Err((self, op));
+        };
+        let mut outstanding = self.outstanding;
+        outstanding.exchange_codes(&mut codes);
+        let client = AwaitingConfirm::new(self.revision + 1, outstanding);
+        Ok((client, applied))
     }
 
     /// What the document is to be changed by at that entry, the second of what `deliver` gives, under its conditions but for the revision. Costs
-    /// what the entry touches and a look at the outstanding operation. `Err` comes where memory was refused.
+    /// the codes of the outstanding operation, and the entry. `Err` comes where memory was refused.
     pub fn carry(&self, op: &TextOp<T>) -> Result<TextOp<T>, AllocError>
         requires base { op.now.base ≡ self.now.outstanding.base }
         requires fits { op.now.base + length (news self.now.outstanding.image) + length (news op.now.image) ≤ LIMIT }
@@ -120,49 +118,5 @@ impl<T: Element> AwaitingConfirm<T> {
         ensures { result ≡ self.outstanding }
     {
         self.outstanding
-    }
-
-    // The step of `edit`, over an edit that is only read. If memory runs out, the client comes back.
-    pub(crate) fn prepare_edit(self, op: &TextOp<T>) -> Result<PreparedStep<T>, AwaitingConfirm<T>>
-        requires { op.now.base ≡ length self.outstanding.image }
-        ensures step { IfOk result (λ step. step ≡ record { before = confirming self; after = edited (confirming self) op.now; sent = None }) }
-        ensures back { IfErr result (λ client. client ≡ self) }
-    {
-        let Ok(copy) = op.copy() else {
-            return Err(self);
-        };
-        Ok(PreparedStep {
-            from: self.revision,
-            to: self.revision,
-            waiting: Waiting::Second(self.outstanding, copy),
-            sent: None,
-        })
-    }
-
-    // The step of `deliver`, over an entry that is only read, with what the document is to be changed by. If memory runs out, the client comes back.
-    pub(crate) fn prepare_deliver(
-        self,
-        op: &TextOp<T>,
-    ) -> Result<(PreparedStep<T>, TextOp<T>), AwaitingConfirm<T>>
-        requires revision { self.revision < REVISION_LIMIT }
-        requires base { op.now.base ≡ self.outstanding.base }
-        requires fits { op.now.base + length (news self.outstanding.image) + length (news op.now.image) ≤ LIMIT }
-        ensures step { IfOk result (λ given. given.0 ≡ record { before = confirming self; after = delivered (confirming self) op.now; sent = None }) }
-        ensures applied { IfOk result (λ given. given.1 ≡ carried (confirming self).phase op.now) }
-        ensures back { IfErr result (λ client. client ≡ self) }
-    {
-        let revision = self.revision;
-        match prepare_transform(self.outstanding, op) {
-            Ok((outstanding, applied)) => {
-                let step = PreparedStep {
-                    from: revision,
-                    to: revision + 1,
-                    waiting: Waiting::Outstanding(outstanding),
-                    sent: None,
-                };
-                Ok((step, applied))
-            }
-            Err(outstanding) => Err(AwaitingConfirm::new(revision, outstanding)),
-        }
     }
 }

@@ -1,18 +1,20 @@
 //! A client of which one operation is under way, with later edits.
 
-ghost use Rattle.std.specs.Prelude.{◌≡◌, ◌+◌, ◌<◌, ◌≤◌, length, IfOk, IfErr, None};
-ghost use Rattle.ot_text.specs.Operation.{news};
-ghost use Rattle.ot_algebra.specs.Merge.{first_after, second_after};
+ghost use Rattle.std.specs.Prelude.{◌≡◌, ◌+◌, ◌<◌, ◌≤◌, length, IfOk, IfErr};
+ghost use Rattle.ot_operation.specs.Operation.{news};
+ghost use Rattle.ot_codes.specs.Shape.{filled};
+ghost use Rattle.ot_operation.specs.Compose.{compose as composition};
+ghost use Rattle.ot_operation.specs.Merge.{first_after, second_after};
 ghost use Rattle.ot_client.specs.Client.{message_of};
 ghost use Rattle.ot_client.specs.State.{buffering, carried, confirming, delivered, edited, IsJoined};
-ghost use Rattle.ot_text.specs.declared.TheConstants.{LIMIT};
+ghost use Rattle.ot_operation.specs.declared.TheConstants.{LIMIT};
 ghost use Rattle.ot_client.specs.declared.TheConstants.{REVISION_LIMIT};
 
-use crate::prepared::PreparedStep;
-use crate::waiting::Waiting;
+use crate::transformed::transformed;
 use crate::{AwaitingConfirm, Sent};
-use ot_algebra::{prepare_compose, prepare_transform, transform_second};
-use ot_text::{Element, Prepared, TextOp};
+use ot_algebra::{compose, transform_second};
+use ot_codes::Codes;
+use ot_text::{Element, TextOp};
 use std::alloc::AllocError;
 use std::marker::Model;
 
@@ -34,35 +36,6 @@ impl<T> Model for AwaitingWithBuffer<T> {
     ghost view = { λ s. record { revision = s.revision; outstanding = s.outstanding; buffer = s.buffer } };
 
     ghost invariant = { λ s. IsJoined (record { revision = s.revision; outstanding = s.outstanding; buffer = s.buffer }) };
-}
-
-// Prepares the outstanding operation to be transformed against another's, and the buffer against what the outstanding operation leaves of that; and gives what
-// both leave of it. If memory runs out, both come back.
-fn transform_both<T: Element>(
-    outstanding: TextOp<T>,
-    buffer: TextOp<T>,
-    op: &TextOp<T>,
-) -> Result<(Prepared<T>, Prepared<T>, TextOp<T>), (TextOp<T>, TextOp<T>)>
-    requires joined { buffer.base ≡ length outstanding.image }
-    requires base { op.now.base ≡ outstanding.base }
-    requires fits { op.now.base + length (news outstanding.image) + length (news buffer.image) + length (news op.now.image) ≤ LIMIT }
-    ensures outstanding { IfOk result (λ given. given.0 ≡ record { before = outstanding; after = first_after outstanding op.now }) }
-    ensures buffer { IfOk result (λ given. given.1 ≡ record { before = buffer; after = first_after buffer (second_after outstanding op.now) }) }
-    ensures applied { IfOk result (λ given. given.2 ≡ second_after buffer (second_after outstanding op.now)) }
-    ensures joined { IfOk result (λ given. given.1.after.base ≡ length given.0.after.image) }
-    ensures back { IfErr result (λ back. back ≡ (outstanding, buffer)) }
-{
-    // For the proof: the invariant of every operation.
-    let _operation = outstanding.base_len();
-    let _operation = op.base_len();
-    let (outstanding, passed) = match prepare_transform(outstanding, op) {
-        Ok(given) => given,
-        Err(outstanding) => return Err((outstanding, buffer)),
-    };
-    match prepare_transform(buffer, &passed) {
-        Ok((buffer, applied)) => Ok((outstanding, buffer, applied)),
-        Err(buffer) => Err((outstanding.roll_back(), buffer)),
-    }
 }
 
 impl<T: Element> AwaitingWithBuffer<T> {
@@ -115,8 +88,7 @@ impl<T: Element> AwaitingWithBuffer<T> {
         })
     }
 
-    /// Takes the user's edit, over what the buffer makes: it is composed into the buffer, at the cost of the
-    /// components that it touches. If memory runs out, the client and the edit come back.
+    /// Takes the user's edit, over what the buffer makes: it is composed into the buffer. If memory runs out, the client and the edit come back.
     pub fn edit(
         self,
         op: TextOp<T>,
@@ -125,18 +97,16 @@ impl<T: Element> AwaitingWithBuffer<T> {
         ensures state { IfOk result (λ client. buffering client ≡ edited (buffering self) op) }
         ensures back { IfErr result (λ back. back ≡ (self, op)) }
     {
-        let revision = self.revision;
-        let outstanding = self.outstanding;
-        match prepare_compose(self.buffer, &op) {
-            Ok(buffer) => Ok(AwaitingWithBuffer::new(revision, outstanding, buffer.commit())),
-            Err(buffer) => Err((AwaitingWithBuffer::new(revision, outstanding, buffer), op)),
+        match self.composed(&op) {
+            Ok(buffer) => Ok(AwaitingWithBuffer::new(self.revision, self.outstanding, buffer)),
+            Err(_) => Err((self, op)),
         }
     }
 
     /// Takes the next entry of the server's log, an operation of another client over the base of the outstanding one: gives the client after it, and
     /// what the document is to be changed by. The outstanding operation is transformed against the entry, and the buffer against what the outstanding
-    /// operation leaves of it. The revision, below 1,000,000, rises by 1. The base and what all three insert are at most 1,000,000 items together. Both
-    /// operations change where they lie, at the components that the entry touches. If memory runs out, the client and the entry come back.
+    /// operation leaves of it. The revision, below 1,000,000, rises by 1. The base and what all three insert are at most 1,000,000 items together. The
+    /// texts of both operations stay where they lie. If memory runs out, the client and the entry come back.
     pub fn deliver(
         self,
         op: TextOp<T>,
@@ -148,21 +118,19 @@ impl<T: Element> AwaitingWithBuffer<T> {
         ensures applied { IfOk result (λ given. given.1 ≡ carried (buffering self).phase op) }
         ensures back { IfErr result (λ back. back ≡ (self, op)) }
     {
-        let revision = self.revision;
-        match transform_both(self.outstanding, self.buffer, &op) {
-            Ok((outstanding, buffer, applied)) => {
-                let outstanding = outstanding.commit();
-                let client = AwaitingWithBuffer::new(revision + 1, outstanding, buffer.commit());
-                Ok((client, applied))
-            }
-            Err((outstanding, buffer)) => {
-                Err((AwaitingWithBuffer::new(revision, outstanding, buffer), op))
-            }
-        }
+        let Ok((mut first, mut second, applied)) = self.transform(&op) else {
+            return Err((self, op));
+        };
+        let mut outstanding = self.outstanding;
+        let mut buffer = self.buffer;
+        outstanding.exchange_codes(&mut first);
+        buffer.exchange_codes(&mut second);
+        let client = AwaitingWithBuffer::new(self.revision + 1, outstanding, buffer);
+        Ok((client, applied))
     }
 
     /// What the document is to be changed by at that entry, the second of what `deliver` gives, under its conditions but for the revision. Costs
-    /// what the entry touches and a look at both operations. `Err` comes where memory was refused.
+    /// the codes of both operations, and the entry. `Err` comes where memory was refused.
     pub fn carry(&self, op: &TextOp<T>) -> Result<TextOp<T>, AllocError>
         requires base { op.now.base ≡ self.now.outstanding.base }
         requires fits { op.now.base + length (news self.now.outstanding.image) + length (news self.now.buffer.image) + length (news op.now.image) ≤ LIMIT }
@@ -183,28 +151,13 @@ impl<T: Element> AwaitingWithBuffer<T> {
         ensures sent { IfOk result (λ given. message_of given.1 ≡ record { revision = self.revision + 1; op = self.buffer }) }
         ensures back { IfErr result (λ back. back ≡ self) }
     {
-        let (client, sent, _confirmed) = self.confirm()?;
-        Ok((client, sent))
-    }
-
-    // So, with the operation that was confirmed.
-    pub(crate) fn confirm(
-        self,
-    ) -> Result<(AwaitingConfirm<T>, Sent<T>, TextOp<T>), AwaitingWithBuffer<T>>
-        requires { self.revision < REVISION_LIMIT }
-        ensures state { IfOk result (λ given. given.0 ≡ record { revision = self.revision + 1; outstanding = self.buffer }) }
-        ensures sent { IfOk result (λ given. message_of given.1 ≡ record { revision = self.revision + 1; op = self.buffer }) }
-        ensures confirmed { IfOk result (λ given. given.2 ≡ self.outstanding) }
-        ensures joined { IsJoined self }
-        ensures back { IfErr result (λ back. back ≡ self) }
-    {
         let Ok(copy) = self.buffer.copy() else {
             return Err(self);
         };
         let revision = self.revision + 1;
         let sent = Sent { revision, op: copy };
         let client = AwaitingConfirm::new(revision, self.buffer);
-        Ok((client, sent, self.outstanding))
+        Ok((client, sent))
     }
 
     // The operation that was sent, and the buffer.
@@ -215,54 +168,33 @@ impl<T: Element> AwaitingWithBuffer<T> {
         (self.outstanding, self.buffer)
     }
 
-    // The step of `edit`, over an edit that is only read. If memory runs out, the client comes back.
-    pub(crate) fn prepare_edit(
-        self,
-        op: &TextOp<T>,
-    ) -> Result<PreparedStep<T>, AwaitingWithBuffer<T>>
-        requires { op.now.base ≡ length self.buffer.image }
-        ensures step { IfOk result (λ step. step ≡ record { before = buffering self; after = edited (buffering self) op.now; sent = None }) }
-        ensures back { IfErr result (λ client. client ≡ self) }
+    // The buffer with the edit composed into it.
+    pub(crate) fn composed(&self, op: &TextOp<T>) -> Result<TextOp<T>, AllocError>
+        requires { op.now.base ≡ length self.now.buffer.image }
+        ensures value { IfOk result (λ buffer. buffer ≡ composition self.now.buffer op.now) }
+        ensures base { IfOk result (λ buffer. buffer.base ≡ length self.now.outstanding.image) }
+        ensures joined { IsJoined self.now }
     {
-        let revision = self.revision;
-        let outstanding = self.outstanding;
-        match prepare_compose(self.buffer, op) {
-            Ok(buffer) => Ok(PreparedStep {
-                from: revision,
-                to: revision,
-                waiting: Waiting::Buffer(outstanding, buffer),
-                sent: None,
-            }),
-            Err(buffer) => Err(AwaitingWithBuffer::new(revision, outstanding, buffer)),
-        }
+        compose(self.buffer.allocator(), &self.buffer, op)
     }
 
-    // The step of `deliver`, over an entry that is only read, with what the document is to be changed by. If memory runs out, the client comes back.
-    pub(crate) fn prepare_deliver(
-        self,
-        op: &TextOp<T>,
-    ) -> Result<(PreparedStep<T>, TextOp<T>), AwaitingWithBuffer<T>>
-        requires revision { self.revision < REVISION_LIMIT }
-        requires base { op.now.base ≡ self.outstanding.base }
-        requires fits { op.now.base + length (news self.outstanding.image) + length (news self.buffer.image) + length (news op.now.image) ≤ LIMIT }
-        ensures step { IfOk result (λ given. given.0 ≡ record { before = buffering self; after = delivered (buffering self) op.now; sent = None }) }
-        ensures applied { IfOk result (λ given. given.1 ≡ carried (buffering self).phase op.now) }
-        ensures back { IfErr result (λ client. client ≡ self) }
+    // The codes of the outstanding operation and of the buffer after an entry of the server's log, and what the document is to be changed by at that entry.
+    pub(crate) fn transform(&self, op: &TextOp<T>) -> Result<(Codes, Codes, TextOp<T>), AllocError>
+        requires base { op.now.base ≡ self.now.outstanding.base }
+        requires fits { op.now.base + length (news self.now.outstanding.image) + length (news self.now.buffer.image) + length (news op.now.image) ≤ LIMIT }
+        ensures text { IfOk result (λ given. length (news given.0.image) ≡ length (news self.now.outstanding.image)) }
+        ensures buffer_text { IfOk result (λ given. length (news given.1.image) ≡ length (news self.now.buffer.image)) }
+        ensures outstanding { IfOk result (λ given. filled given.0 (news self.now.outstanding.image) ≡ first_after self.now.outstanding op.now) }
+        ensures buffer { IfOk result (λ given. filled given.1 (news self.now.buffer.image) ≡ first_after self.now.buffer (second_after self.now.outstanding op.now)) }
+        ensures base { IfOk result (λ given. given.1.base ≡ length (first_after self.now.outstanding op.now).image) }
+        ensures joined { IsJoined self.now }
+        ensures applied { IfOk result (λ given. given.2 ≡ carried (buffering self.now).phase op.now) }
     {
-        let revision = self.revision;
-        match transform_both(self.outstanding, self.buffer, op) {
-            Ok((outstanding, buffer, applied)) => {
-                let step = PreparedStep {
-                    from: revision,
-                    to: revision + 1,
-                    waiting: Waiting::Both(outstanding, buffer),
-                    sent: None,
-                };
-                Ok((step, applied))
-            }
-            Err((outstanding, buffer)) => {
-                Err(AwaitingWithBuffer::new(revision, outstanding, buffer))
-            }
-        }
+        // For the proof: the invariant of every operation.
+        let _operation = self.outstanding.base_len();
+        let _operation = op.base_len();
+        let (first, passed) = transformed(&self.outstanding, op)?;
+        let (second, applied) = transformed(&self.buffer, &passed)?;
+        Ok((first, second, applied))
     }
 }

@@ -1,15 +1,18 @@
 //! A client in any of the three states.
 
-ghost use Rattle.std.specs.Prelude.{◌≡◌, ◌+◌, ◌<◌, IfErr, IfOk, None, Some};
+ghost use Rattle.std.specs.Prelude.{◌≡◌, ◌+◌, ◌<◌, length, IfErr, IfOk, Some};
 ghost use Rattle.std.specs.Option.{option_map, unwrap_or};
 ghost use Rattle.ot_client.specs.Client.{message_of, state_of};
-ghost use Rattle.ot_client.specs.Past.{phase_before, FitsPhase};
-ghost use Rattle.ot_client.specs.State.{carried, delivered, edited, message_acknowledged, message_edited, phase_acknowledged, IsAwaiting, MayDeliver, MayEdit};
+ghost use Rattle.ot_client.specs.Change.{changed, undoing, Fits};
+ghost use Rattle.ot_client.specs.State.{buffering, carried, confirming, delivered, edited, message_acknowledged, message_edited, phase_acknowledged, synchronized, IsAwaiting, MayDeliver, MayEdit};
 ghost use Rattle.ot_client.specs.declared.TheConstants.{REVISION_LIMIT};
 
-use crate::{AwaitingConfirm, AwaitingWithBuffer, Past, PreparedStep, Sent, Synchronized};
+use crate::change::Pending;
+use crate::transformed::transformed;
+use crate::{AwaitingConfirm, AwaitingWithBuffer, Change, Sent, Synchronized};
 use ot_text::{Element, TextOp};
 use std::alloc::AllocError;
+use std::mem;
 
 /// A client in whichever state it is.
 #[derive(Drop)]
@@ -20,6 +23,26 @@ pub enum Client<T> {
 }
 
 impl<T: Element> Client<T> {
+    // The three states as clients.
+    pub(crate) fn synchronized(revision: u32) -> Client<T>
+        ensures { state_of result ≡ synchronized revision }
+    {
+        Client::Synchronized(Synchronized::new(revision))
+    }
+
+    pub(crate) fn confirming(revision: u32, outstanding: TextOp<T>) -> Client<T>
+        ensures { state_of result ≡ confirming (record { revision = revision; outstanding = outstanding }) }
+    {
+        Client::AwaitingConfirm(AwaitingConfirm::new(revision, outstanding))
+    }
+
+    pub(crate) fn buffering(revision: u32, outstanding: TextOp<T>, buffer: TextOp<T>) -> Client<T>
+        requires { buffer.base ≡ length outstanding.image }
+        ensures { state_of result ≡ buffering (record { revision = revision; outstanding = outstanding; buffer = buffer }) }
+    {
+        Client::AwaitingWithBuffer(AwaitingWithBuffer::new(revision, outstanding, buffer))
+    }
+
     /// How many entries of the server's log the client has.
     pub fn revision(&self) -> u32
         ensures { result ≡ (state_of self.now).revision }
@@ -56,80 +79,130 @@ impl<T: Element> Client<T> {
         }
     }
 
-    /// Prepares the client to take the user's edit, which is in the user's document already; the edit is only read. Of the pending operations only the
-    /// buffer changes, at the components that the edit touches; beyond that it costs a copy of the edit where that is pending from now on, and a second
-    /// one where it is sent. If memory runs out, the client comes back.
-    pub fn prepare_edit(self, op: &TextOp<T>) -> Result<PreparedStep<T>, Client<T>>
-        requires { MayEdit (state_of self).phase op.now }
-        ensures step { IfOk result (λ step. step ≡ record { before = state_of self; after = edited (state_of self) op.now; sent = message_edited (state_of self).revision (state_of self).phase op.now }) }
-        ensures back { IfErr result (λ client. client ≡ self) }
+    /// What the user's edit changes of the client, and what it sends then, if anything. The edit is in the user's document already. The client and the
+    /// edit are only read. `Err` comes where memory was refused.
+    pub fn prepare_edit(&self, op: &TextOp<T>) -> Result<(Change<T>, Option<Sent<T>>), AllocError>
+        requires { MayEdit (state_of self.now).phase op.now }
+        ensures fits { IfOk result (λ given. Fits (state_of self.now) given.0) }
+        ensures change { IfOk result (λ given. changed (state_of self.now) given.0 ≡ edited (state_of self.now) op.now) }
+        ensures sent { IfOk result (λ given. option_map message_of given.1 ≡ message_edited (state_of self.now).revision (state_of self.now).phase op.now) }
     {
+        let revision = self.revision();
         match self {
-            Client::Synchronized(client) => match client.prepare_edit(op) {
-                Ok(step) => Ok(step),
-                Err(client) => Err(Client::Synchronized(client)),
-            },
-            Client::AwaitingConfirm(client) => match client.prepare_edit(op) {
-                Ok(step) => Ok(step),
-                Err(client) => Err(Client::AwaitingConfirm(client)),
-            },
-            Client::AwaitingWithBuffer(client) => match client.prepare_edit(op) {
-                Ok(step) => Ok(step),
-                Err(client) => Err(Client::AwaitingWithBuffer(client)),
-            },
+            Client::Synchronized(_) => {
+                let pending = Pending::Send(op.copy()?);
+                let op = op.copy()?;
+                Ok((Change { revision, pending }, Some(Sent { revision, op })))
+            }
+            Client::AwaitingConfirm(_) => {
+                let pending = Pending::Buffer(op.copy()?);
+                Ok((Change { revision, pending }, None))
+            }
+            Client::AwaitingWithBuffer(client) => {
+                let pending = Pending::Rebuffer(client.composed(op)?);
+                Ok((Change { revision, pending }, None))
+            }
         }
     }
 
-    /// Prepares the client to take the next entry of the server's log, an operation of another client, under the conditions of `deliver`, with what
-    /// the document is to be changed by; `None` there where that is the operation as it came, as for a synchronized client. The operation is only
-    /// read, and the pending operations change at the components that it touches. If memory runs out, the client comes back.
+    /// What the next entry of the server's log, an operation of another client, changes of the client, under the conditions of `deliver`, and what the
+    /// document is to be changed by; `None` there where that is the operation as it came, as for a synchronized client. The client and the operation
+    /// are only read. `Err` comes where memory was refused.
     pub fn prepare_deliver(
-        self,
+        &self,
         op: &TextOp<T>,
-    ) -> Result<(PreparedStep<T>, Option<TextOp<T>>), Client<T>>
-        requires revision { (state_of self).revision < REVISION_LIMIT }
-        requires operations { MayDeliver (state_of self).phase op.now }
-        ensures step { IfOk result (λ given. given.0 ≡ record { before = state_of self; after = delivered (state_of self) op.now; sent = None }) }
-        ensures applied { IfOk result (λ given. unwrap_or given.1 op.now ≡ carried (state_of self).phase op.now) }
-        ensures back { IfErr result (λ client. client ≡ self) }
+    ) -> Result<(Change<T>, Option<TextOp<T>>), AllocError>
+        requires revision { (state_of self.now).revision < REVISION_LIMIT }
+        requires operations { MayDeliver (state_of self.now).phase op.now }
+        ensures fits { IfOk result (λ given. Fits (state_of self.now) given.0) }
+        ensures change { IfOk result (λ given. changed (state_of self.now) given.0 ≡ delivered (state_of self.now) op.now) }
+        ensures applied { IfOk result (λ given. unwrap_or given.1 op.now ≡ carried (state_of self.now).phase op.now) }
     {
+        let revision = self.revision() + 1;
         match self {
-            Client::Synchronized(client) => Ok((client.prepare_deliver(op), None)),
-            Client::AwaitingConfirm(client) => match client.prepare_deliver(op) {
-                Ok((step, applied)) => Ok((step, Some(applied))),
-                Err(client) => Err(Client::AwaitingConfirm(client)),
-            },
-            Client::AwaitingWithBuffer(client) => match client.prepare_deliver(op) {
-                Ok((step, applied)) => Ok((step, Some(applied))),
-                Err(client) => Err(Client::AwaitingWithBuffer(client)),
-            },
+            Client::Synchronized(_) => {
+                let pending = Pending::Nothing;
+                Ok((Change { revision, pending }, None))
+            }
+            Client::AwaitingConfirm(client) => {
+                let (codes, applied) = transformed(client.outstanding(), op)?;
+                let pending = Pending::Outstanding(codes);
+                Ok((Change { revision, pending }, Some(applied)))
+            }
+            Client::AwaitingWithBuffer(client) => {
+                let (first, second, applied) = client.transform(op)?;
+                let pending = Pending::Both(Box::new(op.allocator(), (first, second))?);
+                Ok((Change { revision, pending }, Some(applied)))
+            }
         }
     }
 
-    /// Takes the confirmation of the operation that was sent, by the rules of the two states in which one is: the client after it, what it sends
-    /// then, if anything, and the undo record, into which the confirmed operation moves. If memory runs out, the client comes back.
-    pub fn acknowledge(self) -> Result<(Client<T>, Option<Sent<T>>, Past<T>), Client<T>>
+    /// What the confirmation of the operation that was sent changes of the client, by the rules of the two states in which one is, and what it sends
+    /// then, if anything. The client is only read. `Err` comes where memory was refused.
+    pub fn prepare_acknowledge(&self) -> Result<(Change<T>, Option<Sent<T>>), AllocError>
+        requires awaiting { IsAwaiting (state_of self.now).phase }
+        requires revision { (state_of self.now).revision < REVISION_LIMIT }
+        ensures fits { IfOk result (λ given. Fits (state_of self.now) given.0) }
+        ensures revision { IfOk result (λ given. (changed (state_of self.now) given.0).revision ≡ (state_of self.now).revision + 1) }
+        ensures phase { IfOk result (λ given. phase_acknowledged (state_of self.now).phase ≡ Some (changed (state_of self.now) given.0).phase) }
+        ensures sent { IfOk result (λ given. option_map message_of given.1 ≡ message_acknowledged ((state_of self.now).revision + 1) (state_of self.now).phase) }
+    {
+        let revision = self.revision() + 1;
+        match self {
+            Client::AwaitingConfirm(_) => {
+                let pending = Pending::Unsend;
+                Ok((Change { revision, pending }, None))
+            }
+            Client::AwaitingWithBuffer(client) => {
+                let pending = Pending::Confirm;
+                let op = client.buffer().copy()?;
+                Ok((Change { revision, pending }, Some(Sent { revision, op })))
+            }
+            Client::Synchronized(_) => unreachable!(),
+        }
+    }
+
+    /// Changes the client, and leaves in `change` what undoes it: exchanged once more, the client is as it was. It takes no memory.
+    pub fn exchange(&mut self, change: &mut Change<T>)
+        requires { Fits (state_of self.old) change.old }
+        ensures client { state_of self.new ≡ changed (state_of self.old) change.old }
+        ensures undoing { change.new ≡ undoing (state_of self.old) change.old }
+        ensures fits { Fits (state_of self.new) change.new }
+        ensures back { changed (state_of self.new) change.new ≡ state_of self.old }
+    {
+        let client = mem::replace(self, Client::synchronized(0));
+        let revision = mem::replace(&mut change.revision, client.revision());
+        let pending = mem::replace(&mut change.pending, Pending::Nothing);
+        let (client, undoing) = match client {
+            Client::Synchronized(_) => pending.exchange_nothing(revision),
+            Client::AwaitingConfirm(client) => {
+                pending.exchange_outstanding(revision, client.into_outstanding())
+            }
+            Client::AwaitingWithBuffer(client) => {
+                let (outstanding, buffer) = client.into_operations();
+                pending.exchange_both(revision, outstanding, buffer)
+            }
+        };
+        *self = client;
+        change.pending = undoing;
+    }
+
+    /// Takes the confirmation of the operation that was sent, by the rules of the two states in which one is: the client after it, and what it sends
+    /// then, if anything. If memory runs out, the client comes back.
+    pub fn acknowledge(self) -> Result<(Client<T>, Option<Sent<T>>), Client<T>>
         requires awaiting { IsAwaiting (state_of self).phase }
         requires revision { (state_of self).revision < REVISION_LIMIT }
         ensures revision { IfOk result (λ given. (state_of given.0).revision ≡ (state_of self).revision + 1) }
         ensures phase { IfOk result (λ given. phase_acknowledged (state_of self).phase ≡ Some (state_of given.0).phase) }
         ensures sent { IfOk result (λ given. option_map message_of given.1 ≡ message_acknowledged ((state_of self).revision + 1) (state_of self).phase) }
-        ensures past { IfOk result (λ given. phase_before given.2 (state_of given.0).phase ≡ (state_of self).phase) }
-        ensures fits { IfOk result (λ given. FitsPhase given.2 (state_of given.0).phase) }
         ensures back { IfErr result (λ client. client ≡ self) }
     {
         match self {
             Client::AwaitingConfirm(client) => {
-                let next = Synchronized::new(client.revision() + 1);
-                let past = Past::Confirmed(client.into_outstanding());
-                Ok((Client::Synchronized(next), None, past))
+                Ok((Client::Synchronized(client.acknowledge()), None))
             }
-            Client::AwaitingWithBuffer(client) => match client.confirm() {
-                Ok((next, sent, confirmed)) => Ok((
-                    Client::AwaitingConfirm(next),
-                    Some(sent),
-                    Past::Confirmed(confirmed),
-                )),
+            Client::AwaitingWithBuffer(client) => match client.acknowledge() {
+                Ok((client, sent)) => Ok((Client::AwaitingConfirm(client), Some(sent))),
                 Err(client) => Err(Client::AwaitingWithBuffer(client)),
             },
             Client::Synchronized(_) => unreachable!(),

@@ -1,12 +1,10 @@
 //! A client of which nothing is under way.
 
-ghost use Rattle.std.specs.Prelude.{◌≡◌, ◌<◌, IfOk, IfErr, None, Some};
+ghost use Rattle.std.specs.Prelude.{◌≡◌, ◌<◌, IfOk, IfErr};
 ghost use Rattle.ot_client.specs.Client.{message_of};
 ghost use Rattle.ot_client.specs.State.{confirming, delivered, edited, synchronized};
 ghost use Rattle.ot_client.specs.declared.TheConstants.{REVISION_LIMIT};
 
-use crate::prepared::PreparedStep;
-use crate::waiting::Waiting;
 use crate::{AwaitingConfirm, Sent};
 use ot_text::{Element, TextOp};
 use std::marker::Model;
@@ -75,44 +73,5 @@ impl Synchronized {
         ensures applied { result.1 ≡ op }
     {
         (Synchronized::new(self.revision + 1), op)
-    }
-
-    // The step of `edit`, over an edit that is only read.
-    pub(crate) fn prepare_edit<T: Element>(
-        self,
-        op: &TextOp<T>,
-    ) -> Result<PreparedStep<T>, Synchronized>
-        ensures step { IfOk result (λ step. step ≡ record { before = synchronized self; after = edited (synchronized self) op.now; sent = Some (record { revision = self; op = op.now }) }) }
-        ensures back { IfErr result (λ client. client ≡ self) }
-    {
-        let Ok(outstanding) = op.copy() else {
-            return Err(self);
-        };
-        let Ok(message) = op.copy() else {
-            return Err(self);
-        };
-        let sent = Sent {
-            revision: self.revision,
-            op: message,
-        };
-        Ok(PreparedStep {
-            from: self.revision,
-            to: self.revision,
-            waiting: Waiting::First(outstanding),
-            sent: Some(sent),
-        })
-    }
-
-    // The step of `deliver`, which applies the operation as it came. It takes no memory.
-    pub(crate) fn prepare_deliver<T: Element>(self, _op: &TextOp<T>) -> PreparedStep<T>
-        requires { self < REVISION_LIMIT }
-        ensures { result ≡ record { before = synchronized self; after = delivered (synchronized self) _op.now; sent = None } }
-    {
-        PreparedStep {
-            from: self.revision,
-            to: self.revision + 1,
-            waiting: Waiting::Nothing,
-            sent: None,
-        }
     }
 }

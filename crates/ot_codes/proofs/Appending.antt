@@ -2,13 +2,13 @@
 use Rattle.std.proofs.Common.{◌≡◌, ℕ, zero, suc, ◌+◌, ◌-◌, ◌<◌, ◌≤◌, List, [], ◌∷◌, ◌++◌, length, take, drop, get_or, max, true, sym, ap, subst, ◌∙◌, arith, append_assoc, length-append, length-drop}
 use Rattle.std.proofs.lemmas.List.{take-append-drop}
 use Rattle.std.proofs.Math.Seq.{take-length}
-use Rattle.ot_text.specs.Operation.{Operation, IsTooLong}
-use Rattle.ot_text.specs.Run.{Run, Keep, Add, Skip, base_of, image_from, operation_of, MayFollow, IsNormal}
-use Rattle.ot_text.specs.Rewriting.{with_runs}
-use Rattle.ot_text.proofs.RunLemmas.{MayEnd, base_of-append, image_from-append, same_operation}
-use Rattle.ot_algebra.specs.Cursor.{appended}
-use Rattle.ot_algebra.proofs.RunLengths.{length-image_from}
-use Rattle.ot_algebra.proofs.KeptRuns.{with_runs-none, with_runs-keep, with_runs-add, with_runs-skip}
+use Rattle.ot_operation.specs.Operation.{Operation, IsTooLong}
+use Rattle.ot_operation.specs.Run.{Run, Keep, Add, Skip, base_of, image_from, operation_of, MayFollow, IsNormal}
+use Rattle.ot_operation.specs.Steps.{with_runs}
+use Rattle.ot_operation.proofs.RunLemmas.{MayEnd, base_of-append, image_from-append, same_operation}
+use Rattle.ot_operation.specs.Steps.{appended}
+use Rattle.ot_operation.proofs.RunLengths.{length-image_from}
+use Rattle.ot_operation.proofs.KeptRuns.{with_runs-none, with_runs-keep, with_runs-add, with_runs-skip}
 use Rattle.ot_codes.specs.declared.code.Code.{Code}
 use Rattle.ot_codes.specs.declared.code.Code.TheVariants.{Retain, Insert, Delete}
 use Rattle.ot_codes.specs.declared.code.Sum.{Sum}

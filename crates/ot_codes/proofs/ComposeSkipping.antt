@@ -1,13 +1,13 @@
 -- Codes of one operation that lie in a single code of the other: what the loop of compose keeps past all of them.
 use Rattle.std.proofs.Common.{◌≡◌, ℕ, ◌+◌, ◌-◌, ◌≤◌, List, [], ◌∷◌, ◌++◌, map, take, drop, nat_eq, Bool, true, false, if◌then◌else◌, refl, sym, ap, subst, ◌∙◌, arith, append-nil}
 use Rattle.std.proofs.lemmas.List.{map-append}
-use Rattle.ot_text.specs.Operation.{Item, New, Operation, olds, news, with_delete}
-use Rattle.ot_text.specs.Run.{Run, Keep, Add, Skip, base_of, image_from}
-use Rattle.ot_text.specs.Rewriting.{with_runs}
-use Rattle.ot_text.proofs.RunLemmas.{same_operation}
-use Rattle.ot_algebra.specs.Cursor.{target_of}
-use Rattle.ot_algebra.proofs.KeptRuns.{after_kept}
-use Rattle.ot_algebra.proofs.ComposeProgress.{ComposeProgress}
+use Rattle.ot_operation.specs.Operation.{Item, New, Operation, olds, news, with_delete}
+use Rattle.ot_operation.specs.Run.{Run, Keep, Add, Skip, base_of, image_from}
+use Rattle.ot_operation.specs.Steps.{with_runs}
+use Rattle.ot_operation.proofs.RunLemmas.{same_operation}
+use Rattle.ot_operation.specs.Steps.{target_of}
+use Rattle.ot_operation.proofs.KeptRuns.{after_kept}
+use Rattle.ot_operation.proofs.ComposeProgress.{ComposeProgress}
 use Rattle.ot_codes.specs.declared.code.Code.{Code}
 use Rattle.ot_codes.specs.declared.code.Code.TheVariants.{Retain, Insert, Delete}
 use Rattle.ot_codes.specs.declared.cut.Cut.{Cut}

@@ -2,13 +2,13 @@
 use Rattle.std.proofs.Common.{◌≡◌, ◌+◌, ◌≤◌, List, [], ◌∷◌, ◌++◌, length, refl, sym, ap, subst, arith}
 use Rattle.std.proofs.Math.Seq.{take-length}
 use borrow.Author.Tests.{eq-eqb}
-use Rattle.ot_text.specs.Operation.{Operation, with_retain, with_insert, with_delete}
-use Rattle.ot_text.specs.Run.{Run, Keep, Add, Skip, base_of}
-use Rattle.ot_text.specs.Rewriting.{with_runs}
-use Rattle.ot_algebra.specs.Cursor.{target_of, skipped, skipped_made}
-use Rattle.ot_algebra.proofs.SkippedLaws.{skipped_retain-whole, skipped_delete-whole}
-use Rattle.ot_algebra.proofs.ComposeProgress.{ComposeProgress, compose_delete, compose_insert, retain_retain, insert_retain}
-use Rattle.ot_algebra.proofs.KeptRuns.{first_keep, after_kept, with_runs-none, with_runs-keep, with_runs-add, with_runs-skip, kept_none, kept_more, first_more}
+use Rattle.ot_operation.specs.Operation.{Operation, with_retain, with_insert, with_delete}
+use Rattle.ot_operation.specs.Run.{Run, Keep, Add, Skip, base_of}
+use Rattle.ot_operation.specs.Steps.{with_runs}
+use Rattle.ot_operation.specs.Steps.{target_of, skipped, skipped_made}
+use Rattle.ot_operation.proofs.SkippedLaws.{skipped_retain-whole, skipped_delete-whole}
+use Rattle.ot_operation.proofs.ComposeProgress.{ComposeProgress, compose_delete, compose_insert, retain_retain, insert_retain}
+use Rattle.ot_operation.proofs.KeptRuns.{first_keep, after_kept, with_runs-none, with_runs-keep, with_runs-add, with_runs-skip, kept_none, kept_more, first_more}
 use Rattle.ot_codes.proofs.Gone.{retain_gone, insert_gone}
 use Rattle.ot_codes.proofs.TransformSkips.{first_skip, delete-none, delete-more, gone_more, gone_first}
 

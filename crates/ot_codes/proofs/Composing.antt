@@ -2,12 +2,12 @@
 use Rattle.std.proofs.Common.{◌≡◌, ℕ, zero, suc, ◌+◌, ◌-◌, ◌<◌, ◌≤◌, List, [], ◌∷◌, ◌++◌, length, map, max, take, drop, nat_eq, if◌then◌else◌, Some, None, Bool, true, false, refl, sym, ap, subst, ◌∙◌, arith, append-nil}
 use Rattle.std.proofs.lemmas.List.{length-map}
 use borrow.Author.Tests.{eq-eqb, ne_eqb}
-use Rattle.ot_text.specs.Operation.{New, Operation, olds, IsTooLong, empty, news, with_retain, with_insert, with_delete}
-use Rattle.ot_text.specs.Run.{Keep, Add, base_of, operation_of, IsNormal}
-use Rattle.ot_algebra.specs.Compose.{compose}
-use Rattle.ot_algebra.specs.Cursor.{appended, target_of, skipped, skipped_made}
-use Rattle.ot_algebra.proofs.RunLengths.{length-image_from}
-use Rattle.ot_algebra.proofs.ComposeProgress.{ComposeProgress, ComposeBounds, compose_start, covers_exactly, compose_delete, compose_insert, retain_retain, insert_retain, bounds_of, small}
+use Rattle.ot_operation.specs.Operation.{New, Operation, olds, IsTooLong, empty, news, with_retain, with_insert, with_delete}
+use Rattle.ot_operation.specs.Run.{Keep, Add, base_of, operation_of, IsNormal}
+use Rattle.ot_operation.specs.Compose.{compose}
+use Rattle.ot_operation.specs.Steps.{appended, target_of, skipped, skipped_made}
+use Rattle.ot_operation.proofs.RunLengths.{length-image_from}
+use Rattle.ot_operation.proofs.ComposeProgress.{ComposeProgress, ComposeBounds, compose_start, covers_exactly, compose_delete, compose_insert, retain_retain, insert_retain, bounds_of, small}
 use Rattle.ot_codes.specs.declared.code.Code.{Code}
 use Rattle.ot_codes.specs.declared.code.Code.TheVariants.{Retain, Insert, Delete}
 use Rattle.ot_codes.specs.declared.cut.Cut.{Cut}

@@ -2,8 +2,8 @@
 use Rattle.std.proofs.Common.{◌≡◌, ℕ, zero, suc, ◌+◌, List, [], ◌∷◌, length, map, Option, Some, refl, sym, ap, ◌∙◌, arith}
 use Rattle.std.proofs.lemmas.List.{length-map}
 use Rattle.std.specs.List.{slice_get}
-use Rattle.ot_text.specs.Operation.{Item, Old, New, Operation, news}
-use Rattle.ot_algebra.specs.Compose.{compose}
+use Rattle.ot_operation.specs.Operation.{Item, Old, New, Operation, news}
+use Rattle.ot_operation.specs.Compose.{compose}
 use Rattle.ot_codes.specs.declared.cut.Cut.{Cut}
 use Rattle.ot_codes.specs.Shape.{mapped_item, mapped, blank, shape, filled_image, filled}
 use Rattle.ot_codes.specs.Cuts.{Source, carried, places, size, placed, GiveText}

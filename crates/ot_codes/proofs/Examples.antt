@@ -1,6 +1,6 @@
 -- Worked examples of the definitions, by computation.
 use Rattle.std.proofs.Common.{◌≡◌, ℕ, List, [], ◌∷◌, refl}
-use Rattle.ot_text.specs.Operation.{Operation, Old, New}
+use Rattle.ot_operation.specs.Operation.{Operation, Old, New}
 use Rattle.ot_codes.specs.declared.code.Code.{Code}
 use Rattle.ot_codes.specs.declared.code.Code.TheVariants.{Retain, Insert, Delete}
 use Rattle.ot_codes.specs.declared.cut.Cut.{Cut}

@@ -1,8 +1,8 @@
 -- An operation is its shape and its elements.
 use Rattle.std.proofs.Common.{◌≡◌, ℕ, zero, suc, List, [], ◌∷◌, ◌++◌, length, map, refl, sym, ap, ◌∙◌, arith}
-use Rattle.ot_text.specs.Operation.{Item, Old, New, Operation, IsOperation, news, olds}
-use Rattle.ot_algebra.specs.Merge.{first_after, second_after}
-use Rattle.ot_algebra.proofs.TransformedLaws.{news-first_after, news-second_after}
+use Rattle.ot_operation.specs.Operation.{Item, Old, New, Operation, IsOperation, news, olds}
+use Rattle.ot_operation.specs.Merge.{first_after, second_after}
+use Rattle.ot_operation.proofs.TransformedLaws.{news-first_after, news-second_after}
 use Rattle.ot_codes.specs.Shape.{mapped_item, blank, shape, filled_image, filled}
 use Rattle.ot_codes.proofs.Mapped.{same_parts, first_after-mapped, second_after-mapped}
 

@@ -4,14 +4,14 @@ use Rattle.std.proofs.lemmas.List.{map-append, length-map, append_cancel_left, t
 use Rattle.std.proofs.lemmas.List.Elements.{filter_map-append}
 use Rattle.std.specs.List.{filter_map, slice_get}
 use borrow.Author.Tests.{eq-eqb, ne_eqb}
-use Rattle.ot_text.specs.Operation.{Item, New, Operation, olds, with_delete}
-use Rattle.ot_text.specs.Run.{Run, Keep, Add, Skip, base_of, image_from, IsNormal}
-use Rattle.ot_text.proofs.RunLemmas.{length-olds}
-use Rattle.ot_algebra.specs.Compose.{compose, item_in}
-use Rattle.ot_algebra.specs.Cursor.{target_of, skipped, skipped_made, Covers}
-use Rattle.ot_algebra.proofs.RunSlots.{StartsOtherwise}
-use Rattle.ot_algebra.proofs.SkippedLaws.{skipped_delete-whole, skipped_delete-part}
-use Rattle.ot_algebra.proofs.ComposeProgress.{ComposeProgress, RetainMade, retain_made, composed_kept, picked_here, picked_none, last_keep_within}
+use Rattle.ot_operation.specs.Operation.{Item, New, Operation, olds, with_delete}
+use Rattle.ot_operation.specs.Run.{Run, Keep, Add, Skip, base_of, image_from, IsNormal}
+use Rattle.ot_operation.proofs.RunLemmas.{length-olds}
+use Rattle.ot_operation.specs.Compose.{compose, item_in}
+use Rattle.ot_operation.specs.Steps.{target_of, skipped, skipped_made, Covers}
+use Rattle.ot_operation.proofs.RunSlots.{StartsOtherwise}
+use Rattle.ot_operation.proofs.SkippedLaws.{skipped_delete-whole, skipped_delete-part}
+use Rattle.ot_operation.proofs.ComposeProgress.{ComposeProgress, RetainMade, retain_made, composed_kept, picked_here, picked_none, last_keep_within}
 use Rattle.ot_codes.proofs.Mapped.{same_parts}
 
 -- the first items are gone: what is picked of the others is what is picked of all behind the first

@@ -20,3 +20,4 @@ pub mod Summing
 pub mod Reading
 pub mod Appending
 pub mod Running
+pub mod Counting

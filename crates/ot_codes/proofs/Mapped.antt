@@ -2,10 +2,10 @@
 use Rattle.std.proofs.Common.{nat_eq, if◌then◌else◌, ◌≡◌, ℕ, zero, suc, List, [], ◌∷◌, ◌++◌, map, Bool, true, false, Option, Some, None, refl, sym, ap, ◌∙◌}
 use Rattle.std.proofs.lemmas.List.{map-append, length-map}
 use Rattle.std.specs.List.{filter_map, slice_get, cons_option}
-use Rattle.ot_text.specs.Operation.{Item, Old, New, Operation, RisesFrom, news, olds, place_from, with_retain, with_insert}
-use Rattle.ot_algebra.specs.Compose.{compose, item_in}
-use Rattle.ot_algebra.specs.Merge.{Merged, gap_from, kept_by_both, merge_at, merge_from, merge, over_first, over_second, first_after, second_after}
-use Rattle.ot_algebra.specs.Merge.Merged.{First, Second, Both}
+use Rattle.ot_operation.specs.Operation.{Item, Old, New, Operation, RisesFrom, news, olds, place_from, with_retain, with_insert}
+use Rattle.ot_operation.specs.Compose.{compose, item_in}
+use Rattle.ot_operation.specs.Merge.{Merged, gap_from, kept_by_both, merge_at, merge_from, merge, over_first, over_second, first_after, second_after}
+use Rattle.ot_operation.specs.Merge.Merged.{First, Second, Both}
 use Rattle.ot_codes.specs.Shape.{mapped_item, mapped}
 
 abbrev pub mapped_merged : {A B : Type 0} → (A → B) → Merged A → Merged B

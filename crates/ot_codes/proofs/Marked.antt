@@ -1,11 +1,11 @@
 -- Codes whose insertions are filled with the places of their own text.
 use Rattle.std.proofs.Common.{◌≡◌, ℕ, zero, suc, ◌+◌, ◌-◌, ◌<◌, ◌≤◌, List, [], ◌∷◌, ◌++◌, length, map, take, drop, nat_eq, if◌then◌else◌, Bool, true, false, None, refl, sym, ap, ◌∙◌, arith}
 use borrow.Author.Tests.{eq-eqb, ne_eqb}
-use Rattle.ot_text.specs.Operation.{Item, Old, New, olds, news}
-use Rattle.ot_text.specs.Run.{Run, Keep, Add, Skip, base_of, image_from, operation_of, MayLead, IsNormal}
-use Rattle.ot_text.proofs.RunLemmas.{length-news-append, length-news-olds, length-news-news}
-use Rattle.ot_algebra.specs.Cursor.{skipped, skipped_made, target_of}
-use Rattle.ot_algebra.proofs.RunSlots.{StartsOtherwise}
+use Rattle.ot_operation.specs.Operation.{Item, Old, New, olds, news}
+use Rattle.ot_operation.specs.Run.{Run, Keep, Add, Skip, base_of, image_from, operation_of, MayLead, IsNormal}
+use Rattle.ot_operation.proofs.RunLemmas.{length-news-append, length-news-olds, length-news-news}
+use Rattle.ot_operation.specs.Steps.{skipped, skipped_made, target_of}
+use Rattle.ot_operation.proofs.RunSlots.{StartsOtherwise}
 use Rattle.ot_codes.specs.declared.code.Code.{Code}
 use Rattle.ot_codes.specs.declared.code.Code.TheVariants.{Retain, Insert, Delete}
 use Rattle.ot_codes.specs.Codes.{blanks, runs_of, spelled, length_of, insertion_of, inserted_in, without}

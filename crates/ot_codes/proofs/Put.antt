@@ -2,10 +2,10 @@
 use Rattle.std.proofs.Common.{◌≡◌, ℕ, zero, suc, ◌+◌, ◌-◌, ◌<◌, ◌≤◌, List, [], ◌∷◌, ◌++◌, length, take, set, get_or, true, false, Some, None, refl, sym, ap, ◌∙◌, arith, length-append, append_assoc}
 use Rattle.std.proofs.lemmas.List.{append-nil, map-append, set-append_left, get_or_append_left}
 use Rattle.std.proofs.Math.Seq.{set-append_seam}
-use Rattle.ot_text.specs.Operation.{with_insert}
-use Rattle.ot_text.specs.Run.{Run, Keep, Add, Skip, MayFollow, IsNormal, Extends}
-use Rattle.ot_text.proofs.RunLemmas.{longer_keep, one_more_keep, longer_drop, one_more_drop, longer_add, one_more_add, MayEnd, normal_push, normal_replace, normal_before_drop}
-use Rattle.ot_algebra.specs.Cursor.{appended}
+use Rattle.ot_operation.specs.Operation.{with_insert}
+use Rattle.ot_operation.specs.Run.{Run, Keep, Add, Skip, MayFollow, IsNormal, Extends}
+use Rattle.ot_operation.proofs.RunLemmas.{longer_keep, one_more_keep, longer_drop, one_more_drop, longer_add, one_more_add, MayEnd, normal_push, normal_replace, normal_before_drop}
+use Rattle.ot_operation.specs.Steps.{appended}
 use Rattle.ot_codes.specs.declared.code.Code.{Code}
 use Rattle.ot_codes.specs.declared.code.Code.TheVariants.{Retain, Insert, Delete}
 use Rattle.ot_codes.specs.Codes.{blanks, run_of, runs_of, length_of, joined, stands_before, total_of, EndsWithDelete}

@@ -1,9 +1,9 @@
 -- Lists of codes from their first one on.
 use Rattle.std.proofs.Common.{◌≡◌, ℕ, zero, suc, ◌+◌, ◌-◌, ◌<◌, ◌≤◌, List, [], ◌∷◌, Bool, true, false, Some, None, nat_eq, if◌then◌else◌, refl, ap, arith}
 use borrow.Author.Tests.{eq-eqb, ne_eqb}
-use Rattle.ot_text.specs.Run.{Keep, Skip, IsNormal}
-use Rattle.ot_algebra.specs.Cursor.{skipped}
-use Rattle.ot_algebra.proofs.RunSlots.{StartsOtherwise}
+use Rattle.ot_operation.specs.Run.{Keep, Skip, IsNormal}
+use Rattle.ot_operation.specs.Steps.{skipped}
+use Rattle.ot_operation.proofs.RunSlots.{StartsOtherwise}
 use Rattle.ot_codes.specs.declared.code.Code.{Code}
 use Rattle.ot_codes.specs.declared.code.Code.TheVariants.{Retain, Insert, Delete}
 use Rattle.ot_codes.specs.Codes.{run_of, runs_of, length_of, with_length, first_of, insertion_of, others_of, without, HasFirst, total_of}

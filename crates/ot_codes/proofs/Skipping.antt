@@ -1,11 +1,11 @@
 -- Codes of one operation that lie in a single code of the other: what transform and compose make of all of them at once.
 use Rattle.std.proofs.Common.{◌≡◌, ℕ, ◌+◌, ◌<◌, ◌≤◌, List, [], ◌∷◌, ◌++◌, nat_eq, Bool, true, false, if◌then◌else◌, refl, sym, ap, subst, ◌∙◌, arith}
-use Rattle.ot_text.specs.Operation.{Operation, with_retain, with_delete}
-use Rattle.ot_text.specs.Run.{Run, base_of, IsNormal}
-use Rattle.ot_text.specs.Rewriting.{with_runs}
-use Rattle.ot_algebra.specs.Cursor.{target_of}
-use Rattle.ot_algebra.proofs.TransformProgress.{Progress}
-use Rattle.ot_algebra.proofs.KeptRuns.{after_kept, progress_kept}
+use Rattle.ot_operation.specs.Operation.{Operation, with_retain, with_delete}
+use Rattle.ot_operation.specs.Run.{Run, base_of, IsNormal}
+use Rattle.ot_operation.specs.Steps.{with_runs}
+use Rattle.ot_operation.specs.Steps.{target_of}
+use Rattle.ot_operation.proofs.TransformProgress.{Progress}
+use Rattle.ot_operation.proofs.KeptRuns.{after_kept, progress_kept}
 use Rattle.ot_codes.specs.declared.code.Code.{Code}
 use Rattle.ot_codes.specs.declared.code.Code.TheVariants.{Retain, Insert, Delete}
 use Rattle.ot_codes.specs.Codes.{runs_of, without, past, kept_in, deleted_in, inserted_in}

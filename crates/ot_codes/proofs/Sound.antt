@@ -1,9 +1,9 @@
 -- The sum that is kept beside codes.
 use Rattle.std.proofs.Common.{◌≡◌, ℕ, ◌+◌, ◌<◌, ◌≤◌, List, [], ◌∷◌, ◌++◌, length, map, max, arith}
-use Rattle.ot_text.specs.Operation.{Operation, IsTooLong, New, news, olds, with_retain, with_insert, with_delete}
-use Rattle.ot_text.specs.Run.{base_of, image_from, Extends}
-use Rattle.ot_text.proofs.RunLemmas.{length-news-append, length-news-olds, length-news-news, longest_retain, longest_insert, sound_retain, sound_insert, sound_delete}
-use Rattle.ot_algebra.specs.Cursor.{appended}
+use Rattle.ot_operation.specs.Operation.{Operation, IsTooLong, New, news, olds, with_retain, with_insert, with_delete}
+use Rattle.ot_operation.specs.Run.{base_of, image_from, Extends}
+use Rattle.ot_operation.proofs.RunLemmas.{length-news-append, length-news-olds, length-news-news, longest_retain, longest_insert, sound_retain, sound_insert, sound_delete}
+use Rattle.ot_operation.specs.Steps.{appended}
 use Rattle.ot_codes.specs.declared.code.Code.{Code}
 use Rattle.ot_codes.specs.declared.code.Code.TheVariants.{Retain, Insert, Delete}
 use Rattle.ot_codes.specs.declared.code.Sum.{Sum}

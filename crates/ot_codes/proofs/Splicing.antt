@@ -1,11 +1,11 @@
 -- The steps of compose's loop.
 use Rattle.std.proofs.Common.{◌≡◌, ℕ, ◌+◌, ◌<◌, ◌≤◌, List, [], ◌∷◌, length, max, Some, None, refl, ap, subst, arith}
-use Rattle.ot_text.specs.Operation.{Operation, IsTooLong}
-use Rattle.ot_text.specs.Run.{image_from}
-use Rattle.ot_text.proofs.RunLemmas.{length-news-le}
-use Rattle.ot_algebra.specs.Compose.{compose}
-use Rattle.ot_algebra.specs.Cursor.{appended}
-use Rattle.ot_algebra.proofs.ComposeProgress.{ComposeBounds}
+use Rattle.ot_operation.specs.Operation.{Operation, IsTooLong}
+use Rattle.ot_operation.specs.Run.{image_from}
+use Rattle.ot_operation.proofs.RunLemmas.{length-news-le}
+use Rattle.ot_operation.specs.Compose.{compose}
+use Rattle.ot_operation.specs.Steps.{appended}
+use Rattle.ot_operation.proofs.ComposeProgress.{ComposeBounds}
 use Rattle.ot_codes.specs.declared.code.Code.{Code}
 use Rattle.ot_codes.specs.declared.code.Code.TheVariants.{Retain, Insert, Delete}
 use Rattle.ot_codes.specs.declared.cut.Splice.{Splice}

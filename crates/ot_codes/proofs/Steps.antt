@@ -1,12 +1,12 @@
 -- The steps of transform's loop, over lists of codes.
 use Rattle.std.proofs.Common.{◌≡◌, ℕ, zero, suc, ◌+◌, ◌<◌, ◌≤◌, List, [], ◌∷◌, ◌++◌, Some, None, refl, sym, ap, ◌∙◌, subst, arith}
 use borrow.Author.Tests.{ne_eqb}
-use Rattle.ot_text.specs.Operation.{Operation, with_retain, with_insert}
-use Rattle.ot_text.specs.Run.{Run, IsNormal}
-use Rattle.ot_text.specs.Rewriting.{with_runs}
-use Rattle.ot_algebra.specs.Cursor.{appended, transformed_part}
-use Rattle.ot_algebra.specs.Merge.{first_after, second_after}
-use Rattle.ot_algebra.proofs.TransformProgress.{Progress, progress_insert_first, progress_insert_second, progress_both_stay, progress_first_goes, progress_second_goes, progress_both_go, progress_end_second}
+use Rattle.ot_operation.specs.Operation.{Operation, with_retain, with_insert}
+use Rattle.ot_operation.specs.Run.{Run, IsNormal}
+use Rattle.ot_operation.specs.Steps.{with_runs}
+use Rattle.ot_operation.specs.Steps.{appended, transformed_part}
+use Rattle.ot_operation.specs.Merge.{first_after, second_after}
+use Rattle.ot_operation.proofs.TransformProgress.{Progress, progress_insert_first, progress_insert_second, progress_both_stay, progress_first_goes, progress_second_goes, progress_both_go, progress_end_second}
 use Rattle.ot_codes.specs.declared.code.Code.{Code}
 use Rattle.ot_codes.specs.declared.code.Code.TheVariants.{Retain, Insert, Delete}
 use Rattle.ot_codes.specs.declared.code.Sum.{Sum}

@@ -1,9 +1,11 @@
 -- What codes come to, one after the other.
-use Rattle.std.proofs.Common.{◌≡◌, ℕ, suc, zero, ◌+◌, ◌*◌, ◌<◌, ◌≤◌, List, [], ◌∷◌, ◌++◌, take, get_or, length, refl, sym, ap, ◌∙◌, arith}
+use Rattle.std.proofs.Common.{◌≡◌, ℕ, suc, zero, ◌+◌, ◌*◌, ◌<◌, ◌≤◌, List, [], ◌∷◌, ◌++◌, take, get_or, length, refl, sym, ap, ◌∙◌, arith, length-append}
+use Rattle.ot_codes.specs.Leaf.{leaf_of}
+use Rattle.ot_codes.specs.declared.leaf.Leaf.{Leaf}
 use Rattle.ot_codes.specs.declared.code.Code.{Code}
 use Rattle.ot_codes.specs.declared.code.Code.TheVariants.{Retain, Insert, Delete}
 use Rattle.ot_codes.specs.declared.code.Sum.{Sum}
-use Rattle.ot_codes.specs.Codes.{length_of, counted, kept_in, deleted_in, inserted_in, sum_of, total_of}
+use Rattle.ot_codes.specs.Codes.{length_of, added, counted, kept_in, deleted_in, inserted_in, sum_of, total_of}
 
 pub same_sum : (k l m n p q : ℕ) → k ≡ l → m ≡ n → p ≡ q → ◌≡◌ {A = Sum} (record { kept = k; deleted = m; inserted = p }) (record { kept = l; deleted = n; inserted = q })
 same_sum k l m n p q kept deleted inserted = rw (kept, deleted, inserted) refl
@@ -71,3 +73,18 @@ sum_next codes i j sum next code d w h j_is code_is short next_is =
     by (Retain n) short = omega (arith, w.short, short)
     by (Insert n) short = omega (arith, w.short, short)
     by (Delete n) short = omega (arith, w.short, short)
+
+-- two parts of a leaf
+pub sum-append : (xs ys : List Code) → added (sum_of xs) (sum_of ys) ≡ sum_of (xs ++ ys)
+sum-append xs ys = same_sum _ _ _ _ _ _ (sym (kept-append xs ys)) (sym (deleted-append xs ys)) (sym (inserted-append xs ys))
+
+same_leaf : (s t : Sum) (m n : ℕ) → s ≡ t → m ≡ n → ◌≡◌ {A = Leaf} (record { sum = s; count = m }) (record { sum = t; count = n })
+same_leaf s t m n sums counts = rw (sums, counts) refl
+
+pub leaf-append :
+    (xs ys : List Code) (leaf behind : Leaf) (sum : Sum) (count : ℕ) → leaf ≡ leaf_of xs → behind ≡ leaf_of ys → sum ≡ added leaf.sum behind.sum → count ≡ leaf.count + behind.count
+    → ◌≡◌ {A = Leaf} (record { sum = sum; count = count }) (leaf_of (xs ++ ys))
+leaf-append xs ys leaf behind sum count leaf_is behind_is sum_is count_is =
+    same_leaf _ _ _ _
+    (sum_is ∙ rw (leaf_is, behind_is) (sum-append xs ys))
+    (count_is ∙ rw (leaf_is, behind_is, length-append) refl)

@@ -1,13 +1,13 @@
 -- Runs of one operation that lie in a single run of the other: transform goes past all of them at once.
 use Rattle.std.proofs.Common.{◌≡◌, ℕ, suc, zero, ◌+◌, ◌-◌, ◌<◌, ◌≤◌, List, [], ◌∷◌, ◌++◌, length, refl, sym, ap, subst, ◌∙◌, arith}
-use Rattle.ot_text.specs.Operation.{Operation, with_retain, with_insert, with_delete}
-use Rattle.ot_text.specs.Run.{Run, Keep, Add, Skip, base_of}
-use Rattle.ot_text.specs.Rewriting.{with_runs}
-use Rattle.ot_text.proofs.RunLemmas.{same_operation}
-use Rattle.ot_algebra.specs.Cursor.{target_of, skipped}
-use Rattle.ot_algebra.proofs.SkippedLaws.{skipped_retain-whole, skipped_delete-whole, skipped_delete-part}
-use Rattle.ot_algebra.proofs.TransformProgress.{Progress, progress_insert_second, progress_both_stay, progress_first_goes, progress_second_goes, progress_both_go}
-use Rattle.ot_algebra.proofs.KeptRuns.{first_keep, after_kept, with_runs-none, with_runs-keep, with_runs-add, with_runs-skip, retain-none, retain-more, kept_none, kept_some, kept_more, first_more}
+use Rattle.ot_operation.specs.Operation.{Operation, with_retain, with_insert, with_delete}
+use Rattle.ot_operation.specs.Run.{Run, Keep, Add, Skip, base_of}
+use Rattle.ot_operation.specs.Steps.{with_runs}
+use Rattle.ot_operation.proofs.RunLemmas.{same_operation}
+use Rattle.ot_operation.specs.Steps.{target_of, skipped}
+use Rattle.ot_operation.proofs.SkippedLaws.{skipped_retain-whole, skipped_delete-whole, skipped_delete-part}
+use Rattle.ot_operation.proofs.TransformProgress.{Progress, progress_insert_second, progress_both_stay, progress_first_goes, progress_second_goes, progress_both_go}
+use Rattle.ot_operation.proofs.KeptRuns.{first_keep, after_kept, with_runs-none, with_runs-keep, with_runs-add, with_runs-skip, retain-none, retain-more, kept_none, kept_some, kept_more, first_more}
 
 -- how many places the first run deletes
 abbrev pub first_skip : {A : Type 0} → List (Run A) → ℕ

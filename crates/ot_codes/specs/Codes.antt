@@ -1,7 +1,7 @@
 -- The codes of an operation: its components without their elements. They spell an operation whose elements are all the one of the unit type.
 use Rattle.std.specs.Prelude.{◌≡◌, ℕ, ◌+◌, ◌-◌, ◌<◌, ◌≤◌, List, [], ◌∷◌, ◌++◌, map, replicate, Bool, true, false, Option, Some, None, nat_eq, if◌then◌else◌}
-use Rattle.ot_text.specs.Operation.{Operation}
-use Rattle.ot_text.specs.Run.{Run, Keep, Add, Skip, operation_of, MayFollow, IsNormal, IsSound}
+use Rattle.ot_operation.specs.Operation.{Operation}
+use Rattle.ot_operation.specs.Run.{Run, Keep, Add, Skip, operation_of, MayFollow, IsNormal, IsSound}
 use Rattle.ot_codes.specs.declared.code.Sum.{Sum}
 use Rattle.ot_codes.specs.declared.code.Code.{Code}
 use Rattle.ot_codes.specs.declared.code.Code.TheVariants.{Retain, Insert, Delete}

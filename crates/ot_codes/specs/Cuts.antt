@@ -1,7 +1,7 @@
 -- The text of a composition: the text of the first operation with cuts, in which elements are deleted and others inserted from the text of the second.
 use Rattle.std.specs.Prelude.{◌≡◌, ℕ, zero, suc, ◌+◌, ◌-◌, ◌≤◌, List, [], ◌∷◌, ◌++◌, length, take, drop, Bool, ◌&&◌, nat_eq, if◌then◌else◌}
-use Rattle.ot_text.specs.Operation.{Operation, news}
-use Rattle.ot_algebra.specs.Compose.{compose}
+use Rattle.ot_operation.specs.Operation.{Operation, news}
+use Rattle.ot_operation.specs.Compose.{compose}
 use Rattle.ot_codes.specs.Shape.{filled}
 use Rattle.ot_codes.specs.declared.cut.Cut.{Cut}
 

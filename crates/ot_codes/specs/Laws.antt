@@ -1,8 +1,8 @@
 -- Operations without their elements: the laws that lead from shapes and elements to operations.
 use Rattle.std.specs.Prelude.{◌≡◌, ◌↔◌, ℕ, List, ◌++◌, length, map}
-use Rattle.ot_text.specs.Operation.{Operation, IsOperation, news, with_retain, with_insert, with_delete}
-use Rattle.ot_algebra.specs.Compose.{compose}
-use Rattle.ot_algebra.specs.Merge.{first_after, second_after}
+use Rattle.ot_operation.specs.Operation.{Operation, IsOperation, news, with_retain, with_insert, with_delete}
+use Rattle.ot_operation.specs.Compose.{compose}
+use Rattle.ot_operation.specs.Merge.{first_after, second_after}
 use Rattle.ot_codes.specs.Shape.{blank, shape, filled}
 use Rattle.ot_codes.specs.Cuts.{carried, GiveText}
 use Rattle.ot_codes.specs.declared.cut.Cut.{Cut}

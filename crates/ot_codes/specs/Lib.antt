@@ -6,3 +6,4 @@ pub mod Laws
 pub mod Packing
 pub mod Leaf
 pub mod Runs
+pub mod Held

@@ -1,6 +1,6 @@
 -- The shape of an operation: how much it keeps, inserts and deletes, and not what. An operation is its shape and its new elements.
 use Rattle.std.specs.Prelude.{List, [], ◌∷◌, map}
-use Rattle.ot_text.specs.Operation.{Item, Old, New, Operation}
+use Rattle.ot_operation.specs.Operation.{Item, Old, New, Operation}
 
 -- an item with another new element in the place of its own
 abbrev pub mapped_item : {A B : Type 0} → (A → B) → Item A → Item B

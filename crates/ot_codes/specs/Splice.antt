@@ -1,6 +1,6 @@
 -- How the loop of compose writes cuts.
 use Rattle.std.specs.Prelude.{◌≡◌, ℕ, ◌+◌, Bool, true, false}
-use Rattle.ot_text.specs.Operation.{Operation, with_retain, with_insert, with_delete}
+use Rattle.ot_operation.specs.Operation.{Operation, with_retain, with_insert, with_delete}
 use Rattle.ot_codes.specs.Codes.{blanks}
 use Rattle.ot_codes.specs.Cuts.{with_cut}
 use Rattle.ot_codes.specs.declared.code.Code.{Code}

@@ -1,23 +1,22 @@
 //! Writing codes: each call adds one at the end, in normal form.
 
 ghost use Rattle.std.specs.Prelude.{◌≡◌, ◌+◌, ◌<◌, ◌≤◌, ◌^◌, IsTrue, OnOk, OnErr};
-ghost use Rattle.ot_text.specs.Operation.{with_insert};
-ghost use Rattle.ot_text.specs.Run.{IsNormal, Extends};
-ghost use Rattle.ot_algebra.specs.Cursor.{appended};
-ghost use Rattle.ot_list.specs.Leaves.{concatenated};
+ghost use Rattle.ot_operation.specs.Operation.{with_insert};
+ghost use Rattle.ot_operation.specs.Run.{IsNormal, Extends};
+ghost use Rattle.ot_operation.specs.Steps.{appended};
 ghost use Rattle.ot_codes.specs.Codes.{EndsWithDelete, MayEndWith, MayGoBefore, blanks, length_of, run_of, runs_of, total_of};
 
 use crate::code::Code;
+use crate::code_list::CodeList;
 use crate::packed::Packed;
-use ot_list::List;
 use std::alloc::AllocError;
 
 /// Adds a code: a neighbour of its kind is lengthened, and an insertion stands before a deletion.
-pub(crate) fn add(codes: &mut List<Packed>, code: Code) -> Result<(), AllocError>
+pub(crate) fn add(codes: &mut CodeList, code: Code) -> Result<(), AllocError>
     requires filled { 0 < length_of code }
-    requires normal { IsNormal (runs_of (concatenated codes.old)) }
-    requires short { total_of (concatenated codes.old) + length_of code < 2 ^ 26 }
-    ensures ok { OnOk result (Extends (runs_of (concatenated codes.old)) (runs_of (concatenated codes.new)) (λ op. appended op (run_of code))) }
+    requires normal { IsNormal (runs_of codes.old) }
+    requires short { total_of codes.old + length_of code < 2 ^ 26 }
+    ensures ok { OnOk result (Extends (runs_of codes.old) (runs_of codes.new) (λ op. appended op (run_of code))) }
     ensures err { OnErr result (codes.new ≡ codes.old) }
 {
     let Some(last) = codes.last() else {
@@ -35,12 +34,12 @@ pub(crate) fn add(codes: &mut List<Packed>, code: Code) -> Result<(), AllocError
 }
 
 // The insertion stands before the deletion at the end.
-fn insert_before_delete(codes: &mut List<Packed>, last: Code, count: u32) -> Result<(), AllocError>
+fn insert_before_delete(codes: &mut CodeList, last: Code, count: u32) -> Result<(), AllocError>
     requires filled { 0 < count }
-    requires normal { IsNormal (runs_of (concatenated codes.old)) }
-    requires short { total_of (concatenated codes.old) + count < 2 ^ 26 }
-    requires at_delete { EndsWithDelete (concatenated codes.old) last }
-    ensures ok { OnOk result (Extends (runs_of (concatenated codes.old)) (runs_of (concatenated codes.new)) (λ op. with_insert op (blanks count))) }
+    requires normal { IsNormal (runs_of codes.old) }
+    requires short { total_of codes.old + count < 2 ^ 26 }
+    requires at_delete { EndsWithDelete codes.old last }
+    ensures ok { OnOk result (Extends (runs_of codes.old) (runs_of codes.new) (λ op. with_insert op (blanks count))) }
     ensures err { OnErr result (codes.new ≡ codes.old) }
 {
     match codes.last_but_one() {
@@ -56,13 +55,13 @@ fn insert_before_delete(codes: &mut List<Packed>, last: Code, count: u32) -> Res
 }
 
 // The insertion stands between the deletion at the end and what is before it.
-fn put_before(codes: &mut List<Packed>, last: Code, count: u32) -> Result<(), AllocError>
+fn put_before(codes: &mut CodeList, last: Code, count: u32) -> Result<(), AllocError>
     requires filled { 0 < count }
-    requires normal { IsNormal (runs_of (concatenated codes.old)) }
-    requires short { total_of (concatenated codes.old) + count < 2 ^ 26 }
-    requires at_delete { EndsWithDelete (concatenated codes.old) last }
-    requires may { MayGoBefore (concatenated codes.old) count }
-    ensures ok { OnOk result (Extends (runs_of (concatenated codes.old)) (runs_of (concatenated codes.new)) (λ op. with_insert op (blanks count))) }
+    requires normal { IsNormal (runs_of codes.old) }
+    requires short { total_of codes.old + count < 2 ^ 26 }
+    requires at_delete { EndsWithDelete codes.old last }
+    requires may { MayGoBefore codes.old count }
+    ensures ok { OnOk result (Extends (runs_of codes.old) (runs_of codes.new) (λ op. with_insert op (blanks count))) }
     ensures err { OnErr result (codes.new ≡ codes.old) }
 {
     codes.push(Packed::new(last))?;
@@ -71,8 +70,8 @@ fn put_before(codes: &mut List<Packed>, last: Code, count: u32) -> Result<(), Al
 }
 
 /// May that code stand directly behind these?
-pub(crate) fn may_end_with(codes: &List<Packed>, code: Code) -> bool
-    ensures { IsTrue result → MayEndWith (concatenated codes.now) code }
+pub(crate) fn may_end_with(codes: &CodeList, code: Code) -> bool
+    ensures { IsTrue result → MayEndWith codes.now code }
 {
     match codes.last() {
         None => true,

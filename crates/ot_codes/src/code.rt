@@ -1,6 +1,6 @@
 //! One code, and what codes come to.
 
-ghost use Rattle.std.specs.Prelude.{◌≡◌, ◌+◌, ◌<◌, ◌≤◌, ◌^◌, ◌↔◌, IsTrue};
+ghost use Rattle.std.specs.Prelude.{◌≡◌, ◌+◌, ◌<◌, ◌≤◌, ◌^◌, ◌↔◌, IfSome, IsTrue};
 ghost use Rattle.ot_codes.specs.Codes.{added, counted, joined, keeps, length_of, precedes, stands_before, with_length};
 
 /// A component without its elements: what it does, and with how many of them (1 to 1,000,000 in an operation).
@@ -111,6 +111,17 @@ impl Sum {
                 ..self
             },
         }
+    }
+
+    /// Two sums together; none where a number would grow too large.
+    pub(crate) fn checked_plus(self, more: Sum) -> Option<Sum>
+        ensures { IfSome result (λ all. all ≡ added self more) }
+    {
+        Some(Sum {
+            kept: self.kept.checked_add(more.kept)?,
+            deleted: self.deleted.checked_add(more.deleted)?,
+            inserted: self.inserted.checked_add(more.inserted)?,
+        })
     }
 
     /// Two sums together.

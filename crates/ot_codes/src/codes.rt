@@ -1,18 +1,19 @@
 //! The codes of an operation, and the pen that writes them.
 
-ghost use Rattle.std.specs.Prelude.{◌≡◌, ◌+◌, ◌<◌, ◌≤◌, ◌∷◌, length, max, false, IsTrue, IfOk, OnOk, OnErr};
-ghost use Rattle.ot_text.specs.Operation.{IsOperation, IsTooLong, empty, news};
-ghost use Rattle.ot_text.specs.Run.{IsNormal};
-ghost use Rattle.ot_text.specs.Rewriting.{with_runs};
-ghost use Rattle.ot_text.specs.declared.TheConstants.{LIMIT};
-ghost use Rattle.ot_algebra.specs.Cursor.{appended};
+ghost use Rattle.std.specs.Prelude.{◌≡◌, ◌+◌, ◌*◌, ◌<◌, ◌≤◌, ◌∷◌, length, max, false, IsTrue, IfOk, OnOk, OnErr};
+ghost use Rattle.ot_operation.specs.Operation.{IsOperation, IsTooLong, empty, news};
+ghost use Rattle.ot_operation.specs.Run.{IsNormal, normal_runs};
+ghost use Rattle.ot_operation.specs.Steps.{with_runs};
+ghost use Rattle.ot_operation.specs.declared.TheConstants.{LIMIT};
+ghost use Rattle.ot_operation.specs.Steps.{appended};
 ghost use Rattle.ot_codes.specs.Codes.{run_of, runs_of, spelled};
 
 use crate::build::{add, may_end_with};
 use crate::code::{Code, Sum};
+use crate::code_list::CodeList;
 use crate::cursor::Cursor;
 use crate::packed::Packed;
-use ot_list::{Item, List};
+use ot_list::Item;
 use std::alloc::{AllocError, Global};
 use std::marker::Model;
 
@@ -20,21 +21,20 @@ use std::marker::Model;
 /// target length are at most 1,000,000 elements. A contract sees the operation that they spell over the unit type: the shape of every operation with these codes.
 #[derive(Drop)]
 pub struct Codes {
-    list: List<Packed>,
+    list: CodeList,
     sum: Sum,
 }
 
 impl Model for Codes {
-    ghost use Rattle.ot_text.specs.Operation.{Operation};
+    ghost use Rattle.ot_operation.specs.Operation.{Operation};
 
     ghost Value = { Operation (Unit {0}) };
 
-    ghost use Rattle.ot_list.specs.Leaves.{concatenated};
     ghost use Rattle.ot_codes.specs.Codes.{AreSound, spelled};
 
-    ghost view = { λ s. spelled (concatenated s.list) };
+    ghost view = { λ s. spelled s.list };
 
-    ghost invariant = { λ s. AreSound (concatenated s.list) s.sum };
+    ghost invariant = { λ s. AreSound s.list s.sum };
 }
 
 impl Codes {
@@ -43,9 +43,14 @@ impl Codes {
         ensures { result ≡ empty }
     {
         Codes {
-            list: List::new(alloc),
+            list: CodeList::new(alloc),
             sum: Sum::ZERO,
         }
+    }
+
+    /// Where the memory of the codes comes from.
+    pub fn allocator(&self) -> Global {
+        self.list.allocator()
     }
 
     /// One more code at the end, as ot.js' builder adds a component: one of no elements adds nothing, a neighbour of its kind is lengthened, and an insertion
@@ -103,7 +108,7 @@ impl Codes {
         ensures spells { spelled result ≡ self.now }
         ensures fits { max self.now.base (length self.now.image) ≤ LIMIT }
     {
-        Cursor::new(&self.list)
+        self.list.cursor()
     }
 
     /// How many elements they retain, delete and insert. A look-up.
@@ -143,6 +148,25 @@ impl Codes {
     {
         self.sum().inserted
     }
+
+    /// How many codes there are. It goes through none of them.
+    pub fn count(&self) -> usize
+        ensures value { result ≡ length (normal_runs self.now) }
+        ensures small { result ≤ 2 * LIMIT }
+    {
+        self.list.count()
+    }
+
+    /// Equal codes, leaf by leaf. `AllocError` where a growth was refused.
+    pub fn copy(&self) -> Result<Codes, AllocError>
+        ensures { IfOk result (λ copy. copy ≡ self.now) }
+    {
+        let list = self.list.copy()?;
+        Ok(Codes {
+            list,
+            sum: self.sum,
+        })
+    }
 }
 
 /// What is written of codes, from left to right, always in normal form.
@@ -152,7 +176,7 @@ pub struct Pen {
 }
 
 impl Model for Pen {
-    ghost use Rattle.ot_text.specs.Operation.{Operation};
+    ghost use Rattle.ot_operation.specs.Operation.{Operation};
 
     ghost Value = { Operation (Unit {0}) };
 

@@ -1,9 +1,9 @@
 //! Two operations, one after the other, as one.
 
 ghost use Rattle.std.specs.Prelude.{◌≡◌, ◌+◌, ◌≤◌, length, IfOk, OnOk, Bool};
-ghost use Rattle.ot_text.specs.Operation.{IsTooLong};
-ghost use Rattle.ot_text.specs.declared.TheConstants.{LIMIT};
-ghost use Rattle.ot_algebra.specs.Compose.{compose as composition};
+ghost use Rattle.ot_operation.specs.Operation.{IsTooLong};
+ghost use Rattle.ot_operation.specs.declared.TheConstants.{LIMIT};
+ghost use Rattle.ot_operation.specs.Compose.{compose as composition};
 ghost use Rattle.ot_codes.specs.Codes.{length_of};
 ghost use Rattle.ot_codes.specs.Cuts.{AreWithin, GiveText};
 ghost use Rattle.ot_codes.specs.Splice.{SplicesCode, composed_code, inserts};

@@ -1,8 +1,9 @@
 //! Reading codes, one after the other, or many at once.
 
-ghost use Rattle.std.specs.Prelude.{◌≡◌, ◌+◌, ◌<◌, ◌≤◌, ◌^◌, ◌++◌, length, take, drop, MatchOption};
+ghost use Rattle.std.specs.Prelude.{◌≡◌, ◌+◌, ◌<◌, ◌≤◌, ◌^◌, [], ◌++◌, length, take, drop, MatchOption};
 ghost use Rattle.ot_list.specs.Leaves.{concatenated};
 ghost use Rattle.ot_codes.specs.Codes.{HasFirst, added, deletion_of, first_of, insertion_of, others_of, past, retain_of, sum_of, total_of, without};
+ghost use Rattle.ot_codes.specs.Leaf.{leaves_left};
 ghost use Rattle.ot_codes.specs.Runs.{IsRun, measured};
 
 use crate::code::{Code, Sum};
@@ -18,8 +19,8 @@ pub struct Cursor<'a> {
     rest: &'a [Packed],
     // what these come to, where they are a whole leaf
     leaf: Option<Sum>,
-    // the leaves, and which one is next
-    list: &'a List<Packed>,
+    // the leaves, if there are any, and which one is next
+    list: Option<&'a List<Packed>>,
     next: usize,
 }
 
@@ -29,13 +30,13 @@ impl<'a> Model for Cursor<'a> {
 
     ghost Value = { List Code };
 
-    ghost use Rattle.ot_list.specs.Leaves.{concatenated};
     ghost use Rattle.ot_codes.specs.Codes.{codes_left, total_of};
+    ghost use Rattle.ot_codes.specs.Leaf.{leaves_left};
     ghost use Rattle.ot_codes.specs.Runs.{IsSumOf};
 
-    ghost view = { λ c. codes_left c.head (c.rest.now ++ concatenated (drop c.next c.list.now)) };
+    ghost view = { λ c. codes_left c.head (c.rest.now ++ leaves_left c.list c.next) };
 
-    ghost invariant = { λ c. IsSumOf c.leaf c.head c.rest.now × (length c.rest.now ≤ 64) × (total_of (codes_left c.head (c.rest.now ++ concatenated (drop c.next c.list.now))) < 2 ^ 26) };
+    ghost invariant = { λ c. IsSumOf c.leaf c.head c.rest.now × (length c.rest.now ≤ 64) × (total_of (codes_left c.head (c.rest.now ++ leaves_left c.list c.next)) < 2 ^ 26) };
 }
 
 /// Codes that follow one another, the first of which may be what is left of a longer one; how much they retain, delete and insert; and what is left behind them.
@@ -87,12 +88,21 @@ fn fitting(codes: &[Packed], from: Sum, limit: u32, by: Measure) -> (usize, Sum)
 }
 
 impl<'a> Cursor<'a> {
-    /// All of these codes.
-    pub(crate) fn new(list: &'a List<Packed>) -> Cursor<'a>
+    /// All codes of these leaves.
+    pub(crate) fn of_leaves(list: &'a List<Packed>) -> Cursor<'a>
         requires { total_of (concatenated list.now) < 2 ^ 26 }
         ensures { result ≡ concatenated list.now }
     {
         Cursor::at(list, 0)
+    }
+
+    /// A few codes, which lie in no leaf.
+    pub(crate) fn of_few(codes: &'a [Packed]) -> Cursor<'a>
+        requires few { length codes.now ≤ 64 }
+        requires small { total_of codes.now < 2 ^ 26 }
+        ensures { result ≡ codes.now }
+    {
+        Cursor::behind(codes, None, 0)
     }
 
     // The codes of the leaves from a place on.
@@ -101,17 +111,24 @@ impl<'a> Cursor<'a> {
         ensures { result ≡ concatenated (drop place list.now) }
     {
         if place >= list.leaf_count() {
-            return Cursor {
-                head: None,
-                rest: &[],
-                leaf: None,
-                list,
-                next: place,
-            };
+            return Cursor::end();
         }
         let leaf = list.leaf(place);
         let sums = list.sums();
         Cursor::of_leaf(leaf, sums[place].sum, list, place + 1)
+    }
+
+    // No codes.
+    fn end() -> Cursor<'a>
+        ensures { result ≡ [] }
+    {
+        Cursor {
+            head: None,
+            rest: &[],
+            leaf: None,
+            list: None,
+            next: 0,
+        }
     }
 
     // The codes of a leaf, which come to that sum, and those of the leaves from a place on.
@@ -128,20 +145,31 @@ impl<'a> Cursor<'a> {
                 head: Some(first.code()),
                 rest,
                 leaf: Some(sum),
-                list,
+                list: Some(list),
                 next,
             },
         }
     }
 
+    // What the leaves have from a place on, if there are any.
+    fn next_leaf(list: Option<&'a List<Packed>>, place: usize) -> Cursor<'a>
+        requires { total_of (leaves_left list place) < 2 ^ 26 }
+        ensures { result ≡ leaves_left list.entry place }
+    {
+        match list {
+            None => Cursor::end(),
+            Some(list) => Cursor::at(list, place),
+        }
+    }
+
     // These codes, and those of the leaves from a place on.
-    fn behind(rest: &'a [Packed], list: &'a List<Packed>, place: usize) -> Cursor<'a>
+    fn behind(rest: &'a [Packed], list: Option<&'a List<Packed>>, place: usize) -> Cursor<'a>
         requires few { length rest.now ≤ 64 }
-        requires small { total_of (rest.now ++ concatenated (drop place list.now)) < 2 ^ 26 }
-        ensures { result ≡ rest.now ++ concatenated (drop place list.now) }
+        requires small { total_of (rest.now ++ leaves_left list place) < 2 ^ 26 }
+        ensures { result ≡ rest.now ++ leaves_left list.entry place }
     {
         match rest {
-            [] => Cursor::at(list, place),
+            [] => Cursor::next_leaf(list, place),
             [first, others @ ..] => Cursor {
                 head: Some(first.code()),
                 rest: others,
@@ -203,7 +231,7 @@ impl<'a> Cursor<'a> {
                     first,
                     others: self.rest,
                     sum,
-                    behind: Cursor::at(self.list, self.next),
+                    behind: Cursor::next_leaf(self.list, self.next),
                 });
             }
         }

@@ -1,11 +1,11 @@
 //! The text of a composition, as a change of the first operation's.
 
 ghost use Rattle.std.specs.Prelude.{◌≡◌, ◌+◌, ◌-◌, ◌≤◌, [], ◌++◌, length, take, drop, IfOk, OnOk};
-ghost use Rattle.ot_text.specs.declared.TheConstants.{LIMIT};
+ghost use Rattle.ot_operation.specs.declared.TheConstants.{LIMIT};
 ghost use Rattle.ot_codes.specs.Cuts.{AreWithin, carried, longer, meets, with_cut};
 ghost use Rattle.ot_codes.specs.Splice.{HasDeleted, HasInserted, HasKept};
 
-use ot_text::Element;
+use ot_operation::Element;
 use std::alloc::{AllocError, Global};
 
 /// In a text `gone` elements are deleted, from place `at` on, and `put` elements of another text are inserted there, from its place `from` on.

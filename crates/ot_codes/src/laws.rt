@@ -1,7 +1,7 @@
 //! The laws, each as the contract of a function that does nothing: a proof that calls one has its law.
 ghost use Rattle.ot_codes.specs.Laws.{BuildingKeepsShape, ComposeFills, ComposeKeepsShape, CutsGiveText, FilledFits, FilledGivesBack, SameShape, ShapeKeepsLengths, TransformFills, TransformKeepsShape};
 
-use ot_text::Element;
+use ot_operation::Element;
 
 /// A shape has the lengths of what it is the shape of.
 pub fn shape_keeps_lengths<T: Element>()

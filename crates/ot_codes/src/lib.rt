@@ -23,7 +23,7 @@
 //!     cuts        at 1: 1 goes, 2 come, from 0              text  x u v z
 //! ```
 //!
-//! Codes lie in leaves of up to 64 (`ot_list`), four bytes each, beside what each leaf comes to:
+//! Up to five codes lie in the value itself, without an allocation. More lie in leaves of up to 64 (`ot_list`), four bytes each, beside what each leaf comes to:
 //!
 //! ```text
 //!     sums     [ 31 kept, 4 deleted, 9 inserted | 12 kept, 0 deleted, 2 inserted ]
@@ -37,15 +37,17 @@
 //!
 //! Contracts: `specs/Shape.antt` (shapes, and how they are filled), `specs/Codes.antt` (codes as runs of `ot_text` over the unit type), `specs/Cuts.antt` (the text of a
 //! composition, and what carrying out its cuts gives), `specs/Laws.antt` (the laws, each the contract of a function in [`laws`]). `specs/Splice.antt` serves the loop of `compose` alone, `specs/Runs.antt` says what is
-//! read at once. To read: `code.rt`, `packed.rt` (four bytes), `build.rt` (normal form), `codes.rt`, `cursor.rt`, then `transformation.rt`, `cut.rt` and `composition.rt`.
+//! read at once. To read: `code.rt`, `packed.rt` (four bytes), `code_list.rt` and `few.rt` (few or many), `build.rt` (normal form), `codes.rt`, `cursor.rt`, then `transformation.rt`, `cut.rt` and `composition.rt`.
 #![tactic(auto)]
 
 mod build;
 mod code;
+mod code_list;
 mod codes;
 mod composition;
 mod cursor;
 mod cut;
+mod few;
 pub mod laws;
 mod leaf;
 mod packed;
@@ -58,4 +60,4 @@ pub use cursor::{Cursor, Measure, Run};
 pub use cut::{Cut, carry};
 pub use leaf::Leaf;
 pub use packed::Packed;
-pub use transformation::transform;
+pub use transformation::{transform, transform_first};

@@ -40,6 +40,9 @@ impl Model for Packed {
 }
 
 impl Packed {
+    /// A code of no elements, where none is held.
+    pub(crate) const NONE: Packed = Packed { bits: 0 };
+
     /// The code in four bytes.
     pub(crate) fn new(code: Code) -> Packed
         requires { length_of code < 2 ^ 26 }
@@ -95,6 +98,13 @@ impl Item for Packed {
             sum,
             count: items.len() as u32,
         }
+    }
+
+    fn sum_with(leaf: Leaf, more: &[Packed]) -> Option<Leaf> {
+        let behind = Packed::sum(more);
+        let sum = leaf.sum.checked_plus(behind.sum)?;
+        let count = leaf.count.checked_add(behind.count)?;
+        Some(Leaf { sum, count })
     }
 
     fn count(leaf: Leaf) -> usize {

@@ -1,16 +1,15 @@
 //! Two operations on one document, each after the other.
 
-ghost use Rattle.std.specs.Prelude.{◌≡◌, ◌+◌, ◌<◌, ◌≤◌, ◌^◌, ◌∷◌, length, IfOk, OnOk};
-ghost use Rattle.ot_text.specs.Operation.{IsTooLong, news};
-ghost use Rattle.ot_text.specs.Run.{IsNormal};
-ghost use Rattle.ot_text.specs.Rewriting.{with_runs};
-ghost use Rattle.ot_text.specs.declared.TheConstants.{LIMIT};
-ghost use Rattle.ot_algebra.specs.Merge.{first_after, second_after};
-ghost use Rattle.ot_algebra.specs.Cursor.{appended, transformed_part};
+ghost use Rattle.std.specs.Prelude.{◌≡◌, ◌+◌, ◌≤◌, ◌∷◌, length, IfOk, IsTrue, OnOk};
+ghost use Rattle.ot_operation.specs.Operation.{IsTooLong, news};
+ghost use Rattle.ot_operation.specs.Run.{IsNormal};
+ghost use Rattle.ot_operation.specs.Steps.{with_runs};
+ghost use Rattle.ot_operation.specs.declared.TheConstants.{LIMIT};
+ghost use Rattle.ot_operation.specs.Merge.{first_after, second_after};
+ghost use Rattle.ot_operation.specs.Steps.{appended, transformed_part};
 ghost use Rattle.ot_codes.specs.Codes.{keeps, run_of, runs_of};
-ghost use Rattle.ot_codes.specs.declared.code.Code.TheVariants.{Retain};
 
-use crate::code::{Code, Sum};
+use crate::code::Code;
 use crate::codes::{Codes, Pen};
 use crate::cursor::Measure;
 use crate::packed::Packed;
@@ -28,6 +27,31 @@ pub fn transform(alloc: Global, a: &Codes, b: &Codes) -> Result<(Codes, Codes), 
     requires fits { a.now.base + length (news a.now.image) + length (news b.now.image) ≤ LIMIT }
     ensures { IfOk result (λ pair. pair ≡ (first_after a.now b.now, second_after a.now b.now)) }
 {
+    transform_as(alloc, a, b, true)
+}
+
+/// The first result of [`transform`] alone, under its conditions: the second is not written.
+pub fn transform_first(alloc: Global, a: &Codes, b: &Codes) -> Result<Codes, AllocError>
+    requires same_base { a.now.base ≡ b.now.base }
+    requires fits { a.now.base + length (news a.now.image) + length (news b.now.image) ≤ LIMIT }
+    ensures { IfOk result (λ first. first ≡ first_after a.now b.now) }
+{
+    let (first, _unwritten) = transform_as(alloc, a, b, false)?;
+    Ok(first)
+}
+
+// Both results; the second is written only where it is wanted.
+fn transform_as(
+    alloc: Global,
+    a: &Codes,
+    b: &Codes,
+    wanted: bool,
+) -> Result<(Codes, Codes), AllocError>
+    requires same_base { a.now.base ≡ b.now.base }
+    requires fits { a.now.base + length (news a.now.image) + length (news b.now.image) ≤ LIMIT }
+    ensures first { IfOk result (λ pair. pair.0 ≡ first_after a.now b.now) }
+    ensures second { IsTrue wanted → IfOk result (λ pair. pair.1 ≡ second_after a.now b.now) }
+{
     let mut at_a = a.cursor();
     let mut at_b = b.cursor();
     let mut first = Pen::new(alloc);
@@ -35,7 +59,12 @@ pub fn transform(alloc: Global, a: &Codes, b: &Codes) -> Result<(Codes, Codes), 
     'parts: loop {
         if let Some(count) = at_b.retain() {
             if let Some(run) = at_a.run(count, Measure::Taken) {
-                put_run(&mut first, &mut second, run.first, run.others, run.sum)?;
+                first.append(run.first, run.others)?;
+                put_if(
+                    wanted,
+                    &mut second,
+                    Code::Retain(run.sum.kept + run.sum.inserted),
+                )?;
                 at_b.pass(run.sum.kept + run.sum.deleted);
                 at_a = run.behind;
                 continue 'parts;
@@ -44,29 +73,22 @@ pub fn transform(alloc: Global, a: &Codes, b: &Codes) -> Result<(Codes, Codes), 
         // one element fewer: an insertion of `a` behind what it retains comes before one of `b` there
         if let Some(count) = at_a.retain() {
             if let Some(run) = at_b.run(count - 1, Measure::Taken) {
-                put_run(&mut second, &mut first, run.first, run.others, run.sum)?;
+                append_if(wanted, &mut second, run.first, run.others)?;
+                first.put(Code::Retain(run.sum.kept + run.sum.inserted))?;
                 at_a.pass(run.sum.kept + run.sum.deleted);
                 at_b = run.behind;
                 continue 'parts;
             }
         }
         if let Some(count) = at_a.insertion() {
-            put_both(
-                &mut first,
-                &mut second,
-                Code::Insert(count),
-                Code::Retain(count),
-            )?;
+            first.put(Code::Insert(count))?;
+            put_if(wanted, &mut second, Code::Retain(count))?;
             at_a.next();
             continue 'parts;
         }
         if let Some(count) = at_b.insertion() {
-            put_both(
-                &mut first,
-                &mut second,
-                Code::Retain(count),
-                Code::Insert(count),
-            )?;
+            first.put(Code::Retain(count))?;
+            put_if(wanted, &mut second, Code::Insert(count))?;
             at_b.next();
             continue 'parts;
         }
@@ -77,50 +99,51 @@ pub fn transform(alloc: Global, a: &Codes, b: &Codes) -> Result<(Codes, Codes), 
             return Ok((first.finish(), second.finish()));
         };
         let count = ours.len().min(theirs.len());
-        put_part(&mut first, ours, theirs, count)?;
-        put_part(&mut second, theirs, ours, count)?;
+        put_part(true, &mut first, ours, theirs, count)?;
+        put_part(wanted, &mut second, theirs, ours, count)?;
         at_a.take(count);
         at_b.take(count);
     }
 }
 
-// One more code of each result.
-fn put_both(first: &mut Pen, second: &mut Pen, code: Code, other: Code) -> Result<(), AllocError>
-    requires first_fits { IsTooLong (appended first.old (run_of code)) → ⊥ }
-    requires second_fits { IsTooLong (appended second.old (run_of other)) → ⊥ }
-    ensures first_is { OnOk result (first.new ≡ appended first.old (run_of code)) }
-    ensures second_is { OnOk result (second.new ≡ appended second.old (run_of other)) }
+// One more code, where it is wanted.
+fn put_if(wanted: bool, pen: &mut Pen, code: Code) -> Result<(), AllocError>
+    requires { IsTrue wanted → IsTooLong (appended pen.old (run_of code)) → ⊥ }
+    ensures { IsTrue wanted → OnOk result (pen.new ≡ appended pen.old (run_of code)) }
 {
-    first.put(code)?;
-    second.put(other)
+    if !wanted {
+        return Ok(());
+    }
+    pen.put(code)
 }
 
-// Codes of one operation that lie in a retain of the other: they stay as they are, and the other retains what they make.
-fn put_run(
-    pen: &mut Pen,
-    other: &mut Pen,
-    first: Code,
-    others: &[Packed],
-    sum: Sum,
-) -> Result<(), AllocError>
+// Codes in normal form as they are, where they are wanted.
+fn append_if(wanted: bool, pen: &mut Pen, first: Code, others: &[Packed]) -> Result<(), AllocError>
     requires few { length others.now ≤ 64 }
     requires normal { IsNormal (runs_of (first ∷ others.now)) }
-    requires small { sum.kept + sum.deleted + sum.inserted < 2 ^ 26 }
-    requires pen_fits { IsTooLong (with_runs pen.old (runs_of (first ∷ others.now))) → ⊥ }
-    requires other_fits { IsTooLong (appended other.old (run_of (Retain (sum.kept + sum.inserted)))) → ⊥ }
-    ensures pen_is { OnOk result (pen.new ≡ with_runs pen.old (runs_of (first ∷ others.now))) }
-    ensures other_is { OnOk result (other.new ≡ appended other.old (run_of (Retain (sum.kept + sum.inserted)))) }
+    requires short { IsTrue wanted → IsTooLong (with_runs pen.old (runs_of (first ∷ others.now))) → ⊥ }
+    ensures { IsTrue wanted → OnOk result (pen.new ≡ with_runs pen.old (runs_of (first ∷ others.now))) }
 {
-    pen.append(first, others)?;
-    other.put(Code::Retain(sum.kept + sum.inserted))
+    if !wanted {
+        return Ok(());
+    }
+    pen.append(first, others)
 }
 
-// `count` elements of the document, which one operation treats as `code` says and the other as `other`, as the first treats them after the other.
-fn put_part(pen: &mut Pen, code: Code, other: Code, count: u32) -> Result<(), AllocError>
-    requires { IsTooLong (transformed_part pen.old (keeps code) (keeps other) count) → ⊥ }
-    ensures { OnOk result (pen.new ≡ transformed_part pen.old (keeps code) (keeps other) count) }
+// `count` elements of the document, which one operation treats as `code` says and the other as `other`, as the first treats them after the other, where that is wanted.
+fn put_part(
+    wanted: bool,
+    pen: &mut Pen,
+    code: Code,
+    other: Code,
+    count: u32,
+) -> Result<(), AllocError>
+    requires { IsTrue wanted → IsTooLong (transformed_part pen.old (keeps code) (keeps other) count) → ⊥ }
+    ensures { IsTrue wanted → OnOk result (pen.new ≡ transformed_part pen.old (keeps code) (keeps other) count) }
 {
-    if !other.keeps() {
+    if !wanted {
+        Ok(())
+    } else if !other.keeps() {
         Ok(())
     } else if code.keeps() {
         pen.put(Code::Retain(count))

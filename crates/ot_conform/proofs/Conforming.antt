@@ -9,7 +9,7 @@ use Rattle.serde_json.specs.Data.{Data, number, string, unsigned}
 use Rattle.serde_json.specs.Find.{get}
 use Rattle.serde_json.specs.Written.{compact_text}
 use Rattle.serde_json.specs.View.{items_of}
-use Rattle.ot_text.specs.Run.{Run, Keep, Add, Skip, normal_runs}
+use Rattle.ot_operation.specs.Run.{Run, Keep, Add, Skip, normal_runs}
 use Rattle.ot_json.specs.Writing.{data_of}
 use Rattle.ot_isa.specs.Program.{Program}
 use Rattle.ot_isa.specs.declared.instruction.Instr.{Instr}

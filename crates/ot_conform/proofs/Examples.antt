@@ -7,7 +7,7 @@ use Rattle.json.specs.Print.{escape_byte}
 use Rattle.serde_json.specs.Data.{Data, null, number, unsigned, negative, string, array, object, no_items, item, no_members, member}
 use Rattle.serde_json.specs.Read.{read}
 use Rattle.serde_json.proofs.OnLiterals.{serde_json_on_literals}
-use Rattle.ot_text.specs.Run.{Keep, Add, Skip, operation_of}
+use Rattle.ot_operation.specs.Run.{Keep, Add, Skip, operation_of}
 use Rattle.ot_steps.specs.Lines.{Line, Take, bare}
 use Rattle.ot_steps.specs.Text.{line_text}
 use Rattle.ot_conform.proofs.LineTrees.{body_text, line_data}

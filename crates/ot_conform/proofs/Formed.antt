@@ -7,9 +7,9 @@ use Rattle.std.specs.Str.{all_scalars}
 use Rattle.std.proofs.lemmas.Bool.{eqb-false}
 use Rattle.std.proofs.lemmas.List.{length-map}
 use Rattle.std.proofs.lemmas.Option.{get_or_from_slice_get, same_Some, slice_get_within}
-use Rattle.ot_text.specs.Operation as text
-use Rattle.ot_text.specs.Operation.{Item, Old, New, IsOperation, RisesFrom}
-use Rattle.ot_text.specs.Run.{normal_runs}
+use Rattle.ot_operation.specs.Operation as text
+use Rattle.ot_operation.specs.Operation.{Item, Old, New, IsOperation, RisesFrom}
+use Rattle.ot_operation.specs.Run.{normal_runs}
 use Rattle.ot_json.specs.Writing.{HasForm}
 use Rattle.ot_asm.proofs.Formed.{op_formed}
 use Rattle.ot_isa.specs.Tagging.{chars_of}

@@ -19,7 +19,7 @@ use Rattle.serde_json.specs.View.{items_of}
 use Rattle.serde_json.specs.Written.{items_outline, outline}
 use Rattle.serde_json.proofs.Numbers.{number_of-decimal, number_of-negative}
 use Rattle.serde_json.proofs.Texts.{print-outline}
-use Rattle.ot_text.specs.Run.{Run, Keep, Add, Skip, normal_runs}
+use Rattle.ot_operation.specs.Run.{Run, Keep, Add, Skip, normal_runs}
 use Rattle.ot_json.specs.Writing as writing
 use Rattle.ot_json.specs.Writing.{HasForm}
 use Rattle.ot_steps.specs.Lines.{Line}

@@ -12,7 +12,7 @@ use Rattle.serde_json.specs.Find.{get}
 use Rattle.serde_json.specs.Read.{read}
 use Rattle.line_reader.specs.Lines.{lines_of}
 use Rattle.line_reader.proofs.Ends.{lines_piece}
-use Rattle.ot_text.specs.Run.{normal_runs}
+use Rattle.ot_operation.specs.Run.{normal_runs}
 use Rattle.ot_json.specs.Writing.{text_of_operation}
 use Rattle.ot_asm.specs.Words.{cut_blanks, skip_blanks, trimmed}
 use Rattle.ot_asm.proofs.Printing.{array_solid, array_text, quoted_solid, quoted_text}

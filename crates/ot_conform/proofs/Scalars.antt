@@ -6,9 +6,9 @@ use Rattle.std.specs.Str.{all_scalars}
 use Rattle.std.proofs.lemmas.Bool.{and_parts, and_from}
 use Rattle.std.proofs.lemmas.List.{length-take-le, take-take, take-append-drop}
 use Rattle.std.proofs.lemmas.Option.{same_Some}
-use Rattle.ot_text.specs.Operation as text
-use Rattle.ot_text.specs.Operation.{Item, Old, New, value_in}
-use Rattle.ot_algebra.specs.Compose.{item_in}
+use Rattle.ot_operation.specs.Operation as text
+use Rattle.ot_operation.specs.Operation.{Item, Old, New, value_in}
+use Rattle.ot_operation.specs.Compose.{item_in}
 use Rattle.ot_isa.specs.Program.{Program, IsProgram}
 use Rattle.ot_isa.specs.Program as isa
 use Rattle.ot_isa.specs.Tagging.{chars_of, tagged_chars, tagged_items}

@@ -196,7 +196,7 @@ fn buffer(machine: &Machine, client: u16) -> Option<&TextOp<Tagged>>
 
 fn component_count(op: Option<&TextOp<Tagged>>) -> usize {
     match op {
-        Some(op) => op.components().len(),
+        Some(op) => op.component_count(),
         None => 0,
     }
 }

@@ -1,17 +1,13 @@
 -- Whether an operation makes another list of a list: component by component, as far as the two are the same.
-use Rattle.std.proofs.Common.{◌≡◌, ◌≢◌, ℕ, zero, suc, ◌+◌, ◌-◌, ◌<◌, ◌≤◌, List, [], ◌∷◌, ◌++◌, length, take, drop, min, get_or, refl, ap, sym, ◌∙◌, subst, arith, Some, Bool, true, false, nat_eq}
+use Rattle.std.proofs.Common.{◌≡◌, ◌≢◌, ℕ, zero, suc, ◌+◌, ◌-◌, ◌<◌, ◌≤◌, List, [], ◌∷◌, ◌++◌, length, take, drop, min, refl, ap, sym, ◌∙◌, subst, arith, append_assoc, append-nil, Some, Bool, true, false, nat_eq}
 use Rattle.std.proofs.lemmas.List.{drop-drop, length-drop, length-take, length-take-le, take_all}
 use Rattle.std.proofs.lemmas.Option.{same_Some}
 use Rattle.std.proofs.Math.Seq.{take-add}
 use Rattle.std.specs.Prelude.{slice_get, MatchBool, not}
 use Rattle.std.proofs.lemmas.Bool.{eqb-false, eqb-true}
-use Rattle.ot_text.specs.declared.Component.{Component}
-use Rattle.ot_text.specs.Texts.{Text}
-use Rattle.ot_text.specs.declared.Component.TheVariants.{Retain, Insert, Delete}
-use Rattle.ot_text.specs.Operation.{Operation, apply}
-use Rattle.ot_text.specs.Run.{base_of, operation_of}
-use Rattle.ot_text.specs.Components.{runs}
-use Rattle.ot_text.proofs.Applied.{IsApplied, applied_none, applied_all, applied_retain, applied_insert, applied_delete, retain_within, delete_within}
+use Rattle.ot_operation.specs.Operation.{Operation, apply}
+use Rattle.ot_operation.specs.Run.{Run, Keep, Add, Skip, base_of, image_from, operation_of}
+use Rattle.ot_operation.proofs.Applied.{values, values-append, values-news, values-olds, values-shift}
 
 -- two lists compared element by element
 head_of : {X : Type 0} (x y : X) (xs ys : List X) → x ∷ xs ≡ y ∷ ys → x ≡ y
@@ -70,95 +66,95 @@ length_there list to n xs within many is =
     let f : length (drop to list) ≡ length list - to = length-drop to list in
     omega (arith, e, f, within)
 
--- what the components up to place i make of the list is its first part, up to the place `to`; the others are over what stands from `from` on
-pub record IsSame {X : Type 0} (cs : List (Component X)) (list : List X) (i from to : ℕ) : Type 0 where
-  pub applied : IsApplied cs list i (drop from list) (take to list)
-  pub from_in : from ≤ length list
+-- what the components make of the list that are passed is its first part, up to the place `to`; those that are left are over what stands from `from` on
+pub record IsSame {X : Type 0} (left : List (Run X)) (list : List X) (from to : ℕ) (whole : List X) : Type 0 where
+  pub made : take to list ++ values (image_from 0 left) (drop from list) ≡ whole
+  pub fits : from + base_of left ≡ length list
   pub to_in : to ≤ length list
 
-pub begun : {X : Type 0} (cs : List (Component X)) (list : List X) → base_of (runs cs) ≡ length list → IsSame cs list 0 0 0
-begun cs list base = record { applied = applied_none cs list (omega (arith, base)); from_in = omega arith; to_in = omega arith }
+pub begun : {X : Type 0} (left : List (Run X)) (list : List X) (op : Operation X) → operation_of left ≡ op → op.base ≡ length list → IsSame left list 0 0 (apply op list)
+unfolding apply
+begun left list op spells base =
+    record {
+      made = ap (λ o. apply o list) spells;
+      fits = let e = ap (λ o. o.base) spells in omega (arith, e, base);
+      to_in = omega arith;
+    }
 
-module _ {X : Type 0} (cs : List (Component X)) (list : List X) (i from to : ℕ) (c : Component X) (less : i < length cs) (here : c ≡ get_or cs i c) (same : IsSame cs list i from to) where
-  -- a retain stays within the list
-  pub retain_in : (n : ℕ) → c ≡ Retain n → from + n ≤ length list
-  retain_in n is =
-      let e = retain_within cs list i (drop from list) (take to list) c less here same.applied n is in
-      let f : length (drop from list) ≡ length list - from = length-drop from list in
-      let g = same.from_in in
-      omega (arith, e, f, g)
+module _ {X : Type 0} (left next : List (Run X)) (list whole : List X) (from to : ℕ) (same : IsSame left list from to whole) where
+  -- a retain
+  module _ (n : ℕ) (is : left ≡ Keep n ∷ next) where
+    -- it stays within the list
+    pub retained_in : from + n ≤ length list
+    retained_in = let f = rw is at same.fits in omega (arith, f)
 
-  retained : (n : ℕ) → c ≡ Retain n → IsApplied cs list (i + 1) (drop n (drop from list)) (take to list ++ take n (drop from list))
-  retained n is = applied_retain cs list i (drop from list) (take to list) c less here same.applied n is
+    retained : (take to list ++ take n (drop from list)) ++ values (image_from 0 next) (drop (from + n) list) ≡ whole
+    retained =
+        let m = rw (is, values-append, values-olds, values-shift 0 n next (drop from list), drop-drop n from list) at same.made in
+        append_assoc (take to list) (take n (drop from list)) _ ∙ m
 
-  retained_length : (n : ℕ) → c ≡ Retain n → length (take n (drop from list)) ≡ n
-  retained_length n is = length-take-le n (drop from list) (let e = retain_in n is in let f : length (drop from list) ≡ length list - from = length-drop from list in omega (arith, e, f))
+    retained_length : length (take n (drop from list)) ≡ n
+    retained_length = length-take-le n (drop from list) (let e = retained_in in let f : length (drop from list) ≡ length list - from = length-drop from list in omega (arith, e, f))
 
-  pub retained_same : (n j k : ℕ) → c ≡ Retain n → take n (drop from list) ≡ take n (drop to list) → j ≡ from + n → k ≡ to + n → IsSame cs list (i + 1) j k
-  retained_same n j k is repeats onward further =
-      record {
-        applied = subst (λ m. IsApplied cs list (i + 1) (drop m list) (take k list)) (sym onward)
-            (subst (λ m. IsApplied cs list (i + 1) (drop (from + n) list) (take m list)) (sym further)
-            (subst (λ xs. IsApplied cs list (i + 1) (drop (from + n) list) xs) (ap (λ xs. take to list ++ xs) repeats ∙ sym (take-add to n list))
-            (subst (λ xs. IsApplied cs list (i + 1) xs (take to list ++ take n (drop from list))) (drop-drop n from list) (retained n is))));
-        from_in = let e = retain_in n is in omega (arith, e, onward);
-        to_in = let e = length_there list to n (take n (drop from list)) same.to_in (retained_length n is) (sym repeats) in omega (arith, e, further);
-      }
+    pub retained_same : take n (drop from list) ≡ take n (drop to list) → IsSame next list (from + n) (to + n) whole
+    retained_same repeats =
+        record {
+          made = ap (λ xs. xs ++ values (image_from 0 next) (drop (from + n) list)) (take-add to n list ∙ ap (λ xs. take to list ++ xs) (sym repeats)) ∙ retained;
+          fits = let f = rw is at same.fits in omega (arith, f);
+          to_in = let e = length_there list to n (take n (drop from list)) same.to_in retained_length (sym repeats) in omega (arith, e);
+        }
 
-  pub retained_other : (n : ℕ) (op : Operation X) → c ≡ Retain n → operation_of (runs cs) ≡ op → take n (drop from list) ≢ take n (drop to list) → apply op list ≢ list
-  unfolding apply
-  retained_other n op is spells other e =
-      other (sym (stands_there list (take n (drop from list)) _ to n same.to_in (retained_length n is) ((retained n is).made ∙ ap (λ (o : Operation X). apply o list) spells ∙ e)))
+    pub retained_other : take n (drop from list) ≢ take n (drop to list) → whole ≢ list
+    retained_other other e = other (sym (stands_there list (take n (drop from list)) _ to n same.to_in retained_length (retained ∙ e)))
 
-  inserted : (v : Text X) → c ≡ Insert v → IsApplied cs list (i + 1) (drop from list) (take to list ++ v.items)
-  inserted v is = applied_insert cs list i (drop from list) (take to list) c less here same.applied v is
+  -- an insertion
+  module _ (text : List X) (is : left ≡ Add text ∷ next) where
+    inserted : (take to list ++ text) ++ values (image_from 0 next) (drop from list) ≡ whole
+    inserted = let m = rw (is, values-append, values-news) at same.made in append_assoc (take to list) text _ ∙ m
 
-  pub inserted_same : (v : Text X) (k : ℕ) → c ≡ Insert v → take (length v.items) (drop to list) ≡ v.items → k ≡ to + length v.items → IsSame cs list (i + 1) from k
-  inserted_same v k is stands further =
-      record {
-        applied = subst (λ m. IsApplied cs list (i + 1) (drop from list) (take m list)) (sym further)
-            (subst (λ xs. IsApplied cs list (i + 1) (drop from list) xs) (ap (λ xs. take to list ++ xs) (sym stands) ∙ sym (take-add to (length v.items) list)) (inserted v is));
-        from_in = same.from_in;
-        to_in = let e = length_there list to (length v.items) v.items same.to_in refl stands in omega (arith, e, further);
-      }
+    pub inserted_in : take (length text) (drop to list) ≡ text → to + length text ≤ length list
+    inserted_in stands = length_there list to (length text) text same.to_in refl stands
 
-  pub inserted_other : (v : Text X) (op : Operation X) → c ≡ Insert v → operation_of (runs cs) ≡ op → take (length v.items) (drop to list) ≢ v.items → apply op list ≢ list
-  unfolding apply
-  inserted_other v op is spells other e =
-      other (stands_there list v.items _ to (length v.items) same.to_in refl ((inserted v is).made ∙ ap (λ (o : Operation X). apply o list) spells ∙ e))
+    pub inserted_same : take (length text) (drop to list) ≡ text → IsSame next list from (to + length text) whole
+    inserted_same stands =
+        record {
+          made = ap (λ xs. xs ++ values (image_from 0 next) (drop from list)) (take-add to (length text) list ∙ ap (λ xs. take to list ++ xs) stands) ∙ inserted;
+          fits = let f = rw is at same.fits in omega (arith, f);
+          to_in = inserted_in stands;
+        }
 
-  pub deleted_in : (n : ℕ) → c ≡ Delete n → from + n ≤ length list
-  deleted_in n is =
-      let e = delete_within cs list i (drop from list) (take to list) c less here same.applied n is in
-      let f : length (drop from list) ≡ length list - from = length-drop from list in
-      let g = same.from_in in
-      omega (arith, e, f, g)
+    pub inserted_other : take (length text) (drop to list) ≢ text → whole ≢ list
+    inserted_other other e = other (stands_there list text _ to (length text) same.to_in refl (inserted ∙ e))
 
-  pub deleted_same : (n j : ℕ) → c ≡ Delete n → j ≡ from + n → IsSame cs list (i + 1) j to
-  deleted_same n j is onward =
-      record {
-        applied = subst (λ m. IsApplied cs list (i + 1) (drop m list) (take to list)) (sym onward)
-            (subst (λ xs. IsApplied cs list (i + 1) xs (take to list)) (drop-drop n from list) (applied_delete cs list i (drop from list) (take to list) c less here same.applied n is));
-        from_in = let e = deleted_in n is in omega (arith, e, onward);
-        to_in = same.to_in;
-      }
+  -- a deletion
+  module _ (n : ℕ) (is : left ≡ Skip n ∷ next) where
+    pub deleted_in : from + n ≤ length list
+    deleted_in = let f = rw is at same.fits in omega (arith, f)
+
+    pub deleted_same : IsSame next list (from + n) to whole
+    deleted_same =
+        record {
+          made = rw (is, values-shift 0 n next (drop from list), drop-drop n from list) at same.made;
+          fits = let f = rw is at same.fits in omega (arith, f);
+          to_in = same.to_in;
+        }
 
 -- at the end what was made is the list, where it is as long
-module _ {X : Type 0} (cs : List (Component X)) (list : List X) (i from to : ℕ) (op : Operation X) (past : length cs ≤ i) (spells : operation_of (runs cs) ≡ op) (same : IsSame cs list i from to) where
-  made : take to list ≡ apply op list
-  made = applied_all cs list i (drop from list) (take to list) past same.applied ∙ ap (λ (o : Operation X). apply o list) spells
+module _ {X : Type 0} (left : List (Run X)) (list whole : List X) (from to : ℕ) (past : left ≡ []) (same : IsSame left list from to whole) where
+  made : take to list ≡ whole
+  made = sym (append-nil (take to list)) ∙ (rw past at same.made)
 
-  pub whole : to ≡ length list → apply op list ≡ list
-  whole all = sym made ∙ take_all to list (omega (arith, all))
+  all_same : to ≡ length list → whole ≡ list
+  all_same all = sym made ∙ take_all to list (omega (arith, all))
 
-  pub shorter : to ≢ length list → apply op list ≢ list
+  shorter : to ≢ length list → whole ≢ list
   shorter other e =
       let m : min to (length list) ≡ length list = sym (length-take to list) ∙ ap length (made ∙ e) in
       let within = same.to_in in
       other (omega (arith, m, within))
 
-  pub finished : (n : ℕ) (b : Bool) → n ≡ length list → nat_eq to n ≡ b → MatchBool (not b) (apply op list ≢ list) (apply op list ≡ list)
-  finished n true size e = whole (eqb-true to n e ∙ size)
+  pub finished : (n : ℕ) (b : Bool) → n ≡ length list → nat_eq to n ≡ b → MatchBool (not b) (whole ≢ list) (whole ≡ list)
+  finished n true size e = all_same (eqb-true to n e ∙ size)
   finished n false size e = shorter (λ f. eqb-false to n e (f ∙ sym size))
 
 -- ---- the comparisons

@@ -1,7 +1,7 @@
 -- What an instruction would change, determined before it is performed, and which of the watches have to be looked at.
 use Rattle.std.specs.Prelude.{◌≡◌, ◌≢◌, ◌<◌, ◌≤◌, ℕ, length, List, Bool, true, false, slice_get, Some, MatchBool}
 use Rattle.ot_isa.specs.declared.elements.Tagged.{Tagged}
-use Rattle.ot_text.specs.Operation.{Operation, apply}
+use Rattle.ot_operation.specs.Operation.{Operation, apply}
 use Rattle.ot_model.specs.Table.{State, Outcome, Performed, Refused, NoRow}
 use Rattle.ot_debug.specs.declared.command.Watched.{Watched}
 use Rattle.ot_debug.specs.Stops.{IsChanged}

@@ -4,7 +4,7 @@ ghost use Rattle.std.specs.Prelude.{◌≡◌, ◌+◌, ◌≤◌, ◌↔◌, le
 ghost use Rattle.ot_debug.specs.Changes.{ChangesList};
 
 use ot_isa::Tagged;
-use ot_text::{Component, Doc, TextOp};
+use ot_text::{ComponentRef, Doc, TextOp};
 
 // The two are the same element, or none.
 fn is_same(a: Option<Tagged>, b: Option<Tagged>) -> bool
@@ -62,25 +62,24 @@ pub(crate) fn changes(op: &TextOp<Tagged>, list: &Doc<Tagged>) -> bool
 {
     // For the proof: how long a list is.
     let length = list.len();
-    let components = op.components();
     let mut from = 0;
     let mut to = 0;
-    for component in components {
+    for component in op.components() {
         match component {
-            Component::Retain(count) => {
-                if !repeats(list, from, to, *count) {
+            ComponentRef::Retain(count) => {
+                if !repeats(list, from, to, count) {
                     return true;
                 }
-                from += *count;
-                to += *count;
+                from += count;
+                to += count;
             }
-            Component::Insert(text) => {
-                if !has_text(list, to, text.as_slice()) {
+            ComponentRef::Insert(text) => {
+                if !has_text(list, to, text) {
                     return true;
                 }
                 to += text.len();
             }
-            Component::Delete(count) => from += *count,
+            ComponentRef::Delete(count) => from += count,
         }
     }
     to != length

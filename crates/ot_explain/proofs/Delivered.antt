@@ -7,7 +7,7 @@ use Rattle.ot_isa.specs.declared.instruction.Instr.TheVariants.{Edit, Take, Deli
 use Rattle.ot_model.specs.Operation.{Operation}
 use Rattle.ot_model.specs.Table.{Client, State, Outcome, Performed, Refused, NoRow}
 use Rattle.ot_model.proofs.Outcomes.{by_deliver}
-use Rattle.ot_steps.specs.Kept.{LeadsTo}
+use Rattle.ot_steps.specs.Steps.{LeadsTo}
 use Rattle.ot_steps.specs.Steps.{applies, delivers}
 use Rattle.ot_explain.specs.Told.{against_waiting, applied_words, before, begun, deliver_start, deliver_words}
 use Rattle.ot_explain.specs.Words.{entry_text, made_text, of_client}

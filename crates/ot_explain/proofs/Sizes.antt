@@ -2,8 +2,8 @@
 use Rattle.std.proofs.Common.{◌≡◌, ℕ, zero, suc, ◌-◌, List, [], ◌∷◌, map, length, refl, ap, ◌∙◌, true, false}
 use Rattle.std.specs.Prelude.{◌&&◌, nat_le}
 use Rattle.std.proofs.lemmas.List.{length-map}
-use Rattle.ot_text.specs.Operation as text
-use Rattle.ot_text.specs.Run.{Run, Keep, Add, Skip, normal_runs, normal_runs_from, with_keep, with_new, with_skip}
+use Rattle.ot_operation.specs.Operation as text
+use Rattle.ot_operation.specs.Run.{Run, Keep, Add, Skip, normal_runs, normal_runs_from, with_keep, with_new, with_skip}
 use Rattle.ot_isa.specs.declared.elements.Tagged.{Tagged}
 use Rattle.ot_json.specs.Writing.{text_of_operation}
 use Rattle.ot_model.specs.Operation.{Item, Old, New, Operation}

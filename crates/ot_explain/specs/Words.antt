@@ -3,7 +3,7 @@ use Rattle.std.specs.Prelude.{ℕ, List, [], ◌++◌, ◌&&◌, ◌==◌, lengt
 use Rattle.std.specs.Option.{option_map}
 use Rattle.std.specs.Str.{encode_utf8_all}
 use Rattle.json.specs.Print.{quoted}
-use Rattle.ot_text.specs.Run.{normal_runs}
+use Rattle.ot_operation.specs.Run.{normal_runs}
 use Rattle.ot_isa.specs.declared.elements.Tagged.{Tagged}
 use Rattle.ot_isa.specs.Tagging.{chars_of}
 use Rattle.ot_json.specs.Writing.{text_of_operation}

@@ -26,7 +26,7 @@ const FEW_INSERTED: usize = 200;
 fn is_short<T: Element>(op: &TextOp<T>) -> bool
     ensures { result ≡ is_short op.now }
 {
-    op.components().len() <= FEW_COMPONENTS && op.inserted() <= FEW_INSERTED
+    op.component_count() <= FEW_COMPONENTS && op.inserted() <= FEW_INSERTED
 }
 
 // So many components, which make documents of the target length of those of the base length.
@@ -44,7 +44,7 @@ fn size_words(alloc: Global, count: usize, base: usize, target: usize) -> Result
 fn push_size<T: Element>(alloc: Global, text: &mut String, op: &TextOp<T>) -> Result<(), AllocError>
     ensures { OnOk result (string_bytes text.new ≡ string_bytes text.old ++ size_text op.now) }
 {
-    let size = size_words(alloc, op.components().len(), op.base_len(), op.target_len())?;
+    let size = size_words(alloc, op.component_count(), op.base_len(), op.target_len())?;
     text.push_str(size.as_str())
 }
 

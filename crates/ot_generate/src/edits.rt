@@ -1,8 +1,8 @@
 //! Edits by chance.
 
 ghost use Rattle.std.specs.Prelude.{◌≡◌, ◌+◌, ◌≤◌, length, IfOk};
-ghost use Rattle.ot_text.specs.Operation.{news};
-ghost use Rattle.ot_text.specs.declared.TheConstants.{LIMIT};
+ghost use Rattle.ot_operation.specs.Operation.{news};
+ghost use Rattle.ot_operation.specs.declared.TheConstants.{LIMIT};
 
 use crate::chance::{below, draw_text};
 use ot_text::{OpRefusal, TextOp, only_memory};
@@ -127,7 +127,7 @@ fn draw_changes(alloc: Global, chance: &mut Pcg32, size: usize) -> Result<TextOp
     ensures { IfOk result (λ op. op.base ≡ size) }
 {
     let (first, second) = draw_strokes(chance, size);
-    let mut op = TextOp::with_capacity(alloc, 8)?;
+    let mut op = TextOp::new(alloc);
     let left = carry_out(alloc, chance, &mut op, size, first)?;
     let left = carry_out(alloc, chance, &mut op, left, second)?;
     op.retain(left)?;

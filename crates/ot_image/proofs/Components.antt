@@ -6,8 +6,8 @@ use Rattle.std.proofs.Math.Utf8.{scalar_fits}
 use Rattle.std.specs.List.{flat_map}
 use Rattle.std.specs.Int.{w8, w32, to_be_bytes}
 use Rattle.std.proofs.Math.Utf8.{scalar}
-use Rattle.ot_text.specs.Operation.{Operation, with_retain, with_insert, with_delete}
-use Rattle.ot_text.specs.Run.{Run, Keep, Add, Skip}
+use Rattle.ot_operation.specs.Operation.{Operation, with_retain, with_insert, with_delete}
+use Rattle.ot_operation.specs.Run.{Run, Keep, Add, Skip}
 use Rattle.ot_image.specs.declared.fault.ImageFault.{ImageFault}
 use Rattle.ot_image.specs.declared.fault.Kind.TheVariants.{BadScalar, BadOpcode, BadNumber, NotNormal, TooLong}
 use Rattle.ot_image.specs.Reading.{Spot, ◌>>=◌, fault, number_at, tested, times, scalar_at, push_scalar, Edited, may_follow, base_with, target_with, code_at, length_at, filled_at, push_component}

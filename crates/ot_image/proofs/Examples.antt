@@ -1,11 +1,11 @@
 -- The definitions on a small schedule: one client, start text "a", edit 0 [1,"b"], read-server.
 use Rattle.std.proofs.Common.{◌≡◌, ℕ, ◌++◌, List, [], ◌∷◌, take, set, refl}
 use Rattle.std.specs.Prelude.{Option, Some, None}
-use Rattle.ot_text.specs.Operation.{Old, New}
+use Rattle.ot_operation.specs.Operation.{Old, New}
 use Rattle.ot_isa.specs.declared.instruction.Instr.TheVariants.{Edit, ReadServer}
 use Rattle.ot_isa.specs.Program.{Program}
 use Rattle.ot_image.specs.declared.fault.ImageFault.{ImageFault}
-use Rattle.ot_image.specs.declared.fault.Kind.TheVariants.{Cut, BadMagic, BadNumber, BadScalar, BadOpcode, BadClient, NotNormal, TooLong, TooMany, Trailing}
+use Rattle.ot_image.specs.declared.fault.Kind.TheVariants.{Cut, BadMagic, BadNumber, BadScalar, BadOpcode, BadClient, NotNormal, TooLong, Trailing}
 use Rattle.ot_image.specs.Spelling.{bytes1, bytes2}
 use Rattle.ot_image.specs.Reading.{fault}
 use Rattle.ot_image.specs.Layout.{first_fault, characters, components, instructions, after_magic, fault_of}

@@ -1,5 +1,5 @@
 -- Reading fails with the fault of the first field that is cut, or whose value is not allowed.
-use Rattle.std.proofs.Common.{◌≡◌, ℕ, zero, suc, ◌+◌, ◌<◌, ◌≤◌, ◌==◌, ◌&&◌, ◌||◌, Bool, true, false, cond, nat_lt, nat_le, List, [], ◌∷◌, ◌++◌, map, length, take, drop, Result, Ok, Err, refl, sym, ap, subst, ◌∙◌, length-append, arith}
+use Rattle.std.proofs.Common.{◌≡◌, ℕ, zero, suc, ◌+◌, ◌<◌, ◌==◌, ◌&&◌, ◌||◌, Bool, true, false, cond, nat_lt, nat_le, List, [], ◌∷◌, ◌++◌, map, length, take, Result, Ok, Err, refl, sym, ap, subst, ◌∙◌, length-append, arith}
 use Rattle.std.specs.Prelude.{Option, Some, None, if◌then◌else◌}
 use Rattle.std.specs.Int.{Width, w8, w16, w32, byte_len, from_be_bytes}
 use Rattle.std.specs.Str.{bytes_eq}
@@ -7,8 +7,8 @@ use Rattle.std.proofs.Math.Utf8.{scalar}
 use Rattle.std.proofs.lemmas.Bool.{eqb-true, ltb-true}
 use Rattle.std.proofs.lemmas.List.{length-map, length-take}
 use Rattle.std.proofs.lemmas.Slice.Eq.{bytes_eq-Decides}
-use Rattle.ot_text.specs.Operation.{Operation, Item, New, olds, empty, with_retain, with_insert, with_delete}
-use Rattle.ot_text.proofs.RunLemmas.{length-olds}
+use Rattle.ot_operation.specs.Operation.{Operation, Item, New, olds, empty, with_retain, with_insert, with_delete}
+use Rattle.ot_operation.proofs.RunLemmas.{length-olds}
 use Rattle.ot_isa.specs.declared.instruction.Instr.{Instr}
 use Rattle.ot_isa.specs.declared.instruction.Instr.TheVariants as instr
 use Rattle.ot_isa.specs.Program.{Program, opening, with_instr}
@@ -16,7 +16,7 @@ use Rattle.ot_image.specs.declared.fault.ImageFault.{ImageFault}
 use Rattle.ot_image.specs.declared.fault.Kind.{Kind}
 use Rattle.ot_image.specs.declared.fault.Kind.TheVariants.{Cut, BadMagic, BadNumber, TooLong, TooMany, BadScalar, BadOpcode, BadClient, NotNormal, Trailing}
 use Rattle.ot_image.specs.Reading.{Spot, ◌>>=◌, cut, fault, past, number_at, tested, times, magic1, magic2, version_at, clients_at, present_at, start_count_at, scalar_at, push_scalar, Edited, may_follow, code_at, base_with, target_with, length_at, filled_at, push_component, components_at, operation_at, opcode_at, client_at, plain_instr, named_at, instr_at, push_instr, instr_count_at, head_at, program_at, image_at, image_of}
-use Rattle.ot_image.specs.Layout.{Layout, End, Field, first_fault, unless, any, characters, code_fault, base_after, target_after, length_fault, text, components, operation, instruction, instructions, present, after_magic, is_front, fault_of, fault_in}
+use Rattle.ot_image.specs.Layout.{Layout, End, Field, first_fault, unless, any, characters, code_fault, base_after, target_after, length_fault, text, components, operation, instruction, instructions, present, after_magic, fault_of, fault_in}
 
 bind_assoc : {A B C : Type 0} (r : Result A ImageFault) (f : A → Result B ImageFault) (g : B → Result C ImageFault) → ((r >>= f) >>= g) ≡ (r >>= λ x. f x >>= g)
 bind_assoc (Ok x) f g = refl

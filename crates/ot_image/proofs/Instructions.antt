@@ -3,14 +3,14 @@ use Rattle.std.proofs.Common.{◌≡◌, ℕ, ◌+◌, ◌^◌, ◌<◌, ◌≤�
 use Rattle.std.proofs.lemmas.Bool.{eqb-true, eqb-false, le-leb, lt-ltb}
 use Rattle.std.proofs.lemmas.List.{append-nil}
 use Rattle.std.specs.Int.{w8, w16, to_be_bytes}
-use Rattle.ot_text.specs.Operation.{Operation}
+use Rattle.ot_operation.specs.Operation.{Operation}
 use Rattle.ot_isa.specs.declared.instruction.Instr.{Instr}
 use Rattle.ot_isa.specs.declared.instruction.Instr.TheVariants as instr
 use Rattle.ot_isa.specs.Program.{IsForClients}
 use Rattle.ot_image.specs.declared.fault.ImageFault.{ImageFault}
 use Rattle.ot_image.specs.declared.fault.Kind.TheVariants.{BadOpcode, BadClient}
 use Rattle.ot_image.specs.Reading.{Spot, ◌>>=◌, tested, operation_at, opcode_at, client_at, plain_instr, named_at, instr_at}
-use Rattle.ot_text.specs.Run.{normal_runs}
+use Rattle.ot_operation.specs.Run.{normal_runs}
 use Rattle.ot_image.specs.Spelling.{components, opcode, operands, instruction}
 use Rattle.ot_image.proofs.Premises.{IsSpelled, IsSpelledInstr}
 use Rattle.ot_image.proofs.Fields.{bind_ok, ok_is}

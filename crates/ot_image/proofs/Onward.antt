@@ -2,7 +2,7 @@
 use Rattle.std.proofs.Common.{ℕ, ◌≤◌, ◌==◌, ◌&&◌, List, [], ◌∷◌, ◌++◌, Result, Ok, Err, Bool, true, false, cond, length, take, nat_lt, nat_le, arith}
 use Rattle.std.specs.Int.{Width, w8, w16, w32, byte_len, from_be_bytes}
 use Rattle.std.proofs.Math.Utf8.{scalar}
-use Rattle.ot_text.specs.Operation.{Operation, empty, with_retain, with_insert, with_delete}
+use Rattle.ot_operation.specs.Operation.{Operation, empty, with_retain, with_insert, with_delete}
 use Rattle.ot_isa.specs.declared.instruction.Instr.TheVariants as instr
 use Rattle.ot_isa.specs.Program.{Program, with_instr}
 use Rattle.ot_image.specs.declared.fault.ImageFault.{ImageFault}

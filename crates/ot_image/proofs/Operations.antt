@@ -4,11 +4,11 @@ use Rattle.std.proofs.lemmas.Bool.{ne_eqb, le-leb}
 use Rattle.std.proofs.lemmas.List.{append-nil, length-map}
 use Rattle.std.specs.List.{flat_map}
 use Rattle.std.specs.Int.{w32}
-use Rattle.ot_text.specs.Operation.{New, olds, Operation, empty, with_insert}
-use Rattle.ot_text.specs.Run.{Run, Keep, Add, Skip, base_of, image_from, operation_of, IsFilled, MayFollow, IsNormal, normal_runs}
-use Rattle.ot_text.proofs.RunLemmas.{base_of-append, image_from-append, length-olds, runs_few, one_more_keep, one_more_drop, one_more_add, MayEnd, normal_push, front_may_end, longest_retain, longest_insert}
+use Rattle.ot_operation.specs.Operation.{New, olds, Operation, empty, with_insert}
+use Rattle.ot_operation.specs.Run.{Run, Keep, Add, Skip, base_of, image_from, operation_of, IsFilled, MayFollow, IsNormal, normal_runs}
+use Rattle.ot_operation.proofs.RunLemmas.{base_of-append, image_from-append, length-olds, runs_few, one_more_keep, one_more_drop, one_more_add, MayEnd, normal_push, front_may_end, longest_retain, longest_insert}
 use Rattle.ot_image.specs.Reading.{Spot, number_at, times, Edited, may_follow, push_component, components_at, operation_at}
-use Rattle.ot_text.proofs.Normal.{normal_runs_back}
+use Rattle.ot_operation.proofs.Normal.{normal_runs_back}
 use Rattle.ot_image.specs.Spelling.{code_of, size_of, component, components}
 use Rattle.ot_image.proofs.Premises.{AreSpelled, IsSpelled}
 use Rattle.ot_image.proofs.Fields.{bind_ok, ok_is}

@@ -1,12 +1,11 @@
 -- A reader that did not fail went past its place.
 use Rattle.std.proofs.Common.{◌≡◌, ◌<◌, ◌+◌, ◌==◌, ℕ, Bool, true, false, Result, Ok, Err, cond, length, take, nat_lt, ap, arith}
-use Rattle.std.specs.Int.{w8, w16, byte_len, from_be_bytes}
+use Rattle.std.specs.Int.{w8, w16, from_be_bytes}
 use Rattle.ot_isa.specs.declared.instruction.Instr.{Instr}
 use Rattle.ot_isa.specs.declared.instruction.Instr.TheVariants as instr
 use Rattle.ot_image.specs.declared.fault.ImageFault.{ImageFault}
-use Rattle.ot_image.specs.declared.fault.Kind.{Kind}
 use Rattle.ot_image.specs.declared.fault.Kind.TheVariants.{BadOpcode, BadClient}
-use Rattle.ot_image.specs.Reading.{Spot, ◌>>=◌, Reaches, cut, fault, past, number_at, tested, opcode_at, client_at, named_at, instr_at}
+use Rattle.ot_image.specs.Reading.{Spot, ◌>>=◌, Reaches, cut, fault, past, number_at, opcode_at, client_at, named_at, instr_at}
 use Rattle.ot_image.proofs.Loop.{onward_then}
 use Rattle.ot_image.proofs.Onward.{either_onward, tested_onward, named_onward}
 use Rattle.ot_image.proofs.Fields.{bind_ok, ok_is}

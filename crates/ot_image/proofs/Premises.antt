@@ -5,9 +5,9 @@ use Rattle.std.proofs.lemmas.List.Elements.{All-head, All-tail, filter_map-appen
 use Rattle.std.specs.Char.{IsScalar}
 use Rattle.std.specs.List.{All, AllByRecursion}
 use Rattle.std.specs.Str.{all_scalars}
-use Rattle.ot_text.specs.Operation.{Operation, news}
-use Rattle.ot_text.specs.Run.{Run, Keep, Add, Skip, image_from, operation_of, IsNormal, normal_runs}
-use Rattle.ot_text.proofs.Normal.{runs_normal}
+use Rattle.ot_operation.specs.Operation.{Operation, news}
+use Rattle.ot_operation.specs.Run.{Run, Keep, Add, Skip, image_from, operation_of, IsNormal, normal_runs}
+use Rattle.ot_operation.proofs.Normal.{runs_normal}
 use Rattle.ot_isa.specs.declared.instruction.Instr.{Instr}
 use Rattle.ot_isa.specs.declared.instruction.Instr.TheVariants as instr
 use Rattle.ot_isa.specs.Program.{Program, IsProgram, IsInstr, IsForClients, IsOfLimits, HasScalars}

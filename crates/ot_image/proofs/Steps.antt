@@ -1,8 +1,8 @@
 -- What the readers of components need.
 use Rattle.std.proofs.Common.{◌≡◌, ℕ, ◌+◌, ◌≤◌, List, [], length, Ok, refl, arith, inl, inr}
 use Rattle.std.specs.Prelude.{◌⊎◌}
-use Rattle.ot_text.specs.Operation.{Operation, IsTooLong, empty, with_retain, with_insert, with_delete}
-use Rattle.ot_text.proofs.RunLemmas.{longest_retain, longest_insert}
+use Rattle.ot_operation.specs.Operation.{Operation, IsTooLong, empty, with_retain, with_insert, with_delete}
+use Rattle.ot_operation.proofs.RunLemmas.{longest_retain, longest_insert}
 use Rattle.ot_image.specs.declared.fault.ReadError.{ReadError}
 use Rattle.std.specs.Int.{w32}
 use Rattle.ot_image.specs.declared.fault.Kind.TheVariants.{TooMany}

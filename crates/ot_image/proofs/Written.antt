@@ -1,37 +1,31 @@
 -- What the writer of images needs.
-use Rattle.std.proofs.Common.{◌≡◌, ℕ, zero, suc, ◌+◌, ◌≤◌, ◌<◌, ◌^◌, List, [], ◌∷◌, ◌++◌, map, length, get_or, take, refl, sym, ap, ◌∙◌, arith, add-one, append_assoc, length-append}
+use Rattle.std.proofs.Common.{◌≡◌, ℕ, ◌+◌, ◌≤◌, ◌<◌, ◌^◌, List, [], ◌∷◌, ◌++◌, map, length, max, take, refl, sym, ap, ◌∙◌, arith, append_assoc, length-append}
 use Rattle.std.proofs.lemmas.List.{length-map, append-nil}
-use Rattle.ot_text.specs.declared.Component.{Component}
-use Rattle.ot_text.specs.Operation.{New, olds, Operation}
-use Rattle.ot_text.specs.Run.{Run, Keep, Add, Skip, base_of, image_from, operation_of, IsNormal, normal_runs}
-use Rattle.ot_text.specs.Components.{run_of, runs}
-use Rattle.std.specs.Prelude.{slice_get, Option, Some, None, Result, Ok, Err, OnOk}
+use Rattle.ot_operation.specs.Operation.{New, olds, Operation}
+use Rattle.ot_operation.specs.Run.{Run, Keep, Add, Skip, base_of, image_from, operation_of, normal_runs}
+use Rattle.std.specs.Prelude.{slice_get, Option, Some, None}
 use Rattle.std.specs.Int.{w32, to_be_bytes}
 use Rattle.std.specs.List.{flat_map}
 use Rattle.std.proofs.lemmas.Grind.{flat_map-append}
 use Rattle.std.proofs.lemmas.List.Concat.{flat_map-cons}
-use Rattle.ot_text.proofs.Compared.{runs_more}
 use Rattle.ot_isa.specs.declared.instruction.Instr.{Instr}
 use Rattle.ot_isa.proofs.Lists.{take_got}
 use Rattle.ot_image.specs.Spelling.{size_of, component, components, instruction}
-use Rattle.ot_text.proofs.RunLemmas.{runs_few}
 
 later : (n from : ℕ) (r : Run ℕ) (rs : List (Run ℕ)) → ((at : ℕ) → n ≤ base_of rs + length (image_from at rs)) → n ≤ base_of (r ∷ rs) + length (image_from from (r ∷ rs))
 later n from (Keep k) rs h = omega (arith, h (from + k), length-append (olds {A = ℕ} from k) (image_from (from + k) rs))
 later n from (Add s) rs h = omega (arith, h from, length-append (map New s) (image_from from rs))
 later n from (Skip k) rs h = omega (arith, h (from + k))
 
+first_within : (from : ℕ) (r : Run ℕ) (rs : List (Run ℕ)) → size_of r ≤ base_of (r ∷ rs) + length (image_from from (r ∷ rs))
+first_within from (Keep n) rs = omega arith
+first_within from (Add s) rs = omega (arith, length-append (map New s) (image_from from rs), length-map s (λ (x : ℕ). New x))
+first_within from (Skip n) rs = omega arith
+
 -- a component is no longer than the operation
-pub sizes_within : (from : ℕ) (cs : List (Component ℕ)) (i : ℕ) (c : Component ℕ) → i < length cs → c ≡ get_or cs i c → size_of (run_of c) ≤ base_of (runs cs) + length (image_from from (runs cs))
-sizes_within from [] i c h e = absurd (omega arith)
-sizes_within from (b ∷ cs) zero c h e = rw e (first from (run_of b) (runs cs))
-  where
-    first : (from : ℕ) (r : Run ℕ) (rs : List (Run ℕ)) → size_of r ≤ base_of (r ∷ rs) + length (image_from from (r ∷ rs))
-    first from (Keep n) rs = omega arith
-    first from (Add s) rs = omega (arith, length-append (map New s) (image_from from rs), length-map s (λ (x : ℕ). New x))
-    first from (Skip n) rs = omega arith
-sizes_within from (b ∷ cs) (suc i) c h e =
-    later (size_of (run_of c)) from (run_of b) (runs cs) (λ at. sizes_within at cs i c (omega arith) e)
+pub sizes_within : (from : ℕ) (front : List (Run ℕ)) (r : Run ℕ) (rest : List (Run ℕ)) → size_of r ≤ base_of (front ++ r ∷ rest) + length (image_from from (front ++ r ∷ rest))
+sizes_within from [] r rest = first_within from r rest
+sizes_within from (q ∷ front) r rest = later (size_of r) from q (front ++ r ∷ rest) (λ at. sizes_within at front r rest)
 
 -- one more text at the end
 text_more : {B : Type 0} (text : B → List ℕ) (before old new : List ℕ) (bs : List B) (b : B) → old ≡ before ++ flat_map text bs → new ≡ old ++ text b → new ≡ before ++ flat_map text (bs ++ b ∷ [])
@@ -39,29 +33,47 @@ text_more text before old new bs b so made =
     made ∙ ap (λ (x : List ℕ). x ++ text b) so ∙ append_assoc before (flat_map text bs) (text b)
     ∙ ap (λ (x : List ℕ). before ++ x) (sym (flat_map-append text bs (b ∷ []) ∙ ap (λ (x : List ℕ). flat_map text bs ++ x) (flat_map-cons text b [] ∙ append-nil (text b))))
 
-pub parts_more : (before old new : List ℕ) (cs : List (Component ℕ)) (i : ℕ) (c : Component ℕ) → i < length cs → c ≡ get_or cs i c → old ≡ before ++ flat_map component (take i (runs cs)) → new ≡ old ++ component (run_of c)
-    → new ≡ before ++ flat_map component (take (i + 1) (runs cs))
-parts_more before old new cs i c h e so made =
-    let more : take (i + 1) (runs cs) ≡ take i (runs cs) ++ run_of c ∷ [] = rw add-one (runs_more cs i c h e) in
-    text_more component before old new (take i (runs cs)) (run_of c) so made ∙ ap (λ (rs : List (Run ℕ)). before ++ flat_map component rs) (sym more)
+-- the components in front of those that are left are written
+pub record IsPut (op : Operation ℕ) (left : List (Run ℕ)) (before out : List ℕ) : Type 0 where
+  pub front : List (Run ℕ)
+  pub spells : operation_of (front ++ left) ≡ op
+  pub form : front ++ left ≡ normal_runs op
+  pub put : out ≡ before ++ flat_map component front
+
+pub none_put : (op : Operation ℕ) (left : List (Run ℕ)) (before : List ℕ) → operation_of left ≡ op → left ≡ normal_runs op → IsPut op left before before
+none_put op left before spells form = record { front = []; spells = spells; form = form; put = sym (append-nil before) }
+
+module _ {op : Operation ℕ} {left rest : List (Run ℕ)} {before out : List ℕ} {r : Run ℕ} (left_is : left ≡ r ∷ rest) (so_far : IsPut op left before out) where
+  whole : so_far.front ++ left ≡ so_far.front ++ r ∷ rest
+  whole = ap (λ rs. so_far.front ++ rs) left_is
+
+  pub part_fits : max op.base (length op.image) ≤ 1000000 → size_of r < 2 ^ 32
+  part_fits fits =
+      let spells : operation_of (so_far.front ++ r ∷ rest) ≡ op = rw whole at so_far.spells in
+      omega (arith, fits, sizes_within 0 so_far.front r rest, ap (λ (o : Operation ℕ). o.base) spells, ap (λ (o : Operation ℕ). length o.image) spells)
+
+  pub one_put : (now : List ℕ) → now ≡ out ++ component r → IsPut op rest before now
+  one_put now made =
+      let all : (so_far.front ++ r ∷ []) ++ rest ≡ so_far.front ++ left = append_assoc so_far.front (r ∷ []) rest ∙ sym whole in
+      record {
+        front = so_far.front ++ r ∷ [];
+        spells = ap operation_of all ∙ so_far.spells;
+        form = all ∙ so_far.form;
+        put = text_more component before out now so_far.front r so_far.put made;
+      }
+
+pub all_put : (op : Operation ℕ) (left : List (Run ℕ)) (before mid out : List ℕ) → left ≡ [] → IsPut op left mid out → mid ≡ before ++ to_be_bytes w32 (length (normal_runs op))
+    → out ≡ before ++ components (normal_runs op)
+all_put op left before mid out none so_far word =
+    let rs = normal_runs op in
+    let all : so_far.front ≡ rs = sym (append-nil so_far.front) ∙ ap (λ rest. so_far.front ++ rest) (sym none) ∙ so_far.form in
+    so_far.put ∙ ap (λ front. mid ++ flat_map component front) all ∙ ap (λ (x : List ℕ). x ++ flat_map component rs) word
+    ∙ append_assoc before (to_be_bytes w32 (length rs)) (flat_map component rs)
 
 pub instrs_more : (before old new : List ℕ) (is : List Instr) (i : ℕ) (instr : Instr) → slice_get is i ≡ Some instr → old ≡ before ++ flat_map instruction (take i is) → new ≡ old ++ instruction instr
     → new ≡ before ++ flat_map instruction (take (i + 1) is)
 instrs_more before old new is i instr got so made =
     text_more instruction before old new (take i is) instr so made ∙ ap (λ (js : List Instr). before ++ flat_map instruction js) (sym (take_got is i instr got))
-
-pub op_put : {E : Type 0} (r : Result (Unit {0}) E) (old mid new : List ℕ) (op : Operation ℕ) (cs : List (Component ℕ)) → runs cs ≡ normal_runs op
-    → mid ≡ old ++ to_be_bytes w32 (length cs) → OnOk r (new ≡ mid ++ flat_map component (runs cs)) → OnOk r (new ≡ old ++ components (normal_runs op))
-op_put (Err e) old mid new op cs same word all = tt
-op_put (Ok x) old mid new op cs same word all =
-    let len : length (runs cs) ≡ length cs = length-map cs (run_of {T = ℕ}) in
-    all ∙ ap (λ (x : List ℕ). x ++ flat_map component (runs cs)) word ∙ append_assoc old (to_be_bytes w32 (length cs)) (flat_map component (runs cs))
-    ∙ ap (λ (n : ℕ). old ++ (to_be_bytes w32 n ++ flat_map component (runs cs))) (sym len)
-    ∙ ap (λ (rs : List (Run ℕ)). old ++ components rs) same
-
-pub few_parts : (cs : List (Component ℕ)) (op : Operation ℕ) → IsNormal (runs cs) → operation_of (runs cs) ≡ op → op.base ≤ 1000000 → length op.image ≤ 1000000 → length cs < 2 ^ 32
-few_parts cs op n is b t =
-    omega (arith, runs_few 0 (runs cs) n, ap (λ (o : Operation ℕ). o.base) is, ap (λ (o : Operation ℕ). length o.image) is, length-map cs (run_of {T = ℕ}), b, t)
 
 pub none_left : {A : Type 0} (o : Option A) → ((x : A) → o ≡ Some x → ⊥) → o ≡ None
 none_left None f = refl

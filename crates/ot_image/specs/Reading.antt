@@ -3,7 +3,7 @@ use Rattle.std.specs.Prelude.{◌≡◌, ◌<◌, ◌≤◌, ◌+◌, ℕ, zero,
 use Rattle.std.specs.Int.{Width, w8, w16, w32, byte_len, from_be_bytes}
 use Rattle.std.specs.Str.{bytes_eq}
 use Rattle.std.proofs.Math.Utf8.{scalar}
-use Rattle.ot_text.specs.Operation.{Operation, empty, with_retain, with_insert, with_delete}
+use Rattle.ot_operation.specs.Operation.{Operation, empty, with_retain, with_insert, with_delete}
 use Rattle.ot_isa.specs.declared.instruction.Instr.{Instr}
 use Rattle.ot_isa.specs.declared.instruction.Instr.TheVariants as instr
 use Rattle.ot_isa.specs.Program.{Program, opening, with_instr}
@@ -13,7 +13,7 @@ use Rattle.ot_image.specs.declared.fault.Kind.TheVariants.{Cut, BadMagic, BadNum
 use Rattle.ot_image.specs.declared.fault.ReadError.{ReadError}
 use Rattle.ot_image.specs.declared.fault.ReadError.TheVariants as errors
 use Rattle.ot_isa.specs.declared.builder.TheConstants.{CLIENT_LIMIT, INSTR_LIMIT, START_LIMIT}
-use Rattle.ot_text.specs.declared.TheConstants.{LIMIT}
+use Rattle.ot_operation.specs.declared.TheConstants.{LIMIT}
 
 -- a place, and the bytes from there on
 pub record Spot : Type 0 where

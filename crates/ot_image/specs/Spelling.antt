@@ -2,7 +2,7 @@
 use Rattle.std.specs.Prelude.{◌≡◌, ◌⊎◌, ℕ, ◌≤◌, List, [], ◌∷◌, ◌++◌, length}
 use Rattle.std.specs.List.{flat_map, All}
 use Rattle.std.specs.Int.{w16, w32, to_be_bytes}
-use Rattle.ot_text.specs.Run.{Run, Keep, Add, Skip, normal_runs}
+use Rattle.ot_operation.specs.Run.{Run, Keep, Add, Skip, normal_runs}
 use Rattle.ot_isa.specs.declared.instruction.Instr.{Instr}
 use Rattle.ot_isa.specs.declared.instruction.Instr.TheVariants.{Edit, Take, Deliver, Acknowledge, Read, Join, ReadServer}
 use Rattle.ot_isa.specs.Program.{Program, IsProgram}

@@ -1,10 +1,10 @@
 //! Characters and operations, which take memory.
 
 ghost use Rattle.std.specs.Prelude.{◌≡◌, ◌≤◌, ◌<◌, ◌⊎◌, ◌+◌, [], length, OnOk, IsOk, IsErrOf, IfOk, IfErr};
-ghost use Rattle.ot_text.specs.Operation.{empty};
+ghost use Rattle.ot_operation.specs.Operation.{empty};
 ghost use Rattle.ot_image.specs.Reading.{Gives, times, push_scalar, push_component, filled_at, components_at, operation_at};
 ghost use Rattle.ot_image.specs.Views.{seen};
-ghost use Rattle.ot_text.specs.declared.TheConstants.{LIMIT};
+ghost use Rattle.ot_operation.specs.declared.TheConstants.{LIMIT};
 
 use crate::fault::{ImageFault, Kind, ReadError};
 use crate::reading::{char_of, code_of, length_of, u32_at};

@@ -2,7 +2,7 @@
 
 ghost use Rattle.std.specs.Prelude.{◌≡◌, ◌<◌, ◌≤◌, ◌+◌, ◌⊎◌, IfOk, length};
 ghost use Rattle.std.specs.Int.{w8, w16, w32};
-ghost use Rattle.ot_text.specs.Operation.{Operation};
+ghost use Rattle.ot_operation.specs.Operation.{Operation};
 ghost use Rattle.ot_image.specs.Reading.{IsRead, number_at, version_at, clients_at, present_at, start_count_at, scalar_at, code_at, length_at, opcode_at, client_at, instr_count_at};
 ghost use Rattle.ot_image.specs.Views.{seen};
 

@@ -3,12 +3,12 @@
 ghost use Rattle.std.specs.Prelude.{◌≡◌, ◌<◌, ◌≤◌, ◌+◌, ◌^◌, ◌∷◌, ◌++◌, length, OnOk, IfOk};
 ghost use Rattle.std.specs.Int.{w16, w32, to_be_bytes};
 ghost use Rattle.std.specs.List.{flat_map};
-ghost use Rattle.ot_text.specs.Run.{base_of, image_from, normal_runs};
-ghost use Rattle.ot_text.specs.Components.{run_of, runs};
+ghost use Rattle.ot_operation.specs.Run.{normal_runs};
+ghost use Rattle.ot_text.specs.Components.{run_of};
 ghost use Rattle.ot_image.specs.Spelling.{size_of, component, components, instruction, bytes2, IsImageOf};
 
 use ot_isa::{Instr, Schedule};
-use ot_text::{Component, TextOp};
+use ot_text::{ComponentRef, TextOp};
 use std::alloc::{AllocError, Global};
 
 fn put_word(out: &mut Vec<u8>, n: usize) -> Result<(), AllocError>
@@ -28,46 +28,35 @@ fn put_chars(out: &mut Vec<u8>, chars: &[char]) -> Result<(), AllocError>
     Ok(())
 }
 
-fn put_component(out: &mut Vec<u8>, part: &Component<char>) -> Result<(), AllocError>
-    requires { size_of (run_of part.now) < 2 ^ 32 }
-    ensures { OnOk result (out.new.items ≡ out.old.items ++ component (run_of part.now)) }
+fn put_component(out: &mut Vec<u8>, part: ComponentRef<'_, char>) -> Result<(), AllocError>
+    requires { size_of (run_of part) < 2 ^ 32 }
+    ensures { OnOk result (out.new.items ≡ out.old.items ++ component (run_of part.entry)) }
 {
     match part {
-        Component::Retain(count) => {
+        ComponentRef::Retain(count) => {
             out.push(16)?;
-            put_word(out, *count)
+            put_word(out, count)
         }
-        Component::Insert(text) => {
+        ComponentRef::Insert(text) => {
             out.push(17)?;
             put_word(out, text.len())?;
-            put_chars(out, text.as_slice())
+            put_chars(out, text)
         }
-        Component::Delete(count) => {
+        ComponentRef::Delete(count) => {
             out.push(18)?;
-            put_word(out, *count)
+            put_word(out, count)
         }
     }
-}
-
-fn put_components(out: &mut Vec<u8>, parts: &[Component<char>]) -> Result<(), AllocError>
-    requires { base_of (runs parts.now) + length (image_from 0 (runs parts.now)) < 2 ^ 32 }
-    ensures { OnOk result (out.new.items ≡ out.old.items ++ flat_map component (runs parts.now)) }
-{
-    for part in parts {
-        put_component(out, part)?;
-    }
-    Ok(())
 }
 
 fn put_op(out: &mut Vec<u8>, op: &TextOp<char>) -> Result<(), AllocError>
     ensures { OnOk result (out.new.items ≡ out.old.items ++ components (normal_runs op.now)) }
 {
-    // For the proof: the invariant of every operation.
-    let _base = op.base_len();
-    let _target = op.target_len();
-    let parts = op.components();
-    put_word(out, parts.len())?;
-    put_components(out, parts)
+    put_word(out, op.component_count())?;
+    for part in op.components() {
+        put_component(out, part)?;
+    }
+    Ok(())
 }
 
 fn put_client(out: &mut Vec<u8>, code: u8, client: u16) -> Result<(), AllocError>

@@ -11,7 +11,7 @@ use Rattle.ot_image.specs.Reading.{Spot, fault, past, magic1, magic2, may_follow
 use Rattle.ot_image.specs.Reading.{cut as cut_fault}
 use Rattle.ot_image.specs.Layout.{base_after, target_after, is_front, fault_of}
 use Rattle.ot_isa.specs.declared.builder.TheConstants.{CLIENT_LIMIT, INSTR_LIMIT, START_LIMIT}
-use Rattle.ot_text.specs.declared.TheConstants.{LIMIT}
+use Rattle.ot_operation.specs.declared.TheConstants.{LIMIT}
 use Rattle.ot_image_words.specs.declared.refusal.Place.{Place}
 use Rattle.ot_image_words.specs.declared.refusal.Place.TheVariants as place
 use Rattle.ot_image_words.specs.declared.refusal.Reason.TheVariants as reason

@@ -1,7 +1,7 @@
 -- What functions that read fields return.
 use Rattle.std.specs.Prelude.{◌≡◌, ◌≤◌, Result, Ok, Err, Some, None}
 use Rattle.ot_image.specs.Reading.{Spot}
-use Rattle.ot_text.specs.declared.TheConstants.{LIMIT}
+use Rattle.ot_operation.specs.declared.TheConstants.{LIMIT}
 use Rattle.ot_image_words.specs.declared.refusal.Refusal.{Refusal}
 use Rattle.ot_image_words.specs.declared.shape.Shape.{Shape}
 use Rattle.ot_image_words.specs.declared.spot.Spot as program

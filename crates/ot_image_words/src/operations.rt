@@ -1,7 +1,7 @@
 //! Characters, components and operations, which are read and forgotten.
 
 ghost use Rattle.std.specs.Prelude.{◌≡◌, ◌≤◌, ◌+◌, ◌⊎◌, IfOk};
-ghost use Rattle.ot_text.specs.declared.TheConstants.{LIMIT};
+ghost use Rattle.ot_operation.specs.declared.TheConstants.{LIMIT};
 ghost use Rattle.ot_image.specs.Layout.{base_after, target_after};
 ghost use Rattle.ot_image_words.specs.Fields.{characters, component, components, inserted, longer, no_shape, operation};
 ghost use Rattle.ot_image_words.specs.Reads.{IsWithin, Passes, Reads, seen};

@@ -1,6 +1,6 @@
 -- The definitions on small examples.
 use Rattle.std.proofs.Common.{◌≡◌, List, [], ◌∷◌, refl}
-use Rattle.ot_text.specs.Operation.{Old, New, Operation}
+use Rattle.ot_operation.specs.Operation.{Old, New, Operation}
 use Rattle.ot_isa.specs.declared.elements.Tagged.{Tagged}
 use Rattle.ot_isa.specs.Tagging.{tagged_char, tagged_chars, tagged_operation, chars_of}
 

@@ -2,13 +2,13 @@
 use Rattle.std.specs.Prelude.{◌≡◌, ◌⊎◌, ℕ, ◌<◌, ◌≤◌, List, [], ◌∷◌, ◌++◌, length, true, Option, Some, None, IfSome}
 use Rattle.std.specs.List.{All}
 use Rattle.std.specs.Str.{all_scalars}
-use Rattle.ot_text.specs.Operation.{Operation, IsOperation, news}
+use Rattle.ot_operation.specs.Operation.{Operation, IsOperation, news}
 use Rattle.ot_isa.specs.declared.instruction.Instr.{Instr}
 use Rattle.ot_isa.specs.declared.instruction.Instr.TheVariants.{Edit, Take, Deliver, Acknowledge, Read, Join, ReadServer}
 use Rattle.ot_isa.specs.declared.refusal.PushFault.{PushFault}
 use Rattle.ot_isa.specs.declared.refusal.PushFault.TheVariants as push
 use Rattle.ot_isa.specs.declared.builder.TheConstants.{CLIENT_LIMIT, INSTR_LIMIT, START_LIMIT}
-use Rattle.ot_text.specs.declared.TheConstants.{LIMIT}
+use Rattle.ot_operation.specs.declared.TheConstants.{LIMIT}
 
 -- a schedule: how many clients there are, how many of them are present at the start, the start text, and what is done
 pub record Program : Type 0 where

@@ -1,7 +1,7 @@
 -- Tags, and documents and operations over tagged characters.
 use Rattle.std.specs.Prelude.{◌≡◌, ℕ, suc, List, [], ◌∷◌, map}
 use Rattle.std.specs.List.{All}
-use Rattle.ot_text.specs.Operation.{Item, Old, New, Operation}
+use Rattle.ot_operation.specs.Operation.{Item, Old, New, Operation}
 use Rattle.ot_isa.specs.declared.elements.Tagged.{Tagged}
 
 -- the character of this maker with this serial number

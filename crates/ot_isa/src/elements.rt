@@ -1,5 +1,8 @@
 //! Characters, each distinguished from all others by who made it.
 
+ghost use Rattle.std.specs.Prelude.{length};
+
+use ot_list::Item;
 use ot_text::Element;
 
 /// Who made a character, and its number among all that its maker made. In a run no tag stands twice.
@@ -25,4 +28,38 @@ impl Element for Tagged {
     ghost equal_is_same = { Prim.search rules };
 
     ghost fits_in_memory = { Prim.search rules };
+}
+
+impl Item for Tagged {
+    type Sum = u32;
+
+    const CAP: usize = 512;
+
+    const FILL: usize = 384;
+
+    ghost CAP = { 512 };
+
+    ghost FILL = { 384 };
+
+    ghost total = { λ items. length items };
+
+    ghost count_of = { λ sum. sum };
+
+    fn sum(items: &[Tagged]) -> u32 {
+        items.len() as u32
+    }
+
+    fn sum_with(sum: u32, more: &[Tagged]) -> Option<u32> {
+        sum.checked_add(more.len() as u32)
+    }
+
+    fn count(sum: u32) -> usize {
+        sum as usize
+    }
+
+    ghost use Rattle.std.proofs.Common.{rules};
+
+    ghost bounds = { Prim.search rules };
+
+    ghost counts = { Prim.search rules };
 }

@@ -5,11 +5,9 @@
 
 ghost use Rattle.std.specs.Prelude.{◌≡◌, true};
 ghost use Rattle.std.specs.Str.{all_scalars};
-ghost use Rattle.ot_text.specs.Operation.{news};
-ghost use Rattle.ot_text.specs.Run.{image_from};
-ghost use Rattle.ot_text.specs.Components.{runs};
+ghost use Rattle.ot_operation.specs.Operation.{news};
 
-use ot_text::{Component, TextOp};
+use ot_text::TextOp;
 
 /// Each character of the text is a Unicode scalar value.
 pub fn are_scalars(text: &[char])
@@ -22,19 +20,9 @@ pub fn are_scalars(text: &[char])
     }
 }
 
-fn inserted_are_scalars(components: &[Component<char>])
-    ensures { all_scalars (news (image_from 0 (runs components.now))) ≡ true }
-{
-    for component in components {
-        if let Component::Insert(text) = component {
-            are_scalars(text.as_slice());
-        }
-    }
-}
-
 /// Each character that the operation inserts is a Unicode scalar value.
 pub fn inserts_scalars(op: &TextOp<char>)
     ensures { all_scalars (news op.now.image) ≡ true }
 {
-    inserted_are_scalars(op.components())
+    are_scalars(op.text())
 }

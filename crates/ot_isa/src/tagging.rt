@@ -3,15 +3,12 @@
 ghost use Rattle.std.specs.Prelude.{◌≡◌, ◌+◌, ◌≤◌, length, IfOk};
 ghost use Rattle.std.specs.Str.{encode_utf8_all};
 ghost use Rattle.std.specs.String.{string_bytes};
-ghost use Rattle.ot_text.specs.Operation.{news};
-ghost use Rattle.ot_text.specs.Run.{base_of, image_from, operation_of};
-ghost use Rattle.ot_text.specs.Components.{runs};
+ghost use Rattle.ot_operation.specs.Operation.{news};
 ghost use Rattle.ot_isa.specs.Tagging.{tagged_chars, tagged_operation, chars_of, HasNoTagTwice};
-ghost use Rattle.ot_text.specs.declared.TheConstants.{LIMIT};
 ghost use Rattle.ot_isa.specs.declared.builder.TheConstants.{START_LIMIT};
 
 use crate::elements::{Tag, Tagged};
-use ot_text::{Component, Doc, TextOp, only_memory};
+use ot_text::{Doc, TextOp};
 use std::alloc::{AllocError, Global};
 
 /// The maker of the start text, which is no client's number.
@@ -39,33 +36,6 @@ fn tagged_text(
     Ok(items)
 }
 
-fn tagged_components(
-    alloc: Global,
-    components: &[Component<char>],
-    origin: u16,
-    first: u32,
-) -> Result<TextOp<Tagged>, AllocError>
-    requires serials { first + length (news (image_from 0 (runs components.now))) ≤ INSERTED_LIMIT }
-    requires base { base_of (runs components.now) ≤ LIMIT }
-    requires target { length (image_from 0 (runs components.now)) ≤ LIMIT }
-    ensures { IfOk result (λ op. op ≡ tagged_operation (operation_of (runs components.now)) origin first) }
-{
-    let mut op = TextOp::with_capacity(alloc, components.len())?;
-    let mut serial = first;
-    for component in components {
-        match component {
-            Component::Retain(count) => only_memory(op.retain(*count))?,
-            Component::Insert(text) => {
-                let items = tagged_text(alloc, text.as_slice(), origin, serial)?;
-                only_memory(op.insert(items.as_slice()))?;
-                serial += text.len() as u32;
-            }
-            Component::Delete(count) => only_memory(op.delete(*count))?,
-        }
-    }
-    Ok(op)
-}
-
 /// The operation over tagged characters: what it inserts is of this maker, numbered from `first` on from left to
 /// right; what it keeps and deletes stays. A client makes at most 15,000 characters: `first` and the number of inserted characters together
 /// are at most that.
@@ -78,10 +48,9 @@ pub fn tagged(
     requires { first + length (news op.now.image) ≤ INSERTED_LIMIT }
     ensures { IfOk result (λ t. t ≡ tagged_operation op.now origin first) }
 {
-    // For the proof: the invariant of every operation.
-    let _base = op.base_len();
-    let _target = op.target_len();
-    tagged_components(alloc, op.components(), origin, first)
+    let text = tagged_text(alloc, op.text(), origin, first)?;
+    let codes = op.codes().copy()?;
+    Ok(TextOp::from_parts(codes, text))
 }
 
 /// The document that a run starts with, of at most 40,000 characters: they are tagged 65,535:0, 65,535:1, and so on.

@@ -2,13 +2,13 @@
 use Rattle.std.proofs.Common.{◌≡◌, ◌+◌, ◌<◌, ◌≤◌, ℕ, length, length-append, IsTrue, true, false, max, ap, ◌∙◌, arith, Result, Ok, Err, Some, refl}
 use Rattle.std.proofs.lemmas.List.{length-map}
 use Rattle.std.proofs.lemmas.Bool.{lt-ltb, le-ltb}
-use Rattle.ot_text.specs.Operation.{Operation, New, olds, IsTooLong}
-use Rattle.ot_text.specs.Run.{Run, Keep, Add, Skip}
-use Rattle.ot_text.proofs.RunLemmas.{length-olds}
+use Rattle.ot_operation.specs.Operation.{Operation, New, olds, IsTooLong}
+use Rattle.ot_operation.specs.Run.{Run, Keep, Add, Skip}
+use Rattle.ot_operation.proofs.RunLemmas.{length-olds}
 use Rattle.ot_json.specs.Reading.{with_run, with_component, is_too_long}
 use Rattle.ot_json.specs.Parts.{HasLengths}
 use Rattle.std.specs.Prelude.{OnOk, IsErrOf}
-use Rattle.ot_text.specs.declared.refusal.OpRefusal.{OpRefusal}
+use Rattle.ot_operation.specs.declared.refusal.OpRefusal.{OpRefusal}
 use Rattle.ot_json.specs.declared.fault.OpFault.TheVariants.{TooLong}
 
 -- how many places a component takes

@@ -3,9 +3,9 @@ use Rattle.std.proofs.Common.{◌≡◌, ◌+◌, ◌-◌, ◌≤◌, ℕ, zero,
 use Rattle.std.specs.List.{AllByRecursion}
 use Rattle.std.proofs.lemmas.Str.{chars-encodes}
 use Rattle.serde_json.specs.View.{items_of}
-use Rattle.ot_text.specs.Operation.{with_insert, IsTooLong}
-use Rattle.ot_text.specs.Run.{Run, Keep, Add, Skip, base_of, image_from, operation_of}
-use Rattle.ot_text.proofs.RunLemmas.{base_of-append, image_from-append, one_more_keep, one_more_add, one_more_drop}
+use Rattle.ot_operation.specs.Operation.{with_insert, IsTooLong}
+use Rattle.ot_operation.specs.Run.{Run, Keep, Add, Skip, base_of, image_from, operation_of}
+use Rattle.ot_operation.proofs.RunLemmas.{base_of-append, image_from-append, one_more_keep, one_more_add, one_more_drop}
 use Rattle.serde_json.specs.Written.{compact_text, has_float, items_have_float}
 use Rattle.ot_json.specs.Reading.{run_of_data, with_run, with_component, built, operation_of_text}
 use Rattle.ot_json.proofs.Added.{is_short}

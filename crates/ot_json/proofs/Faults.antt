@@ -1,8 +1,8 @@
 -- The definition of reading never speaks of memory.
 use Rattle.std.proofs.Common.{◌≡◌, ◌+◌, ℕ, Bool, true, false, Option, None, Some, Result, Ok, Err, if◌then◌else◌}
 use Rattle.serde_json.specs.Data.{Data, null, boolean, number, string, array, object, Items, no_items, item}
-use Rattle.ot_text.specs.Operation.{Operation, empty}
-use Rattle.ot_text.specs.Run.{Run}
+use Rattle.ot_operation.specs.Operation.{Operation, empty}
+use Rattle.ot_operation.specs.Run.{Run}
 use Rattle.ot_json.specs.Reading.{run_of_data, with_run, with_component, is_too_long, and_then, built, operation_of_data, operation_of_json}
 use Rattle.ot_json.specs.declared.fault.OpFault.{OpFault}
 use Rattle.ot_json.specs.declared.fault.OpFault.TheVariants.{NotJson, NotArray, BadComponent, TooLong, Memory}

@@ -5,8 +5,8 @@ use Rattle.json.specs.Json as json
 use Rattle.json.specs.Value.{value_view, items_view}
 use Rattle.json.specs.declared.value.Value.{Value}
 use Rattle.serde_json.specs.Data.{Data, Items, item}
-use Rattle.ot_text.specs.Operation.{Operation, IsTooLong}
-use Rattle.ot_text.specs.Run.{Run}
+use Rattle.ot_operation.specs.Operation.{Operation, IsTooLong}
+use Rattle.ot_operation.specs.Run.{Run}
 use Rattle.ot_json.specs.Reading.{run_of_data, with_run, built}
 use Rattle.ot_json.proofs.Added.{is_short}
 

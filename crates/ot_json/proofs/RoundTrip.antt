@@ -16,7 +16,7 @@ use Rattle.serde_json.specs.Written.{outline, items_outline, blank, blank_items,
 use Rattle.serde_json.proofs.Numbers.{number_of-decimal, number_of-negative}
 use Rattle.serde_json.proofs.Texts.{print-outline, unless_float-number_of}
 use Rattle.json.proofs.Printed.Trees.{value-json_tokens}
-use Rattle.ot_text.specs.Run.{Run, Keep, Add, Skip}
+use Rattle.ot_operation.specs.Run.{Run, Keep, Add, Skip}
 use Rattle.ot_json.specs.Writing.{HasForm, data_of, array_of}
 
 -- the value that whole tokens are

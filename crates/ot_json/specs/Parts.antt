@@ -1,8 +1,8 @@
 -- The components of the reader as runs.
 use Rattle.std.specs.Prelude.{◌≡◌, ℕ, length}
-use Rattle.ot_text.specs.Operation.{Operation}
+use Rattle.ot_operation.specs.Operation.{Operation}
 use Rattle.std.specs.Str.{chars}
-use Rattle.ot_text.specs.Run.{Run, Keep, Add, Skip}
+use Rattle.ot_operation.specs.Run.{Run, Keep, Add, Skip}
 use Rattle.ot_json.specs.declared.part.Part.{Part}
 use Rattle.ot_json.specs.declared.part.Part.TheVariants.{Retain, Insert, Delete}
 

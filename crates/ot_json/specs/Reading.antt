@@ -3,11 +3,11 @@ use Rattle.std.specs.Prelude.{ℕ, zero, suc, ◌+◌, pos, negsuc, Bool, Option
 use Rattle.std.specs.Str.{chars}
 use Rattle.serde_json.specs.Data.{Num, unsigned, negative, float, Data, null, boolean, number, string, array, object, Items, no_items, item}
 use Rattle.serde_json.specs.Read.{read}
-use Rattle.ot_text.specs.Operation.{Operation, empty, with_retain, with_insert, with_delete}
-use Rattle.ot_text.specs.Run.{Run, Keep, Add, Skip}
+use Rattle.ot_operation.specs.Operation.{Operation, empty, with_retain, with_insert, with_delete}
+use Rattle.ot_operation.specs.Run.{Run, Keep, Add, Skip}
 use Rattle.ot_json.specs.declared.fault.OpFault.{OpFault}
 use Rattle.ot_json.specs.declared.fault.OpFault.TheVariants.{NotJson, NotArray, BadComponent, TooLong}
-use Rattle.ot_text.specs.declared.TheConstants.{LIMIT}
+use Rattle.ot_operation.specs.declared.TheConstants.{LIMIT}
 
 -- the component that a number is: above 0 a retain, below 0 a delete
 abbrev pub run_of_number : Num → Option (Run ℕ)

@@ -4,10 +4,10 @@ use Rattle.std.specs.Str.{encode_utf8_all, all_scalars}
 use Rattle.serde_json.specs.Data.{Data, number, unsigned, negative, string, array}
 use Rattle.serde_json.specs.View.{items_of}
 use Rattle.serde_json.specs.Written.{compact_text}
-use Rattle.ot_text.specs.Operation.{Operation}
-use Rattle.ot_text.specs.Run.{Run, Keep, Add, Skip}
-use Rattle.ot_text.specs.Run.{normal_runs}
-use Rattle.ot_text.specs.declared.TheConstants.{LIMIT}
+use Rattle.ot_operation.specs.Operation.{Operation}
+use Rattle.ot_operation.specs.Run.{Run, Keep, Add, Skip}
+use Rattle.ot_operation.specs.Run.{normal_runs}
+use Rattle.ot_operation.specs.declared.TheConstants.{LIMIT}
 
 abbrev pub data_of : Run ℕ → Data
 data_of (Keep n) = number (unsigned n)

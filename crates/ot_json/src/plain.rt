@@ -5,7 +5,7 @@ ghost use Rattle.fast_float.specs.Text.{scan};
 ghost use Rattle.json.specs.Value.{value_view, items_view};
 ghost use Rattle.serde_json.specs.Data.{unsigned, negative};
 ghost use Rattle.serde_json.specs.Read.{number_from, number_of, of_json, of_items};
-ghost use Rattle.ot_text.specs.Operation.{empty};
+ghost use Rattle.ot_operation.specs.Operation.{empty};
 ghost use Rattle.ot_json.specs.Reading.{built, operation_of_text, run_of_data, run_of_number};
 ghost use Rattle.ot_json.specs.Parts.{run_of_part};
 
@@ -69,9 +69,7 @@ fn part_of_item<'a>(item: &Value<'a>) -> Option<Part<'a>>
 fn build_plain(alloc: Global, items: &[Value<'_>]) -> Option<TextOp<char>>
     ensures { IfSome result (λ op. option_map (built 0 empty) (of_items (items_view items.now)) ≡ Some (Ok op)) }
 {
-    let Ok(mut op) = TextOp::with_capacity(alloc, items.len()) else {
-        return None;
-    };
+    let mut op = TextOp::new(alloc);
     for item in items {
         let Some(part) = part_of_item(item) else {
             return None;

@@ -5,6 +5,7 @@ ghost use Rattle.ot_list.specs.Leaves.{concatenated, AreLeaves, MayEnd, last_lea
 ghost use Rattle.ot_list.specs.Change.{patched, IsOf};
 ghost use Rattle.ot_list.specs.Written.{written, front_of, place_of, IsDraft, Continues, IsWithoutLast, IsWithLeaf, HasClosed, HasHalved, HasFlushed, MayFollow, IsAt, IsLastSum};
 
+use crate::blocks::move_down;
 use crate::{Item, List, Patch, Span};
 use std::alloc::{AllocError, Global};
 
@@ -31,7 +32,7 @@ fn drop_front<T: Copy>(items: &mut Vec<T>, count: usize)
 {
     let left = items.len() - count;
     if left > 0 {
-        items.copy_within(count.., 0);
+        move_down(items.as_mut_slice(), count, 0, left);
     }
     items.truncate(left);
 }

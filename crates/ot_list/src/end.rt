@@ -1,10 +1,22 @@
 //! The end of a list, changed where it lies.
 
-ghost use Rattle.std.specs.Prelude.{◌≡◌, ◌+◌, ◌-◌, ◌<◌, ◌≤◌, ◌++◌, ◌∷◌, [], length, get_or, set, MatchOption, OnOk, OnErr};
+ghost use Rattle.std.specs.Prelude.{◌≡◌, ◌+◌, ◌-◌, ◌<◌, ◌≤◌, ◌++◌, ◌∷◌, [], length, get_or, set, IfSome, MatchOption, OnOk, OnErr};
 ghost use Rattle.ot_list.specs.Leaves.{concatenated, last_leaf};
 
 use crate::{Item, List};
 use std::alloc::AllocError;
+
+// What a leaf comes to, where that is known; else the leaf is gone through.
+fn or_sum<E: Item>(known: Option<E::Sum>, leaf: &[E]) -> E::Sum
+    requires known { IfSome known (λ sum. sum ≡ E.total leaf.now) }
+    requires small { length leaf.now ≤ E.CAP }
+    ensures { result ≡ E.total leaf.now }
+{
+    match known {
+        Some(sum) => sum,
+        None => E::sum(leaf),
+    }
+}
 
 impl<E: Item> List<E> {
     /// The last item. None, where there is no item.
@@ -83,8 +95,10 @@ impl<E: Item> List<E> {
     {
         let place = self.leaves.len() - 1;
         let leaf = &mut self.leaves[place];
+        let before = leaf.len();
         leaf.push(item)?;
-        self.sums[place] = E::sum(leaf.as_slice());
+        let sum = E::sum_with(self.sums[place], &leaf[before..]);
+        self.sums[place] = or_sum(sum, leaf.as_slice());
         Ok(())
     }
 
@@ -128,9 +142,10 @@ impl<E: Item> List<E> {
         ensures err { OnErr result (self.new ≡ self.old) }
     {
         let place = self.leaves.len() - 1;
+        let sum = E::sum_with(self.sums[place], items);
         let leaf = &mut self.leaves[place];
         leaf.extend_from_slice(items)?;
-        self.sums[place] = E::sum(leaf.as_slice());
+        self.sums[place] = or_sum(sum, leaf.as_slice());
         Ok(())
     }
 

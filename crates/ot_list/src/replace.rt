@@ -3,6 +3,7 @@
 ghost use Rattle.std.specs.Prelude.{◌≡◌, ◌+◌, ◌≤◌, ◌++◌, length, take, drop, OnOk, OnErr, vec_capacity};
 ghost use Rattle.ot_list.specs.Leaves.{with_run};
 
+use crate::blocks::{move_down, move_up};
 use std::alloc::AllocError;
 
 // Takes items out.
@@ -11,8 +12,13 @@ fn remove<T: Copy>(items: &mut Vec<T>, at: usize, count: usize)
     ensures items { items.new.items ≡ take at items.old.items ++ drop (at + count) items.old.items }
     ensures capacity { vec_capacity items.new ≡ vec_capacity items.old }
 {
-    items.copy_within(at + count.., at);
-    items.truncate(items.len() - count);
+    if count == 0 {
+        return;
+    }
+    let end = at + count;
+    let length = items.len();
+    move_down(items.as_mut_slice(), end, at, length - end);
+    items.truncate(length - count);
 }
 
 // Puts items in, for which there is room.
@@ -21,12 +27,15 @@ fn insert<T: Copy>(items: &mut Vec<T>, at: usize, come: &[T])
     requires room { length items.old.items + length come.now ≤ vec_capacity items.old }
     ensures { items.new.items ≡ take at items.old.items ++ come.now ++ drop at items.old.items }
 {
+    if come.is_empty() {
+        return;
+    }
     let length = items.len();
     if items.extend_from_slice(come).is_err() {
         unreachable!();
     }
     let end = at + come.len();
-    items.copy_within(at..length, end);
+    move_up(items.as_mut_slice(), at, end, length - at);
     items.slice_mut(at..end).copy_from_slice(come);
 }
 

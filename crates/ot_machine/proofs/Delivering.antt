@@ -4,8 +4,8 @@ use Rattle.std.proofs.lemmas.Option.{slice_get_past, same_Some}
 use Rattle.std.specs.Prelude.{slice_get, ◌==◌, ◌++◌}
 use Rattle.ot_isa.specs.declared.elements.Tagged.{Tagged}
 use Rattle.ot_isa.specs.declared.instruction.Instr.TheVariants.{Deliver}
-use Rattle.ot_text.specs.Operation.{Operation, apply}
-use Rattle.ot_algebra.proofs.LengthLaws.{second_after-base}
+use Rattle.ot_operation.specs.Operation.{Operation, apply}
+use Rattle.ot_operation.proofs.LengthLaws.{second_after-base}
 use Rattle.ot_client.specs.State as state
 use Rattle.ot_client.specs.Client.{state_of}
 use Rattle.ot_client.specs.declared.client.Client as program

@@ -3,7 +3,7 @@ use Rattle.std.proofs.Common.{◌≡◌, ℕ, zero, suc, ◌+◌, ◌-◌, List,
 use Rattle.std.proofs.lemmas.Option.{same_Some}
 use Rattle.std.specs.Prelude.{slice_get}
 use Rattle.ot_isa.specs.declared.elements.Tagged.{Tagged}
-use Rattle.ot_text.specs.Operation.{Operation, apply}
+use Rattle.ot_operation.specs.Operation.{Operation, apply}
 use Rattle.ot_client.specs.declared.sent.Sent.{Sent}
 use Rattle.ot_server.specs.History.{History}
 use Rattle.ot_server.proofs.Retracted as server

@@ -4,7 +4,7 @@ use Rattle.std.proofs.lemmas.Option.{slice_get-map}
 use Rattle.std.specs.Prelude.{slice_get, IsSomeAnd}
 use Rattle.std.specs.Option.{is_some, option_map}
 use Rattle.ot_isa.specs.declared.elements.Tagged.{Tagged}
-use Rattle.ot_text.specs.Operation.{Operation}
+use Rattle.ot_operation.specs.Operation.{Operation}
 use Rattle.ot_client.specs.declared.sent.Sent.{Sent}
 use Rattle.ot_client.specs.Client.{message_of}
 use Rattle.ot_server.specs.History.{History, IsUndo, transform_over}
@@ -46,14 +46,6 @@ client_record server seats steps c seat new before s is_kept here value restores
         restores = restores;
       };
     }
-
--- so where it is recorded
-pub kept_client :
-    (server : History Tagged) (seats : List Seat) (steps c : ℕ) (seat new : Seat) (before : Option Before) (s : State)
-    → IsKept server seats steps → slice_get seats c ≡ Some seat → state_from server seats steps ≡ s → IsSomeAnd before (λ b. Restores b (client_of seat) (client_of new))
-    → IsSomeAnd (option_map (kept.ClientStep c) before) (IsRecord s (state_from server (set seats c new) (steps + 1)))
-kept_client server seats steps c seat new None s is_kept here value is = is
-kept_client server seats steps c seat new (Some before) s is_kept here value is = client_record server seats steps c seat new before s is_kept here value is
 
 not_joined : (phase : Phase) → is_joined phase ≡ false → phase ≡ table.NotJoined
 not_joined table.NotJoined off = refl

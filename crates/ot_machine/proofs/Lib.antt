@@ -22,4 +22,3 @@ pub mod Determined
 pub mod Parting
 pub mod Installing
 pub mod Orders
-mod Waited

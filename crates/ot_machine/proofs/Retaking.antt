@@ -5,7 +5,7 @@ use Rattle.std.proofs.lemmas.Option.{slice_get-map, slice_get_read, same_Some, s
 use Rattle.std.specs.Prelude.{slice_get}
 use Rattle.std.specs.Option.{option_map}
 use Rattle.ot_isa.specs.declared.elements.Tagged.{Tagged}
-use Rattle.ot_text.specs.Operation.{Operation}
+use Rattle.ot_operation.specs.Operation.{Operation}
 use Rattle.ot_client.specs.declared.sent.Sent.{Sent}
 use Rattle.ot_client.specs.Client.{message_of}
 use Rattle.ot_server.specs.History.{History, IsUndo}
@@ -81,11 +81,11 @@ unfolding history
 history_of server seats steps s value = ap (λ (t : State). history t) value
 
 pub take_undo :
-    (server : History Tagged) (seats : List Seat) (steps c : ℕ) (message : Sent Tagged) (inverse op : Operation Tagged) (earlier s : State)
-    → state_from server seats steps ≡ s → op ≡ inverse → IsRecord earlier s (Taken c message inverse) → IsUndo (history earlier) server op
+    (server : History Tagged) (seats : List Seat) (steps c : ℕ) (message : Sent Tagged) (inverse : Operation Tagged) (earlier s : State)
+    → state_from server seats steps ≡ s → IsRecord earlier s (Taken c message inverse) → IsUndo (history earlier) server inverse
 unfolding history
-take_undo server seats steps c message inverse op earlier s value same is =
-    rw same (subst (λ h. IsUndo (history earlier) h inverse) (sym (history_of server seats steps s value)) is.step.undo)
+take_undo server seats steps c message inverse earlier s value is =
+    subst (λ h. IsUndo (history earlier) h inverse) (sym (history_of server seats steps s value)) is.step.undo
 
 pub take_there :
     (server : History Tagged) (seats : List Seat) (steps c : ℕ) (message : Sent Tagged) (inverse : Operation Tagged) (earlier s : State)

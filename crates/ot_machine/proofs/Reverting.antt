@@ -12,11 +12,11 @@ use Rattle.ot_model.specs.Table.{Client, Message, State, absent, is_joined, with
 use Rattle.ot_model.specs.Sound.{IsSound}
 use Rattle.ot_machine.specs.declared.seat.Seat.{Seat}
 use Rattle.ot_machine.specs.declared.kept.Before.{Before}
-use Rattle.ot_machine.specs.Seats.{View, view_of, client_of, phase_of, numbers, incoming, queued, swept, idle, AreQueues, state_from, IsKept}
-use Rattle.ot_machine.specs.Undoing.{message_at, message_in, queue_before, reverted, FitsBack, FitsPhase, Restores, IsRecord}
+use Rattle.ot_machine.specs.Seats.{View, view_of, client_of, numbers, incoming, queued, swept, idle, AreQueues, state_from, IsKept}
+use Rattle.ot_machine.specs.Undoing.{message_at, message_in, queue_before, reverted, FitsBack, FitsState, Restores, IsRecord}
 use Rattle.ot_machine.specs.declared.undo.Record.TheVariants.{ClientStep, Joined, Read}
 use Rattle.ot_machine.proofs.RowLaws.{client_at, queue_at}
-use Rattle.ot_machine.proofs.Undoing.{kept_joined}
+use Rattle.ot_machine.proofs.Undoing.{exchanged_joined, fits_joined}
 
 -- a loop over all seats
 swept_next : {X : Type 0} (f : X → X) (i : ℕ) (xs : List X) (y : X) → slice_get (swept f i xs) i ≡ Some y → set (swept f i xs) i (f y) ≡ swept f (suc i) xs
@@ -137,25 +137,26 @@ step_counted server seats steps c is earlier led =
     omega (arith, counted)
 
 revision_right :
-    (before : Before) (was x : Client) (n : ℕ) (queue : List ℕ) (b : Bool) → before.received ≡ b → was.revision ≡ before.revision → is_joined was.phase ≡ true
+    (before : Before) (was x : Client) (n : ℕ) (queue : List ℕ) (b : Bool) → before.received ≡ b → was.revision ≡ (reverted before x).revision → is_joined was.phase ≡ true
     → x.revision ≡ (if b then suc was.revision else was.revision) → x.revision ≤ n → queue ≡ numbers x.revision (n - x.revision)
-    → queue_before before queue ≡ incoming was n
+    → queue_before before x queue ≡ incoming was n
 revision_right before was x n queue true is from joined after inside right =
     let more : n - was.revision ≡ suc (n - suc was.revision) = omega (arith, after, inside) in
     rw (is, joined, ← from, more) (ap (λ q. was.revision ∷ q) (right ∙ ap (λ k. numbers k (n - k)) after))
 revision_right before was x n queue false is from joined after inside right =
     rw (is, joined) (right ∙ ap (λ k. numbers k (n - k)) after)
 
-queue_right : (before : Before) (was x : Client) (n : ℕ) (queue : List ℕ) → Restores before was x → x.revision ≤ n → queue ≡ incoming x n → queue_before before queue ≡ incoming was n
+queue_right : (before : Before) (was x : Client) (n : ℕ) (queue : List ℕ) → Restores before was x → x.revision ≤ n → queue ≡ incoming x n → queue_before before x queue ≡ incoming was n
 queue_right before was x n queue is inside right =
-    let joined : is_joined was.phase ≡ true = ap (λ (y : Client). is_joined y.phase) (sym is.back) ∙ kept_joined before.past x.phase is.joined in
-    revision_right before was x n queue before.received refl (ap (λ (y : Client). y.revision) (sym is.back)) joined is.revision inside (right ∙ rw is.joined refl)
+    let here : is_joined x.phase ≡ true = fits_joined before.change x is.state in
+    let joined : is_joined was.phase ≡ true = ap (λ (y : Client). is_joined y.phase) (sym is.back) ∙ exchanged_joined before.change x here in
+    revision_right before was x n queue before.received refl (ap (λ (y : Client). y.revision) (sym is.back)) joined is.revision inside (right ∙ rw here refl)
 
 -- a step at a client undone
 pub client_undone :
     (server : History Tagged) (seats : List Seat) (steps c : ℕ) (seat new : Seat) (before : Before) (earlier s : State)
     → IsKept server seats steps → slice_get seats c ≡ Some seat → state_from server seats steps ≡ s → IsRecord earlier s (ClientStep c before)
-    → client_of new ≡ reverted before (client_of seat) → new.down.items ≡ queue_before before seat.down.items
+    → client_of new ≡ reverted before (client_of seat) → new.down.items ≡ queue_before before (client_of seat) seat.down.items
     → Undone server (set seats c new) (steps - 1) earlier
 client_undone server seats steps c seat new before earlier s is_kept here value is changed down =
     let led = value ∙ is.step.led in
@@ -183,12 +184,12 @@ client_fits server seats steps c seat before earlier s here value is =
     let now : client_of seat ≡ is.step.is = step_client server seats steps c seat is.step.was is.step.is earlier here is.step.at (value ∙ is.step.led) in
     subst (λ (x : Client). FitsBack before.inverse x.list) (sym now) is.step.restores.fits
 
-pub client_waited :
+pub client_state :
     (server : History Tagged) (seats : List Seat) (steps c : ℕ) (seat : Seat) (before : Before) (earlier s : State)
-    → slice_get seats c ≡ Some seat → state_from server seats steps ≡ s → IsRecord earlier s (ClientStep c before) → FitsPhase before.past (phase_of seat.client)
-client_waited server seats steps c seat before earlier s here value is =
+    → slice_get seats c ≡ Some seat → state_from server seats steps ≡ s → IsRecord earlier s (ClientStep c before) → FitsState before.change (client_of seat)
+client_state server seats steps c seat before earlier s here value is =
     let now : client_of seat ≡ is.step.is = step_client server seats steps c seat is.step.was is.step.is earlier here is.step.at (value ∙ is.step.led) in
-    subst (λ (x : Client). FitsPhase before.past x.phase) (sym now) is.step.restores.phase
+    subst (FitsState before.change) (sym now) is.step.restores.state
 
 -- a seat of which callers see no change
 pub seats_same : (seats : List Seat) (c : ℕ) (seat new : Seat) → slice_get seats c ≡ Some seat → view_of new ≡ view_of seat → map view_of (set seats c new) ≡ map view_of seats

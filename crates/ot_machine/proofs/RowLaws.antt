@@ -4,7 +4,7 @@ use Rattle.std.proofs.lemmas.Bool.Decides.{nat_tests}
 use Rattle.std.proofs.lemmas.List.{map-set}
 use Rattle.std.proofs.lemmas.Option.{slice_get-map, slice_get_read, same_Some}
 use Rattle.std.specs.Prelude.{slice_get, nat_le, nat_lt, ◌==◌}
-use Rattle.ot_text.specs.Operation.{Operation, apply}
+use Rattle.ot_operation.specs.Operation.{Operation, apply}
 use Rattle.ot_isa.specs.declared.elements.Tagged.{Tagged}
 use Rattle.ot_isa.specs.declared.instruction.Instr.{Instr}
 use Rattle.ot_isa.specs.declared.instruction.Instr.TheVariants.{Edit}
@@ -14,7 +14,7 @@ use Rattle.std.specs.Prelude.{Result, IfErr}
 use Rattle.ot_model.specs.declared.shown.Refusal.{Refusal}
 use Rattle.ot_model.specs.declared.shown.Refusal.TheVariants.{Memory}
 use Rattle.ot_machine.specs.Answers.{IsPerformed, IsRefusal}
-use Rattle.ot_text.specs.Operation.{IsOperation}
+use Rattle.ot_operation.specs.Operation.{IsOperation}
 use Rattle.std.specs.Option.{option_map}
 use Rattle.ot_client.specs.declared.sent.Sent.{Sent}
 use Rattle.ot_client.specs.Client.{message_of}

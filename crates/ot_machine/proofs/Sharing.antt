@@ -3,7 +3,7 @@ use Rattle.std.proofs.Common.{◌≡◌, ℕ, suc, ◌+◌, List, length, take, 
 use Rattle.std.proofs.lemmas.List.{take_all}
 use Rattle.std.proofs.lemmas.Option.{same_Some}
 use Rattle.std.specs.Prelude.{slice_get}
-use Rattle.ot_text.specs.Operation.{apply}
+use Rattle.ot_operation.specs.Operation.{apply}
 use Rattle.ot_isa.specs.declared.elements.Tagged.{Tagged}
 use Rattle.ot_model.specs.Table.{Client, Entry, Phase, State, carried, delivered}
 use Rattle.ot_model.specs.Sound.{IsPhaseSound, IsSoundFrom, apply_entries}

@@ -1,81 +1,45 @@
 -- The inverse of what a client applied, and the client before.
-use Rattle.std.proofs.Common.{◌≡◌, suc, List, length, refl, sym, ap, ◌∙◌, subst, Option, Some, None, Bool, true, false}
-use Rattle.std.specs.Prelude.{◌↔◌, IsSomeAnd, IsTrue, if◌then◌else◌}
-use Rattle.std.specs.Option.{option_map}
+use Rattle.std.proofs.Common.{◌≡◌, ℕ, List, length, refl, sym, ap, ◌∙◌, Some, true}
 use Rattle.ot_isa.specs.declared.elements.Tagged.{Tagged}
-use Rattle.ot_text.specs.Operation.{Operation, IsOperation, apply, invert}
-use Rattle.ot_client.specs.declared.sent.Sent.{Sent}
-use Rattle.ot_client.specs.Past as kept
+use Rattle.ot_operation.specs.Operation.{Operation, IsOperation, apply, invert}
+use Rattle.ot_operation.proofs.InvertLaws.{apply-invert}
+use Rattle.ot_client.specs.declared.change.Change.{Change}
+use Rattle.ot_client.specs.Change.{changed, Fits}
 use Rattle.ot_client.specs.State as state
-use Rattle.ot_client.specs.declared.past.Past.{Past}
-use Rattle.ot_client.specs.Client.{message_of, state_of}
-use Rattle.ot_client.specs.declared.client.Client as program
-use Rattle.ot_client.specs.declared.client.Client.TheVariants as client
-use Rattle.ot_model.specs.Table.{Client, Message, Phase, NotJoined, Synchronized, AwaitingConfirm, AwaitingWithBuffer, is_joined, phase_in}
+use Rattle.ot_model.specs.Table.{Client, Phase, NotJoined, Synchronized, AwaitingConfirm, AwaitingWithBuffer, by_rule, is_joined, phase_in}
 use Rattle.ot_model.proofs.Algebra.{laws}
-use Rattle.ot_machine.specs.declared.kept.Before.{Before}
-use Rattle.ot_machine.specs.Seats.{phase_of, under_way, MaySend}
-use Rattle.ot_machine.proofs.RowLaws.{none_up}
-use Rattle.ot_machine.specs.Undoing.{phase_before, IsBefore, Restores}
+use Rattle.ot_machine.specs.Undoing.{exchanged, with_state, FitsState, GivesBack}
 
--- it fits what the operation makes of the list
-pub inverse_base : (op inverse : Operation Tagged) (list : List Tagged) → IsOperation op → op.base ≡ length list → inverse ≡ invert op list → inverse.base ≡ length (apply op list)
+-- the inverse fits what the operation makes of the list, and gives the list back
+pub gives_back : (op inverse : Operation Tagged) (list : List Tagged) → IsOperation op → op.base ≡ length list → inverse ≡ invert op list → GivesBack (Some inverse) list (apply op list)
 unfolding invert
-inverse_base op inverse list rises fits is = ap (λ (o : Operation Tagged). o.base) is ∙ sym (laws.apply-length op list (record { rising = rises; base = fits }))
+gives_back op inverse list rises fits is = (
+  ap (λ (o : Operation Tagged). o.base) is ∙ sym (laws.apply-length op list (record { rising = rises; base = fits })),
+  rw is (apply-invert op list rises fits),
+)
 
--- what was under way is under way again: nothing was, or nothing was sent meanwhile
-message_back :
-    (b : Bool) (was m : Option Message)
-    → (IsTrue b ↔ (was ≡ None)) → ((was ≡ None → ⊥) → m ≡ was) → (if b then None else m) ≡ was
-message_back true was m is same = sym (is.0 refl)
-message_back false was m is same = same (λ none. let no = is.1 none in cc)
-
--- the client after a step
-pub record Led (was now : Client) (received : Bool) : Type 0 where
-  pub message : (was.message ≡ None → ⊥) → now.message ≡ was.message
-  pub joined : is_joined now.phase ≡ true
-  pub revision : now.revision ≡ (if received then suc was.revision else was.revision)
-
--- what was recorded of the client before is a record of the step
-restored : (before : Before) (was now : Client) (received : Bool) → Led was now received → IsBefore before was now.phase now.list received → Restores before was now
-restored before was now received led is =
-    let message : (if before.unsent then None else now.message) ≡ was.message = message_back before.unsent was.message now.message is.unsent led.message in
-    record {
-      back = λ i. record { revision = is.revision i; phase = is.waited i; list = is.applied.1 i; count = is.count i; message = message i };
-      fits = is.applied.0;
-      phase = is.fits;
-      joined = led.joined;
-      revision = led.revision ∙ ap (λ (b : Bool). if b then suc was.revision else was.revision) (sym is.took);
-    }
-
-pub kept_restored :
-    (kept : Option Before) (was now x : Client) (phase : Phase) (list : List Tagged) (received : Bool)
-    → Led was now received → x ≡ was → phase ≡ now.phase → list ≡ now.list
-    → IsSomeAnd kept (λ before. IsBefore before x phase list received) → IsSomeAnd kept (λ before. Restores before was now)
-kept_restored None was now x phase list received led from to lists is = is
-kept_restored (Some before) was now x phase list received led from to lists is =
-    restored before was now received led
-    (subst (λ y. IsBefore before y now.phase now.list received) from
-    (subst (λ p. IsBefore before x p now.list received) to
-    (subst (λ xs. IsBefore before x phase xs received) lists is)))
-
--- an edit sends only where nothing was under way
-pub sends_alone :
-    (client : program.Client Tagged) (op : Operation Tagged) (up sent : Option (Sent Tagged))
-    → MaySend (phase_of (Some client)) up → option_map message_of sent ≡ state.message_edited (state_of client).revision (state_of client).phase op
-    → (option_map message_of up ≡ None → ⊥) → under_way sent up ≡ up
-sends_alone (client.Synchronized here) op up sent may is some = absurd (some (ap (option_map message_of) may))
-sends_alone (client.AwaitingConfirm here) op up sent may is some = ap (λ s. under_way s up) (none_up sent is)
-sends_alone (client.AwaitingWithBuffer here) op up sent may is some = ap (λ s. under_way s up) (none_up sent is)
-
--- a client is joined before a step after which it is
+-- where a change fits, the client has joined, and is joined after the exchange
 in_joined : (phase : state.Phase Tagged) → is_joined (phase_in phase) ≡ true
 in_joined state.Synchronized = refl
 in_joined (state.AwaitingConfirm o) = refl
 in_joined (state.AwaitingWithBuffer o b) = refl
 
-pub kept_joined : (past : Past Tagged) (phase : Phase) → is_joined phase ≡ true → is_joined (phase_before past phase) ≡ true
-kept_joined past NotJoined on = absurd (cc)
-kept_joined past Synchronized on = in_joined (kept.phase_before past state.Synchronized)
-kept_joined past (AwaitingConfirm o) on = in_joined (kept.phase_before past (state.AwaitingConfirm o))
-kept_joined past (AwaitingWithBuffer o b) on = in_joined (kept.phase_before past (state.AwaitingWithBuffer o b))
+fits_joined_rule : (change : Change Tagged) (r : ℕ) (phase : Phase) → by_rule ⊥ (λ p. Fits (record { revision = r; phase = p }) change) phase → is_joined phase ≡ true
+fits_joined_rule change r NotJoined fits = absurd fits
+fits_joined_rule change r Synchronized fits = refl
+fits_joined_rule change r (AwaitingConfirm o) fits = refl
+fits_joined_rule change r (AwaitingWithBuffer o b) fits = refl
+
+pub fits_joined : (change : Change Tagged) (x : Client) → FitsState change x → is_joined x.phase ≡ true
+fits_joined change x fits = fits_joined_rule change x.revision x.phase fits
+
+exchanged_joined_rule :
+    (change : Change Tagged) (x : Client) (r : ℕ) (phase : Phase)
+    → is_joined phase ≡ true → is_joined (by_rule x (λ p. with_state x (changed (record { revision = r; phase = p }) change)) phase).phase ≡ true
+exchanged_joined_rule change x r NotJoined on = absurd (cc)
+exchanged_joined_rule change x r Synchronized on = in_joined _
+exchanged_joined_rule change x r (AwaitingConfirm o) on = in_joined _
+exchanged_joined_rule change x r (AwaitingWithBuffer o b) on = in_joined _
+
+pub exchanged_joined : (change : Change Tagged) (x : Client) → is_joined x.phase ≡ true → is_joined (exchanged change x).phase ≡ true
+exchanged_joined change x on = exchanged_joined_rule change x x.revision x.phase on

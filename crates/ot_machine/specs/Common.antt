@@ -1,6 +1,6 @@
 -- What a delivery makes of the list of a client that is synchronized.
 use Rattle.std.specs.Prelude.{◌≡◌, ℕ, List, Some, slice_get}
-use Rattle.ot_text.specs.Operation.{apply}
+use Rattle.ot_operation.specs.Operation.{apply}
 use Rattle.ot_isa.specs.declared.elements.Tagged.{Tagged}
 use Rattle.ot_model.specs.Table.{Client, Entry, State, Synchronized}
 

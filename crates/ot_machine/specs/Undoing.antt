@@ -1,13 +1,14 @@
 -- The undo records of steps.
-use Rattle.std.specs.Prelude.{◌≡◌, ◌↔◌, ℕ, suc, ◌-◌, Bool, true, IsTrue, List, ◌∷◌, Option, Some, None, length, slice_get, take, ◌==◌, if◌then◌else◌}
+use Rattle.std.specs.Prelude.{◌≡◌, ℕ, suc, ◌-◌, List, ◌∷◌, Option, Some, None, length, slice_get, take, if◌then◌else◌}
 use Rattle.ot_isa.specs.declared.elements.Tagged.{Tagged}
-use Rattle.ot_text.specs.Operation.{Operation, apply}
-use Rattle.ot_client.specs.Past as client
-use Rattle.ot_client.specs.declared.past.Past.{Past}
+use Rattle.ot_operation.specs.Operation.{Operation, apply}
+use Rattle.ot_client.specs.State as client
+use Rattle.ot_client.specs.Change.{changed, Fits}
+use Rattle.ot_client.specs.declared.change.Change.{Change}
 use Rattle.ot_client.specs.declared.sent.Sent.{Sent}
 use Rattle.ot_client.specs.Client.{message_of}
 use Rattle.ot_server.specs.History.{IsUndo}
-use Rattle.ot_model.specs.Table.{Client, Message, State, Phase, NotJoined, by_rule, is_joined, phase_in, absent, taken, with_client}
+use Rattle.ot_model.specs.Table.{Client, Message, State, by_rule, phase_in, absent, taken, with_client}
 use Rattle.ot_model.specs.Sound.{IsSound}
 use Rattle.ot_machine.specs.declared.kept.Before.{Before}
 use Rattle.ot_machine.specs.declared.undo.Record.{Record}
@@ -20,28 +21,32 @@ abbrev pub list_before : Option (Operation Tagged) → List Tagged → List Tagg
 list_before None list = list
 list_before (Some inverse) list = apply inverse list
 
--- the phase before a step, from the phase after it
-abbrev pub phase_before : Past Tagged → Phase → Phase
-phase_before past phase = by_rule NotJoined (λ p. phase_in (client.phase_before past p)) phase
+-- the client in this state
+abbrev pub with_state : Client → client.State Tagged → Client
+with_state x state = record { revision = state.revision; phase = phase_in state.phase; list = x.list; count = x.count; message = x.message }
 
--- what is recorded is over the phase after it
-abbrev pub FitsPhase : Past Tagged → Phase → Type 0
-FitsPhase past phase = by_rule ⊥ (λ p. client.FitsPhase past p) phase
+-- the client after the change was exchanged, where it has joined
+abbrev pub exchanged : Change Tagged → Client → Client
+exchanged change x = by_rule x (λ p. with_state x (changed (record { revision = x.revision; phase = p }) change)) x.phase
+
+-- the client has joined, and the change may be exchanged there
+abbrev pub FitsState : Change Tagged → Client → Type 0
+FitsState change x = by_rule ⊥ (λ p. Fits (record { revision = x.revision; phase = p }) change) x.phase
 
 -- the client as the record says
 abbrev pub reverted : Before → Client → Client
 reverted before x =
     record {
-      revision = before.revision;
-      phase = phase_before before.past x.phase;
+      revision = (exchanged before.change x).revision;
+      phase = (exchanged before.change x).phase;
       list = list_before before.inverse x.list;
       count = before.count;
       message = if before.unsent then None else x.message;
     }
 
 -- what was on the way to the client
-abbrev pub queue_before : Before → List ℕ → List ℕ
-queue_before before queue = if before.received then before.revision ∷ queue else queue
+abbrev pub queue_before : Before → Client → List ℕ → List ℕ
+queue_before before x queue = if before.received then (reverted before x).revision ∷ queue else queue
 
 -- the inverse, if there is one, can be applied to the list
 abbrev pub FitsBack : Option (Operation Tagged) → List Tagged → Type 0
@@ -52,22 +57,11 @@ FitsBack (Some inverse) list = inverse.base ≡ length list
 abbrev pub GivesBack : Option (Operation Tagged) → List Tagged → List Tagged → Type 0
 GivesBack inverse before after = FitsBack inverse after × (list_before inverse after ≡ before)
 
--- the undo record of the client x, before a step after which it has this phase and this list, and which takes a message off its downlink, or not
-pub record IsBefore (before : Before) (x : Client) (phase : Phase) (list : List Tagged) (received : Bool) : Type 0 where
-  pub waited : phase_before before.past phase ≡ x.phase
-  pub fits : FitsPhase before.past phase
-  pub revision : before.revision ≡ x.revision
-  pub applied : GivesBack before.inverse x.list list
-  pub count : before.count ≡ x.count
-  pub unsent : IsTrue before.unsent ↔ (x.message ≡ None)
-  pub took : before.received ≡ received
-
 -- the record leads from the client x after a step back to the client y before it
 pub record Restores (before : Before) (y x : Client) : Type 0 where
   pub back : reverted before x ≡ y
   pub fits : FitsBack before.inverse x.list
-  pub phase : FitsPhase before.past x.phase
-  pub joined : is_joined x.phase ≡ true
+  pub state : FitsState before.change x
   pub revision : x.revision ≡ (if before.received then suc y.revision else y.revision)
 
 -- the last message on the way to a client removed
@@ -123,22 +117,6 @@ pub record IsRecord (earlier s : State) (kept : Record) : Type 0 where
 -- this undoes the step that led from the earlier state, which is sound, to this one
 abbrev pub Undoes : State → State → Undo → Type 0
 Undoes earlier s undo = IsRecord earlier s undo.step
-
--- what a record has of this client's pending operations, if its step was the client's own
-abbrev pub past_of : ℕ → Record → Option (Past Tagged)
-past_of c (ClientStep d before) = if d == c then Some before.past else None
-past_of c (Taken d message inverse) = None
-past_of c (Joined d) = None
-past_of c Read = None
-
--- a step of client c led from the earlier state to this one, and this is recorded of what was pending before it, over what is pending after it
-pub record WaitedBefore (c : ℕ) (past : Past Tagged) (earlier s : State) : Type 0 where
-  pub was : Client
-  pub is : Client
-  pub at : slice_get earlier.clients c ≡ Some was
-  pub led : s ≡ with_client earlier c is
-  pub waited : phase_before past is.phase ≡ was.phase
-  pub fits : FitsPhase past is.phase
 
 -- there is such an earlier state
 abbrev pub IsUndoable : State → Undo → Type 0

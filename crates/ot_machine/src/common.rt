@@ -2,14 +2,12 @@
 //!
 //! A synchronized client's list is the server's at its revision. So where such a client takes an entry of the log, the list that this makes may be there already: the
 //! server has it, if the entry is its last one, and so does each other synchronized client that has taken that entry and no later one. Where the entry changes a very long
-//! list all over, and many clients wait for it, these have the chunks of one list in common from then on, each until it is changed at the client:
+//! list all over, and many clients wait for it, these have one list in common from then on, each until it changes its own:
 //!
 //! ```text
-//!     server      [ 512 ] [ 400 ] [ 512 ] ..     at revision 7
-//!                    |       |       |
-//!     client 0       +-------+-------+           at revision 7, synchronized
-//!
-//!     client 1    [ 512 ] [ 380 ] [ 512 ] ..     at revision 6, synchronized: takes entry 6, and has the chunks of the others then
+//!     server      list at revision 7 <-+
+//!     client 0    ---------------------+     at revision 7, synchronized
+//!     client 1    list at revision 6         synchronized: takes entry 6, and has the list of the others then
 //! ```
 //!
 //! So a replacement all over a document of a million characters, which 64 clients have open, is made a few times and not 64 times, and takes the memory of a few lists.
@@ -25,19 +23,19 @@ use ot_isa::Tagged;
 use ot_server::Server;
 use ot_text::{Doc, TextOp};
 
-// From how many chunks on a list is long: many shorter ones lie in the processor's caches, where to change one costs little more than to look at its chunks.
+// From how many leaves on a list is long: many shorter ones lie in the processor's caches, where to change one costs little more than to look at its leaves.
 const LONG: usize = 256;
 
-// How many components an operation has for each chunk of the list, at least. If they lie all over it, most chunks change, each at several places.
+// How many components an operation has for each leaf of the list, at least. If they lie all over it, most leaves change, each at several places.
 const EACH: usize = 8;
 
-// How many others have to wait for the entry. To have a list in common each chunk is copied once, and once more at each client that changes it later.
+// How many others have to wait for the entry. A list in common is copied at each client that changes it later.
 const OTHERS: usize = 7;
 
-// Whether the list is long, and the operation has many components for each of its chunks.
+// Whether the list is long, and the operation has many components for each of its leaves.
 fn is_wide(op: &TextOp<Tagged>, list: &Doc<Tagged>) -> bool {
-    let chunks = list.chunks();
-    chunks >= LONG && op.components().len() / EACH >= chunks
+    let leaves = list.chunks();
+    leaves >= LONG && op.component_count() / EACH >= leaves
 }
 
 // Whether the client is synchronized, at that revision.
@@ -73,7 +71,7 @@ fn first_at(seats: &[Seat], revision: u32) -> Option<usize>
     None
 }
 
-// A copy of the list, which becomes a shared one for that: the two have all chunks in common. None where memory was refused.
+// A copy of the list, which becomes a shared one for that: the two have all elements in common. None where memory was refused.
 fn in_common(list: &mut Doc<Tagged>) -> Option<Doc<Tagged>>
     ensures same { list.new ≡ list.old }
     ensures copy { IfSome result (λ copy. copy ≡ list.old) }
@@ -92,7 +90,7 @@ fn in_common_with_server(server: &mut Server<Tagged>) -> Option<Doc<Tagged>>
 }
 
 impl Machine {
-    // Whether the client is synchronized and its next entry has many components for each chunk of a long list. A look-up, for which each delivery pays.
+    // Whether the client is synchronized and its next entry has many components for each leaf of a long list. A look-up, for which each delivery pays.
     pub(crate) fn takes_wide(&self, client: u16) -> bool {
         let place = client as usize;
         if place >= self.seats.len() {

@@ -1,67 +1,43 @@
 //! The undo record of a client's own step, and how the step is undone. `KEPT` says whether a step may have to be undone; where it may not,
-//! nothing is made and nothing is recorded.
+//! no inverse is made and nothing is recorded.
 
-ghost use Rattle.std.specs.Prelude.{◌≡◌, length, map, IfErr, IfOk, IsSomeAnd, IsTrue, OnErr, OnOk};
-ghost use Rattle.ot_text.specs.Operation.{apply};
-ghost use Rattle.ot_model.specs.Table.{phase_in};
-ghost use Rattle.ot_machine.specs.Seats.{client_in, client_of, phase_of, revision_of, view_of};
-ghost use Rattle.ot_machine.specs.Undoing.{list_before, phase_before, queue_before, reverted, unsent, FitsBack, FitsPhase, IsBefore};
+ghost use Rattle.std.specs.Prelude.{◌≡◌, length, map, IfErr, IfOk, IsTrue, OnErr, OnOk};
+ghost use Rattle.ot_operation.specs.Operation.{apply};
+ghost use Rattle.ot_machine.specs.Seats.{client_of, revision_of, view_of};
+ghost use Rattle.ot_machine.specs.Undoing.{exchanged, queue_before, reverted, unsent, FitsBack, FitsState, GivesBack};
 
 use crate::seat::Seat;
-use ot_client::{Past, PreparedStep};
-use ot_inverse::Inverse;
+use ot_client::Change;
 use ot_isa::Tagged;
 use ot_text::{Doc, TextOp};
 use std::alloc::AllocError;
 
-/// A client as it was before a step of its own, recorded as changes of the client after it: its pending operations, the inverse of what the step
-/// applied to its list, its revision, how much it had inserted, whether nothing was under way from it, and whether the step took a message off its downlink.
+/// What a client's own step changes. Once the change is exchanged, this is the undo record: the change that undoes the one of the client's state, the inverse of what
+/// the step applied to its list, how much it had inserted, whether nothing was under way from it, and whether the step took a message off its downlink.
 #[derive(Drop)]
 pub(crate) struct Before {
-    pub past: Past<Tagged>,
-    pub inverse: Option<Inverse<Tagged>>,
-    pub revision: u32,
+    pub change: Change<Tagged>,
+    pub inverse: Option<TextOp<Tagged>>,
     pub count: u32,
     pub unsent: bool,
     pub received: bool,
 }
 
-// The inverse of the operation, over the list that it makes of this one.
-fn inverse_of(op: &TextOp<Tagged>, list: &Doc<Tagged>) -> Result<Inverse<Tagged>, AllocError>
+// The inverse of the operation, over the list that it makes of this one; made where the step is `KEPT`.
+pub(crate) fn inverse_of<const KEPT: bool>(
+    op: &TextOp<Tagged>,
+    list: &Doc<Tagged>,
+) -> Result<Option<TextOp<Tagged>>, AllocError>
     requires { op.now.base ≡ length list.now }
-    ensures base { IfOk result (λ inverse. inverse.base ≡ length (apply op.now list.now)) }
-    ensures back { IfOk result (λ inverse. apply inverse (apply op.now list.now) ≡ list.now) }
-{
-    if op.base_len() != list.len() {
-        unreachable!();
-    }
-    let inverse = Inverse::of(op, list)?;
-    Ok(inverse)
-}
-
-// The undo record of the client, which is taken out of its seat, before a prepared step that applies an operation to its list.
-pub(crate) fn before_change<const KEPT: bool>(
-    seat: &Seat,
-    step: &PreparedStep<Tagged>,
-    applied: &TextOp<Tagged>,
-    received: bool,
-) -> Result<Option<Before>, AllocError>
-    requires { applied.now.base ≡ length seat.now.list }
-    ensures { IsTrue KEPT → IfOk result (λ kept. IsSomeAnd kept (λ before. IsBefore before (client_in step.now.before seat.now) (phase_in step.now.after.phase) (apply applied.now seat.now.list) received)) }
+    ensures { IsTrue KEPT → IfOk result (λ inverse. GivesBack inverse list.now (apply op.now list.now)) }
 {
     if !KEPT {
         return Ok(None);
     }
-    let past = step.past(seat.list.allocator())?;
-    let inverse = inverse_of(applied, &seat.list)?;
-    Ok(Some(Before {
-        past,
-        inverse: Some(inverse),
-        revision: step.revision(),
-        count: seat.count,
-        unsent: seat.up.is_empty(),
-        received,
-    }))
+    // For the proof: the invariant of every operation.
+    let _operation = op.base_len();
+    let inverse = op.invert(list)?;
+    Ok(Some(inverse))
 }
 
 // Removes the last message on the way to the client.
@@ -83,9 +59,9 @@ pub(crate) fn unsend_all(seats: &mut Vec<Seat>)
 // The client as it was before the step. Where memory runs out the record comes back.
 pub(crate) fn revert(seat: &mut Seat, before: Before) -> Result<(), (AllocError, Before)>
     requires list { FitsBack before.inverse seat.old.list }
-    requires phase { FitsPhase before.past (phase_of seat.old.client) }
+    requires state { FitsState before.change (client_of seat.old) }
     ensures ok { OnOk result (client_of seat.new ≡ reverted before (client_of seat.old)) }
-    ensures down { OnOk result (seat.new.down.items ≡ queue_before before seat.old.down.items) }
+    ensures down { OnOk result (seat.new.down.items ≡ queue_before before (client_of seat.old) seat.old.down.items) }
     ensures err { OnErr result (view_of seat.new ≡ view_of seat.old) }
     ensures back { IfErr result (λ e. e.1 ≡ before) }
 {
@@ -94,11 +70,14 @@ pub(crate) fn revert(seat: &mut Seat, before: Before) -> Result<(), (AllocError,
     {
         return Err((e, before));
     }
-    if let Err(e) = revert_client(seat, &before) {
+    if let Some(inverse) = &before.inverse
+        && let Err(e) = seat.list.change(inverse)
+    {
         return Err((e, before));
     }
+    let revision = revert_state(seat, before.change);
     if before.received {
-        seat.down.put_back(before.revision);
+        seat.down.put_back(revision);
     }
     if before.unsent {
         let _ = seat.up.pop();
@@ -107,32 +86,17 @@ pub(crate) fn revert(seat: &mut Seat, before: Before) -> Result<(), (AllocError,
     Ok(())
 }
 
-// Its client and its list as they were before the step; if memory runs out, they stay.
-fn revert_client(seat: &mut Seat, before: &Before) -> Result<(), AllocError>
-    requires list { FitsBack before.now.inverse seat.old.list }
-    requires phase { FitsPhase before.now.past (phase_of seat.old.client) }
-    ensures phase { OnOk result (phase_of seat.new.client ≡ phase_before before.now.past (phase_of seat.old.client)) }
-    ensures revision { OnOk result (revision_of seat.new.client ≡ before.now.revision) }
-    ensures list { OnOk result (seat.new.list ≡ list_before before.now.inverse seat.old.list) }
-    ensures links { (seat.new.up ≡ seat.old.up) × (seat.new.down ≡ seat.old.down) × (seat.new.count ≡ seat.old.count) }
-    ensures err { OnErr result (seat.new ≡ seat.old) }
+// The client's state as it was before the step; gives its revision. It takes no memory.
+fn revert_state(seat: &mut Seat, change: Change<Tagged>) -> u32
+    requires { FitsState change (client_of seat.old) }
+    ensures client { client_of seat.new ≡ exchanged change (client_of seat.old) }
+    ensures revision { result ≡ revision_of seat.new.client }
+    ensures rest { (seat.new.list ≡ seat.old.list) × (seat.new.up ≡ seat.old.up) × (seat.new.down ≡ seat.old.down) × (seat.new.count ≡ seat.old.count) }
 {
-    let Some(client) = seat.client.take() else {
+    let Some(client) = &mut seat.client else {
         unreachable!()
     };
-    let back = match before.past.prepare_back(client, before.revision) {
-        Ok(back) => back,
-        Err(client) => {
-            seat.client = Some(client);
-            return Err(AllocError);
-        }
-    };
-    if let Some(inverse) = &before.inverse
-        && let Err(e) = inverse.change(&mut seat.list)
-    {
-        seat.client = Some(back.roll_back());
-        return Err(e);
-    }
-    seat.client = Some(back.commit());
-    Ok(())
+    let mut change = change;
+    client.exchange(&mut change);
+    client.revision()
 }

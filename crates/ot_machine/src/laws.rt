@@ -1,6 +1,6 @@
 //! Laws of all runs, each as the contract of a function that does nothing but call the law it rests on.
 
-ghost use Rattle.ot_algebra.specs.Laws.{ApplyKeepsOrder, TransformKeepsSides};
+ghost use Rattle.ot_operation.specs.Laws.{ApplyKeepsOrder, TransformKeepsSides};
 ghost use Rattle.ot_isa.specs.declared.elements.Tagged.{Tagged};
 ghost use Rattle.ot_machine.specs.Laws.{RunsConverge, RunsSound};
 ghost use Rattle.ot_machine.specs.Undoing.{RecordsDetermine};

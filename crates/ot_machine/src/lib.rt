@@ -15,9 +15,9 @@
 //!   client's list is the server's.
 //! - [`Machine::step`] performs one instruction, or refuses it as the table does and changes
 //!   nothing (specs/Answers.antt). `Memory` comes only where the table performs the instruction:
-//!   what grows does so before anything is changed. An Edit and a Deliver take the client out of its
-//!   seat, have its step prepared at the cost of what changes, change the list, and put back the client
-//!   after the step, or on an error the one before it.
+//!   what grows does so before anything is changed. An Edit and a Deliver have the client prepare its
+//!   change, which only reads it, then change the list, and then exchange the client's change, which
+//!   cannot fail. After that the change is what undoes the client's part of the step.
 //! - A downlink holds numbers of log entries; the log tells whether an entry is an acknowledgement
 //!   (its maker's) or another's operation. A client that has not joined has no client state at all.
 //! - [`Machine::clients`] and the calls beside it read the fields of the state
@@ -27,7 +27,7 @@
 //! - [`Machine::perform`] performs an instruction too and says who is read by it; [`Machine::document_of`] shows that
 //!   list, where `step` copies it, [`end_of_run`] runs a schedule so, and [`run_on`] from a place on (specs/Ended.antt).
 //! - A delivery may give a synchronized client the list of the server, or of another one that has taken the same entry: where an operation changes a very long
-//!   document all over, the lists of many clients have their chunks in common (common.rt, specs/Common.antt).
+//!   document all over, many clients have one list in common (common.rt, specs/Common.antt).
 //! - [`Machine::part`] copies a joined client with its downlink, and no element of its list after [`Machine::share`]; [`Machine::begins`] says whether such a
 //!   part still begins the client that is here, and [`Machine::install`] puts a client back that made
 //!   steps off the machine (specs/Parts.antt, over specs/Part.antt and specs/Session.antt of `ot_model`).

@@ -106,7 +106,7 @@ impl Machine {
         let op = tagged(op.allocator(), op, client, seat.count)?;
         let before = seat::edit::<KEPT>(seat, &op)?;
         self.steps += 1;
-        Ok(Record::of_client(client, before))
+        Ok(Record::of_client::<KEPT>(client, before))
     }
 
     // The server receives what is under way from the client, and notifies all joined clients.
@@ -186,7 +186,7 @@ impl Machine {
         }
         let (before, applied) = seat::deliver::<KEPT>(seat, entry.operation(), common)?;
         self.steps += 1;
-        Ok((Record::of_client(client, before), applied))
+        Ok((Record::of_client::<KEPT>(client, before), applied))
     }
 
     // The client takes the confirmation of its own operation from the front of its downlink.
@@ -216,9 +216,9 @@ impl Machine {
         if entry.maker() != client {
             return Err(Refusal::WrongHead);
         }
-        let before = seat::acknowledge::<KEPT>(seat)?;
+        let before = seat::acknowledge(seat)?;
         self.steps += 1;
-        Ok(Record::of_client(client, before))
+        Ok(Record::of_client::<KEPT>(client, before))
     }
 
     // The client gets the server's list and revision.

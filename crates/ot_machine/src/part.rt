@@ -113,7 +113,7 @@ fn copy_sent(sent: &Option<Sent<Tagged>>) -> Result<Option<Sent<Tagged>>, AllocE
 }
 
 impl Part {
-    /// An equal part, whose list has its shared chunks in common with this one's.
+    /// An equal part. Where the list is shared, it has its elements in common with this one's.
     pub fn copy(&self) -> Result<Part, AllocError>
         ensures { IfOk result (λ copy. part_in copy ≡ part_in self.now) }
     {
@@ -235,8 +235,8 @@ impl Machine {
         })
     }
 
-    /// Makes the chunks of the client's list shared ([`Doc::share`]): copies of the list, as those of [`Machine::part`], have them in common from
-    /// then on and copy no elements. Nothing else changes, also where a growth was refused.
+    /// Makes the client's list shared ([`Doc::share`]): copies of the list, as those of [`Machine::part`], have its elements in common from
+    /// then on and copy none. Nothing else changes, also where a growth was refused.
     pub fn share(&mut self, client: u16) -> Result<(), AllocError>
         requires { client < length self.old.clients }
         ensures { self.new ≡ self.old }

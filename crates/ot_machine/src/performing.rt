@@ -142,30 +142,6 @@ impl Machine {
             }
         }
     }
-
-    /// Performs the instruction as [`Machine::perform_kept`] does, and gives what a delivery applied to its client's list too, as
-    /// [`Machine::perform_applied`] does.
-    ///
-    /// The refusals are those of `step`; `Memory` is none of a read's. After an error nothing has changed.
-    pub fn perform_kept_applied(&mut self, instr: &Instr) -> Result<(Undo, Applied), Refusal>
-        ensures done { OnOk result (Leads self.old instr.now self.new) }
-        ensures refused { IfErr result (λ r. IsRefusal (step self.old instr.now) r) }
-        ensures memory { IfErr result (λ r. r ≡ Memory → reader_of instr.now ≡ None) }
-        ensures unchanged { OnErr result (self.new ≡ self.old) }
-        ensures undo { IfOk result (λ given. Undoes self.old self.new given.0) }
-        ensures applied { IfOk result (λ given. applied_in self.new given.1 ≡ applied_by self.old instr.now) }
-    {
-        match instr {
-            Instr::Deliver(client) => {
-                let (made, applied) = self.deliver::<true>(*client)?;
-                Ok((Undo::kept(made), applied))
-            }
-            _ => {
-                let undo = self.perform_kept(instr)?;
-                Ok((undo, Applied::Nothing))
-            }
-        }
-    }
 }
 
 /// Runs the schedule on from the place to which the machine has come, as [`end_of_run`] does from the opening: the machine is as the schedule's first `from`

@@ -90,25 +90,12 @@ impl Machine {
         ensures kept { OnErr result (shown.new.items ≡ shown.old.items) }
     {
         match instr {
-            Instr::Edit(client, op) => {
-                self.edit::<false>(*client, op)?;
-                Ok(())
-            }
-            Instr::Take(client) => {
-                self.take::<false>(*client)?;
-                Ok(())
-            }
-            Instr::Deliver(client) => {
-                self.deliver::<false>(*client)?;
-                Ok(())
-            }
-            Instr::Acknowledge(client) => {
-                self.acknowledge::<false>(*client)?;
-                Ok(())
-            }
-            Instr::Join(client) => self.join(*client),
             Instr::Read(client) => self.keep_read(*client, shown),
             Instr::ReadServer => self.keep_read_server(shown),
+            _ => {
+                self.perform(instr)?;
+                Ok(())
+            }
         }
     }
 }

@@ -1,22 +1,22 @@
-//! A client's place in the machine, and the rows there. A row gives its undo record where it is `KEPT` (kept.rt). Each has one caller, and is
-//! put in its place there, so that a plain row pays nothing for a record that it does not give.
+//! A client's place in the machine, and the rows there. A row first has the client prepare its change and makes the list, which may find no memory; the rest cannot
+//! fail. Then it gives its undo record, whole where it is `KEPT` (kept.rt). Each has one caller, and is put in its place there, so that a plain row pays nothing for a
+//! record that it does not give.
 
-ghost use Rattle.std.specs.Prelude.{◌≡◌, ◌+◌, ◌≤◌, ◌<◌, ◌↔◌, ◌++◌, drop, length, map, replicate, slice_get, true, OnOk, OnErr, IfOk, IfSome, IsSomeAnd, IsTrue, None, Some};
+ghost use Rattle.std.specs.Prelude.{◌≡◌, ◌+◌, ◌≤◌, ◌<◌, ◌↔◌, ◌++◌, drop, length, map, replicate, slice_get, OnOk, OnErr, IfOk, IfSome, IsSomeAnd, IsTrue, None, Some};
 ghost use Rattle.std.specs.Option.{option_copied, option_map};
-ghost use Rattle.ot_text.specs.Operation.{apply, news};
+ghost use Rattle.ot_operation.specs.Operation.{apply, news};
 ghost use Rattle.ot_client.specs.State as state;
 ghost use Rattle.ot_client.specs.Client.{message_of, state_of};
 ghost use Rattle.ot_server.specs.History.{fault_of, received, IsUndo};
-ghost use Rattle.ot_model.specs.Table.{absent, acknowledged, carried, delivered, edited, phase_in, present_with};
+ghost use Rattle.ot_model.specs.Table.{absent, acknowledged, carried, delivered, edited, present_with};
 ghost use Rattle.ot_machine.specs.Delivery.{IsMadeOf};
-ghost use Rattle.ot_machine.specs.Seats.{client_in, client_of, phase_of, revision_of, view_of, AreSettled, idle, queued, joined_at, under_way, Follows, MayPush, MaySend, HasRoom, HaveRoomFrom, MayDeliverState, MaySeatAcknowledge, MaySeatDeliver, IsMemory, IsReceivable, IsSettled, IsWaiting, emptied, outstanding_at, outstanding_of, received_from};
-ghost use Rattle.ot_machine.specs.Undoing.{message_at, IsBefore, Restores};
+ghost use Rattle.ot_machine.specs.Seats.{client_of, phase_of, revision_of, view_of, AreSettled, idle, queued, joined_at, under_way, Follows, MayPush, MaySend, HasRoom, HaveRoomFrom, MayDeliverState, MaySeatAcknowledge, MaySeatDeliver, IsMemory, IsReceivable, IsSettled, IsWaiting, emptied, outstanding_at, outstanding_of, received_from};
+ghost use Rattle.ot_machine.specs.Undoing.{message_at, Restores};
 ghost use Rattle.ot_isa.specs.declared.tagging.TheConstants.{INSERTED_LIMIT};
 
 use crate::delivery::Applied;
 use crate::kept::{self, Before};
-use ot_client::{Client, Past, PreparedStep, Sent, Synchronized};
-use ot_inverse::Inverse;
+use ot_client::{Client, Sent, Synchronized};
 use ot_isa::Tagged;
 use ot_links::{Downlink, Uplink};
 use ot_server::{Entry, Server, ServerFault};
@@ -99,35 +99,12 @@ pub(crate) fn put_up(up: &mut Uplink<Sent<Tagged>>, sent: Option<Sent<Tagged>>)
     }
 }
 
-// The list of the client, which is taken out of its seat, after what its prepared step applies, made here or given; and the step's undo record where it is `KEPT`.
-#[inline(always)]
-fn change_list<const KEPT: bool>(
-    seat: &mut Seat,
-    step: &PreparedStep<Tagged>,
-    applied: &TextOp<Tagged>,
-    common: &mut Option<Doc<Tagged>>,
-    received: bool,
-) -> Result<Option<Before>, AllocError>
-    requires base { applied.now.base ≡ length seat.old.list }
-    requires common { IfSome common.old (λ list. list ≡ apply applied.now seat.old.list) }
-    ensures ok { OnOk result (seat.new ≡ record { client = seat.old.client; list = apply applied.now seat.old.list; count = seat.old.count; up = seat.old.up; down = seat.old.down }) }
-    ensures err { OnErr result (seat.new ≡ seat.old) }
-    ensures kept { IsTrue KEPT → IfOk result (λ kept. IsSomeAnd kept (λ before. IsBefore before (client_in step.now.before seat.old) (phase_in step.now.after.phase) (apply applied.now seat.old.list) received)) }
-{
-    let before = kept::before_change::<KEPT>(seat, step, applied, received)?;
-    match common {
-        Some(list) => mem::swap(&mut seat.list, list),
-        None => seat.list.change(applied)?,
-    }
-    Ok(before)
-}
-
 // The user's edit at a client that has joined.
 #[inline(always)]
 pub(crate) fn edit<const KEPT: bool>(
     seat: &mut Seat,
     op: &TextOp<Tagged>,
-) -> Result<Option<Before>, AllocError>
+) -> Result<Before, AllocError>
     requires follows { Follows (phase_of seat.old.client) op.now.base }
     requires sends { MaySend (phase_of seat.old.client) seat.old.up }
     requires base { op.now.base ≡ length seat.old.list }
@@ -135,31 +112,25 @@ pub(crate) fn edit<const KEPT: bool>(
     ensures ok { OnOk result (client_of seat.new ≡ edited (client_of seat.old) op.now) }
     ensures down { seat.new.down ≡ seat.old.down }
     ensures err { OnErr result (seat.new ≡ seat.old) }
-    ensures kept { IsTrue KEPT → IfOk result (λ kept. IsSomeAnd kept (λ before. Restores before (client_of seat.old) (client_of seat.new))) }
+    ensures kept { IsTrue KEPT → IfOk result (λ before. Restores before (client_of seat.old) (client_of seat.new)) }
 {
-    let Some(client) = seat.client.take() else {
+    let Some(client) = &mut seat.client else {
         unreachable!()
     };
-    let step = match client.prepare_edit(op) {
-        Ok(step) => step,
-        Err(client) => {
-            seat.client = Some(client);
-            return Err(AllocError);
-        }
+    let (change, sent) = client.prepare_edit(op)?;
+    let inverse = kept::inverse_of::<KEPT>(op, &seat.list)?;
+    seat.list.change(op)?;
+    let mut before = Before {
+        change,
+        inverse,
+        count: seat.count,
+        unsent: seat.up.is_empty(),
+        received: false,
     };
-    match change_list::<KEPT>(seat, &step, op, &mut None, false) {
-        Ok(before) => {
-            let (client, sent) = step.commit();
-            seat.client = Some(client);
-            put_up(&mut seat.up, sent);
-            seat.count += op.inserted() as u32;
-            Ok(before)
-        }
-        Err(e) => {
-            seat.client = Some(step.roll_back());
-            Err(e)
-        }
-    }
+    client.exchange(&mut before.change);
+    put_up(&mut seat.up, sent);
+    seat.count += op.inserted() as u32;
+    Ok(before)
 }
 
 // Memory for one more message to the client.
@@ -235,6 +206,26 @@ pub(crate) fn are_settled(seats: &[Seat]) -> bool
     true
 }
 
+// The list after an operation, made here, or given: then what was there is left in its place.
+fn change_list(
+    list: &mut Doc<Tagged>,
+    op: &TextOp<Tagged>,
+    common: &mut Option<Doc<Tagged>>,
+) -> Result<(), AllocError>
+    requires base { op.now.base ≡ length list.old }
+    requires common { IfSome common.old (λ given. given ≡ apply op.now list.old) }
+    ensures ok { OnOk result (list.new ≡ apply op.now list.old) }
+    ensures err { OnErr result (list.new ≡ list.old) }
+{
+    match common {
+        Some(given) => {
+            mem::swap(list, given);
+            Ok(())
+        }
+        None => list.change(op),
+    }
+}
+
 // Takes the first message, another's operation, to the client. Where the list that this makes is given it becomes the client's, and what that had is left in its place. Gives
 // what it applied, too.
 #[inline(always)]
@@ -242,83 +233,59 @@ pub(crate) fn deliver<const KEPT: bool>(
     seat: &mut Seat,
     op: &TextOp<Tagged>,
     common: &mut Option<Doc<Tagged>>,
-) -> Result<(Option<Before>, Applied), AllocError>
+) -> Result<(Before, Applied), AllocError>
     requires may { MaySeatDeliver seat.old op.now }
     requires common { IfSome common.old (λ list. list ≡ (delivered (client_of seat.old) op.now).list) }
     ensures ok { OnOk result (client_of seat.new ≡ delivered (client_of seat.old) op.now) }
     ensures down { OnOk result (seat.new.down.items ≡ drop 1 seat.old.down.items) }
     ensures err { OnErr result (seat.new ≡ seat.old) }
-    ensures kept { IsTrue KEPT → IfOk result (λ given. IsSomeAnd given.0 (λ before. Restores before (client_of seat.old) (client_of seat.new))) }
+    ensures kept { IsTrue KEPT → IfOk result (λ given. Restores given.0 (client_of seat.old) (client_of seat.new)) }
     ensures applied { IfOk result (λ given. IsMadeOf (revision_of seat.old.client) op.now (carried (phase_of seat.old.client) op.now) given.1) }
 {
-    let Some(client) = seat.client.take() else {
+    let Some(client) = &mut seat.client else {
         unreachable!()
     };
     let number = client.revision() as usize;
-    let (step, carried) = match client.prepare_deliver(op) {
-        Ok(prepared) => prepared,
-        Err(client) => {
-            seat.client = Some(client);
-            return Err(AllocError);
-        }
-    };
+    let (change, carried) = client.prepare_deliver(op)?;
     let applied = carried.as_ref().unwrap_or(op);
-    match change_list::<KEPT>(seat, &step, applied, common, true) {
-        Ok(before) => {
-            let (client, _sent) = step.commit();
-            seat.client = Some(client);
-            let _ = seat.down.pop();
-            Ok((before, Applied::of(number, carried)))
-        }
-        Err(e) => {
-            seat.client = Some(step.roll_back());
-            Err(e)
-        }
-    }
-}
-
-// The undo record of an acknowledgement, where it is `KEPT`.
-#[inline(always)]
-fn confirmed<const KEPT: bool>(past: Past<Tagged>, revision: u32, count: u32) -> Option<Before>
-    ensures { IsTrue KEPT → result ≡ Some (record { past = past; inverse = None; revision = revision; count = count; unsent = true; received = true }) }
-{
-    if !KEPT {
-        return None;
-    }
-    Some(Before {
-        past,
-        inverse: None,
-        revision,
-        count,
-        unsent: true,
+    let inverse = kept::inverse_of::<KEPT>(applied, &seat.list)?;
+    change_list(&mut seat.list, applied, common)?;
+    let mut before = Before {
+        change,
+        inverse,
+        count: seat.count,
+        unsent: seat.up.is_empty(),
         received: true,
-    })
+    };
+    client.exchange(&mut before.change);
+    let _ = seat.down.pop();
+    Ok((before, Applied::of(number, carried)))
 }
 
 // Takes the first message, the acknowledgement of the client's own operation.
 #[inline(always)]
-pub(crate) fn acknowledge<const KEPT: bool>(seat: &mut Seat) -> Result<Option<Before>, AllocError>
+pub(crate) fn acknowledge(seat: &mut Seat) -> Result<Before, AllocError>
     requires may { MaySeatAcknowledge seat.old }
     ensures ok { OnOk result (acknowledged (client_of seat.old) (phase_of seat.old.client) ≡ Some (client_of seat.new)) }
     ensures down { OnOk result (seat.new.down.items ≡ drop 1 seat.old.down.items) }
     ensures err { OnErr result (seat.new ≡ seat.old) }
-    ensures kept { IsTrue KEPT → IfOk result (λ kept. IsSomeAnd kept (λ before. Restores before (client_of seat.old) (client_of seat.new))) }
+    ensures kept { IfOk result (λ before. Restores before (client_of seat.old) (client_of seat.new)) }
 {
-    let Some(client) = seat.client.take() else {
+    let Some(client) = &mut seat.client else {
         unreachable!()
     };
-    let revision = client.revision();
-    let (client, sent, past) = match client.acknowledge() {
-        Ok(given) => given,
-        Err(client) => {
-            seat.client = Some(client);
-            return Err(AllocError);
-        }
+    let (change, sent) = client.prepare_acknowledge()?;
+    let mut before = Before {
+        change,
+        inverse: None,
+        count: seat.count,
+        unsent: true,
+        received: true,
     };
-    seat.client = Some(client);
+    client.exchange(&mut before.change);
     put_up(&mut seat.up, sent);
     let _ = seat.down.pop();
-    Ok(confirmed::<KEPT>(past, revision, seat.count))
+    Ok(before)
 }
 
 // Gives the client, which has not joined, the server's document and revision.
@@ -351,7 +318,7 @@ fn receive<const KEPT: bool>(
     client: u16,
     revision: u32,
     op: &TextOp<Tagged>,
-) -> Result<Option<Inverse<Tagged>>, AllocError>
+) -> Result<Option<TextOp<Tagged>>, AllocError>
     requires { fault_of server.old revision op.now ≡ None }
     ensures ok { OnOk result (server.new ≡ received server.old client revision op.now) }
     ensures err { OnErr result (server.new ≡ server.old) }
@@ -375,7 +342,7 @@ fn receive_outstanding<const KEPT: bool>(
     server: &mut Server<Tagged>,
     seat: &Seat,
     client: u16,
-) -> Result<Option<Inverse<Tagged>>, AllocError>
+) -> Result<Option<TextOp<Tagged>>, AllocError>
     requires { IsReceivable server.old (outstanding_of (revision_of seat.now.client) (phase_of seat.now.client)) }
     ensures ok { OnOk result (server.new ≡ received_from server.old client (outstanding_of (revision_of seat.now.client) (phase_of seat.now.client))) }
     ensures err { OnErr result (server.new ≡ server.old) }
@@ -398,7 +365,7 @@ pub(crate) fn take_in<const KEPT: bool>(
     server: &mut Server<Tagged>,
     seats: &mut Vec<Seat>,
     client: u16,
-) -> Result<(Sent<Tagged>, Option<Inverse<Tagged>>), AllocError>
+) -> Result<(Sent<Tagged>, Option<TextOp<Tagged>>), AllocError>
     requires accepts { IsReceivable server.old (outstanding_at (map view_of seats.old.items) client) }
     requires sends { message_at (map view_of seats.old.items) client ≡ None → ⊥ }
     ensures ok { OnOk result (server.new ≡ received_from server.old client (outstanding_at (map view_of seats.old.items) client)) }

@@ -1,19 +1,19 @@
 //! Steps with their undo records, and undoing them.
 
-ghost use Rattle.std.specs.Prelude.{◌≡◌, IfErr, IfOk, IfSome, None, OnErr, OnOk, Some};
-ghost use Rattle.std.specs.Option.{option_copied, option_map};
+ghost use Rattle.std.specs.Prelude.{◌≡◌, IfErr, IfOk, IsTrue, None, OnErr, OnOk, Some};
+ghost use Rattle.std.specs.Option.{option_map};
 ghost use Rattle.ot_model.specs.Table.{step, Performed, State};
 ghost use Rattle.ot_machine.specs.Answers.{IsRefusal};
 ghost use Rattle.ot_machine.specs.declared.undo.Record.TheVariants.{ClientStep, Joined, Read, Taken};
-ghost use Rattle.ot_machine.specs.Undoing.{past_of, IsRecord, IsUndoable, IsUndoableRecord, Undoes, WaitedBefore};
+ghost use Rattle.ot_machine.specs.Undoing.{IsRecord, IsUndoable, IsUndoableRecord, Undoes};
 
 use crate::kept::{self, Before};
 use crate::machine::Machine;
 use crate::seat;
-use ot_client::{Past, Sent};
-use ot_inverse::Inverse;
+use ot_client::Sent;
 use ot_isa::{Instr, Tagged};
 use ot_model::{Refusal, Shown};
+use ot_text::TextOp;
 use std::alloc::AllocError;
 
 /// The undo record of one step of a machine: of the client's state what the step changed, inverse operations and the message taken, but no list.
@@ -27,21 +27,21 @@ pub struct Undo {
 #[derive(Drop)]
 pub(crate) enum Record {
     ClientStep(u16, Before),
-    Taken(u16, Sent<Tagged>, Inverse<Tagged>),
+    Taken(u16, Sent<Tagged>, TextOp<Tagged>),
     Joined(u16),
     Read,
 }
 
 impl Record {
-    // Of a step at a client, where what was before it is recorded.
+    // Of a step at a client, where it is `KEPT`.
     #[inline(always)]
-    pub(crate) fn of_client(client: u16, before: Option<Before>) -> Option<Record>
-        ensures { result ≡ option_map (ClientStep client) before }
+    pub(crate) fn of_client<const KEPT: bool>(client: u16, before: Before) -> Option<Record>
+        ensures { IsTrue KEPT → result ≡ Some (ClientStep client before) }
     {
-        match before {
-            Some(before) => Some(Record::ClientStep(client, before)),
-            None => None,
+        if !KEPT {
+            return None;
         }
+        Some(Record::ClientStep(client, before))
     }
 
     // Of a Take, where the inverse of what was appended is recorded.
@@ -49,7 +49,7 @@ impl Record {
     pub(crate) fn of_take(
         client: u16,
         message: Sent<Tagged>,
-        inverse: Option<Inverse<Tagged>>,
+        inverse: Option<TextOp<Tagged>>,
     ) -> Option<Record>
         ensures { result ≡ option_map (Taken client message) inverse }
     {
@@ -76,33 +76,29 @@ impl Undo {
         Undo { step: made }
     }
 
-    /// What is recorded of the client's pending operations before the step, as changes of those after it, where the step was its own: an edit, a
-    /// delivery or an acknowledgement. None of a step of another client, of a Take, a Join or a read.
-    pub fn past(&self, client: u16) -> Option<&Past<Tagged>>
-        ensures is { option_copied result ≡ past_of client self.now.step }
-        ensures waited { IfSome result (λ past. (earlier s : State) → Undoes earlier s self.now → WaitedBefore client past.now earlier s) }
-    {
-        match &self.step {
-            Record::ClientStep(moved, before) if *moved == client => Some(&before.past),
-            _ => None,
-        }
-    }
-
-    /// About how much it stores, counted in components and elements, 1 at least: those of the inverse, and the components of the message that a Take
-    /// took. The client's pending operations before the step are not counted: they are as large as the inverse, about, or as a message. A look-up.
+    /// About how much it stores, counted in components and elements, 1 at least: those of the inverse, of what it holds of the client's pending
+    /// operations, and of the message that a Take took. It goes through no component.
     pub fn size(&self) -> usize {
-        match &self.step {
-            Record::ClientStep(_, before) => match &before.inverse {
-                Some(inverse) => inverse.size(),
-                None => 1,
-            },
-            Record::Taken(_, message, inverse) => {
-                let components = message.op.components().len();
-                components.saturating_add(inverse.size())
+        let stored = match &self.step {
+            Record::ClientStep(_, before) => {
+                let pending = before.change.size();
+                match &before.inverse {
+                    Some(inverse) => pending.saturating_add(size_of(inverse)),
+                    None => pending,
+                }
             }
-            Record::Joined(_) | Record::Read => 1,
-        }
+            Record::Taken(_, message, inverse) => {
+                size_of(&message.op).saturating_add(size_of(inverse))
+            }
+            Record::Joined(_) | Record::Read => 0,
+        };
+        stored.saturating_add(1)
     }
+}
+
+// How many components the operation has, and how many elements it inserts.
+fn size_of(op: &TextOp<Tagged>) -> usize {
+    op.component_count().saturating_add(op.inserted())
 }
 
 impl Machine {
@@ -173,18 +169,14 @@ impl Machine {
         &mut self,
         client: u16,
         message: Sent<Tagged>,
-        inverse: Inverse<Tagged>,
-    ) -> Result<(), (AllocError, Sent<Tagged>, Inverse<Tagged>)>
+        inverse: TextOp<Tagged>,
+    ) -> Result<(), (AllocError, Sent<Tagged>, TextOp<Tagged>)>
         requires { IsUndoableRecord self.old (Taken client message inverse) }
         ensures ok { (earlier : State) → IsRecord earlier self.old (Taken client message inverse) → OnOk result (self.new ≡ earlier) }
         ensures err { OnErr result (self.new ≡ self.old) }
         ensures back { IfErr result (λ e. (e.1 ≡ message) × (e.2 ≡ inverse)) }
     {
-        let op = match inverse.operation() {
-            Ok(op) => op,
-            Err(e) => return Err((e, message, inverse)),
-        };
-        if let Err(e) = self.server.retract(&op) {
+        if let Err(e) = self.server.retract(&inverse) {
             return Err((e, message, inverse));
         }
         kept::unsend_all(&mut self.seats);

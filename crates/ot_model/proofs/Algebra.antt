@@ -1,12 +1,12 @@
 -- What the proofs on runs ask of the algebra, and that it keeps that.
 use Rattle.std.proofs.Common.{◌≡◌, ◌+◌, ◌≤◌, List, [], ◌∷◌, length, refl, sym, ◌∙◌, arith, cond}
 use Rattle.std.proofs.lemmas.List.Sums.{sum_by-cons}
-use Rattle.ot_text.proofs.ApplyLaws.{length-apply}
-use Rattle.ot_algebra.proofs.ComposeLaws.{apply-compose, compose-IsOperation, news_count-compose}
-use Rattle.ot_algebra.proofs.TransformLaws.{transform_converges}
-use Rattle.ot_algebra.proofs.TransformedLaws.{news-first_after, news-second_after, first_after-IsOperation, second_after-IsOperation}
-use Rattle.ot_algebra.proofs.OrderLaws.{length-image}
-use Rattle.ot_algebra.proofs.LengthLaws.{compose-base, first_after-base, second_after-base}
+use Rattle.ot_operation.proofs.ApplyLaws.{length-apply}
+use Rattle.ot_operation.proofs.ComposeLaws.{apply-compose, compose-IsOperation, news_count-compose}
+use Rattle.ot_operation.proofs.TransformLaws.{transform_converges}
+use Rattle.ot_operation.proofs.TransformedLaws.{news-first_after, news-second_after, first_after-IsOperation, second_after-IsOperation}
+use Rattle.ot_operation.proofs.OrderLaws.{length-image}
+use Rattle.ot_operation.proofs.LengthLaws.{compose-base, first_after-base, second_after-base}
 use Rattle.std.specs.Prelude.{true, count_by}
 use Rattle.ot_isa.specs.declared.elements.Tag.{Tag}
 use Rattle.ot_isa.specs.declared.elements.Tagged.{Tagged}

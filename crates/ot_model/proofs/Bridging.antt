@@ -3,7 +3,7 @@ use Rattle.std.proofs.Common.{◌≡◌, ℕ, zero, suc, ◌+◌, ◌<◌, ◌�
 use Rattle.std.proofs.lemmas.Bool.{eqb-true, eq-eqb, and_from, and_parts}
 use Rattle.std.specs.Prelude.{◌||◌, slice_get, not, ◌==◌, if◌then◌else◌}
 use Rattle.ot_model.specs.Operation.{Item, Old, New}
-use Rattle.ot_text.specs.Operation as text
+use Rattle.ot_operation.specs.Operation as text
 use Rattle.ot_isa.specs.declared.elements.Tag.{Tag}
 use Rattle.ot_isa.specs.declared.elements.Tagged.{Tagged}
 use Rattle.ot_isa.specs.Tagging.{tagged_items}

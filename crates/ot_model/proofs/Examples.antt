@@ -1,10 +1,10 @@
 -- Worked runs, by evaluation. A character is its number: 97 is 'a'.
 use Rattle.std.proofs.Common.{◌≡◌, ℕ, List, [], ◌∷◌, ◌++◌, length, map, Option, Some, None, refl}
 use Rattle.std.specs.Prelude.{option_map}
-use Rattle.ot_text.specs.Operation.{Item, Old, New, Operation, apply}
-use Rattle.ot_text.specs.Run.{Run, Keep, Add, Skip, operation_of}
-use Rattle.ot_algebra.specs.Compose.{compose}
-use Rattle.ot_algebra.specs.Merge.{merge, first_after, second_after}
+use Rattle.ot_operation.specs.Operation.{Item, Old, New, Operation, apply}
+use Rattle.ot_operation.specs.Run.{Run, Keep, Add, Skip, operation_of}
+use Rattle.ot_operation.specs.Compose.{compose}
+use Rattle.ot_operation.specs.Merge.{merge, first_after, second_after}
 use Rattle.ot_isa.specs.Program.{Program}
 use Rattle.ot_isa.specs.declared.elements.Tagged.{Tagged}
 use Rattle.ot_isa.specs.declared.instruction.Instr.{Instr}

@@ -5,7 +5,7 @@ use Rattle.std.specs.List.{All}
 use Rattle.std.proofs.lemmas.List.{length-take-le, take-take}
 use Rattle.std.proofs.lemmas.List.Sums.{sum_by-cons, sum_by-take-drop}
 use Rattle.std.proofs.lemmas.Option.{slice_get-get_or, slice_get_within}
-use Rattle.ot_algebra.proofs.LengthLaws.{second_after-base}
+use Rattle.ot_operation.proofs.LengthLaws.{second_after-base}
 use Rattle.ot_server.proofs.Faults.{fault_none}
 use Rattle.ot_isa.specs.declared.elements.Tagged.{Tagged}
 use Rattle.ot_server.specs.History.{History, base_at, length_at, longest_at, fault_of}

@@ -3,9 +3,9 @@ use Rattle.std.proofs.Common.{◌≡◌, ℕ, zero, suc, ◌+◌, ◌≤◌, Lis
 use Rattle.std.proofs.lemmas.List.Sums.{sum_by-cons}
 use Rattle.std.specs.List.{filter_map, cons_option}
 use Rattle.std.specs.Prelude.{◌⊎◌, slice_get}
-use Rattle.ot_text.specs.Operation.{Item, Old, New, Operation, apply}
-use Rattle.ot_text.specs.Operation.{RisesFrom, value_in, news as news_of}
-use Rattle.ot_algebra.specs.Compose.{compose, item_in}
+use Rattle.ot_operation.specs.Operation.{Item, Old, New, Operation, apply}
+use Rattle.ot_operation.specs.Operation.{RisesFrom, value_in, news as news_of}
+use Rattle.ot_operation.specs.Compose.{compose, item_in}
 use Rattle.ot_model.specs.Operation.{news}
 use Rattle.ot_isa.specs.declared.elements.Tag.{Tag}
 use Rattle.ot_isa.specs.declared.elements.Tagged.{Tagged}

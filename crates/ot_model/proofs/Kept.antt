@@ -6,8 +6,8 @@ use Rattle.std.proofs.lemmas.Option.{same_Some}
 use Rattle.std.specs.Prelude.{◌⊎◌, slice_get}
 use Rattle.ot_model.specs.Operation.{Item, Old, New, Operation, apply, first_after, second_after}
 use Rattle.std.specs.List.{filter_map, cons_option}
-use Rattle.ot_text.specs.Operation.{value_in}
-use Rattle.ot_text.specs.Operation as text
+use Rattle.ot_operation.specs.Operation.{value_in}
+use Rattle.ot_operation.specs.Operation as text
 use Rattle.ot_isa.specs.declared.elements.Tag.{Tag}
 use Rattle.ot_isa.specs.declared.elements.Tagged.{Tagged}
 use Rattle.ot_model.specs.Sound.{times, has_tag}

@@ -3,11 +3,11 @@ use Rattle.std.proofs.Common.{◌≡◌, ℕ, suc, zero, ◌+◌, ◌<◌, ◌�
 use Rattle.std.proofs.lemmas.Bool.{cases_eq, eq-eqb}
 use Rattle.std.specs.Prelude.{◌⊎◌}
 use Rattle.std.specs.List.{filter_map, slice_get, cons_option}
-use Rattle.ot_text.specs.Operation.{Item, Old, New, Operation, RisesFrom, IsOperation, apply, invert, value_in, place_from, place_of}
-use Rattle.ot_algebra.specs.Compose.{compose}
-use Rattle.ot_algebra.specs.Merge.{Merged, First, Second, Both, gap, kept_by_both, merge_at, merge_from, merge, unmarked, merged, first_after, second_after}
-use Rattle.ot_algebra.proofs.ComposeLaws.{apply-compose}
-use Rattle.ot_algebra.proofs.TransformLaws.{compose-first_after}
+use Rattle.ot_operation.specs.Operation.{Item, Old, New, Operation, RisesFrom, IsOperation, apply, invert, value_in, place_from, place_of}
+use Rattle.ot_operation.specs.Compose.{compose}
+use Rattle.ot_operation.specs.Merge.{Merged, First, Second, Both, gap, kept_by_both, merge_at, merge_from, merge, unmarked, merged, first_after, second_after}
+use Rattle.ot_operation.proofs.ComposeLaws.{apply-compose}
+use Rattle.ot_operation.proofs.TransformLaws.{compose-first_after}
 
 -- the image has Old i
 abbrev pub HasOld : {A : Type 0} → ℕ → List (Item A) → Type 0

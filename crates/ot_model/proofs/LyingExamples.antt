@@ -1,9 +1,9 @@
 -- Where the edits of a small run lie, instruction by instruction, and what is counted there.
 use Rattle.std.proofs.Common.{◌≡◌, ℕ, [], ◌∷◌, get_or, Some, None, refl, inl, inr}
-use Rattle.ot_text.specs.Operation.{apply}
-use Rattle.ot_text.specs.Run.{Keep, Add}
-use Rattle.ot_algebra.specs.Compose.{compose}
-use Rattle.ot_algebra.specs.Merge.{merge, first_after, second_after}
+use Rattle.ot_operation.specs.Operation.{apply}
+use Rattle.ot_operation.specs.Run.{Keep, Add}
+use Rattle.ot_operation.specs.Compose.{compose}
+use Rattle.ot_operation.specs.Merge.{merge, first_after, second_after}
 use Rattle.ot_isa.specs.Program.{Program}
 use Rattle.ot_isa.specs.declared.instruction.Instr.{Instr}
 use Rattle.ot_isa.specs.declared.instruction.Instr.TheVariants.{Edit, Take, Acknowledge}

@@ -5,7 +5,7 @@ use Rattle.std.proofs.lemmas.Bool.{cases_eq}
 use Rattle.std.proofs.lemmas.Option.{same_Some}
 use Rattle.std.specs.Prelude.{◌⊎◌, slice_get}
 use Rattle.ot_model.specs.Operation.{Item, Old, New, Operation, apply, news, first_after}
-use Rattle.ot_text.specs.Operation as text
+use Rattle.ot_operation.specs.Operation as text
 use Rattle.ot_isa.specs.declared.elements.Tag.{Tag}
 use Rattle.ot_isa.specs.declared.elements.Tagged.{Tagged}
 use Rattle.ot_model.specs.Table.{Phase, NotJoined, Synchronized, AwaitingConfirm, AwaitingWithBuffer, is_joined, Client, State, Entry, Message, with_client, delivered, acknowledged, joined, edited, tag_operation}

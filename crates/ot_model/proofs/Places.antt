@@ -4,7 +4,7 @@ use Rattle.std.proofs.lemmas.Option.{same_Some}
 use Rattle.std.specs.Prelude.{slice_get}
 use Rattle.std.specs.List.{filter_map, cons_option}
 use Rattle.ot_model.specs.Operation.{Item, Old, New, Operation, RisesFrom, apply}
-use Rattle.ot_text.specs.Operation.{value_in}
+use Rattle.ot_operation.specs.Operation.{value_in}
 use Rattle.ot_isa.specs.declared.elements.Tagged.{Tagged}
 use Rattle.ot_model.specs.Sound.{Fits}
 use Rattle.ot_model.specs.declared.trace.Placed.{Placed}

@@ -7,7 +7,7 @@ use Rattle.std.proofs.lemmas.Bool.{cases_eq, cond-true, cond-false, eq-eqb, ne_e
 use Rattle.std.proofs.lemmas.Bool.Decides.{nat_tests}
 use Rattle.std.proofs.lemmas.List.Sums.{sum_by-set, sum_by_push, sum_by-append, sum_by-cons}
 use Rattle.std.specs.Prelude.{slice_get, sum_by, cond, if◌then◌else◌, ◌==◌}
-use Rattle.ot_text.specs.Operation as text
+use Rattle.ot_operation.specs.Operation as text
 use Rattle.ot_model.specs.Operation.{Item, Old, New, Operation, IsOperation, apply, compose, inserted, news, RisesFrom, first_after, second_after}
 use Rattle.ot_model.specs.Table.{Phase, NotJoined, Synchronized, AwaitingConfirm, AwaitingWithBuffer, is_joined, Client, State, Entry, Message, phase_edited, message_edited, phase_delivered, edited, delivered, acknowledged, joined, with_client, taken, tag_operation}
 use Rattle.ot_isa.specs.declared.elements.Tag.{Tag}

@@ -1,9 +1,9 @@
 -- Worked traces, by evaluation, and the run that has no order of all its elements.
 use Rattle.std.proofs.Common.{◌≡◌, ℕ, List, [], ◌∷◌, ◌++◌, map, refl}
-use Rattle.ot_text.specs.Operation.{apply}
-use Rattle.ot_text.specs.Run.{Keep, Add}
-use Rattle.ot_algebra.specs.Compose.{compose}
-use Rattle.ot_algebra.specs.Merge.{merge, first_after, second_after}
+use Rattle.ot_operation.specs.Operation.{apply}
+use Rattle.ot_operation.specs.Run.{Keep, Add}
+use Rattle.ot_operation.specs.Compose.{compose}
+use Rattle.ot_operation.specs.Merge.{merge, first_after, second_after}
 use Rattle.ot_isa.specs.Program.{Program}
 use Rattle.ot_isa.specs.declared.elements.Tag.{Tag}
 use Rattle.ot_isa.specs.declared.instruction.Instr.TheVariants.{Edit, Take, Deliver, Read, ReadServer}

@@ -4,7 +4,7 @@ use Rattle.std.specs.List.{All}
 use Rattle.ot_model.specs.Operation.{Operation}
 use Rattle.ot_model.specs.Table.{Phase, NotJoined, Synchronized, AwaitingConfirm, AwaitingWithBuffer, Client, State, Message}
 use Rattle.ot_isa.specs.declared.elements.Tagged.{Tagged}
-use Rattle.ot_text.specs.declared.TheConstants.{LIMIT}
+use Rattle.ot_operation.specs.declared.TheConstants.{LIMIT}
 use Rattle.ot_server.specs.declared.TheConstants.{LOG_LIMIT}
 
 -- an operation whose two lengths are within the limit

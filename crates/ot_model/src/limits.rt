@@ -6,7 +6,7 @@ ghost use Rattle.ot_isa.specs.declared.builder.TheConstants.{CLIENT_LIMIT, INSTR
 ghost use Rattle.ot_isa.specs.declared.tagging.TheConstants.{INSERTED_LIMIT};
 ghost use Rattle.ot_model.specs.declared.limits.TheConstants.{SESSION_LIMIT, STEP_LIMIT};
 ghost use Rattle.ot_server.specs.declared.TheConstants.{LOG_LIMIT};
-ghost use Rattle.ot_text.specs.declared.TheConstants.{LIMIT};
+ghost use Rattle.ot_operation.specs.declared.TheConstants.{LIMIT};
 
 /// How many instructions a machine performs at most.
 pub const STEP_LIMIT: u32 = 1_000_000;

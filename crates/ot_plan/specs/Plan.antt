@@ -3,7 +3,7 @@ use Rattle.std.specs.Prelude.{◌≡◌, ℕ, ◌≤◌, List, length, All}
 use Rattle.ot_typing.specs.Typing.{Action, inserted}
 use Rattle.ot_isa.specs.declared.builder.TheConstants.{CLIENT_LIMIT, START_LIMIT}
 use Rattle.ot_isa.specs.declared.tagging.TheConstants.{INSERTED_LIMIT}
-use Rattle.ot_text.specs.declared.TheConstants.{LIMIT}
+use Rattle.ot_operation.specs.declared.TheConstants.{LIMIT}
 
 -- how many clients and workers there are, how many clients are present at the start, the start text, and what each client's
 -- user types, action by action

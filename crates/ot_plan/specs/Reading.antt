@@ -12,7 +12,7 @@ use Rattle.ot_plan.specs.declared.fault.PlanFault.TheVariants.{NotJson, BadShape
 use Rattle.ot_plan.specs.Plan.{PlanView}
 use Rattle.ot_isa.specs.declared.builder.TheConstants.{CLIENT_LIMIT, START_LIMIT}
 use Rattle.ot_isa.specs.declared.tagging.TheConstants.{INSERTED_LIMIT}
-use Rattle.ot_text.specs.declared.TheConstants.{LIMIT}
+use Rattle.ot_operation.specs.declared.TheConstants.{LIMIT}
 
 -- ---- the shape, with numbers of any size
 

@@ -10,7 +10,7 @@ use Rattle.serde_json.specs.Find.{as_array, get}
 use Rattle.json_fields.specs.Fields.{all_of, items_at, number_at, number_or, text_or_empty}
 use Rattle.json_fields.proofs.Lists.{map-some, some-same, then-some}
 use Rattle.ot_isa.specs.declared.builder.TheConstants.{CLIENT_LIMIT, START_LIMIT}
-use Rattle.ot_text.specs.declared.TheConstants.{LIMIT}
+use Rattle.ot_operation.specs.declared.TheConstants.{LIMIT}
 use Rattle.ot_typing.specs.Typing.{Action}
 use Rattle.ot_plan.specs.Plan.{AreActions, IsPlan, PlanView}
 use Rattle.ot_plan.specs.Layout.{row_survey}

@@ -2,10 +2,8 @@
 use Rattle.std.proofs.Common.{◌≡◌, ℕ, ◌+◌, ◌<◌, ◌≤◌, List, ◌∷◌, ◌++◌, length, drop, get_or, refl, sym, ap, ◌∙◌, subst, arith, add-one, length-drop, drop-cons, append_assoc, Option, Some, None, Bool, true}
 use Rattle.std.specs.Prelude.{codes}
 use Rattle.std.specs.Option.{option_map}
-use Rattle.ot_text.specs.declared.Component.{Component}
-use Rattle.ot_text.specs.Operation.{Operation}
-use Rattle.ot_text.specs.Run.{Run, Keep, Add, Skip}
-use Rattle.ot_text.specs.Components.{run_of, runs}
+use Rattle.ot_operation.specs.Operation.{Operation}
+use Rattle.ot_operation.specs.Run.{Run, Keep, Add, Skip}
 use Rattle.ot_rules.specs.Text.{concurrent_lines, given_operation}
 use Rattle.ot_rules.specs.Units.{IsAdded, behind, unit_run, units_from, with_one_more}
 use Rattle.ot_rules.specs.Wrong.{Pair, second_of, swapped, transformed, turned_over}
@@ -42,14 +40,12 @@ units_step : (op : Operation ℕ) (text : List ℕ) (run : Run ℕ) (rest : List
     → units_from op text (run ∷ rest) ≡ (elim p as (λ _. Option (Operation ℕ)) [ None ↦ None | Some next ↦ units_from next (behind text run) rest ])
 units_step op text run rest p e = ap (λ (q : Option (Operation ℕ)). elim q as (λ _. Option (Operation ℕ)) [ None ↦ None | Some next ↦ units_from next (behind text run) rest ]) e
 
-pub units_more : (op next : Operation ℕ) (text later : List ℕ) (cs : List (Component ℕ)) (i : ℕ) (c : Component ℕ) (all : Option (Operation ℕ)) (added : Bool) → i < length cs → c ≡ get_or cs i c
-    → units_from op text (runs (drop i cs)) ≡ all → added ≡ true → IsAdded op text (run_of c) next added → later ≡ behind text (run_of c)
-    → units_from next later (runs (drop (i + 1) cs)) ≡ all
-units_more op next text later cs i c all added here at so_far on is behind_is =
-    let one : with_one_more op (unit_run text (run_of c)) ≡ Some next = subst (IsAdded op text (run_of c) next) on is in
-    ap (λ (t : List ℕ). units_from next t (runs (drop (i + 1) cs))) behind_is
-    ∙ sym (units_step op text (run_of c) (runs (drop (i + 1) cs)) (Some next) one)
-    ∙ ap (λ (rest : List (Component ℕ)). units_from op text (runs rest)) (sym (drop_here cs i c here at))
+pub units_more : (op next : Operation ℕ) (text later : List ℕ) (run : Run ℕ) (left rest : List (Run ℕ)) (all : Option (Operation ℕ)) (added : Bool) → left ≡ run ∷ rest
+    → units_from op text left ≡ all → added ≡ true → IsAdded op text run next added → later ≡ behind text run → units_from next later rest ≡ all
+units_more op next text later run left rest all added at so_far on is behind_is =
+    ap (λ (t : List ℕ). units_from next t rest) behind_is
+    ∙ sym (units_step op text run rest (Some next) (subst (IsAdded op text run next) on is))
+    ∙ ap (units_from op text) (sym at)
     ∙ so_far
 
 pub behind_within : (text later : List ℕ) (run : Run ℕ) → length text ≤ 1000000 → later ≡ behind text run → length later ≤ 1000000

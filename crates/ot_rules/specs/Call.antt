@@ -1,6 +1,6 @@
 -- Calls of the methods of ot.js, with what each is given.
 use Rattle.std.specs.Prelude.{ℕ, List}
-use Rattle.ot_text.specs.Operation.{Operation}
+use Rattle.ot_operation.specs.Operation.{Operation}
 use Rattle.ot_rules.specs.declared.call.Waiting.{Waiting}
 use Rattle.ot_rules.specs.declared.call.Call as program
 use Rattle.ot_rules.specs.declared.call.Call.TheVariants as made

@@ -4,7 +4,7 @@ use Rattle.std.specs.Option.{option_copied}
 use Rattle.ot_json.specs.Reading.{operation_of_text}
 use Rattle.ot_json.specs.Writing.{text_of_operation}
 use Rattle.ot_json.specs.declared.fault.OpFault.{OpFault}
-use Rattle.ot_text.specs.Operation.{Operation}
+use Rattle.ot_operation.specs.Operation.{Operation}
 use Rattle.ot_rules.specs.declared.field.Field.{Field}
 use Rattle.ot_rules.specs.declared.field.Field.TheVariants as field
 use Rattle.ot_rules.specs.declared.note.Note.{Note}

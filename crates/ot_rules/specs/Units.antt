@@ -1,7 +1,7 @@
 -- Operations with lengths counted in UTF-16 units.
 use Rattle.std.specs.Prelude.{◌≡◌, ℕ, ◌+◌, List, [], ◌∷◌, length, take, drop, nat_lt, count_by, ◌==◌, if◌then◌else◌, Bool, true, false, Option, Some, None}
-use Rattle.ot_text.specs.Operation.{Operation, empty}
-use Rattle.ot_text.specs.Run.{Run, Keep, Add, Skip, normal_runs}
+use Rattle.ot_operation.specs.Operation.{Operation, empty}
+use Rattle.ot_operation.specs.Run.{Run, Keep, Add, Skip, normal_runs}
 use Rattle.ot_json.specs.Reading.{with_run, is_too_long}
 
 -- a character past U+FFFF has two units, any other one

@@ -1,15 +1,15 @@
 -- What typical wrong rules make of a call.
 use Rattle.std.specs.Prelude.{ℕ, ◌+◌, List, [], ◌∷◌, length, ◌==◌, ◌&&◌, nat_le, if◌then◌else◌, Bool, Option, Some, None}
 use Rattle.std.specs.Option.{option_map}
-use Rattle.ot_text.specs.Operation.{Operation, news}
-use Rattle.ot_algebra.specs.Merge.{transform}
+use Rattle.ot_operation.specs.Operation.{Operation, news}
+use Rattle.ot_operation.specs.Merge.{transform}
 use Rattle.ot_rules.specs.declared.call.Waiting.{Waiting}
 use Rattle.ot_rules.specs.declared.call.Waiting.TheVariants.{Nothing, Outstanding, Buffered}
 use Rattle.ot_rules.specs.declared.field.Field.{Field}
 use Rattle.ot_rules.specs.declared.field.Field.TheVariants as field
 use Rattle.ot_rules.specs.declared.wrong.Made.{Made}
 use Rattle.ot_rules.specs.Call.{Call, ApplyClient, ApplyServer, ServerAck, ReceiveOperation}
-use Rattle.ot_text.specs.declared.TheConstants.{LIMIT}
+use Rattle.ot_operation.specs.declared.TheConstants.{LIMIT}
 
 abbrev pub Pair : Type 0
 Pair = Operation ℕ × Operation ℕ

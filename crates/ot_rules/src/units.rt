@@ -1,12 +1,12 @@
 //! Operations with lengths counted in UTF-16 units.
 
-ghost use Rattle.std.specs.Prelude.{◌≡◌, ◌≤◌, drop, length, take, IfOk};
-ghost use Rattle.ot_text.specs.Components.{run_of, runs};
-ghost use Rattle.ot_text.specs.Operation.{empty};
+ghost use Rattle.std.specs.Prelude.{◌≡◌, ◌≤◌, length, take, IfOk};
+ghost use Rattle.ot_text.specs.Components.{run_of};
+ghost use Rattle.ot_operation.specs.Operation.{empty};
 ghost use Rattle.ot_rules.specs.Units as units;
-ghost use Rattle.ot_text.specs.declared.TheConstants.{LIMIT};
+ghost use Rattle.ot_operation.specs.declared.TheConstants.{LIMIT};
 
-use ot_text::{Component, OpRefusal, TextOp};
+use ot_text::{ComponentRef, Components, OpRefusal, TextOp};
 use std::alloc::{AllocError, Global};
 
 // How many UTF-16 units the characters have: two for each past U+FFFF.
@@ -25,12 +25,14 @@ fn front(text: &[char], count: usize) -> &[char]
 }
 
 // The text behind what the component keeps or takes away.
-fn behind<'a>(text: &'a [char], component: &Component<char>) -> &'a [char]
-    ensures { result.now ≡ units.behind text.now (run_of component.now) }
+fn behind<'a>(text: &'a [char], component: ComponentRef<'_, char>) -> &'a [char]
+    ensures { result.now ≡ units.behind text.now (run_of component.entry) }
 {
     match component {
-        Component::Insert(_) => text,
-        Component::Retain(count) | Component::Delete(count) => &text[(*count).min(text.len())..],
+        ComponentRef::Insert(_) => text,
+        ComponentRef::Retain(count) | ComponentRef::Delete(count) => {
+            &text[count.min(text.len())..]
+        }
     }
 }
 
@@ -38,15 +40,15 @@ fn behind<'a>(text: &'a [char], component: &Component<char>) -> &'a [char]
 fn add(
     built: &mut TextOp<char>,
     text: &[char],
-    component: &Component<char>,
+    component: ComponentRef<'_, char>,
 ) -> Result<bool, AllocError>
     requires { length text.now ≤ LIMIT }
-    ensures { IfOk result (λ added. units.IsAdded built.old text.now (run_of component.now) built.new added) }
+    ensures { IfOk result (λ added. units.IsAdded built.old text.now (run_of component.entry) built.new added) }
 {
     let added = match component {
-        Component::Retain(count) => built.retain(count_units(front(text, *count))),
-        Component::Insert(letters) => built.insert(letters.as_slice()),
-        Component::Delete(count) => built.delete(count_units(front(text, *count))),
+        ComponentRef::Retain(count) => built.retain(count_units(front(text, count))),
+        ComponentRef::Insert(letters) => built.insert(letters),
+        ComponentRef::Delete(count) => built.delete(count_units(front(text, count))),
     };
     match added {
         Ok(()) => Ok(true),
@@ -57,11 +59,11 @@ fn add(
 
 fn components_in_units(
     alloc: Global,
-    components: &[Component<char>],
+    components: Components<'_, char>,
     text: &[char],
 ) -> Result<Option<TextOp<char>>, AllocError>
     requires { length text.now ≤ LIMIT }
-    ensures { IfOk result (λ op. op ≡ units.units_from empty text.now (runs components.now)) }
+    ensures { IfOk result (λ op. op ≡ units.units_from empty text.now components.entry) }
 {
     let mut built = TextOp::new(alloc);
     let mut rest = text;

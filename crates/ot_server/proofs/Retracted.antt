@@ -1,8 +1,8 @@
 -- The last entry undone.
 use Rattle.std.proofs.Common.{◌≡◌, ℕ, zero, suc, ◌+◌, ◌<◌, List, [], ◌∷◌, ◌++◌, length, take, refl, sym, ap, ◌∙◌, arith, length-append}
-use Rattle.ot_text.specs.Operation.{Operation, apply, invert}
-use Rattle.ot_text.proofs.ApplyLaws.{length-apply}
-use Rattle.ot_text.proofs.InvertLaws.{apply-invert}
+use Rattle.ot_operation.specs.Operation.{Operation, apply, invert}
+use Rattle.ot_operation.proofs.ApplyLaws.{length-apply}
+use Rattle.ot_operation.proofs.InvertLaws.{apply-invert}
 use Rattle.ot_server.specs.History.{Entry, History, IsChain, IsUndo}
 
 take_front : {X : Type 0} (xs : List X) (y : X) (n : ℕ) → n ≡ length xs → take n (xs ++ y ∷ []) ≡ xs

@@ -1,10 +1,10 @@
 -- The server: a document and the log of the operations that led to it, and what a received operation does.
 use Rattle.std.specs.Prelude.{◌≡◌, ℕ, ◌+◌, List, [], ◌∷◌, ◌++◌, length, drop, Option, Some, None, Result, Ok, Err, ◌==◌, nat_lt, nat_le, not, if◌then◌else◌}
-use Rattle.ot_text.specs.Operation.{Operation, IsOperation, apply, invert, news}
-use Rattle.ot_algebra.specs.Merge.{first_after}
+use Rattle.ot_operation.specs.Operation.{Operation, IsOperation, apply, invert, news}
+use Rattle.ot_operation.specs.Merge.{first_after}
 use Rattle.ot_server.specs.declared.fault.ServerFault.{ServerFault}
 use Rattle.ot_server.specs.declared.fault.ServerFault.TheVariants.{NotInHistory, BadBase, LogFull, TooLong, Memory}
-use Rattle.ot_text.specs.declared.TheConstants.{LIMIT}
+use Rattle.ot_operation.specs.declared.TheConstants.{LIMIT}
 use Rattle.ot_server.specs.declared.TheConstants.{LOG_LIMIT}
 
 -- an operation as it was applied, and the client that made it

@@ -1,7 +1,7 @@
 //! The entries of the log from a revision on, which the maker of an operation at that revision did not have.
 
 ghost use Rattle.std.specs.Prelude.{◌≡◌, ◌+◌, ◌≤◌, length, IfOk, IsTrue, ◌↔◌};
-ghost use Rattle.ot_text.specs.Operation.{IsOperation, news};
+ghost use Rattle.ot_operation.specs.Operation.{IsOperation, news};
 ghost use Rattle.ot_server.specs.History.{IsChain, base_at, inserted_in, transform_over};
 
 use crate::Entry;

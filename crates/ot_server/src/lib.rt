@@ -20,7 +20,7 @@
 #![tactic(auto)]
 
 ghost use Rattle.std.specs.Prelude.{◌≡◌, ◌<◌, ◌≤◌, [], length, drop, IfOk, OnErr, OnOk};
-ghost use Rattle.ot_text.specs.Operation.{IsOperation, invert};
+ghost use Rattle.ot_operation.specs.Operation.{IsOperation, invert};
 ghost use Rattle.ot_server.specs.History.{History, IsChain, IsRetractable, IsUndo, Names, fault_of, received, transform_over, with_entry};
 
 mod entry;
@@ -30,7 +30,6 @@ mod later;
 pub use entry::Entry;
 pub use fault::ServerFault;
 use later::{base_length, has_room, transform_after};
-use ot_inverse::Inverse;
 use ot_text::{Doc, Element, TextOp};
 use std::alloc::AllocError;
 use std::marker::Model;
@@ -40,12 +39,12 @@ pub const LOG_LIMIT: usize = 1_000_000;
 
 /// A document and the log of the operations that led to it.
 #[derive(Drop)]
-pub struct Server<T> {
+pub struct Server<T: Element> {
     document: Doc<T>,
     log: Vec<Entry<T>>,
 }
 
-impl<T> Model for Server<T> {
+impl<T: Element> Model for Server<T> {
     ghost use Rattle.std.specs.Prelude.{length, ◌≤◌};
     ghost use Rattle.ot_server.specs.History.{History, IsChain};
 
@@ -77,8 +76,7 @@ impl<T: Element> Server<T> {
         &self.document
     }
 
-    /// Makes the document's chunks shared ([`Doc::share`]): copies of it have them in common from then on. Nothing else changes; where a growth was refused
-    /// some chunks are shared and others not.
+    /// Makes the document's leaves shared ([`Doc::share`]): copies of it have them in common from then on. Nothing else changes.
     pub fn share(&mut self) -> Result<(), AllocError>
         ensures { self.new ≡ self.old }
     {
@@ -118,14 +116,14 @@ impl<T: Element> Server<T> {
         Ok(())
     }
 
-    /// Does as `receive`, and gives the inverse of the appended operation over the document before it. With its operation
-    /// ([`Inverse::operation`]) `retract` undoes the entry. The inverse is made first, so that every fault leaves the server as it was.
+    /// Does as `receive`, and gives the inverse of the appended operation over the document before it, with which `retract` undoes the
+    /// entry. The inverse is made first, so that every fault leaves the server as it was.
     pub fn receive_kept(
         &mut self,
         maker: u16,
         revision: u32,
         op: &TextOp<T>,
-    ) -> Result<Inverse<T>, ServerFault>
+    ) -> Result<TextOp<T>, ServerFault>
         ensures fault { Names result (fault_of self.old revision op.now) }
         ensures ok { OnOk result (self.new ≡ received self.old maker revision op.now) }
         ensures err { OnErr result (self.new ≡ self.old) }
@@ -133,7 +131,7 @@ impl<T: Element> Server<T> {
         ensures undo { IfOk result (λ undo. IsUndo self.old self.new undo) }
     {
         let passed = self.after_log(revision, op)?;
-        let inverse = Inverse::of(&passed, &self.document)?;
+        let inverse = passed.invert(&self.document)?;
         self.append(maker, passed)?;
         Ok(inverse)
     }

@@ -1,56 +1,64 @@
 -- The array of an operation's components, item by item.
-use Rattle.std.proofs.Common.{◌≡◌, ℕ, zero, suc, ◌+◌, ◌<◌, List, [], ◌∷◌, ◌++◌, length, map, drop, get_or, refl, sym, ap, ◌∙◌, arith, append_assoc}
-use Rattle.std.specs.Prelude.{Bool, true, false}
-use Rattle.serde_json.specs.View.{items_of}
-use Rattle.serde_json.specs.Written.{comma_if, compact_text, items_text}
-use Rattle.ot_text.specs.declared.Component.{Component}
-use Rattle.ot_text.specs.Components.{run_of, runs}
-use Rattle.ot_text.specs.Run.{IsFilled, IsNormal}
-use Rattle.ot_json.specs.Writing.{array_of, data_of}
-use Rattle.ot_steps.specs.Lettered.{lettered}
+use Rattle.std.proofs.Common.{◌≡◌, ℕ, ◌+◌, ◌≤◌, List, [], ◌∷◌, ◌++◌, length, take, sym, ap, ◌∙◌, subst, arith, append_assoc, append-nil}
+use Rattle.std.specs.Prelude.{Result, Ok, Err, OnOk, is_ok, if◌then◌else◌}
+use Rattle.std.specs.Str.{IsAscii}
+use Rattle.std.proofs.lemmas.Str.Ascii.{IsAscii-nil}
+use Rattle.ot_operation.specs.Run.{Run, IsNormal}
+use Rattle.ot_steps.specs.Lettered.{array_text, item_text, items_from}
 
--- what is written of a component
-abbrev pub part : {A : Type 0} → (A → ℕ) → Component A → List ℕ
-part code c = compact_text (data_of (lettered code (run_of c)))
+pub first_and_others :
+    {A : Type 0} (code : A → ℕ) (r : Run A) (rs : List (Run A)) (old opened first text : List ℕ)
+    → opened ≡ old ++ 91 ∷ [] → first ≡ opened ++ item_text code r → text ≡ first ++ items_from code rs → text ≡ old ++ array_text code (r ∷ rs)
+first_and_others code r rs old opened first text begun one others =
+    others
+    ∙ ap (λ (t : List ℕ). t ++ items_from code rs) (one ∙ ap (λ (t : List ℕ). t ++ item_text code r) begun)
+    ∙ append_assoc (old ++ 91 ∷ []) (item_text code r) (items_from code rs)
+    ∙ append_assoc old (91 ∷ []) (item_text code r ++ items_from code rs)
 
--- what is still to be written from a component on, with the closing bracket
-abbrev pub rest : {A : Type 0} → (A → ℕ) → List (Component A) → Bool → ℕ → List ℕ
-rest code cs later i = items_text later (items_of (map data_of (map (lettered code) (runs (drop i cs)))))
+-- the text with what is gathered, and the items that are left, are the whole; each of these is a component in normal form
+pub record AreGathered {A : Type 0} (code : A → ℕ) (all left : List (Run A)) (old text bytes : List ℕ) (gathered : ℕ) : Type 0 where
+  pub whole : (text ++ take gathered bytes) ++ items_from code left ≡ old ++ items_from code all
+  pub normal : IsNormal left
+  pub ascii : IsAscii (take gathered bytes)
+  pub within : gathered ≤ length bytes
 
--- the text, and what is still to be written, are the whole array behind what stood before
-pub record IsArrayFrom {A : Type 0} (code : A → ℕ) (cs : List (Component A)) (later : Bool) (i : ℕ) (old text : List ℕ) : Type 0 where
-  pub whole : text ++ rest code cs later i ≡ old ++ compact_text (array_of (map (lettered code) (runs cs)))
-
-drop_one : {A : Type 0} (cs : List (Component A)) (i : ℕ) (c : Component A) → i < length cs → c ≡ get_or cs i c → drop i cs ≡ c ∷ drop (suc i) cs
-drop_one [] i c inside at = absurd (omega (arith, inside))
-drop_one (b ∷ cs) zero c inside at = rw at refl
-drop_one (b ∷ cs) (suc i) c inside at = drop_one cs i c (omega (arith, inside)) at
-
--- one item and what is behind it
-pub rest_one : {A : Type 0} (code : A → ℕ) (cs : List (Component A)) (later : Bool) (i : ℕ) (c : Component A) → i < length cs → c ≡ get_or cs i c
-    → rest code cs later i ≡ comma_if later ++ (part code c ++ rest code cs true (i + 1))
-rest_one code cs later i c inside at =
-    let same : suc i ≡ i + 1 = omega arith in
-    ap (λ ds. items_text later (items_of (map data_of (map (lettered code) (runs ds))))) (drop_one cs i c inside at ∙ ap (λ n. c ∷ drop n cs) same)
-
-pub opened : {A : Type 0} (code : A → ℕ) (cs : List (Component A)) (old text : List ℕ) → text ≡ old ++ 91 ∷ [] → IsArrayFrom code cs false 0 old text
-opened code cs old text is =
-    record { whole = ap (λ (t : List ℕ). t ++ rest code cs false 0) is ∙ append_assoc old (91 ∷ []) (rest code cs false 0) }
-
-pub one_more : {A : Type 0} (code : A → ℕ) (cs : List (Component A)) (later : Bool) (i : ℕ) (c : Component A) (old text comma next : List ℕ) → i < length cs → c ≡ get_or cs i c
-    → comma ≡ text ++ comma_if later → next ≡ comma ++ part code c → IsArrayFrom code cs later i old text → IsArrayFrom code cs true (i + 1) old next
-one_more code cs later i c old text comma next inside at separated written so_far =
-    let behind = rest code cs true (i + 1) in
+pub none_gathered : {A : Type 0} (code : A → ℕ) (all left : List (Run A)) (old bytes : List ℕ) → left ≡ all → IsNormal all → AreGathered code all left old old bytes 0
+none_gathered code all left old bytes is normal =
     record {
-      whole = ap (λ (t : List ℕ). t ++ behind) (written ∙ ap (λ (t : List ℕ). t ++ part code c) separated)
-          ∙ append_assoc (text ++ comma_if later) (part code c) behind
-          ∙ append_assoc text (comma_if later) (part code c ++ behind)
-          ∙ ap (λ (t : List ℕ). text ++ t) (sym (rest_one code cs later i c inside at))
-          ∙ so_far.whole;
+      whole = ap (λ (rs : List (Run _)). (old ++ []) ++ items_from code rs) is ∙ ap (λ (t : List ℕ). t ++ items_from code all) (append-nil old);
+      normal = subst IsNormal (sym is) normal;
+      ascii = IsAscii-nil;
+      within = omega arith;
     }
 
--- each component in normal form has something
-pub filled_at : {A : Type 0} (cs : List (Component A)) (i : ℕ) (c : Component A) → IsNormal (runs cs) → i < length cs → c ≡ get_or cs i c → IsFilled (run_of c)
-filled_at [] i c normal inside at = absurd (omega (arith, inside))
-filled_at (b ∷ cs) zero c normal inside at = rw at normal.0
-filled_at (b ∷ cs) (suc i) c normal inside at = filled_at cs i c normal.2 (omega (arith, inside)) at
+-- one more, behind what is gathered
+pub gathered_more :
+    {A : Type 0} (code : A → ℕ) (all left rest : List (Run A)) (r : Run A) (old text made next bytes more : List ℕ) (gathered room end : ℕ) → left ≡ r ∷ rest
+    → made ++ take room bytes ≡ text ++ take gathered bytes → next ++ take end more ≡ (made ++ take room bytes) ++ 44 ∷ item_text code r
+    → IsAscii (take end more) → end ≤ length more → AreGathered code all left old text bytes gathered → AreGathered code all rest old next more end
+gathered_more code all left rest r old text made next bytes more gathered room end is same item ascii within so_far =
+    let normal = rw is at so_far.normal in
+    record {
+      whole = ap (λ (t : List ℕ). t ++ items_from code rest) (item ∙ ap (λ (t : List ℕ). t ++ 44 ∷ item_text code r) same)
+          ∙ append_assoc (text ++ take gathered bytes) (44 ∷ item_text code r) (items_from code rest)
+          ∙ ap (λ (rs : List (Run _)). (text ++ take gathered bytes) ++ items_from code rs) (sym is)
+          ∙ so_far.whole;
+      normal = normal.2;
+      ascii = ascii;
+      within = within;
+    }
+
+-- all are written
+pub all_written :
+    {A : Type 0} (code : A → ℕ) (all left : List (Run A)) (old text last next bytes : List ℕ) (gathered : ℕ) → left ≡ [] → last ≡ text ++ take gathered bytes → next ≡ last ++ 93 ∷ []
+    → AreGathered code all left old text bytes gathered → next ≡ old ++ items_from code all
+all_written code all left old text last next bytes gathered none flushed ended so_far =
+    ended
+    ∙ ap (λ (t : List ℕ). t ++ 93 ∷ []) flushed
+    ∙ ap (λ (rs : List (Run _)). (text ++ take gathered bytes) ++ items_from code rs) (sym none)
+    ∙ so_far.whole
+
+-- what a push gives, where there was memory for it
+pub on_push : {T E Q : Type 0} (r : Result T E) (new done not : List ℕ) → new ≡ (if is_ok r then done else not) → (new ≡ done → Q) → OnOk r Q
+on_push (Ok x) new done not is f = f is
+on_push (Err e) new done not is f = tt

@@ -2,13 +2,13 @@
 use Rattle.std.proofs.Common.{◌≡◌, ℕ, List, [], ◌∷◌, Option, Some, refl}
 use Rattle.std.specs.Prelude.{true, false, slice_get}
 use Rattle.std.specs.Option.{option_map}
-use Rattle.ot_text.specs.Run.{Run, Keep, Add, Skip, operation_of}
+use Rattle.ot_operation.specs.Run.{Run, Keep, Add, Skip, operation_of}
 use Rattle.ot_isa.specs.Program.{Program}
 use Rattle.ot_isa.specs.declared.instruction.Instr.TheVariants.{Edit, Take, Deliver, Acknowledge, Read, ReadServer}
 use Rattle.ot_model.specs.Operation.{Operation}
-use Rattle.ot_text.specs.Operation.{apply}
-use Rattle.ot_algebra.specs.Compose.{compose}
-use Rattle.ot_algebra.specs.Merge.{merge, first_after, second_after}
+use Rattle.ot_operation.specs.Operation.{apply}
+use Rattle.ot_operation.specs.Compose.{compose}
+use Rattle.ot_operation.specs.Merge.{merge, first_after, second_after}
 use Rattle.ot_model.specs.Table.{Place}
 use Rattle.ot_model.specs.Runs.{done, place_at}
 use Rattle.ot_machine.specs.declared.state.Phase.TheVariants as phase

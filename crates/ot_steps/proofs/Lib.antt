@@ -9,5 +9,3 @@ mod Short
 mod Texts
 pub mod Progress
 pub mod Quiet
-mod Holding
-mod Keeping

@@ -21,9 +21,8 @@ use Rattle.ot_model.proofs.States.{take_entry}
 use Rattle.ot_machine.specs.Answers.{IsRefusal}
 use Rattle.ot_machine.specs.Ended.{reached, IsStop}
 use Rattle.ot_machine.proofs.Stopping.{stopped_at, whole}
-use Rattle.ot_steps.specs.Kept.{LeadsTo}
 use Rattle.ot_steps.specs.Lines.{Line}
-use Rattle.ot_steps.specs.Steps.{end_line, first_lines, is_quiet, last_lines, lines_from, opening_line, run_lines, step_line, stop_at, stop_line}
+use Rattle.ot_steps.specs.Steps.{LeadsTo, end_line, first_lines, is_quiet, last_lines, lines_from, opening_line, run_lines, step_line, stop_at, stop_line}
 use Rattle.ot_steps.specs.Text.{line_text, lines_text}
 use Rattle.ot_steps.specs.Gathered.{Gathers, GathersUpTo, GathersMoves, GathersRun, MovesUpTo, RunUpTo}
 use Rattle.ot_steps.specs.Written.{AreRunLines, IsMove, WritesRun, WritesUpTo, moves_text}

@@ -5,5 +5,4 @@ pub mod Lettered
 pub mod Fold
 pub mod Written
 pub mod Gathered
-pub mod Kept
 pub mod Laws

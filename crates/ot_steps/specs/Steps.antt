@@ -1,17 +1,22 @@
 -- The lines of a schedule's run.
-use Rattle.std.specs.Prelude.{ℕ, suc, List, [], ◌∷◌, ◌++◌, ◌-◌, ◌||◌, ◌&&◌, length, drop, take, get_or, slice_get, is_none, if◌then◌else◌, Bool, true, false, Option, Some, None}
+use Rattle.std.specs.Prelude.{◌≡◌, ℕ, suc, List, [], ◌∷◌, ◌++◌, ◌-◌, ◌||◌, ◌&&◌, length, drop, take, get_or, slice_get, is_none, if◌then◌else◌, Bool, true, false, Option, Some, None}
 use Rattle.std.specs.Option.{option_map}
 use Rattle.ot_isa.specs.Program.{Program, client_of}
 use Rattle.ot_isa.specs.Tagging.{chars_of}
 use Rattle.ot_isa.specs.declared.instruction.Instr.{Instr}
 use Rattle.ot_isa.specs.declared.instruction.Instr.TheVariants.{Edit, Take, Deliver, Acknowledge, Join, Read, ReadServer}
 use Rattle.ot_model.specs.declared.shown.Refusal.{Refusal}
+use Rattle.ot_model.specs.declared.shown.Shown.{Shown}
 use Rattle.ot_model.specs.Operation.{Operation}
 use Rattle.ot_model.specs.Table.{Phase, NotJoined, Synchronized, AwaitingConfirm, AwaitingWithBuffer, Client, absent, State, Entry, Head, Ack, Op, Performed, Refused, NoRow, carried, downlink, is_joined, step}
 use Rattle.ot_model.specs.Runs.{opening_of}
 use Rattle.ot_machine.specs.Readers.{phase_name}
 use Rattle.ot_machine.specs.Ended.{reached}
 use Rattle.ot_steps.specs.Lines.{Line, Message, bare, plain_message, plain_operation, word_of}
+
+-- the instruction is performed
+abbrev pub LeadsTo : Instr → State → State → Type 0
+LeadsTo i s t = (shown : Option Shown) × (step s i ≡ Performed t shown)
 
 -- ---- what stands in the states
 

@@ -1,23 +1,18 @@
 //! Keys with their values, as text.
 
-ghost use Rattle.std.specs.Prelude.{◌≡◌, ◌++◌, ◌∷◌, [], IfOk, OnOk, Some, string_bytes};
+ghost use Rattle.std.specs.Prelude.{◌≡◌, ◌++◌, ◌∷◌, [], OnOk, string_bytes};
 ghost use Rattle.ot_client.specs.Client.{message_of};
 ghost use Rattle.ot_isa.specs.Tagging.{chars_of};
-ghost use Rattle.ot_steps.specs.Kept.{HoldsOf};
 ghost use Rattle.ot_steps.specs.Lines.{plain_message, plain_operation};
 ghost use Rattle.ot_steps.specs.Text.{field_text, message_text, Name, Number, Op, Sent as SentValue, Text};
 ghost use Rattle.ot_json.specs.Writing.{text_of_operation};
 
-use crate::items::Items;
 use crate::operations::{push_components, push_decimal};
 use ot_client::Sent;
 use ot_isa::Tagged;
 use ot_text::{Doc, TextOp};
 use ot_values::{push_letters, push_quoted};
 use std::alloc::{AllocError, Global};
-
-/// So many bytes are held for a component at first: one of a few digits or letters, and its comma.
-const PART: usize = 4;
 
 // A key, behind which its value comes.
 fn push_key(text: &mut String, key: &str) -> Result<(), AllocError>
@@ -100,15 +95,6 @@ pub fn push_plain_array(
     push_components(alloc, text, op.components())
 }
 
-/// The operation as a compact JSON array, without the tags of what it inserts; or out of memory.
-pub fn operation_text(alloc: Global, op: &TextOp<Tagged>) -> Result<String, AllocError>
-    ensures { IfOk result (λ s. string_bytes s ≡ text_of_operation (plain_operation op.now)) }
-{
-    let mut text = String::with_capacity(alloc, op.components().len().saturating_mul(PART))?;
-    push_plain_array(alloc, &mut text, op)?;
-    Ok(text)
-}
-
 pub(crate) fn push_operation(
     alloc: Global,
     text: &mut String,
@@ -119,28 +105,6 @@ pub(crate) fn push_operation(
 {
     push_key(text, key)?;
     push_plain_array(alloc, text, op)
-}
-
-/// The key and array of a pending operation, whose items may be cached.
-pub(crate) fn push_kept(
-    alloc: Global,
-    text: &mut String,
-    key: &str,
-    op: &TextOp<Tagged>,
-    kept: &Option<Items>,
-) -> Result<(), AllocError>
-    requires { HoldsOf kept.now (Some op.now) }
-    ensures { OnOk result (string_bytes text.new ≡ string_bytes text.old ++ field_text (record { key = key.now; value = Op (plain_operation op.now) })) }
-{
-    match kept {
-        Some(items) => {
-            // For the proof: the invariant of every operation.
-            let _operation = op.base_len();
-            push_key(text, key)?;
-            items.push(text)
-        }
-        None => push_operation(alloc, text, key, op),
-    }
 }
 
 // A message: `{"revision":R,"operation":[..]}`.

@@ -13,16 +13,12 @@
 //!   laws (`specs/Laws.antt`) that this is the run.
 //! - *Writing* (`specs/Written.antt`): [`print_steps`] writes the lines while the run goes, 64 KiB of them at a time (`specs/Gathered.antt`), and after a
 //!   fault a first part of them stands.
-//! - *Caching* (`specs/Kept.antt`): of pending operations of some hundred components and more, the text is cached from one line to the
-//!   next, and what a step changes of it is rewritten (items.rt, kept.rt).
 //!
 //! What a delivery applies is made once: the machine that performs it gives it ([`perform`]); [`applies`] says it without performing anything. Begin reading
 //! at `step_line` in specs/Steps.antt, then at [`print_steps`].
 #![tactic(auto)]
 
 mod fields;
-mod items;
-mod kept;
 mod laws;
 mod lines;
 mod moving;
@@ -30,7 +26,7 @@ mod operations;
 mod plain;
 mod writing;
 
-pub use fields::{operation_text, push_array, push_plain_array};
+pub use fields::{push_array, push_plain_array};
 pub use laws::{downlinks_follow, fold_is_run, lines_fold};
 pub use lines::{print_end, print_opening, print_step, print_stop, word};
 pub use moving::{applies, perform, sends};

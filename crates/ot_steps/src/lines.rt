@@ -4,17 +4,14 @@ ghost use Rattle.std.specs.Prelude.{◌≡◌, ◌++◌, ◌<◌, codes, decimal
 ghost use Rattle.std.specs.Option.{option_copied, option_map};
 ghost use Rattle.ot_isa.specs.Program.{client_of, IsForClients};
 ghost use Rattle.ot_isa.specs.Tagging.{chars_of};
-ghost use Rattle.ot_steps.specs.Kept.{IsKeptAt, IsKeptOf};
 ghost use Rattle.ot_steps.specs.Lines.{bare, plain_operation, word_of};
 ghost use Rattle.ot_steps.specs.Steps as steps;
 ghost use Rattle.ot_steps.specs.Steps.{appended_by, buffer_of, client_in, document_after, document_in, end_line, line_after, message_in, named, opening_line, outstanding_of, placed, stop_line, with_client};
 ghost use Rattle.ot_steps.specs.Text.{appended_fields, applied_fields, document_fields, end_text, fields_text, line_text, named_fields, placed_fields, sent_fields, waiting_fields, word_text};
 
 use crate::fields::{
-    push_edit, push_kept, push_list, push_message, push_name, push_number, push_operation,
-    push_text,
+    push_edit, push_list, push_message, push_name, push_number, push_operation, push_text,
 };
-use crate::kept::Kept;
 use crate::operations::push_decimal;
 use ot_client::Client;
 use ot_isa::{Instr, Schedule, Tagged};
@@ -67,10 +64,8 @@ fn push_waiting(
     text: &mut String,
     machine: &Machine,
     client: u16,
-    kept: &Kept,
 ) -> Result<(), AllocError>
-    requires there { client < length machine.now.clients }
-    requires kept { IsKeptOf kept.now (client_in machine.now client).phase }
+    requires { client < length machine.now.clients }
     ensures { OnOk result (string_bytes text.new ≡ string_bytes text.old ++ fields_text (waiting_fields (outstanding_of (client_in machine.now client).phase) (buffer_of (client_in machine.now client).phase))) }
 {
     if !machine.joined(client) {
@@ -78,22 +73,12 @@ fn push_waiting(
     }
     match machine.client(client) {
         Client::Synchronized(_) => Ok(()),
-        Client::AwaitingConfirm(client) => push_kept(
-            alloc,
-            text,
-            "outstanding",
-            client.outstanding(),
-            &kept.outstanding,
-        ),
+        Client::AwaitingConfirm(client) => {
+            push_operation(alloc, text, "outstanding", client.outstanding())
+        }
         Client::AwaitingWithBuffer(client) => {
-            push_kept(
-                alloc,
-                text,
-                "outstanding",
-                client.outstanding(),
-                &kept.outstanding,
-            )?;
-            push_kept(alloc, text, "buffer", client.buffer(), &kept.buffer)
+            push_operation(alloc, text, "outstanding", client.outstanding())?;
+            push_operation(alloc, text, "buffer", client.buffer())
         }
     }
 }
@@ -104,15 +89,13 @@ fn push_client(
     text: &mut String,
     machine: &Machine,
     client: u16,
-    kept: &Kept,
 ) -> Result<(), AllocError>
-    requires there { client < length machine.now.clients }
-    requires kept { IsKeptOf kept.now (client_in machine.now client).phase }
+    requires { client < length machine.now.clients }
     ensures { OnOk result (string_bytes text.new ≡ string_bytes text.old ++ fields_text (placed_fields (with_client (client_in machine.now client) (bare 0)))) }
 {
     push_number(text, "revision", machine.revision(client) as u64)?;
     push_name(text, "state", phase_name(machine.phase(client)))?;
-    push_waiting(alloc, text, machine, client, kept)
+    push_waiting(alloc, text, machine, client)
 }
 
 // Where the one that moved is.
@@ -121,17 +104,15 @@ fn push_placed(
     text: &mut String,
     machine: &Machine,
     instr: &Instr,
-    kept: &Kept,
 ) -> Result<(), AllocError>
-    requires there { IsForClients (length machine.now.clients) instr.now }
-    requires kept { IsKeptAt kept.now machine.now (client_of instr.now) }
+    requires { IsForClients (length machine.now.clients) instr.now }
     ensures { OnOk result (string_bytes text.new ≡ string_bytes text.old ++ fields_text (placed_fields (placed instr.now machine.now (bare 0)))) }
 {
     match instr {
-        Instr::Edit(client, _) => push_client(alloc, text, machine, *client, kept),
-        Instr::Deliver(client) => push_client(alloc, text, machine, *client, kept),
-        Instr::Acknowledge(client) => push_client(alloc, text, machine, *client, kept),
-        Instr::Join(client) => push_client(alloc, text, machine, *client, kept),
+        Instr::Edit(client, _) => push_client(alloc, text, machine, *client),
+        Instr::Deliver(client) => push_client(alloc, text, machine, *client),
+        Instr::Acknowledge(client) => push_client(alloc, text, machine, *client),
+        Instr::Join(client) => push_client(alloc, text, machine, *client),
         Instr::Take(_) => push_number(text, "revision", machine.server_revision() as u64),
         Instr::Read(_) | Instr::ReadServer => Ok(()),
     }
@@ -246,16 +227,14 @@ pub(crate) fn write_step(
     instr: &Instr,
     sent: bool,
     applied: Option<&TextOp<Tagged>>,
-    kept: &Kept,
     documents: bool,
 ) -> Result<(), AllocError>
-    requires there { IsForClients (length machine.now.clients) instr.now }
-    requires kept { IsKeptAt kept.now machine.now (client_of instr.now) }
+    requires { IsForClients (length machine.now.clients) instr.now }
     ensures { OnOk result (string_bytes text.new ≡ line_text (line_after documents at instr.now sent (option_map plain_operation (option_copied applied.entry)) machine.now)) }
 {
     start_line(text, at)?;
     push_named(alloc, text, instr)?;
-    push_placed(alloc, text, machine, instr, kept)?;
+    push_placed(alloc, text, machine, instr)?;
     push_sent(alloc, text, machine, instr, sent)?;
     push_applied(alloc, text, applied)?;
     push_appended(alloc, text, machine, instr)?;
@@ -279,9 +258,8 @@ pub fn print_step(
     ensures { IfOk result (λ s. string_bytes s ≡ line_text (line_after documents at instr.now sent (option_map plain_operation (option_copied applied.entry)) machine.now)) }
 {
     let mut text = String::new(alloc);
-    let kept = Kept::nothing();
     write_step(
-        alloc, &mut text, machine, at, instr, sent, applied, &kept, documents,
+        alloc, &mut text, machine, at, instr, sent, applied, documents,
     )?;
     Ok(text)
 }

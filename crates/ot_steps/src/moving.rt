@@ -5,13 +5,12 @@ ghost use Rattle.std.specs.Option.{option_map};
 ghost use Rattle.ot_model.specs.Table as table;
 ghost use Rattle.ot_machine.specs.Answers.{IsRefusal};
 ghost use Rattle.ot_machine.specs.Delivery.{applied_in};
-ghost use Rattle.ot_machine.specs.Undoing.{Undoes};
-ghost use Rattle.ot_steps.specs.Kept.{LeadsTo};
 ghost use Rattle.ot_steps.specs.Lines.{plain_operation};
 ghost use Rattle.ot_steps.specs.Steps as steps;
+ghost use Rattle.ot_steps.specs.Steps.{LeadsTo};
 
 use ot_isa::{Instr, Tagged};
-use ot_machine::{Applied, Machine, Phase, Refusal, Undo};
+use ot_machine::{Applied, Machine, Phase, Refusal};
 use ot_text::TextOp;
 use std::alloc::AllocError;
 
@@ -51,15 +50,4 @@ pub fn perform(machine: &mut Machine, instr: &Instr) -> Result<Applied, Refusal>
     ensures applied { IfOk result (λ given. option_map plain_operation (applied_in machine.new given) ≡ steps.applies instr.now machine.old) }
 {
     machine.perform_applied(instr)
-}
-
-/// Performs the instruction as [`perform`] does, and gives its undo record too.
-pub(crate) fn perform_kept(machine: &mut Machine, instr: &Instr) -> Result<(Undo, Applied), Refusal>
-    ensures done { OnOk result (LeadsTo instr.now machine.old machine.new) }
-    ensures refused { IfErr result (λ r. IsRefusal (table.step machine.old instr.now) r) }
-    ensures unchanged { OnErr result (machine.new ≡ machine.old) }
-    ensures undo { IfOk result (λ given. Undoes machine.old machine.new given.0) }
-    ensures applied { IfOk result (λ given. option_map plain_operation (applied_in machine.new given.1) ≡ steps.applies instr.now machine.old) }
-{
-    machine.perform_kept_applied(instr)
 }

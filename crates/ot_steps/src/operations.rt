@@ -1,31 +1,23 @@
 //! Operations as the text of their JSON arrays, component by component.
 
-ghost use Rattle.std.specs.Prelude.{◌≡◌, ◌≤◌, ◌+◌, ◌∷◌, ◌++◌, decimal, length, map, take, true, IfNone, IfSome, OnOk, string_bytes};
+ghost use Rattle.std.specs.Prelude.{◌≡◌, ◌≤◌, ◌+◌, ◌∷◌, ◌++◌, decimal, length, take, IfNone, IfOk, IfSome, OnOk, string_bytes};
 ghost use Rattle.std.specs.Char.{encode_utf8};
 ghost use Rattle.std.specs.Str.{IsAscii};
-ghost use Rattle.serde_json.specs.View.{items_of};
-ghost use Rattle.serde_json.specs.Written.{comma_if, compact_text, items_text};
-ghost use Rattle.ot_json.specs.Writing.{array_of, data_of};
-ghost use Rattle.ot_text.specs.Components.{run_of, runs};
-ghost use Rattle.ot_text.specs.Run.{IsFilled, IsNormal};
-ghost use Rattle.ot_steps.specs.Lettered.{items_from, lettered};
+ghost use Rattle.json.specs.Print.{quoted};
+ghost use Rattle.ot_text.specs.Components.{run_of};
+ghost use Rattle.ot_operation.specs.Run.{IsFilled, IsNormal};
+ghost use Rattle.ot_steps.specs.Lettered.{array_text, item_text, items_from};
 
 use itoa::Buffer;
-use ot_text::{Component, Element};
+use ot_text::{ComponentRef, Components, Element};
 use ot_values::{Letter, ascii_text, push_letters};
 use std::alloc::{AllocError, Global};
 
-/// So many components, and more, are gathered before they are added.
-const MANY: usize = 16;
-
-/// So many components are gathered at most before they are added.
-const AT_ONCE: usize = 128;
+/// So many bytes of items are gathered before they are added to the text.
+const GATHERED: usize = 256;
 
 /// So many bytes a short item has at most, with its comma: `,"x"`.
 const SHORT: usize = 4;
-
-/// So many bytes there is room for: for so many short items, so that no item looks whether there is.
-const GATHERED: usize = AT_ONCE * SHORT;
 
 // The digit of a number below 10: most counts are one, and a character is added for less than a string.
 fn digit_of(number: u64) -> Option<char>
@@ -65,35 +57,29 @@ pub fn push_decimal(text: &mut String, number: u64) -> Result<(), AllocError>
 }
 
 // A component as an item of the array.
-pub(crate) fn push_component<T: Element + Letter>(
+fn push_component<T: Element + Letter>(
     alloc: Global,
     text: &mut String,
-    component: &Component<T>,
+    component: ComponentRef<'_, T>,
 ) -> Result<(), AllocError>
-    requires { IsFilled (run_of component.now) }
-    ensures { OnOk result (string_bytes text.new ≡ string_bytes text.old ++ compact_text (data_of (lettered T.code (run_of component.now)))) }
+    requires { IsFilled (run_of component) }
+    ensures { OnOk result (string_bytes text.new ≡ string_bytes text.old ++ item_text T.code (run_of component.entry)) }
 {
     match component {
-        Component::Retain(count) => push_decimal(text, *count as u64),
-        Component::Insert(letters) => push_letters(alloc, text, letters.as_slice()),
-        Component::Delete(count) => {
+        ComponentRef::Retain(count) => push_decimal(text, count as u64),
+        ComponentRef::Insert(letters) => push_letters(alloc, text, letters),
+        ComponentRef::Delete(count) => {
             text.push('-')?;
-            push_decimal(text, *count as u64)
+            push_decimal(text, count as u64)
         }
     }
-}
-
-// What stands between two items.
-pub(crate) fn push_comma(text: &mut String, later: bool) -> Result<(), AllocError>
-    ensures { OnOk result (string_bytes text.new ≡ string_bytes text.old ++ comma_if later) }
-{
-    if later { text.push(',') } else { Ok(()) }
 }
 
 // Puts the digits of a number of at most two behind the first `at` bytes. Answers where they end.
 fn put_digits(number: usize, bytes: &mut [u8], at: usize) -> Option<usize>
     requires { at + 2 ≤ length bytes.old }
     ensures put { IfSome result (λ end. take end bytes.new ≡ take at bytes.old ++ decimal number) }
+    ensures ascii { IsAscii (decimal number) }
     ensures short { IfSome result (λ end. end ≤ at + 2) }
     ensures not { IfNone result (bytes.new ≡ bytes.old) }
     ensures length { length bytes.new ≡ length bytes.old }
@@ -110,97 +96,113 @@ fn put_digits(number: usize, bytes: &mut [u8], at: usize) -> Option<usize>
     None
 }
 
+// Puts the letter between quotes behind the first `at` bytes, if it is one byte that JSON writes as it is. Answers where it ends.
+fn put_letter(letter: char, bytes: &mut [u8], at: usize) -> Option<usize>
+    requires { at + 3 ≤ length bytes.old }
+    ensures put { IfSome result (λ end. take end bytes.new ≡ take at bytes.old ++ quoted (encode_utf8 letter)) }
+    ensures ascii { IfSome result (λ end. IsAscii (quoted (encode_utf8 letter))) }
+    ensures short { IfSome result (λ end. end ≤ at + 3) }
+    ensures not { IfNone result (bytes.new ≡ bytes.old) }
+    ensures length { length bytes.new ≡ length bytes.old }
+{
+    if letter < ' ' || letter > '~' || letter == '"' || letter == '\\' {
+        return None;
+    }
+    bytes[at] = b'"';
+    bytes[at + 1] = letter as u8;
+    bytes[at + 2] = b'"';
+    Some(at + 3)
+}
+
 // Puts a comma and the component behind the first `at` bytes, if it is short: a count of at most two digits, or one letter of one byte that
 // JSON writes as it is. Answers where it ends.
 fn put_item<T: Element + Letter>(
-    component: &Component<T>,
+    component: ComponentRef<'_, T>,
     bytes: &mut [u8],
     at: usize,
 ) -> Option<usize>
-    requires filled { IsFilled (run_of component.now) }
+    requires filled { IsFilled (run_of component) }
     requires room { at + SHORT ≤ length bytes.old }
-    ensures put { IfSome result (λ end. take end bytes.new ≡ take at bytes.old ++ 44 ∷ compact_text (data_of (lettered T.code (run_of component.now)))) }
-    ensures ascii { IfSome result (λ end. IsAscii (compact_text (data_of (lettered T.code (run_of component.now))))) }
+    ensures put { IfSome result (λ end. take end bytes.new ≡ take at bytes.old ++ 44 ∷ item_text T.code (run_of component.entry)) }
+    ensures ascii { IfSome result (λ end. IsAscii (item_text T.code (run_of component.entry))) }
     ensures short { IfSome result (λ end. end ≤ at + SHORT) }
     ensures not { IfNone result (take at bytes.new ≡ take at bytes.old) }
     ensures length { length bytes.new ≡ length bytes.old }
 {
+    bytes[at] = b',';
     match component {
-        Component::Retain(count) => {
-            bytes[at] = b',';
-            put_digits(*count, bytes, at + 1)
-        }
-        Component::Insert(letters) => {
+        ComponentRef::Retain(count) => put_digits(count, bytes, at + 1),
+        ComponentRef::Insert(letters) => {
             if letters.len() != 1 {
                 return None;
             }
-            let letter = letters.as_slice()[0].letter();
-            if letter < ' ' || letter > '~' || letter == '"' || letter == '\\' {
-                return None;
-            }
-            bytes[at] = b',';
-            bytes[at + 1] = b'"';
-            bytes[at + 2] = letter as u8;
-            bytes[at + 3] = b'"';
-            Some(at + 4)
+            put_letter(letters[0].letter(), bytes, at + 1)
         }
-        Component::Delete(count) => {
-            bytes[at] = b',';
+        ComponentRef::Delete(count) => {
             bytes[at + 1] = b'-';
-            put_digits(*count, bytes, at + 2)
+            put_digits(count, bytes, at + 2)
         }
     }
 }
 
-// Puts the components from `start` on into the bytes, up to one that is not short, and as many as there is room for. Answers which comes next,
-// and how many bytes they are.
-fn put_items<T: Element + Letter>(
-    components: &[Component<T>],
-    start: usize,
+// Adds what is gathered, if there is no room for one more item. Answers how many bytes are gathered then.
+fn make_room(text: &mut String, bytes: &[u8], gathered: usize) -> Result<usize, AllocError>
+    requires ascii { IsAscii (take gathered bytes.now) }
+    requires within { gathered ≤ length bytes.now }
+    requires size { length bytes.now ≡ GATHERED }
+    ensures same { IfOk result (λ left. string_bytes text.new ++ take left bytes.now ≡ string_bytes text.old ++ take gathered bytes.now) }
+    ensures ascii { IfOk result (λ left. IsAscii (take left bytes.now)) }
+    ensures room { IfOk result (λ left. left + SHORT ≤ GATHERED) }
+{
+    if gathered + SHORT <= GATHERED {
+        return Ok(gathered);
+    }
+    text.push_str(ascii_text(&bytes[..gathered]))?;
+    Ok(0)
+}
+
+// Adds a comma and the component behind what is gathered: gathers them, or adds all to the text, if the component is not short. Answers how many
+// bytes are gathered then.
+fn push_item<T: Element + Letter>(
+    alloc: Global,
+    text: &mut String,
+    component: ComponentRef<'_, T>,
     bytes: &mut [u8],
-) -> (usize, usize)
-    requires normal { IsNormal (runs components.now) }
-    requires within { start ≤ length components.now }
-    requires room { length bytes.old ≡ GATHERED }
-    ensures next { (start ≤ result.0) × (result.0 ≤ length components.now) }
-    ensures put { take result.1 bytes.new ++ items_from T.code components.now result.0 ≡ items_from T.code components.now start }
-    ensures filled { result.1 ≤ length bytes.new }
-    ensures ascii { IsAscii (take result.1 bytes.new) }
+    gathered: usize,
+) -> Result<usize, AllocError>
+    requires filled { IsFilled (run_of component) }
+    requires ascii { IsAscii (take gathered bytes.old) }
+    requires room { gathered + SHORT ≤ length bytes.old }
+    ensures item { IfOk result (λ end. string_bytes text.new ++ take end bytes.new ≡ (string_bytes text.old ++ take gathered bytes.old) ++ 44 ∷ item_text T.code (run_of component.entry)) }
+    ensures ascii { IfOk result (λ end. IsAscii (take end bytes.new)) }
+    ensures within { IfOk result (λ end. end ≤ length bytes.new) }
     ensures length { length bytes.new ≡ length bytes.old }
 {
-    let stop = components.len().min(start.saturating_add(AT_ONCE));
-    let mut filled = 0;
-    for place in start..stop {
-        match put_item(&components[place], bytes, filled) {
-            Some(end) => filled = end,
-            None => return (place, filled),
-        }
+    if let Some(end) = put_item(component, bytes, gathered) {
+        return Ok(end);
     }
-    (stop, filled)
+    text.push_str(ascii_text(&bytes[..gathered]))?;
+    text.push(',')?;
+    push_component(alloc, text, component)?;
+    Ok(0)
 }
 
-// The items behind the first, and the closing bracket.
+// Each component behind a comma, and the closing bracket.
 fn push_later<T: Element + Letter>(
     alloc: Global,
     text: &mut String,
-    components: &[Component<T>],
+    components: Components<'_, T>,
 ) -> Result<(), AllocError>
-    requires { IsNormal (runs components.now) }
-    ensures { OnOk result (string_bytes text.new ≡ string_bytes text.old ++ items_text true (items_of (map data_of (map (lettered T.code) (runs components.now))))) }
+    requires { IsNormal components }
+    ensures { OnOk result (string_bytes text.new ≡ string_bytes text.old ++ items_from T.code components.entry) }
 {
     let mut bytes = [0u8; GATHERED];
-    let mut place = 0;
-    while place < components.len() {
-        let (next, filled) = put_items(components, place, &mut bytes[..]);
-        if next > place {
-            text.push_str(ascii_text(&bytes[..filled]))?;
-            place = next;
-        } else {
-            text.push(',')?;
-            push_component(alloc, text, &components[place])?;
-            place += 1;
-        }
+    let mut gathered = 0;
+    for component in components {
+        let room = make_room(text, &bytes[..], gathered)?;
+        gathered = push_item(alloc, text, component, &mut bytes[..], room)?;
     }
+    text.push_str(ascii_text(&bytes[..gathered]))?;
     text.push(']')
 }
 
@@ -208,21 +210,16 @@ fn push_later<T: Element + Letter>(
 pub(crate) fn push_components<T: Element + Letter>(
     alloc: Global,
     text: &mut String,
-    components: &[Component<T>],
+    components: Components<'_, T>,
 ) -> Result<(), AllocError>
-    requires { IsNormal (runs components.now) }
-    ensures { OnOk result (string_bytes text.new ≡ string_bytes text.old ++ compact_text (array_of (map (lettered T.code) (runs components.now)))) }
+    requires { IsNormal components }
+    ensures { OnOk result (string_bytes text.new ≡ string_bytes text.old ++ array_text T.code components.entry) }
 {
+    let mut left = components;
     text.push('[')?;
-    if components.len() >= MANY {
-        push_component(alloc, text, &components[0])?;
-        return push_later(alloc, text, &components[1..]);
-    }
-    let mut later = false;
-    for component in components {
-        push_comma(text, later)?;
-        push_component(alloc, text, component)?;
-        later = true;
-    }
-    text.push(']')
+    let Some(first) = left.next() else {
+        return text.push(']');
+    };
+    push_component(alloc, text, first)?;
+    push_later(alloc, text, left)
 }

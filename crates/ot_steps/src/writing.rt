@@ -4,15 +4,13 @@ ghost use Rattle.std.specs.Prelude.{◌≡◌, IfErr, IfOk, OnErr, OnOk, string_
 ghost use Rattle.ot_model.specs.Runs.{opening_of};
 ghost use Rattle.ot_model.specs.Table as table;
 ghost use Rattle.ot_machine.specs.Answers.{IsRefusal};
-ghost use Rattle.ot_steps.specs.Kept.{AreKept};
 ghost use Rattle.ot_steps.specs.Steps.{last_lines};
 ghost use Rattle.ot_steps.specs.Text.{lines_text};
 ghost use Rattle.ot_steps.specs.Gathered.{Gathers, GathersMoves, GathersRun, GathersUpTo, MovesUpTo, RunUpTo};
 ghost use Rattle.ot_steps.specs.Written.{IsCaused, IsMove, WritesRun, WritesUpTo};
 
-use crate::kept::{Kept, kept_of, nothing_kept, perform_keeping};
 use crate::lines::{print_end, print_opening, print_stop, write_step};
-use crate::moving::sends;
+use crate::moving::{perform, sends};
 use ot_isa::{Instr, Schedule};
 use ot_machine::{Machine, Refusal};
 use std::alloc::{AllocError, Global};
@@ -53,32 +51,25 @@ impl From<streams::WriteFault> for StepsFault {
 }
 
 // Performs the instruction and writes its line into the text, instead of what that held, or says why it was not performed.
-fn perform(
+fn write_move(
     alloc: Global,
     machine: &mut Machine,
     at: usize,
     instr: &Instr,
     documents: bool,
-    kept: &mut Vec<Kept>,
     line: &mut String,
 ) -> Result<Result<(), Refusal>, AllocError>
-    requires { AreKept kept.old.items machine.old.clients }
     ensures line { IfOk result (λ answer. OnOk answer (IsMove documents at instr.now machine.old machine.new (string_bytes line.new))) }
     ensures refused { IfOk result (λ answer. IfErr answer (λ r. IsRefusal (table.step machine.old instr.now) r)) }
     ensures unchanged { IfOk result (λ answer. OnErr answer (machine.new ≡ machine.old)) }
-    ensures kept { IfOk result (λ answer. OnOk answer (AreKept kept.new.items machine.new.clients)) }
 {
     let sent = sends(machine, instr);
-    let applied = match perform_keeping(alloc, machine, instr, kept)? {
+    let applied = match perform(machine, instr) {
         Ok(applied) => applied,
         Err(refusal) => return Ok(Err(refusal)),
     };
-    let nothing = Kept::nothing();
-    let own = kept_of(kept.as_slice(), &nothing, instr);
     let applied = applied.operation(machine);
-    write_step(
-        alloc, line, machine, at, instr, sent, applied, own, documents,
-    )?;
+    write_step(alloc, line, machine, at, instr, sent, applied, documents)?;
     Ok(Ok(()))
 }
 
@@ -112,20 +103,11 @@ fn gather_moves<W: Sink>(
     ensures cause { IfErr result (λ f. IsCaused f (W.failed output.new)) }
 {
     let mut line = String::new(alloc);
-    let mut kept = nothing_kept(alloc, machine.clients())?;
     for place in 0..schedule.len() {
         let Some(instr) = schedule.get(place) else {
             unreachable!()
         };
-        match perform(
-            alloc,
-            machine,
-            place + 1,
-            instr,
-            documents,
-            &mut kept,
-            &mut line,
-        )? {
+        match write_move(alloc, machine, place + 1, instr, documents, &mut line)? {
             Ok(()) => gather(held, line.as_str(), output)?,
             Err(refusal) => return Ok(Some((place, refusal))),
         }
@@ -181,8 +163,7 @@ fn gather_run<W: Sink>(
 /// performed instruction's line has the document of the one that moved.
 ///
 /// After a fault a first part of the lines is written. `WriteFault` is said only where a write has failed, as the output says itself. If memory for a line ran out these are whole lines, all that were made before it. Memory does
-/// not grow with the lines: they are written wherever 64 KiB of them are held. Beside the machine stand the texts of clients' long pending
-/// operations, in less than twice their bytes.
+/// not grow with the lines: they are written wherever 64 KiB of them are held.
 pub fn print_steps<W: Sink>(
     alloc: Global,
     schedule: &Schedule,

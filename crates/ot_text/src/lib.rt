@@ -1,145 +1,87 @@
-//! Text operations and the documents that they change: the data of operational transformation.
+//! Text operations and documents.
 //!
-//! An operation is a list of components, as in ot.js' `TextOperation`, which walks over a document once, from left to right:
-//!
-//! ```text
-//!     retain 1      a                  a          [1,"cd",-2,1] takes documents of 4 elements (base length)
-//!     insert "cd"                      c d        and makes documents of 4 (target length): of "abbz" it makes "acdz"
-//!     delete 2      b b
-//!     retain 1      z                  z
-//! ```
-//!
-//! It is always in normal form: no component is empty, no two neighbours are of one kind, and no insertion stands directly
-//! after a deletion. So two operations that do the same are equal lists. A contract sees an operation as its base length and
-//! its image, which says for each element of the result whether it stood at a place of the document before (`Old i`) or
-//! is new (`New x`): here `Old 0, New c, New d, Old 3` on base 4. The three lengths are stored beside the components.
-//!
-//! A document is a list of elements, in chunks. A contract sees the list alone, and so does who looks at it piece by piece (`Pieces`).
+//! An operation ([`TextOp`]) goes over a document once, from left to right, as in ot.js' `TextOperation`: it retains, inserts and deletes elements. It is stored
+//! as its codes (`ot_codes`: the kind and length of each component) and its text, which is all that it inserts, in order:
 //!
 //! ```text
-//!     chunks  [ 512 elements ] [ 512 ] [ 130 ] [ 400 ] ..      1 to 512 elements each; two neighbours have more than 512
-//!
-//!     change  [ as it is     ] [ 430 -> 431 ] [ as it is ] ..   edited where it lies, place by place or many places of it at once, where the rule
-//!                                                              on chunks still holds then
-//!
-//!     else    [ moved        ] [ 384 ] [ 129 ] [ moved ] ..    a draft: chunks that the operation touches are written anew, to
-//!                                                              three quarters, and those that would be too short beside them
+//!     operation   [2,"xy",-3,1,"z"]      on documents of 6 elements
+//!     codes       Retain 2 | Insert 2 | Delete 3 | Retain 1 | Insert 1
+//!     text        x y z
+//!     components  retain 2 | insert x y | delete 3 | retain 1 | insert z
 //! ```
 //!
-//! A change makes every growth first, so that one which finds no memory leaves the document as it was. Where the touched chunks can
-//! be edited as they lie, a survey counts what they will have and makes room in them, and the edit takes no memory. Else a draft is
-//! made over the old chunks as they are, from the one before the first touched one up to the first behind the last that may follow as it is.
-//! Then the drafted chunks are put in the place of these in the list, which takes no memory either.
+//! Up to five codes, and a text of one element, lie in the operation itself: an operation that types or deletes at one place takes no memory.
 //!
-//! A change of an operation is prepared (`Prepared`), which makes its growths, and then committed or rolled back, neither of which takes memory. It
-//! is given as parts that take the place of some of its components (`Patch`), so that what lies between them costs nothing:
+//! A document ([`Doc`]) is stored in leaves (`ot_list`), for characters of at most 512 elements, here of at most 4:
 //!
 //! ```text
-//!     op       [ retain 7 | insert "ab" | retain 5 | .. | retain 2 ]      as it is, with room for what comes
-//!     parts                             [ retain 2 | insert "c" | retain 3 ]    in the place of `retain 5`, and others behind
-//!
-//!     commit   [ retain 7 | insert "ab" | retain 2 | insert "c" | retain 3 | .. ]    moved in; what comes behind moves on
-//!     patch    `retain 5` in the place of the components from 2 up to 5: leads back, in place again
+//!     before      [ a b c ] [ d e f ]
+//!     after       [ a b x y ] [ f z ]
 //! ```
 //!
-//! - `specs/Operation.antt`: base and image, the builder's three calls, `apply`, `invert`.
-//! - `specs/Run.antt`, `specs/Components.antt`, `specs/Texts.antt`: the components as runs, their normal form, what they spell, what they add.
-//! - `specs/Chunks.antt`, `specs/Draft.antt`, `specs/Spots.antt`: the rule on chunks, a place in them, the draft of a change, the change
-//!   where they lie.
-//! - `specs/Splices.antt`, `specs/Patch.antt`: parts in the place of components, and patches from one operation to another.
-//! - `specs/Change.antt`, `specs/Prepared.antt`: an operation and what is about to become of it.
-//! - `specs/Rewriting.antt`: an operation that is written over an old one.
+//! - A call of the builder writes a code, and appends an insertion's elements to the text.
+//! - [`Components`] reads an operation in order and takes no memory: each insertion gives its part of the text as a slice.
+//! - [`Doc::change`] changes the leaf where it lies, if the operation changes one place in one leaf. Otherwise it writes a draft, which keeps the leaves that do not
+//!   change, and exchanges the document's leaves for it. All memory is taken first.
+//! - [`Doc::share`] lets copies of a document have one list of leaves. The first change of one of them copies it.
+//! - `apply` changes a copy of a document. `invert` reads from the document what the operation deletes.
 //!
-//! Begin with `TextOp` below, then `build.rt` (normal form), `text.rt` (what an insertion adds), `document.rt` (`Doc`), `survey.rt`, `edit.rt` and `crowd.rt` (the
-//! change where chunks lie), `cursor.rt` and `draft.rt` (the draft), and `change.rt` (what components make of chunks). `patch.rt` leads from
-//! one operation to another, `prepared.rt` and `in_place.rt` change an operation where its components lie, `difference.rt` finds the
-//! patch back, and `rewrite.rt` writes an operation over an old one, of which long runs stay where they lie.
+//! A contract sees an operation as its base length and its image: the shape that the codes spell, filled with the text. It sees a document as the list of its
+//! elements, and components as the runs that are left. `transform` and `compose` are in `ot_algebra`.
+//!
+//! Contracts: `Operation.antt` and `Run.antt` of `ot_operation` (an operation, the builder, its runs), `Shape.antt` of `ot_codes` (shapes, and how they are filled),
+//! `specs/Components.antt` here (codes with a text, as runs). To read: [`TextOp`] below, `components.rt`, `document.rt`, `splice.rt` (the change in place),
+//! `writer.rt` (the draft), `held.rt` (shared lists), `text.rt` (an operation's text).
 #![tactic(auto)]
 
-ghost use Rattle.std.specs.Prelude.{◌≡◌, ℕ, ◌+◌, ◌<◌, ◌≤◌, ◌↔◌, List, length, max, set, slice_get, Some, OnOk, OnErr, IfOk, IsErrOf, IsTrue};
-ghost use Rattle.ot_text.specs.Operation.{empty, identity, with_retain, with_insert, with_delete, IsTooLong, news, apply, invert, IsOperation};
-ghost use Rattle.ot_text.specs.Run.{Keep, operation_of, normal_runs, IsNormal};
-ghost use Rattle.ot_text.specs.Components.{runs};
+ghost use Rattle.std.specs.Prelude.{◌≡◌, ◌+◌, ◌*◌, ◌↔◌, ◌≤◌, length, max, IfOk, OnOk, OnErr, IsErrOf, IsTrue};
+ghost use Rattle.ot_operation.specs.Operation.{empty, identity, with_retain, with_insert, with_delete, IsOperation, IsTooLong, news};
+ghost use Rattle.ot_operation.specs.Run.{IsNormal, normal_runs, operation_of};
+ghost use Rattle.ot_operation.specs.declared.TheConstants.{LIMIT};
+ghost use Rattle.ot_codes.specs.Shape.{filled, shape};
 
-mod build;
-mod change;
-mod chunk;
 mod compare;
-mod copy;
-mod crowd;
-mod cursor;
-mod difference;
+mod components;
 mod document;
-mod draft;
-mod edit;
-mod element;
-mod in_place;
-mod lengths;
-mod moves;
-mod patch;
+mod documents;
+mod held;
 mod pieces;
-mod prepared;
-mod refusal;
-mod replace;
-mod rewrite;
-mod shared;
-mod splices;
-mod survey;
+mod place;
+mod splice;
 mod text;
-mod window;
+mod writer;
 
-use build::{add_delete, add_insert, add_retain, add_text};
-use change::invert_components;
-use compare::same_components;
-use copy::copy_components;
+use compare::{same_codes, same_text};
+pub use components::{Component, ComponentRef, Components};
 pub use document::Doc;
-pub use element::Element;
-pub use patch::Patch;
+use ot_codes::{Code, Codes};
+pub use ot_operation::{Element, LIMIT, OpRefusal, only_memory};
 pub use pieces::Pieces;
-pub use prepared::Prepared;
-pub use refusal::{OpRefusal, only_memory};
-pub use rewrite::Rewrite;
-pub use splices::Splice;
 use std::alloc::{AllocError, Global};
 use std::marker::Model;
-pub use text::Text;
-
-/// The greatest length of a document, and of an operation's base and target, in elements.
-pub const LIMIT: usize = 1_000_000;
-
-/// One step over a document, as in ot.js' `TextOperation`: counts are in elements (Unicode scalars where `T` is `char`).
-#[derive(Drop)]
-pub enum Component<T> {
-    /// The next elements stay.
-    Retain(usize),
-    /// Elements come in.
-    Insert(Text<T>),
-    /// The next elements go.
-    Delete(usize),
-}
+use std::mem;
+use text::Text;
 
 /// An operation in normal form, its base and its target length at most 1,000,000 elements.
 ///
 /// It is built from left to right by `retain`, `insert` and `delete`, which are those of ot.js' `TextOperation`.
 #[derive(Drop)]
 pub struct TextOp<T> {
-    components: Vec<Component<T>>,
-    base: usize,
-    target: usize,
-    inserted: usize,
+    codes: Codes,
+    text: Text<T>,
 }
 
 impl<T> Model for TextOp<T> {
-    ghost use Rattle.ot_text.specs.Operation.{Operation};
+    ghost use Rattle.std.specs.Prelude.{◌≡◌, length};
+    ghost use Rattle.ot_operation.specs.Operation.{Operation, news};
 
     ghost Value = { Operation T };
 
-    ghost use Rattle.ot_text.specs.Run.{operation_of, IsSound};
-    ghost use Rattle.ot_text.specs.Components.{runs};
+    ghost use Rattle.ot_codes.specs.Shape.{filled};
 
-    ghost view = { λ s. operation_of (runs s.components.items) };
+    ghost view = { λ s. filled s.codes s.text };
 
-    ghost invariant = { λ s. IsSound (runs s.components.items) s.base s.target s.inserted };
+    ghost invariant = { λ s. length s.text ≡ length (news s.codes.image) };
 }
 
 impl<T: Element> TextOp<T> {
@@ -148,21 +90,17 @@ impl<T: Element> TextOp<T> {
         ensures { result ≡ empty }
     {
         TextOp {
-            components: Vec::new(alloc),
-            base: 0,
-            target: 0,
-            inserted: 0,
+            codes: Codes::new(alloc),
+            text: Text::new(alloc),
         }
     }
 
-    /// The operation without components, on the empty document, which asks `alloc` for room for `count` components beforehand. `Err` where that
-    /// was refused. Room is no part of the operation's value.
-    pub fn with_capacity(alloc: Global, count: usize) -> Result<TextOp<T>, AllocError>
-        ensures { IfOk result (λ op. op ≡ empty) }
+    // How many elements the base and the target length may still gain.
+    fn room(&self) -> (usize, usize)
+        ensures base { result.0 + self.now.base ≡ LIMIT }
+        ensures target { result.1 + length self.now.image ≡ LIMIT }
     {
-        let mut op = TextOp::new(alloc);
-        op.components = Vec::with_capacity(alloc, count)?;
-        Ok(op)
+        (LIMIT - self.base_len(), LIMIT - self.target_len())
     }
 
     /// Keeps the next `count` elements of the document; 0 adds nothing, and a retain at the end is lengthened.
@@ -174,15 +112,11 @@ impl<T: Element> TextOp<T> {
         ensures too_long { IsErrOf result OpRefusal.TooLong ↔ IsTooLong (with_retain self.old count) }
         ensures err { OnErr result (self.new ≡ self.old) }
     {
-        if count > LIMIT - self.base.max(self.target) {
+        let (base, target) = self.room();
+        if count > base.min(target) {
             return Err(OpRefusal::TooLong);
         }
-        if count == 0 {
-            return Ok(());
-        }
-        add_retain(&mut self.components, count)?;
-        self.base += count;
-        self.target += count;
+        self.codes.put(Code::Retain(count as u32))?;
         Ok(())
     }
 
@@ -197,43 +131,21 @@ impl<T: Element> TextOp<T> {
         ensures err { OnErr result (self.new ≡ self.old) }
     {
         let count = text.len();
-        if count > LIMIT - self.target {
+        let (_, target) = self.room();
+        if count > target {
             return Err(OpRefusal::TooLong);
         }
-        if count == 0 {
-            return Ok(());
+        let alloc = self.allocator();
+        let before = self.text.as_slice().len();
+        self.text.extend(alloc, text)?;
+        if let Err(refused) = self.codes.put(Code::Insert(count as u32)) {
+            self.text.truncate(alloc, before);
+            return Err(OpRefusal::from(refused));
         }
-        let alloc = *self.components.allocator();
-        add_insert(alloc, &mut self.components, text)?;
-        self.target += count;
-        self.inserted += count;
         Ok(())
     }
 
-    /// Does as `insert` with a text that is no longer needed: it moves in, and is copied only where it is concatenated with an insertion.
-    ///
-    /// `TooLong` exactly where the target length would pass 1,000,000; else `Memory` where a growth was refused. After an
-    /// error the operation is as it was, and the text is gone.
-    pub fn insert_text(&mut self, text: Text<T>) -> Result<(), OpRefusal>
-        ensures ok { OnOk result (self.new ≡ with_insert self.old text.items) }
-        ensures too_long { IsErrOf result OpRefusal.TooLong ↔ IsTooLong (with_insert self.old text.items) }
-        ensures err { OnErr result (self.new ≡ self.old) }
-    {
-        let added = text.len();
-        if added > LIMIT - self.target {
-            return Err(OpRefusal::TooLong);
-        }
-        if added == 0 {
-            return Ok(());
-        }
-        let alloc = *self.components.allocator();
-        add_text(alloc, &mut self.components, text)?;
-        self.target += added;
-        self.inserted += added;
-        Ok(())
-    }
-
-    /// Does as `insert_text` with the elements of a list.
+    /// Does as `insert` with the elements of a list that is no longer needed.
     ///
     /// `TooLong` exactly where the target length would pass 1,000,000; else `Memory` where a growth was refused. After an
     /// error the operation is as it was, and the list is gone.
@@ -242,15 +154,17 @@ impl<T: Element> TextOp<T> {
         ensures too_long { IsErrOf result OpRefusal.TooLong ↔ IsTooLong (with_insert self.old text.items) }
         ensures err { OnErr result (self.new ≡ self.old) }
     {
-        if text.len() > LIMIT - self.target {
+        let count = text.len();
+        if count == 1 || self.text.as_slice().len() > 0 {
+            return self.insert(text.as_slice());
+        }
+        let (_, target) = self.room();
+        if count > target {
             return Err(OpRefusal::TooLong);
         }
-        if text.is_empty() {
-            return Ok(());
-        }
-        let alloc = *self.components.allocator();
-        let added = Text::from_vec(alloc, text)?;
-        self.insert_text(added)
+        self.codes.put(Code::Insert(count as u32))?;
+        self.text = Text::from_vec(text); // it moves in, where there was no text
+        Ok(())
     }
 
     /// Removes the next `count` elements of the document; 0 adds nothing, and a deletion at the end is lengthened.
@@ -262,55 +176,80 @@ impl<T: Element> TextOp<T> {
         ensures too_long { IsErrOf result OpRefusal.TooLong ↔ IsTooLong (with_delete self.old count) }
         ensures err { OnErr result (self.new ≡ self.old) }
     {
-        if count > LIMIT - self.base {
+        let (base, _) = self.room();
+        if count > base {
             return Err(OpRefusal::TooLong);
         }
-        if count == 0 {
-            return Ok(());
-        }
-        add_delete(&mut self.components, count)?;
-        self.base += count;
+        self.codes.put(Code::Delete(count as u32))?;
         Ok(())
-    }
-
-    /// Lets the retain at place `at` of the components keep `count` elements in place of as many as it did, where it lies: it takes no memory, and
-    /// no other component is looked at. The base and the target length are longer, or shorter, by the difference.
-    pub fn set_retain(&mut self, at: usize, count: usize)
-        requires retain { (n : ℕ) × (slice_get (normal_runs self.old) at ≡ Some (Keep n)) }
-        requires some { 0 < count }
-        requires short { IsTooLong (operation_of (set (normal_runs self.old) at (Keep count))) → ⊥ }
-        ensures { self.new ≡ operation_of (set (normal_runs self.old) at (Keep count)) }
-    {
-        let Component::Retain(before) = self.components[at] else {
-            unreachable!();
-        };
-        self.components[at] = Component::Retain(count);
-        self.base = self.base - before + count;
-        self.target = self.target - before + count;
     }
 
     /// Where the operation's memory comes from.
     pub fn allocator(&self) -> Global {
-        *self.components.allocator()
+        self.codes.allocator()
     }
 
-    /// The components, in order: the only ones in normal form that spell the operation.
-    pub fn components(&self) -> &[Component<T>]
-        ensures normal { IsNormal (runs result.now) }
-        ensures spells { operation_of (runs result.now) ≡ self.now }
+    /// The codes: the components without their elements.
+    pub fn codes(&self) -> &Codes
+        ensures value { result.now ≡ shape self.now }
+        ensures operation { IsOperation self.now }
+    {
+        self.codes.sum(); // they are those of an operation
+        &self.codes
+    }
+
+    /// All elements that the operation inserts, in order.
+    pub fn text(&self) -> &[T]
+        ensures { result.now ≡ news self.now.image }
+    {
+        self.text.as_slice() // in the order of the codes
+    }
+
+    /// The operation of these codes with this text, which has as many elements as they insert. Takes no memory.
+    pub fn from_parts(codes: Codes, text: Vec<T>) -> TextOp<T>
+        requires { length text.items ≡ length (news codes.image) }
+        ensures { result ≡ filled codes text.items }
+    {
+        TextOp {
+            codes,
+            text: Text::from_vec(text),
+        }
+    }
+
+    /// The operation of other codes that insert as many elements, with a copy of this text. `AllocError` where a growth was refused.
+    pub fn with_codes(&self, codes: Codes) -> Result<TextOp<T>, AllocError>
+        requires { length (news codes.image) ≡ length (news self.now.image) }
+        ensures { IfOk result (λ op. op ≡ filled codes (news self.now.image)) }
+    {
+        let text = Text::from_slice(self.allocator(), self.text())?;
+        Ok(TextOp { codes, text })
+    }
+
+    /// Exchanges the codes with others that insert as many elements: the text stays. Takes no memory.
+    pub fn exchange_codes(&mut self, codes: &mut Codes)
+        requires { length (news codes.old.image) ≡ length (news self.old.image) }
+        ensures op { self.new ≡ filled codes.old (news self.old.image) }
+        ensures codes { codes.new ≡ shape self.old }
+    {
+        mem::swap(&mut self.codes, codes);
+    }
+
+    /// The components, in order: the only ones in normal form that spell the operation. Takes no memory.
+    pub fn components(&self) -> Components<'_, T>
+        ensures normal { IsNormal result }
+        ensures spells { operation_of result ≡ self.now }
         ensures fits { max self.now.base (length self.now.image) ≤ LIMIT }
-        ensures form { runs result.now ≡ normal_runs self.now }
+        ensures form { result ≡ normal_runs self.now }
     {
-        &self.components[..]
+        Components::new(self.codes.cursor(), self.text.as_slice())
     }
 
-    /// The components themselves, in order, where the operation is no longer needed: nothing is copied.
-    pub fn into_components(self) -> Vec<Component<T>>
-        ensures normal { IsNormal (runs result.items) }
-        ensures spells { operation_of (runs result.items) ≡ self }
-        ensures form { runs result.items ≡ normal_runs self }
+    /// How many components the operation has. It goes through no component.
+    pub fn component_count(&self) -> usize
+        ensures value { result ≡ length (normal_runs self.now) }
+        ensures small { result ≤ 2 * LIMIT }
     {
-        self.components
+        self.codes.count()
     }
 
     /// The base length: how many elements the documents have that the operation takes. A look-up.
@@ -319,7 +258,8 @@ impl<T: Element> TextOp<T> {
         ensures operation { IsOperation self.now }
         ensures small { result ≤ LIMIT }
     {
-        self.base // kept beside the components
+        let sum = self.codes.sum();
+        sum.kept as usize + sum.deleted as usize
     }
 
     /// The target length: how many elements the documents have that the operation makes. A look-up.
@@ -327,7 +267,7 @@ impl<T: Element> TextOp<T> {
         ensures value { result ≡ length self.now.image }
         ensures small { result ≤ LIMIT }
     {
-        self.target // kept beside the components
+        self.codes.target_len() as usize
     }
 
     /// How many elements the operation adds, in all its insertions. A look-up.
@@ -335,74 +275,32 @@ impl<T: Element> TextOp<T> {
         ensures value { result ≡ length (news self.now.image) }
         ensures small { result ≤ LIMIT }
     {
-        self.inserted // kept beside the components
+        self.codes.inserted() as usize
     }
 
-    /// The operation keeps every element and adds none: it has no component, or one retain alone.
+    /// The operation keeps every element and adds none: it has no component, or one retain alone. A look-up.
     pub fn is_noop(&self) -> bool
         ensures { IsTrue result ↔ (self.now ≡ identity self.now.base) }
     {
-        let count = self.components.len();
-        if count == 0 {
-            return true;
-        }
-        if count > 1 {
+        let sum = self.codes.sum();
+        if sum.deleted > 0 {
             return false;
         }
-        matches!(&self.components[0], Component::Retain(_))
+        sum.inserted == 0
     }
 
-    /// The two operations are one: equal base length and equal image, and so equal components.
+    /// The two operations are equal: equal base length and equal image, and so equal components.
     pub fn equals(&self, other: &TextOp<T>) -> bool
         ensures { IsTrue result ↔ (self.now ≡ other.now) }
     {
-        same_components(self.components.as_slice(), other.components.as_slice())
-    }
-
-    /// The document's length is the operation's base length.
-    pub fn fits(&self, document: &Doc<T>) -> bool
-        ensures { IsTrue result ↔ (self.now.base ≡ length document.now) }
-    {
-        self.base == document.len()
-    }
-
-    /// The document that the operation makes of this one, which stays: retained elements are copied, inserted ones added,
-    /// deleted ones passed over. The document has to fit. `AllocError` where a growth was refused; nothing has changed then.
-    /// Where the old document is no longer needed, `Doc::change` copies less.
-    pub fn apply(&self, document: &Doc<T>) -> Result<Doc<T>, AllocError>
-        requires { self.now.base ≡ length document.now }
-        ensures { IfOk result (λ d. d ≡ apply self.now document.now) }
-    {
-        document.changed(self)
+        same_text(self.text(), other.text()) && same_codes(self.codes(), other.codes())
     }
 
     /// An operation equal to this one, or `AllocError` where a growth was refused.
     pub fn copy(&self) -> Result<TextOp<T>, AllocError>
         ensures { IfOk result (λ op. op ≡ self.now) }
     {
-        let alloc = *self.components.allocator();
-        let components = copy_components(alloc, self.components.as_slice())?;
-        Ok(TextOp {
-            components,
-            base: self.base,
-            target: self.target,
-            inserted: self.inserted,
-        })
-    }
-
-    /// The inverse of this operation, as ot.js' `invert`: applied to what this operation makes of `document`, it gives
-    /// `document`. Retains stay, an insertion becomes a deletion of its length, a deletion an insertion of what was deleted.
-    /// The document has to fit. `AllocError` where a growth was refused; nothing has changed then.
-    pub fn invert(&self, document: &Doc<T>) -> Result<TextOp<T>, AllocError>
-        requires { self.now.base ≡ length document.now }
-        ensures value { IfOk result (λ op. op ≡ invert self.now document.now) }
-        ensures gives_back { IfOk result (λ op. apply op (apply self.now document.now) ≡ document.now) }
-    {
-        let alloc = *self.components.allocator();
-        invert_components(
-            alloc,
-            self.components.as_slice(),
-            document.chunks.as_slice(),
-        )
+        let codes = self.codes().copy()?;
+        self.with_codes(codes)
     }
 }

@@ -1,88 +1,75 @@
-//! The elements that an insertion adds.
+//! The text of an operation.
 
-ghost use Rattle.std.specs.Prelude.{◌≡◌, ◌++◌, length, IfOk, IsOk, OnOk, OnErr};
-ghost use Rattle.ot_text.specs.Texts.{held_items};
+ghost use Rattle.std.specs.Prelude.{◌≡◌, ◌≤◌, [], ◌++◌, length, take, IfOk, OnOk, OnErr};
+ghost use Rattle.ot_text.specs.Text.{held_text};
 
-use crate::Element;
+use ot_operation::Element;
 use std::alloc::{AllocError, Global};
 use std::marker::Model;
 use std::slice;
 
-// One element in the value itself, or any number behind a pointer: a component of elements of 12 bytes takes 24.
+// One element in the value itself, or a list.
 #[derive(Drop)]
 pub(crate) enum Held<T> {
     One(T),
-    Many(Box<Vec<T>>),
+    Many(Vec<T>),
 }
 
-/// The elements of an insertion, in order. A single one lies in the value itself and takes no memory beside it: where many people type at once,
-/// most insertions have one. A contract sees the elements alone, as `items`.
-#[derive(Drop)]
-pub struct Text<T> {
+/// Elements in order. A single one lies in the value itself and takes no memory beside it: where many people type at once, most operations insert
+/// one. A contract sees the list of them.
+pub(crate) struct Text<T> {
     held: Held<T>,
 }
 
 impl<T> Model for Text<T> {
-    ghost use Rattle.ot_text.specs.Texts.{Text as Items, held_items};
+    ghost use Rattle.std.specs.Prelude.{List};
 
-    ghost Value = { Items T };
+    ghost Value = { List T };
 
-    ghost view = { λ text. record { items = held_items text.held } };
+    ghost use Rattle.ot_text.specs.Text.{held_text};
+
+    ghost view = { λ text. held_text text.held };
 }
 
-impl<T> Text<T> {
-    /// How many elements there are. A look-up.
-    pub fn len(&self) -> usize
-        ensures { result ≡ length self.now.items }
-    {
-        match &self.held {
-            Held::One(_) => 1,
-            Held::Many(many) => many.len(),
-        }
+impl<T: Drop> Drop for Text<T> {
+    fn drop(self) {
+        let Text { held: _ } = self;
     }
 }
 
 impl<T: Element> Text<T> {
-    // The elements behind a pointer.
-    fn many(alloc: Global, items: Vec<T>) -> Result<Held<T>, AllocError>
-        ensures { IfOk result (λ held. held_items held ≡ items.items) }
+    /// No elements. Takes no memory; later calls take theirs from `alloc`.
+    pub(crate) fn new(alloc: Global) -> Text<T>
+        ensures { result ≡ [] }
     {
-        let boxed = Box::new(alloc, items)?;
-        Ok(Held::Many(boxed))
+        Text {
+            held: Held::Many(Vec::new(alloc)),
+        }
     }
 
-    /// The elements of a list, which move in; a single one is copied, takes no memory, and its list goes. `AllocError` where memory was refused; the list
-    /// is then gone.
-    pub fn from_vec(alloc: Global, items: Vec<T>) -> Result<Text<T>, AllocError>
-        ensures items { IfOk result (λ text. text.items ≡ items.items) }
-        ensures one { length items.items ≡ 1 → IsOk result }
+    /// The elements of a list, which move in.
+    pub(crate) fn from_vec(list: Vec<T>) -> Text<T>
+        ensures { result ≡ list.items }
     {
-        if items.len() == 1 {
-            return Ok(Text {
-                held: Held::One(items[0]),
-            });
+        Text {
+            held: Held::Many(list),
         }
-        let held = Text::many(alloc, items)?;
-        Ok(Text { held })
     }
 
-    /// A copy of the elements, with memory from `alloc` unless there is one alone. `AllocError` where that was refused.
-    pub fn from_slice(alloc: Global, items: &[T]) -> Result<Text<T>, AllocError>
-        ensures items { IfOk result (λ text. text.items ≡ items.now) }
-        ensures one { length items.now ≡ 1 → IsOk result }
+    /// A copy of elements. `AllocError` where memory was refused.
+    pub(crate) fn from_slice(alloc: Global, elements: &[T]) -> Result<Text<T>, AllocError>
+        ensures { IfOk result (λ text. text ≡ elements.now) }
     {
-        if items.len() == 1 {
-            return Ok(Text {
-                held: Held::One(items[0]),
-            });
-        }
-        let held = Text::many(alloc, Vec::from_slice(alloc, items)?)?;
+        let held = match elements {
+            [one] => Held::One(*one),
+            _ => Held::Many(Vec::from_slice(alloc, elements)?),
+        };
         Ok(Text { held })
     }
 
     /// The elements, in order.
-    pub fn as_slice(&self) -> &[T]
-        ensures value { result.now ≡ self.now.items }
+    pub(crate) fn as_slice(&self) -> &[T]
+        ensures { result.now ≡ self.now }
     {
         match &self.held {
             Held::One(one) => slice::from_ref(one),
@@ -90,23 +77,42 @@ impl<T: Element> Text<T> {
         }
     }
 
-    /// Adds a copy of more elements at the end, with memory from `alloc` where there was one element. `AllocError` where a growth was refused; the
-    /// text is then as it was.
-    pub(crate) fn extend_from_slice(&mut self, alloc: Global, more: &[T]) -> Result<(), AllocError>
-        ensures items { OnOk result (self.new.items ≡ self.old.items ++ more.now) }
-        ensures err { OnErr result (self.new.items ≡ self.old.items) }
+    /// A copy of more elements at the end. `AllocError` where a growth was refused: the text is as it was then.
+    pub(crate) fn extend(&mut self, alloc: Global, more: &[T]) -> Result<(), AllocError>
+        ensures ok { OnOk result (self.new ≡ self.old ++ more.now) }
+        ensures err { OnErr result (self.new ≡ self.old) }
     {
         match &mut self.held {
             Held::One(one) => {
                 let first = *one;
-                let mut many = Vec::new(alloc);
-                many.reserve(more.len().saturating_add(1))?;
+                let mut many = Vec::with_capacity(alloc, more.len().saturating_add(1))?;
                 many.push(first)?;
                 many.extend_from_slice(more)?;
-                self.held = Text::many(alloc, many)?;
+                self.held = Held::Many(many);
             }
-            Held::Many(many) => many.extend_from_slice(more)?,
+            Held::Many(many) => {
+                if many.len() == 0 && more.len() == 1 {
+                    self.held = Held::One(more[0]);
+                } else {
+                    many.extend_from_slice(more)?;
+                }
+            }
         }
         Ok(())
+    }
+
+    /// The first `count` elements stay.
+    pub(crate) fn truncate(&mut self, alloc: Global, count: usize)
+        requires { count ≤ length self.old }
+        ensures { self.new ≡ take count self.old }
+    {
+        match &mut self.held {
+            Held::One(_) => {
+                if count == 0 {
+                    self.held = Held::Many(Vec::new(alloc));
+                }
+            }
+            Held::Many(many) => many.truncate(count),
+        }
     }
 }

@@ -9,7 +9,7 @@ ghost use Rattle.ot_typing.specs.Typing.{action_view, edit_of};
 ghost use Rattle.ot_typing.specs.declared.typing.Typing.{Typing};
 ghost use Rattle.ot_threads.specs.Follows.{actions_of};
 ghost use Rattle.ot_threads.specs.Stepping.{counted, AreComplete, IsEdit, IsNext};
-ghost use Rattle.ot_text.specs.declared.TheConstants.{LIMIT};
+ghost use Rattle.ot_operation.specs.declared.TheConstants.{LIMIT};
 
 use ot_isa::Instr;
 use ot_machine::{Machine, Refusal};

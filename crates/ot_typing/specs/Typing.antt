@@ -1,7 +1,7 @@
 -- What a user types, and the edit that it is.
 use Rattle.std.specs.Prelude.{ℕ, ◌-◌, List, length, map, min, sum_by, Vec, vec_items}
 use Rattle.std.specs.declared.alloc.Global.{Global}
-use Rattle.ot_text.specs.Operation.{Operation, empty, with_retain, with_insert, with_delete}
+use Rattle.ot_operation.specs.Operation.{Operation, empty, with_retain, with_insert, with_delete}
 use Rattle.ot_typing.specs.declared.typing.Typing.{Typing}
 
 -- an action: a place, how many elements are deleted from there on, and what is inserted

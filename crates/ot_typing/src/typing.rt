@@ -1,9 +1,9 @@
 //! Actions.
 
 ghost use Rattle.std.specs.Prelude.{◌≡◌, ◌≤◌, IfOk, IsErrOf};
-ghost use Rattle.ot_text.specs.Operation.{IsTooLong};
+ghost use Rattle.ot_operation.specs.Operation.{IsTooLong};
 ghost use Rattle.ot_typing.specs.Typing.{action_view, edit_of};
-ghost use Rattle.ot_text.specs.declared.TheConstants.{LIMIT};
+ghost use Rattle.ot_operation.specs.declared.TheConstants.{LIMIT};
 
 use ot_text::{OpRefusal, TextOp};
 use std::alloc::{AllocError, Global};
@@ -30,7 +30,7 @@ impl Typing {
     {
         let place = (self.at as usize).min(length);
         let gone = (self.delete as usize).min(length - place);
-        let mut op = TextOp::with_capacity(alloc, 4)?;
+        let mut op = TextOp::new(alloc);
         op.retain(place)?;
         op.insert(self.insert.as_slice())?;
         op.delete(gone)?;

@@ -9,7 +9,7 @@ ghost use Rattle.ot_values.specs.Values.{Continues};
 
 use crate::bytes::ascii_text;
 use ot_isa::Tagged;
-use ot_text::{Doc, Pieces};
+use ot_text::{Doc, Element, Pieces};
 use serde_json::Value;
 use std::alloc::{AllocError, Global};
 
@@ -131,7 +131,10 @@ fn push_text<T: Letter>(text: &mut String, letters: &[T]) -> Result<(), AllocErr
 }
 
 // Adds all letters that are left, as they are.
-fn push_texts<T: Letter>(text: &mut String, pieces: Pieces<'_, T>) -> Result<(), AllocError>
+fn push_texts<T: Letter + Element>(
+    text: &mut String,
+    pieces: Pieces<'_, T>,
+) -> Result<(), AllocError>
     ensures { OnOk result (string_bytes text.new ≡ string_bytes text.old ++ encode_utf8_all (map T.code pieces.entry)) }
 {
     let mut ahead = pieces;
@@ -160,7 +163,10 @@ fn push_piece<T: Letter>(text: &mut String, letters: &[T]) -> Result<bool, Alloc
 }
 
 // Adds all letters that are left, up to the first piece of which JSON does not write all as they are.
-fn push_pieces<T: Letter>(text: &mut String, pieces: Pieces<'_, T>) -> Result<bool, AllocError>
+fn push_pieces<T: Letter + Element>(
+    text: &mut String,
+    pieces: Pieces<'_, T>,
+) -> Result<bool, AllocError>
     ensures pushed { IfOk result (λ plain. plain ≡ true → string_bytes text.new ≡ string_bytes text.old ++ escape (encode_utf8_all (map T.code pieces.entry))) }
     ensures not { IfOk result (λ plain. plain ≡ false → Continues (string_bytes text.old) (string_bytes text.new)) }
 {

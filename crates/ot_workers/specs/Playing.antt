@@ -3,7 +3,7 @@ use Rattle.std.specs.Prelude.{◌≡◌, ℕ, ◌<◌, ◌⊎◌, Bool, true, fa
 use Rattle.std.specs.Option.{option_map}
 use Rattle.ot_isa.specs.declared.instruction.Instr.{Instr}
 use Rattle.ot_isa.specs.declared.instruction.Instr.TheVariants.{Edit, Deliver, Acknowledge, Read}
-use Rattle.ot_text.specs.Operation.{IsTooLong}
+use Rattle.ot_operation.specs.Operation.{IsTooLong}
 use Rattle.ot_model.specs.declared.shown.Refusal.TheVariants as table
 use Rattle.ot_model.specs.Table.{Head, Ack, Op}
 use Rattle.ot_model.specs.Part.{Part, Leads, PartRefused, part_row, run_part}

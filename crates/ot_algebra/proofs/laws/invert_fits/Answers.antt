@@ -1,4 +1,4 @@
-use Rattle.ot_algebra.proofs.LengthLaws.{invert_fits}
+use Rattle.ot_operation.proofs.LengthLaws.{invert_fits}
 use Rattle.ot_algebra.proofs.laws.invert_fits.Goals as goal
 
 pub returns : goal.returns

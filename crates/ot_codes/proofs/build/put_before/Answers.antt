@@ -1,5 +1,4 @@
 use Rattle.std.proofs.Common.{◌≡◌, ◌++◌, ◌∷◌, ◌-◌, [], List, length, set, ap, ◌∙◌, arith}
-use Rattle.ot_list.specs.Leaves.{concatenated}
 use Rattle.ot_codes.specs.declared.code.Code.{Code}
 use Rattle.ot_codes.specs.declared.code.Code.TheVariants.{Delete}
 use Rattle.ot_codes.specs.Codes.{length_of, total_of}
@@ -15,10 +14,10 @@ new-requires c =
 pub returns-clause-ok : goal.returns-clause-ok
 returns-clause-ok c =
     let e = c.requires.at_delete in
-    let cs = concatenated c.args.codes.now in
-    let pushed : concatenated c.push.new.self ≡ cs ++ Delete e.1 ∷ [] =
-    c.in_ok-push.ensures.ok ∙ ap (λ (x : Code). concatenated c.args.codes.now ++ x ∷ []) (c.new.ensures ∙ e.3) in
-    put_before cs e.0 e.1 c.args.count e.2 c.requires.filled c.requires.normal (concatenated c.set_last_but_one.new.self)
+    let cs = c.args.codes.now in
+    let pushed : c.push.new.self ≡ cs ++ Delete e.1 ∷ [] =
+    c.in_ok-push.ensures.ok ∙ ap (λ (x : Code). c.args.codes.now ++ x ∷ []) (c.new.ensures ∙ e.3) in
+    put_before cs e.0 e.1 c.args.count e.2 c.requires.filled c.requires.normal c.set_last_but_one.new.self
     (c.set_last_but_one.ensures ∙ ap (λ (xs : List Code). set xs (length xs - 2) c.new-2.result) pushed
     ∙ ap (λ (x : Code). set (cs ++ Delete e.1 ∷ []) (length (cs ++ Delete e.1 ∷ []) - 2) x) c.new-2.ensures)
     (c.requires.may e.0 e.1 e.2)

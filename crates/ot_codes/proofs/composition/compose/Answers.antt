@@ -1,5 +1,5 @@
 use Rattle.std.proofs.Common.{◌≡◌, ◌<◌, [], length, ◌∙◌, refl, sym, ap, arith}
-use Rattle.ot_text.specs.Operation.{Operation, empty}
+use Rattle.ot_operation.specs.Operation.{Operation, empty}
 use Rattle.ot_codes.specs.Codes.{spelled, others_of}
 use Rattle.ot_codes.proofs.Read.{has_first, total-without}
 use Rattle.ot_codes.proofs.Composing.{state_moved, composing_start, composing_small, composing_delete, composing_insert}

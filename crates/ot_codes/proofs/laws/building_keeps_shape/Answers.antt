@@ -1,5 +1,5 @@
 use Rattle.std.proofs.Common.{◌++◌, ap, ◌∙◌, refl, map, append-nil}
-use Rattle.ot_text.specs.Operation.{New, news, olds}
+use Rattle.ot_operation.specs.Operation.{New, news, olds}
 use Rattle.ot_codes.specs.Shape.{blank}
 use Rattle.ot_codes.proofs.Mapped.{retain-mapped, insert-mapped}
 use Rattle.ot_codes.proofs.Filled.{news_append, news_olds, news_texts}

@@ -1,6 +1,6 @@
 use Rattle.std.proofs.Common.{length, ap, ◌∙◌, refl}
 use Rattle.std.proofs.lemmas.List.{length-map}
-use Rattle.ot_text.specs.Operation.{news}
+use Rattle.ot_operation.specs.Operation.{news}
 use Rattle.ot_codes.specs.Shape.{blank, mapped_item}
 use Rattle.ot_codes.proofs.Mapped.{news-mapped, rises-mapped, rises-mapped_back}
 use Rattle.ot_codes.proofs.laws.shape_keeps_lengths.Goals as goal

@@ -1,7 +1,7 @@
 use Rattle.std.proofs.Common.{◌≡◌, drop, option_map}
 use Rattle.json.specs.Value.{items_view}
 use Rattle.serde_json.specs.Read.{of_items}
-use Rattle.ot_text.specs.Operation.{empty}
+use Rattle.ot_operation.specs.Operation.{empty}
 use Rattle.ot_json.specs.Reading.{built}
 use Rattle.ot_json.proofs.plain.build_plain.Given as goal
 

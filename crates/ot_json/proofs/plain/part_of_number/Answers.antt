@@ -5,7 +5,7 @@ use Rattle.std.specs.Prelude.{unsigned_abs}
 use Rattle.fast_float.specs.Text.{scan}
 use Rattle.serde_json.specs.Data.{unsigned, negative}
 use Rattle.serde_json.specs.Read.{number_from, number_of}
-use Rattle.ot_text.specs.Run.{Keep, Skip}
+use Rattle.ot_operation.specs.Run.{Keep, Skip}
 use Rattle.ot_json.specs.Reading.{run_of_number}
 use Rattle.ot_json.proofs.plain.part_of_number.Goals as goal
 

@@ -1,6 +1,6 @@
 use Rattle.std.proofs.Common.{◌≡◌, ◌∙◌, refl}
-use Rattle.ot_text.specs.Operation.{IsOperation}
-use Rattle.ot_algebra.specs.Merge.{first_after}
+use Rattle.ot_operation.specs.Operation.{IsOperation}
+use Rattle.ot_operation.specs.Merge.{first_after}
 use Rattle.ot_server.proofs.Carried.{carried_next}
 use Rattle.ot_server.proofs.later.transform_after.Goals as goal
 

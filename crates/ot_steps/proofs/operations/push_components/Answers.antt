@@ -1,20 +1,19 @@
-use Rattle.std.proofs.Common.{arith, string_bytes}
+use Rattle.std.proofs.Common.{◌≡◌, ◌++◌, sym, subst, string_bytes}
 use Rattle.std.specs.Char.{encode_utf8}
-use Rattle.ot_steps.proofs.Arrays.{filled_at, one_more, opened}
+use Rattle.ot_text.specs.Components.{run_of}
+use Rattle.ot_steps.specs.Lettered.{array_text}
+use Rattle.ot_steps.proofs.Texts.{on_ok}
+use Rattle.ot_steps.proofs.Arrays.{first_and_others}
 use Rattle.ot_steps.proofs.operations.push_components.Goals as goal
 
-pub loop-component-init : goal.loop-component-init
+pub returns : goal.returns
 unfolding encode_utf8
-loop-component-init g c = opened g.T.Letter.code c.args.components.now (string_bytes c.args.text.now) (string_bytes c.push.new.self) c.in_ok-push.ensures.bytes
-
-pub push_component-requires : goal.push_component-requires
-push_component-requires g c = filled_at c.args.components.now 0 c.index-components-0.result c.requires (omega (arith, c.if-components-ge-MANY.true)) c.index-components-0.is
-
-pub push_component-requires-in-loop-component : goal.push_component-requires-in-loop-component
-push_component-requires-in-loop-component g c = filled_at c.args.components.now c.loop-component.component-index c.component-item.result c.requires c.loop-component-test.true c.component-item.is
-
-pub loop-component-preserved : goal.loop-component-preserved
-loop-component-preserved g c =
-    one_more g.T.Letter.code c.args.components.now c.loop-component.later c.loop-component.component-index c.component-item.result
-    (string_bytes c.args.text.now) (string_bytes c.loop-component.text) (string_bytes c.push_comma.new.text) (string_bytes c.push_component-in-loop-component.new.text)
-    c.loop-component-test.true c.component-item.is c.in_ok-push_comma.ensures c.in_ok-push_component-2.ensures c.loop-component.invariant
+returns g c =
+    let code = g.T.Letter.code in
+    let old = string_bytes c.args.text.now in
+    on_ok c.push_later.result
+    (λ others.
+    subst (λ rs. string_bytes c.push_later.new.text ≡ old ++ array_text code rs) (sym c.in-Some.ensures.steps)
+    (first_and_others code (run_of c.in-Some.first) c.next.new.self old (string_bytes c.push.new.self) (string_bytes c.push_component.new.text) (string_bytes c.push_later.new.text)
+    c.in_ok-push.ensures.bytes c.in_ok-push_component.ensures others))
+    c.push_later.ensures

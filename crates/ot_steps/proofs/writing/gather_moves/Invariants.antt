@@ -1,9 +1,5 @@
-use Rattle.ot_steps.specs.Kept.{AreKept}
 use Rattle.ot_steps.proofs.Progress.{IsAt}
 use Rattle.ot_steps.proofs.writing.gather_moves.Given as goal
 
 abbrev pub invariant-loop-place : goal.invariant-loop-place
-invariant-loop-place g l = record {
-  at : IsAt l.documents l.schedule l.place l.machine (g.W.Write.contents l.fn.output) (g.W.Write.contents l.output) l.fn.held.items l.held.items;
-  kept : AreKept l.kept.items l.machine.clients;
-}
+invariant-loop-place g l = IsAt l.documents l.schedule l.place l.machine (g.W.Write.contents l.fn.output) (g.W.Write.contents l.output) l.fn.held.items l.held.items

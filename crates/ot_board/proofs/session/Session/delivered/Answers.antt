@@ -1,6 +1,6 @@
 use Rattle.std.proofs.Common.{◌<◌, ap, sym, ◌∙◌, subst}
 use Rattle.ot_isa.specs.declared.elements.Tagged.{Tagged}
-use Rattle.ot_text.specs.Operation.{Operation}
+use Rattle.ot_operation.specs.Operation.{Operation}
 use Rattle.ot_model.specs.Laws.{MayDeliver}
 use Rattle.ot_model.specs.Table.{Phase, carried}
 use Rattle.ot_model.specs.Session.{Session, IsAllowed}

@@ -1,6 +1,6 @@
 use Rattle.std.proofs.Common.{ap, ◌∙◌, subst}
 use Rattle.ot_isa.specs.declared.elements.Tagged.{Tagged}
-use Rattle.ot_text.specs.Operation.{Operation}
+use Rattle.ot_operation.specs.Operation.{Operation}
 use Rattle.ot_model.specs.Session.{Session, IsAllowed}
 use Rattle.ot_board.proofs.Moves.{next_follows}
 use Rattle.ot_board.proofs.session.Session.edited.Goals as goal

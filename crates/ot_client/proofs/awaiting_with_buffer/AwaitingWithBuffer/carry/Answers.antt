@@ -1,6 +1,6 @@
 use Rattle.std.proofs.Common.{◌≡◌, ◌∙◌, sym}
-use Rattle.ot_algebra.specs.Merge.{second_after}
-use Rattle.ot_algebra.proofs.LengthLaws.{second_after-base, room_after}
+use Rattle.ot_operation.specs.Merge.{second_after}
+use Rattle.ot_operation.proofs.LengthLaws.{second_after-base, room_after}
 use Rattle.ot_client.proofs.awaiting_with_buffer.AwaitingWithBuffer.carry.Goals as goal
 
 pub transform_second-requires-2-clause-same_base : goal.transform_second-requires-2-clause-same_base

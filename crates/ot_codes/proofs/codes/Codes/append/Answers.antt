@@ -1,7 +1,7 @@
 use Rattle.std.proofs.Common.{◌≡◌, ◌+◌, ℕ, suc, take, ap, subst, sym, ◌∙◌, arith}
-use Rattle.ot_text.specs.Operation.{Operation, IsTooLong}
-use Rattle.ot_text.specs.Rewriting.{with_runs}
-use Rattle.ot_algebra.specs.Cursor.{appended}
+use Rattle.ot_operation.specs.Operation.{Operation, IsTooLong}
+use Rattle.ot_operation.specs.Steps.{with_runs}
+use Rattle.ot_operation.specs.Steps.{appended}
 use Rattle.ot_codes.specs.Codes.{run_of, runs_of}
 use Rattle.ot_codes.proofs.Appending.{appended_whole, appended_rest, normal_rest, short_next, with_next}
 use Rattle.ot_codes.proofs.codes.Codes.append.Goals as goal

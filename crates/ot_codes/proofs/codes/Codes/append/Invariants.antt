@@ -1,5 +1,5 @@
 use Rattle.std.proofs.Common.{◌≡◌, take}
-use Rattle.ot_text.specs.Rewriting.{with_runs}
+use Rattle.ot_operation.specs.Steps.{with_runs}
 use Rattle.ot_codes.specs.Codes.{runs_of}
 use Rattle.ot_codes.proofs.codes.Codes.append.Given as goal
 

@@ -1,7 +1,6 @@
 use Rattle.std.proofs.Common.{drop, refl, ap, sym, subst, ◌∙◌, arith}
-use Rattle.ot_text.specs.Operation.{IsTooLong}
-use Rattle.ot_text.specs.Rewriting.{with_runs}
-use Rattle.ot_list.specs.Leaves.{concatenated}
+use Rattle.ot_operation.specs.Operation.{IsTooLong}
+use Rattle.ot_operation.specs.Steps.{with_runs}
 use Rattle.ot_codes.specs.declared.code.Code.{Code}
 use Rattle.ot_codes.specs.declared.leaf.Leaf.{Leaf}
 use Rattle.ot_codes.specs.Codes.{added, runs_of, spelled, MayEndWith}
@@ -28,16 +27,16 @@ plus-self-inside-requires-clause-inserted c =
 
 pub invariant_of-self-2 : goal.invariant_of-self-2
 invariant_of-self-2 c =
-    let old = concatenated c.self.inside.list in
+    let old = c.self.inside.list in
     let first = c.index-codes-0.result in
-    sound_extended old (concatenated c.extend.new.self) c.args.codes.now c.self.inside.sum c.plus-self-inside.result first (drop 1 c.args.codes.now) c.self.invariant
+    sound_extended old c.extend.new.self c.args.codes.now c.self.inside.sum c.plus-self-inside.result first (drop 1 c.args.codes.now) c.self.invariant
     c.in_ok-extend.ensures.ok (first_part c.args.codes.now first c.requires.some c.index-codes-0.is)
-    (subst (λ (x : Code). MayEndWith (concatenated c.self.inside.list) x) c.code.ensures.is (c.if-not-may_end_with.ensures refl)) c.requires.normal
+    (subst (λ (x : Code). MayEndWith c.self.inside.list x) c.code.ensures.is (c.if-not-may_end_with.ensures refl)) c.requires.normal
     (subst (λ op. IsTooLong (with_runs op (runs_of c.args.codes.now)) → ⊥) (sym c.self.view_is) c.requires.short)
     (c.plus-self-inside.ensures ∙ ap (λ (l : Leaf). added c.self.inside.sum l.sum) c.sum.ensures)
 
 pub returns-clause-yes : goal.returns-clause-yes
 returns-clause-yes c =
     λ yes.
-    ap spelled c.in_ok-extend.ensures.ok ∙ spelled-append (concatenated c.self.inside.list) c.args.codes.now
+    ap spelled c.in_ok-extend.ensures.ok ∙ spelled-append c.self.inside.list c.args.codes.now
     ∙ ap (λ op. with_runs op (runs_of c.args.codes.now)) c.self.view_is

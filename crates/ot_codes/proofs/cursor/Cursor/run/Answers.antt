@@ -1,5 +1,5 @@
-use Rattle.std.proofs.Common.{◌≡◌, Option, drop, subst, arith}
-use Rattle.ot_list.specs.Leaves.{concatenated}
+use Rattle.std.proofs.Common.{◌≡◌, Option, subst, arith}
+use Rattle.ot_codes.specs.Leaf.{leaves_left}
 use Rattle.ot_codes.specs.declared.code.Sum.{Sum}
 use Rattle.ot_codes.specs.Codes.{codes_left, sum_of}
 use Rattle.ot_codes.specs.Runs.{IsSumOf}
@@ -10,13 +10,13 @@ pub of-requires : goal.of-requires
 of-requires c =
     let is : c.in-Some-leaf.sum ≡ sum_of (codes_left c.self.inside.head c.self.inside.rest.now) =
     subst (λ (leaf : Option Sum). IsSumOf leaf c.self.inside.head c.self.inside.rest.now) c.in-Some-leaf.is c.self.invariant.0 in
-    sum_small c.args.self.now c.self.inside.head c.self.inside.rest.now (concatenated (drop c.self.inside.next c.self.inside.list.now)) c.in-Some.first c.self.view_is c.self.invariant.2 c.in-Some.is c.in-Some-leaf.sum is
+    sum_small c.args.self.now c.self.inside.head c.self.inside.rest.now (leaves_left c.self.inside.list c.self.inside.next) c.in-Some.first c.self.view_is c.self.invariant.2 c.in-Some.is c.in-Some-leaf.sum is
 
-pub at-requires : goal.at-requires
-at-requires c = leaves_small c.args.self.now c.self.inside.head c.self.inside.rest.now (concatenated (drop c.self.inside.next c.self.inside.list.now)) c.in-Some.first c.self.view_is c.self.invariant.2 c.in-Some.is
+pub next_leaf-requires : goal.next_leaf-requires
+next_leaf-requires c = leaves_small c.args.self.now c.self.inside.head c.self.inside.rest.now (leaves_left c.self.inside.list c.self.inside.next) c.in-Some.first c.self.view_is c.self.invariant.2 c.in-Some.is
 
 pub returns-then-of-limit : goal.returns-then-of-limit
 returns-then-of-limit c =
     let is : c.in-Some-leaf.sum ≡ sum_of (codes_left c.self.inside.head c.self.inside.rest.now) =
     subst (λ (leaf : Option Sum). IsSumOf leaf c.self.inside.head c.self.inside.rest.now) c.in-Some-leaf.is c.self.invariant.0 in
-    whole_leaf c.args.self.now c.self.inside.head c.self.inside.rest.now (concatenated (drop c.self.inside.next c.self.inside.list.now)) c.in-Some.first c.self.view_is c.self.invariant.2 c.in-Some.is c.args.limit c.args.by c.in-Some-leaf.sum c.at.result is (omega (arith, c.of.ensures, c.if-of-limit.true)) c.at.ensures c.self.invariant.1
+    whole_leaf c.args.self.now c.self.inside.head c.self.inside.rest.now (leaves_left c.self.inside.list c.self.inside.next) c.in-Some.first c.self.view_is c.self.invariant.2 c.in-Some.is c.args.limit c.args.by c.in-Some-leaf.sum c.next_leaf.result is (omega (arith, c.of.ensures, c.if-of-limit.true)) c.next_leaf.ensures c.self.invariant.1

@@ -1,7 +1,7 @@
 use Rattle.std.proofs.Common.{◌≡◌, ◌+◌, ap, ◌∙◌, Option}
 use Rattle.std.specs.Option.{option_copied, option_map}
 use Rattle.ot_isa.specs.declared.elements.Tagged.{Tagged}
-use Rattle.ot_text.specs.Operation.{Operation}
+use Rattle.ot_operation.specs.Operation.{Operation}
 use Rattle.ot_steps.specs.Lines.{plain_operation}
 use Rattle.ot_steps.proofs.Progress.{leads_within}
 use Rattle.ot_conform.specs.Due.{step_due}

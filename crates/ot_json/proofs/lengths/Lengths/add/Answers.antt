@@ -1,7 +1,7 @@
 use Rattle.std.proofs.Common.{rules, ap, sym, ◌≡◌, length, arith}
 use Rattle.std.specs.Str.{chars}
 use Rattle.std.proofs.lemmas.Str.{chars_from_encodes}
-use Rattle.ot_text.specs.Run.{Keep, Add}
+use Rattle.ot_operation.specs.Run.{Keep, Add}
 use Rattle.ot_json.proofs.Added.{refused, allowed, has_lengths}
 use Rattle.ot_json.proofs.lengths.Lengths.add.Goals as goal
 

@@ -4,7 +4,7 @@ use Rattle.ot_isa.specs.declared.instruction.Instr.TheVariants.{Deliver}
 use Rattle.ot_machine.specs.Seats.{client_of}
 use Rattle.ot_machine.proofs.RowLaws.{seat_at, of_value, wanting}
 use Rattle.ot_machine.proofs.Delivering.{receiver_queue, receiver_may, receiver_empty, receiver_done, receiver_performs, receiver_wrong}
-use Rattle.ot_machine.proofs.Keeping.{kept_client}
+use Rattle.ot_machine.proofs.Keeping.{client_record}
 use Rattle.ot_machine.proofs.Sharing.{common_is}
 use Rattle.ot_machine.proofs.machine.Machine.deliver_with.Goals as goal
 
@@ -47,18 +47,18 @@ pub invariant_of-self-2 : goal.invariant_of-self-2
 invariant_of-self-2 g c =
     (receiver_done c.self.inside.server c.self.inside.seats.items c.self.inside.steps c.args.client c.index_mut-seat.result.now c.deliver.new.seat c.in-Some.entry.now
     (record { kept = c.self.invariant; at = seat_at c.self.inside.seats.items c.args.client c.len.result c.index_mut-seat.result.now (search rules) (search rules) c.index_mut-seat.ensures.value; below = search rules; on = c.if-is_none.ensures })
-    (sym c.in-Some.ensures) (search rules) (c.in_ok-before.ensures.ok ∙ ap (delivered (client_of c.index_mut-seat.result.now)) c.operation.ensures) c.in_ok-before.ensures.down).kept
+    (sym c.in-Some.ensures) (search (rules, c.maker.ensures, c.if-maker-client.false)) (c.in_ok-before.ensures.ok ∙ ap (delivered (client_of c.index_mut-seat.result.now)) c.operation.ensures) c.in_ok-before.ensures.down).kept
 
 pub returns-clause-done : goal.returns-clause-done
 returns-clause-done g c =
     of_value _ _ (Deliver c.args.client) _ c.self.view_is
     (receiver_done c.self.inside.server c.self.inside.seats.items c.self.inside.steps c.args.client c.index_mut-seat.result.now c.deliver.new.seat c.in-Some.entry.now
     (record { kept = c.self.invariant; at = seat_at c.self.inside.seats.items c.args.client c.len.result c.index_mut-seat.result.now (search rules) (search rules) c.index_mut-seat.ensures.value; below = search rules; on = c.if-is_none.ensures })
-    (sym c.in-Some.ensures) (search rules) (c.in_ok-before.ensures.ok ∙ ap (delivered (client_of c.index_mut-seat.result.now)) c.operation.ensures) c.in_ok-before.ensures.down).row
+    (sym c.in-Some.ensures) (search (rules, c.maker.ensures, c.if-maker-client.false)) (c.in_ok-before.ensures.ok ∙ ap (delivered (client_of c.index_mut-seat.result.now)) c.operation.ensures) c.in_ok-before.ensures.down).row
 
 pub returns-clause-kept : goal.returns-clause-kept
 returns-clause-kept g c = λ yes.
-    rw c.of_client.ensures
-    (kept_client c.self.inside.server c.self.inside.seats.items c.self.inside.steps c.args.client c.index_mut-seat.result.now c.deliver.new.seat c.in_ok-before.before c.args.self.now c.self.invariant
+    rw (c.of_client.ensures yes)
+    (client_record c.self.inside.server c.self.inside.seats.items c.self.inside.steps c.args.client c.index_mut-seat.result.now c.deliver.new.seat c.in_ok-before.before c.args.self.now c.self.invariant
     (seat_at c.self.inside.seats.items c.args.client c.len.result c.index_mut-seat.result.now (search rules) (search rules) c.index_mut-seat.ensures.value)
     c.self.view_is (c.in_ok-before.ensures.kept yes))

@@ -5,7 +5,7 @@ use Rattle.ot_model.specs.Operation.{inserted}
 use Rattle.ot_isa.specs.declared.instruction.Instr.TheVariants.{Edit}
 use Rattle.ot_machine.specs.Seats.{client_of}
 use Rattle.ot_machine.specs.Answers.{IsPerformed}
-use Rattle.ot_machine.proofs.Keeping.{kept_client}
+use Rattle.ot_machine.proofs.Keeping.{client_record}
 use Rattle.ot_machine.proofs.machine.Machine.edit.Goals as goal
 
 pub edit-requires-clause-follows : goal.edit-requires-clause-follows
@@ -49,7 +49,7 @@ returns-clause-done g c =
 
 pub returns-clause-kept : goal.returns-clause-kept
 returns-clause-kept g c = λ yes.
-    rw c.of_client.ensures
-    (kept_client c.self.inside.server c.self.inside.seats.items c.self.inside.steps c.args.client c.index_mut-seat.result.now c.edit.new.seat c.in_ok-before.before c.args.self.now c.self.invariant
+    rw (c.of_client.ensures yes)
+    (client_record c.self.inside.server c.self.inside.seats.items c.self.inside.steps c.args.client c.index_mut-seat.result.now c.edit.new.seat c.in_ok-before.before c.args.self.now c.self.invariant
     (seat_at c.self.inside.seats.items c.args.client c.len.result c.index_mut-seat.result.now (search rules) (search rules) c.index_mut-seat.ensures.value)
     c.self.view_is (c.in_ok-before.ensures.kept yes))

@@ -1,5 +1,5 @@
 use Rattle.std.proofs.Common.{◌≡◌, rules, ◌∙◌, refl}
-use Rattle.ot_machine.proofs.Reverting.{client_fits, client_seat, client_undone, client_waited, seats_same}
+use Rattle.ot_machine.proofs.Reverting.{client_fits, client_seat, client_undone, client_state, seats_same}
 use Rattle.ot_machine.proofs.Taking.{kept_same, state_same}
 use Rattle.ot_machine.proofs.machine.Machine.undo_client.Goals as goal
 
@@ -9,9 +9,9 @@ revert-requires-clause-list c =
     (client_seat c.self.inside.server c.self.inside.seats.items c.self.inside.steps c.args.client c.index_mut-seat.result.now c.args.before c.requires.0 c.args.self.now c.self.view_is c.requires.1 c.index_mut-seat.ensures.value)
     c.self.view_is c.requires.1
 
-pub revert-requires-clause-phase : goal.revert-requires-clause-phase
-revert-requires-clause-phase c =
-    client_waited c.self.inside.server c.self.inside.seats.items c.self.inside.steps c.args.client c.index_mut-seat.result.now c.args.before c.requires.0 c.args.self.now
+pub revert-requires-clause-state : goal.revert-requires-clause-state
+revert-requires-clause-state c =
+    client_state c.self.inside.server c.self.inside.seats.items c.self.inside.steps c.args.client c.index_mut-seat.result.now c.args.before c.requires.0 c.args.self.now
     (client_seat c.self.inside.server c.self.inside.seats.items c.self.inside.steps c.args.client c.index_mut-seat.result.now c.args.before c.requires.0 c.args.self.now c.self.view_is c.requires.1 c.index_mut-seat.ensures.value)
     c.self.view_is c.requires.1
 

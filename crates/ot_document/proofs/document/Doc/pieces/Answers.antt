@@ -1,4 +1,0 @@
-use Rattle.ot_document.proofs.document.Doc.pieces.Goals as goal
-
-pub invariant_of-result : goal.invariant_of-result
-invariant_of-result g c = rw c.leaves.ensures c.leaf_count.ensures.leaves

@@ -1,4 +1,0 @@
-pub mod Change
-pub mod Places
-pub mod Steps
-pub mod Writing

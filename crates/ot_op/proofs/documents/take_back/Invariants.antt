@@ -1,5 +1,0 @@
-use Rattle.ot_op.proofs.Inverse.{TakesBack}
-use Rattle.ot_op.proofs.documents.take_back.Given as goal
-
-abbrev pub invariant-loop-component : goal.invariant-loop-component
-invariant-loop-component g l = TakesBack l.initial.component-iterator l.component-iterator l.document l.at l.inverse
