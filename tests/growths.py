@@ -4,7 +4,7 @@
     python3 tests/growths.py [NAME ..]
 
 The programs are the texts in `growths/`: `board` over a board (`lend`, `settle`, `audit`), `calls` over the machine, the debugger, the formats and the judge, `documents`
-over documents, `run` over `ot_machine::run`. Each is compiled once, with a check at each access, by `rt try` in a copy of the repository. `rt try` makes one numbered growth fail, the same in each run; a program first makes as many
+over documents, `run` over `ot_machine::run`. Each is compiled with a check at each access, by `rt try` in a copy of the repository. `rt try` makes one numbered growth fail, the same in each run; a program first makes as many
 growths as its input says, so that each of its own meets that number in one of the runs.
 
 A call that answers out of memory has to leave what it was lent as it was, and to succeed when it is made once more: then one line says so, and the other lines are those that
@@ -13,6 +13,8 @@ give no run, and each later one a run that stops before an instruction, the late
 growths were refused at each call; the status is 1 where something else was seen, or where a call never met a refused growth.
 """
 import collections
+import concurrent.futures
+import os
 import pathlib
 import re
 import shutil
@@ -33,12 +35,14 @@ PROGRAMS = {
     "calls": (
         "ot_text ot_isa ot_json ot_asm ot_image ot_machine ot_debug ot_judge ot_check ot_report anyhow",
         ["read_op", "assemble", "load", "step", "command", "read_trace", "trace_of", "judge"],
-        2000,
+        1000,
         re.compile(r"(\w+): all is as it was"),
     ),
-    "documents": ("ot_text anyhow", ["change", "share"], 200, re.compile(r"(\w+): all is as it was")),
-    "run": ("ot_isa ot_asm ot_machine anyhow", [], 300, None),
+    "documents": ("ot_text anyhow", ["change", "share"], 100, re.compile(r"(\w+): all is as it was")),
+    "run": ("ot_isa ot_asm ot_machine anyhow", [], 100, None),
 }
+# The runs of a program are shared among so many processes, each of which compiles it.
+SHARES = 4
 # What `run` prints with all memory, and where a run stops.
 WHOLE_RUN = ["opening: made", "run: whole"]
 STOPPED = re.compile(r"run: stopped at (\d+)")
@@ -49,17 +53,21 @@ def said(room, name):
     uses, _, fails, _ = PROGRAMS[name]
     crate = f"{name}_growths"
     shutil.copytree(TOP / "crates", room / "crates", ignore=shutil.ignore_patterns("out", "proofs", "must-fail"))
-    source, cases = room / "crates" / crate / "src", room / "cases"
+    source = room / "crates" / crate / "src"
     source.mkdir(parents=True)
-    cases.mkdir()
     shutil.copy(TESTS / f"growths/{name}.rt.txt", source / "main.rt")
     shutil.copy(TOP / "HANDLES", room)
     (room / "crates.txt").write_text((TOP / "crates.txt").read_text(encoding="utf-8") + f"{crate}: {uses}\n", encoding="utf-8")
     subprocess.run(["git", "init", "-q", room], check=True)
+    shares = [room / f"cases{number}" for number in range(min(SHARES, os.cpu_count() or 1))]
+    for share in shares:
+        share.mkdir()
     for before in range(fails):
-        (cases / f"{before:04}").write_text(f"{before:04}", encoding="utf-8")
-    command = ["rt", "try", "--fail-alloc", str(fails), "--cases", cases]
-    return subprocess.run(command, cwd=source.parent, stdout=subprocess.PIPE, stderr=subprocess.STDOUT, check=False).stdout.decode("utf-8", "replace")
+        (shares[before % len(shares)] / f"{before:04}").write_text(f"{before:04}", encoding="utf-8")
+    how = {"cwd": source.parent, "stdout": subprocess.PIPE, "stderr": subprocess.STDOUT, "check": False}
+    with concurrent.futures.ThreadPoolExecutor(len(shares)) as pool:
+        commands = [["rt", "try", "--fail-alloc", str(fails), "--cases", share] for share in shares]
+        return "".join(it.stdout.decode("utf-8", "replace") for it in pool.map(lambda command: subprocess.run(command, **how), commands))
 
 
 def answers(text, fails):

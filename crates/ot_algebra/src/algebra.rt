@@ -1,6 +1,6 @@
 //! Two operations: one after the other, or both on one document.
 
-ghost use Rattle.std.specs.Prelude.{◌≡◌, ◌+◌, ◌≤◌, length, IfOk};
+ghost use Rattle.std.specs.Prelude.{◌≡◌, ◌+◌, ◌≤◌, length, IfOk, OnOk, OnErr};
 ghost use Rattle.ot_operation.specs.Operation.{news};
 ghost use Rattle.ot_operation.specs.declared.TheConstants.{LIMIT};
 ghost use Rattle.ot_operation.specs.Compose.{compose as composition};
@@ -51,8 +51,7 @@ pub fn transform<T: Element>(
     Ok((a.with_codes(first)?, b.with_codes(second)?))
 }
 
-/// What `a` becomes after `b`: the first result of `transform`, under its conditions, for an `a` that is no longer needed, as a server needs it to
-/// transform an operation against its log. The text of `a` moves.
+/// What `a` becomes after `b`: the first result of `transform`, under its conditions, for an `a` that is no longer needed. The text of `a` moves.
 ///
 /// `Err` comes only where memory was refused, and `a` is gone then; `b` is only read.
 pub fn transform_first<T: Element>(mut a: TextOp<T>, b: &TextOp<T>) -> Result<TextOp<T>, AllocError>
@@ -60,9 +59,23 @@ pub fn transform_first<T: Element>(mut a: TextOp<T>, b: &TextOp<T>) -> Result<Te
     requires fits { a.base + length (news a.image) + length (news b.now.image) ≤ LIMIT }
     ensures { IfOk result (λ op. op ≡ first_after a b.now) }
 {
+    transform_in_place(&mut a, b)?;
+    Ok(a)
+}
+
+/// Makes of `a` what it becomes after `b`: the first result of `transform`, under its conditions, as a server needs it to transform an operation against its log. The
+/// text of `a` stays where it lies.
+///
+/// `Err` comes only where memory was refused, and `a` is as it was then; `b` is only read.
+pub fn transform_in_place<T: Element>(a: &mut TextOp<T>, b: &TextOp<T>) -> Result<(), AllocError>
+    requires same_base { a.old.base ≡ b.now.base }
+    requires fits { a.old.base + length (news a.old.image) + length (news b.now.image) ≤ LIMIT }
+    ensures ok { OnOk result (a.new ≡ first_after a.old b.now) }
+    ensures err { OnErr result (a.new ≡ a.old) }
+{
     let mut first = ot_codes::transform_first(a.allocator(), a.codes(), b.codes())?;
     a.exchange_codes(&mut first);
-    Ok(a)
+    Ok(())
 }
 
 /// What `b` becomes after `a`: the second result of `transform`, under its conditions.
@@ -75,6 +88,25 @@ pub fn transform_second<T: Element>(a: &TextOp<T>, b: &TextOp<T>) -> Result<Text
 {
     let (_, second) = ot_codes::transform(a.allocator(), a.codes(), b.codes())?;
     b.with_codes(second)
+}
+
+/// Makes of `b` what it becomes after `a`, and gives the codes of what `a` becomes after `b`: the results of `transform`, under its conditions. Both texts stay where
+/// they lie.
+///
+/// `Err` comes only where memory was refused, and `b` is as it was then; `a` is only read.
+pub fn transform_codes_in_place<T: Element>(
+    a: &TextOp<T>,
+    b: &mut TextOp<T>,
+) -> Result<Codes, AllocError>
+    requires same_base { a.now.base ≡ b.old.base }
+    requires fits { a.now.base + length (news a.now.image) + length (news b.old.image) ≤ LIMIT }
+    ensures codes { IfOk result (λ first. first ≡ shape (first_after a.now b.old)) }
+    ensures op { OnOk result (b.new ≡ second_after a.now b.old) }
+    ensures err { OnErr result (b.new ≡ b.old) }
+{
+    let (first, mut second) = ot_codes::transform(a.allocator(), a.codes(), b.codes())?;
+    b.exchange_codes(&mut second);
+    Ok(first)
 }
 
 /// The codes of what `a` becomes after `b`, whose text is that of `a`; and what `b` becomes after `a`: the results of `transform`, under its conditions.

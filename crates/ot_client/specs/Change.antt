@@ -50,6 +50,14 @@ IsOver (AwaitingWithBuffer o b) pending.Confirm = Unit {0}
 IsOver (AwaitingConfirm b) (pending.Unconfirm o) = Unit {0}
 IsOver phase other = ⊥
 
+-- the client stays in its state, and what changes is exchanged where it lies
+abbrev pub IsInPlace : {A : Type 0} → Phase A → Pending A → Type 0
+IsInPlace Synchronized pending.Nothing = Unit {0}
+IsInPlace (AwaitingConfirm o) (pending.Outstanding codes) = Unit {0}
+IsInPlace (AwaitingWithBuffer o b) (pending.Both codes) = Unit {0}
+IsInPlace (AwaitingWithBuffer o b) (pending.Rebuffer other) = Unit {0}
+IsInPlace phase other = ⊥
+
 -- a buffer is over what the outstanding operation makes
 abbrev pub IsPhaseJoined : {A : Type 0} → Phase A → Type 0
 IsPhaseJoined (AwaitingWithBuffer o b) = b.base ≡ length o.image

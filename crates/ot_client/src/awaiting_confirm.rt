@@ -1,17 +1,24 @@
 //! A client of which one operation is under way.
 
-ghost use Rattle.std.specs.Prelude.{◌≡◌, ◌+◌, ◌<◌, ◌≤◌, length, IfErr, IfOk};
+ghost use Rattle.std.specs.Prelude.{◌≡◌, ◌+◌, ◌<◌, ◌≤◌, length, IfErr, IfOk, None};
+ghost use Rattle.std.specs.Option.{unwrap_or};
 ghost use Rattle.ot_operation.specs.Operation.{news};
+ghost use Rattle.ot_codes.specs.Shape.{filled, shape};
+ghost use Rattle.ot_client.specs.Change.{changed, Fits};
+ghost use Rattle.ot_client.specs.declared.change.Pending.TheVariants.{Unsend};
 ghost use Rattle.ot_client.specs.State.{buffering, carried, confirming, delivered, edited};
 ghost use Rattle.ot_operation.specs.declared.TheConstants.{LIMIT};
 ghost use Rattle.ot_client.specs.declared.TheConstants.{REVISION_LIMIT};
 
+use crate::change::Pending;
 use crate::transformed::transformed;
-use crate::{AwaitingWithBuffer, Synchronized};
+use crate::{AwaitingWithBuffer, Change, Sent, Synchronized};
 use ot_algebra::transform_second;
+use ot_codes::Codes;
 use ot_text::{Element, TextOp};
 use std::alloc::AllocError;
 use std::marker::Model;
+use std::mem;
 
 /// A client that has sent an operation, which the server has not yet confirmed (`AwaitingConfirm` of ot.js).
 #[derive(Drop)]
@@ -111,6 +118,61 @@ impl<T: Element> AwaitingConfirm<T> {
         ensures { result ≡ self.revision + 1 }
     {
         Synchronized::new(self.revision + 1)
+    }
+
+    // What the user's edit changes of the client; nothing is sent.
+    pub(crate) fn prepare_edit(
+        &self,
+        op: &TextOp<T>,
+    ) -> Result<(Change<T>, Option<Sent<T>>), AllocError>
+        requires { op.now.base ≡ length self.now.outstanding.image }
+        ensures fits { IfOk result (λ given. Fits (confirming self.now) given.0) }
+        ensures change { IfOk result (λ given. changed (confirming self.now) given.0 ≡ edited (confirming self.now) op.now) }
+        ensures sent { IfOk result (λ given. given.1 ≡ None) }
+    {
+        let revision = self.revision;
+        let pending = Pending::Buffer(op.copy()?);
+        Ok((Change { revision, pending }, None))
+    }
+
+    // What the next entry of the server's log changes of the client, and what the document is to be changed by, under the conditions of `deliver`.
+    pub(crate) fn prepare_deliver(
+        &self,
+        op: &TextOp<T>,
+    ) -> Result<(Change<T>, Option<TextOp<T>>), AllocError>
+        requires revision { self.now.revision < REVISION_LIMIT }
+        requires base { op.now.base ≡ self.now.outstanding.base }
+        requires fits { op.now.base + length (news self.now.outstanding.image) + length (news op.now.image) ≤ LIMIT }
+        ensures fits { IfOk result (λ given. Fits (confirming self.now) given.0) }
+        ensures change { IfOk result (λ given. changed (confirming self.now) given.0 ≡ delivered (confirming self.now) op.now) }
+        ensures applied { IfOk result (λ given. unwrap_or given.1 op.now ≡ carried (confirming self.now).phase op.now) }
+    {
+        let (codes, applied) = transformed(&self.outstanding, op)?;
+        let revision = self.revision + 1;
+        let pending = Pending::Outstanding(codes);
+        Ok((Change { revision, pending }, Some(applied)))
+    }
+
+    // What the confirmation of the operation that was sent changes of the client; nothing is sent.
+    pub(crate) fn prepare_acknowledge(&self) -> (Change<T>, Option<Sent<T>>)
+        requires { self.now.revision < REVISION_LIMIT }
+        ensures change { result.0 ≡ record { revision = self.now.revision + 1; pending = Unsend } }
+        ensures sent { result.1 ≡ None }
+    {
+        let revision = self.revision + 1;
+        let pending = Pending::Unsend;
+        (Change { revision, pending }, None)
+    }
+
+    // Exchanges the revision, and the codes of the outstanding operation with others that insert as many elements.
+    pub(crate) fn exchange_codes(&mut self, revision: &mut u32, codes: &mut Codes)
+        requires { length (news codes.old.image) ≡ length (news self.old.outstanding.image) }
+        ensures client { self.new ≡ record { revision = revision.old; outstanding = filled codes.old (news self.old.outstanding.image) } }
+        ensures revision { revision.new ≡ self.old.revision }
+        ensures codes { codes.new ≡ shape self.old.outstanding }
+    {
+        mem::swap(&mut self.revision, revision);
+        self.outstanding.exchange_codes(codes);
     }
 
     // The operation that was sent.

@@ -1,22 +1,27 @@
 //! A client of which one operation is under way, with later edits.
 
-ghost use Rattle.std.specs.Prelude.{◌≡◌, ◌+◌, ◌<◌, ◌≤◌, length, IfOk, IfErr};
+ghost use Rattle.std.specs.Prelude.{◌≡◌, ◌+◌, ◌<◌, ◌≤◌, length, IfOk, IfErr, None, Some};
+ghost use Rattle.std.specs.Option.{option_map, unwrap_or};
 ghost use Rattle.ot_operation.specs.Operation.{news};
-ghost use Rattle.ot_codes.specs.Shape.{filled};
+ghost use Rattle.ot_codes.specs.Shape.{filled, shape};
 ghost use Rattle.ot_operation.specs.Compose.{compose as composition};
 ghost use Rattle.ot_operation.specs.Merge.{first_after, second_after};
+ghost use Rattle.ot_client.specs.Change.{changed, Fits};
 ghost use Rattle.ot_client.specs.Client.{message_of};
+ghost use Rattle.ot_client.specs.declared.change.Pending.TheVariants.{Confirm};
 ghost use Rattle.ot_client.specs.State.{buffering, carried, confirming, delivered, edited, IsJoined};
 ghost use Rattle.ot_operation.specs.declared.TheConstants.{LIMIT};
 ghost use Rattle.ot_client.specs.declared.TheConstants.{REVISION_LIMIT};
 
-use crate::transformed::transformed;
-use crate::{AwaitingConfirm, Sent};
+use crate::change::Pending;
+use crate::transformed::{transformed, transformed_in_place};
+use crate::{AwaitingConfirm, Change, Sent};
 use ot_algebra::{compose, transform_second};
 use ot_codes::Codes;
 use ot_text::{Element, TextOp};
 use std::alloc::AllocError;
 use std::marker::Model;
+use std::mem;
 
 /// A client that has sent an operation, which the server has not yet confirmed, and has edits after it (`AwaitingWithBuffer` of ot.js).
 #[derive(Drop)]
@@ -118,13 +123,14 @@ impl<T: Element> AwaitingWithBuffer<T> {
         ensures applied { IfOk result (λ given. given.1 ≡ carried (buffering self).phase op) }
         ensures back { IfErr result (λ back. back ≡ (self, op)) }
     {
-        let Ok((mut first, mut second, applied)) = self.transform(&op) else {
+        let Ok((mut codes, applied)) = self.transform(&op) else {
             return Err((self, op));
         };
         let mut outstanding = self.outstanding;
         let mut buffer = self.buffer;
-        outstanding.exchange_codes(&mut first);
-        buffer.exchange_codes(&mut second);
+        let (first, second) = &mut *codes;
+        outstanding.exchange_codes(first);
+        buffer.exchange_codes(second);
         let client = AwaitingWithBuffer::new(self.revision + 1, outstanding, buffer);
         Ok((client, applied))
     }
@@ -160,6 +166,83 @@ impl<T: Element> AwaitingWithBuffer<T> {
         Ok((client, sent))
     }
 
+    // What the user's edit changes of the client; nothing is sent.
+    pub(crate) fn prepare_edit(
+        &self,
+        op: &TextOp<T>,
+    ) -> Result<(Change<T>, Option<Sent<T>>), AllocError>
+        requires { op.now.base ≡ length self.now.buffer.image }
+        ensures fits { IfOk result (λ given. Fits (buffering self.now) given.0) }
+        ensures change { IfOk result (λ given. changed (buffering self.now) given.0 ≡ edited (buffering self.now) op.now) }
+        ensures sent { IfOk result (λ given. given.1 ≡ None) }
+    {
+        let revision = self.revision;
+        let pending = Pending::Rebuffer(self.composed(op)?);
+        Ok((Change { revision, pending }, None))
+    }
+
+    // What the next entry of the server's log changes of the client, and what the document is to be changed by, under the conditions of `deliver`.
+    pub(crate) fn prepare_deliver(
+        &self,
+        op: &TextOp<T>,
+    ) -> Result<(Change<T>, Option<TextOp<T>>), AllocError>
+        requires revision { self.now.revision < REVISION_LIMIT }
+        requires base { op.now.base ≡ self.now.outstanding.base }
+        requires fits { op.now.base + length (news self.now.outstanding.image) + length (news self.now.buffer.image) + length (news op.now.image) ≤ LIMIT }
+        ensures fits { IfOk result (λ given. Fits (buffering self.now) given.0) }
+        ensures change { IfOk result (λ given. changed (buffering self.now) given.0 ≡ delivered (buffering self.now) op.now) }
+        ensures applied { IfOk result (λ given. unwrap_or given.1 op.now ≡ carried (buffering self.now).phase op.now) }
+    {
+        let (codes, applied) = self.transform(op)?;
+        let revision = self.revision + 1;
+        let pending = Pending::Both(codes);
+        Ok((Change { revision, pending }, Some(applied)))
+    }
+
+    // What the confirmation of the operation that was sent changes of the client, and what it sends: the buffer.
+    pub(crate) fn prepare_acknowledge(&self) -> Result<(Change<T>, Option<Sent<T>>), AllocError>
+        requires { self.now.revision < REVISION_LIMIT }
+        ensures fits { IfOk result (λ given. Fits (buffering self.now) given.0) }
+        ensures change { IfOk result (λ given. given.0 ≡ record { revision = self.now.revision + 1; pending = Confirm }) }
+        ensures sent { IfOk result (λ given. option_map message_of given.1 ≡ Some (record { revision = self.now.revision + 1; op = self.now.buffer })) }
+    {
+        let revision = self.revision + 1;
+        let op = self.buffer.copy()?;
+        let pending = Pending::Confirm;
+        Ok((Change { revision, pending }, Some(Sent { revision, op })))
+    }
+
+    // Exchanges the revision, and the codes of the outstanding operation and of the buffer with others that insert as many elements.
+    pub(crate) fn exchange_codes(
+        &mut self,
+        revision: &mut u32,
+        outstanding: &mut Codes,
+        buffer: &mut Codes,
+    )
+        requires outstanding { length (news outstanding.old.image) ≡ length (news self.old.outstanding.image) }
+        requires buffer { length (news buffer.old.image) ≡ length (news self.old.buffer.image) }
+        requires joined { (filled buffer.old (news self.old.buffer.image)).base ≡ length (filled outstanding.old (news self.old.outstanding.image)).image }
+        ensures client { self.new ≡ record { revision = revision.old; outstanding = filled outstanding.old (news self.old.outstanding.image); buffer = filled buffer.old (news self.old.buffer.image) } }
+        ensures revision { revision.new ≡ self.old.revision }
+        ensures outstanding { outstanding.new ≡ shape self.old.outstanding }
+        ensures buffer { buffer.new ≡ shape self.old.buffer }
+    {
+        mem::swap(&mut self.revision, revision);
+        self.outstanding.exchange_codes(outstanding);
+        self.buffer.exchange_codes(buffer);
+    }
+
+    // Exchanges the revision, and the buffer with another operation over what the outstanding operation makes.
+    pub(crate) fn exchange_buffer(&mut self, revision: &mut u32, buffer: &mut TextOp<T>)
+        requires { buffer.old.base ≡ length self.old.outstanding.image }
+        ensures client { self.new ≡ record { revision = revision.old; outstanding = self.old.outstanding; buffer = buffer.old } }
+        ensures revision { revision.new ≡ self.old.revision }
+        ensures buffer { buffer.new ≡ self.old.buffer }
+    {
+        mem::swap(&mut self.revision, revision);
+        mem::swap(&mut self.buffer, buffer);
+    }
+
     // The operation that was sent, and the buffer.
     pub(crate) fn into_operations(self) -> (TextOp<T>, TextOp<T>)
         ensures operations { result ≡ (self.outstanding, self.buffer) }
@@ -179,22 +262,27 @@ impl<T: Element> AwaitingWithBuffer<T> {
     }
 
     // The codes of the outstanding operation and of the buffer after an entry of the server's log, and what the document is to be changed by at that entry.
-    pub(crate) fn transform(&self, op: &TextOp<T>) -> Result<(Codes, Codes, TextOp<T>), AllocError>
+    pub(crate) fn transform(
+        &self,
+        op: &TextOp<T>,
+    ) -> Result<(Box<(Codes, Codes)>, TextOp<T>), AllocError>
         requires base { op.now.base ≡ self.now.outstanding.base }
         requires fits { op.now.base + length (news self.now.outstanding.image) + length (news self.now.buffer.image) + length (news op.now.image) ≤ LIMIT }
-        ensures text { IfOk result (λ given. length (news given.0.image) ≡ length (news self.now.outstanding.image)) }
-        ensures buffer_text { IfOk result (λ given. length (news given.1.image) ≡ length (news self.now.buffer.image)) }
-        ensures outstanding { IfOk result (λ given. filled given.0 (news self.now.outstanding.image) ≡ first_after self.now.outstanding op.now) }
-        ensures buffer { IfOk result (λ given. filled given.1 (news self.now.buffer.image) ≡ first_after self.now.buffer (second_after self.now.outstanding op.now)) }
-        ensures base { IfOk result (λ given. given.1.base ≡ length (first_after self.now.outstanding op.now).image) }
+        ensures text { IfOk result (λ given. length (news given.0.value.0.image) ≡ length (news self.now.outstanding.image)) }
+        ensures buffer_text { IfOk result (λ given. length (news given.0.value.1.image) ≡ length (news self.now.buffer.image)) }
+        ensures outstanding { IfOk result (λ given. filled given.0.value.0 (news self.now.outstanding.image) ≡ first_after self.now.outstanding op.now) }
+        ensures buffer { IfOk result (λ given. filled given.0.value.1 (news self.now.buffer.image) ≡ first_after self.now.buffer (second_after self.now.outstanding op.now)) }
+        ensures base { IfOk result (λ given. given.0.value.1.base ≡ length (first_after self.now.outstanding op.now).image) }
         ensures joined { IsJoined self.now }
-        ensures applied { IfOk result (λ given. given.2 ≡ carried (buffering self.now).phase op.now) }
+        ensures applied { IfOk result (λ given. given.1 ≡ carried (buffering self.now).phase op.now) }
     {
         // For the proof: the invariant of every operation.
         let _operation = self.outstanding.base_len();
         let _operation = op.base_len();
         let (first, passed) = transformed(&self.outstanding, op)?;
-        let (second, applied) = transformed(&self.buffer, &passed)?;
-        Ok((first, second, applied))
+        let mut applied = passed;
+        let second = transformed_in_place(&self.buffer, &mut applied)?;
+        let codes = Box::new(op.allocator(), (first, second))?;
+        Ok((codes, applied))
     }
 }

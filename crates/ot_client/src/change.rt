@@ -1,7 +1,7 @@
 //! What a step changes of a client, and, once it was exchanged, what undoes the step.
 
 ghost use Rattle.std.specs.Prelude.{◌≡◌, length};
-ghost use Rattle.ot_client.specs.Change.{pending_undoing, phase_changed, IsOver, IsPhaseJoined};
+ghost use Rattle.ot_client.specs.Change.{pending_undoing, phase_changed, IsInPlace, IsOver, IsPhaseJoined};
 ghost use Rattle.ot_client.specs.Client.{state_of};
 ghost use Rattle.ot_client.specs.State as state;
 
@@ -67,14 +67,14 @@ impl<T: Element> Change<T> {
 }
 
 impl<T: Element> Pending<T> {
-    // The exchange where nothing is pending.
+    // The exchange where nothing is pending. Here and below, the change is none that is exchanged in place.
     pub(crate) fn exchange_nothing(self, revision: u32) -> (Client<T>, Pending<T>)
-        requires { IsOver state.Synchronized self }
+        requires over { IsOver state.Synchronized self }
+        requires other { IsInPlace state.Synchronized self → ⊥ }
         ensures client { state_of result.0 ≡ record { revision = revision; phase = phase_changed state.Synchronized self } }
         ensures undoing { result.1 ≡ pending_undoing state.Synchronized self }
     {
         match self {
-            Pending::Nothing => (Client::synchronized(revision), Pending::Nothing),
             Pending::Send(op) => (Client::confirming(revision, op), Pending::Unsend),
             _ => unreachable!(),
         }
@@ -84,9 +84,10 @@ impl<T: Element> Pending<T> {
     pub(crate) fn exchange_outstanding(
         self,
         revision: u32,
-        mut outstanding: TextOp<T>,
+        outstanding: TextOp<T>,
     ) -> (Client<T>, Pending<T>)
         requires over { IsOver (state.AwaitingConfirm outstanding) self }
+        requires other { IsInPlace (state.AwaitingConfirm outstanding) self → ⊥ }
         requires joined { IsPhaseJoined (phase_changed (state.AwaitingConfirm outstanding) self) }
         ensures client { state_of result.0 ≡ record { revision = revision; phase = phase_changed (state.AwaitingConfirm outstanding) self } }
         ensures undoing { result.1 ≡ pending_undoing (state.AwaitingConfirm outstanding) self }
@@ -97,11 +98,6 @@ impl<T: Element> Pending<T> {
             Pending::Buffer(op) => {
                 let client = Client::buffering(revision, outstanding, op);
                 (client, Pending::Unbuffer)
-            }
-            Pending::Outstanding(mut codes) => {
-                outstanding.exchange_codes(&mut codes);
-                let client = Client::confirming(revision, outstanding);
-                (client, Pending::Outstanding(codes))
             }
             Pending::Unconfirm(op) => {
                 let client = Client::buffering(revision, op, outstanding);
@@ -115,10 +111,11 @@ impl<T: Element> Pending<T> {
     pub(crate) fn exchange_both(
         self,
         revision: u32,
-        mut outstanding: TextOp<T>,
-        mut buffer: TextOp<T>,
+        outstanding: TextOp<T>,
+        buffer: TextOp<T>,
     ) -> (Client<T>, Pending<T>)
         requires over { IsOver (state.AwaitingWithBuffer outstanding buffer) self }
+        requires other { IsInPlace (state.AwaitingWithBuffer outstanding buffer) self → ⊥ }
         requires joined { IsPhaseJoined (phase_changed (state.AwaitingWithBuffer outstanding buffer) self) }
         requires before { buffer.base ≡ length outstanding.image }
         ensures client { state_of result.0 ≡ record { revision = revision; phase = phase_changed (state.AwaitingWithBuffer outstanding buffer) self } }
@@ -132,17 +129,6 @@ impl<T: Element> Pending<T> {
             Pending::Unbuffer => {
                 let client = Client::confirming(revision, outstanding);
                 (client, Pending::Buffer(buffer))
-            }
-            Pending::Rebuffer(op) => {
-                let client = Client::buffering(revision, outstanding, op);
-                (client, Pending::Rebuffer(buffer))
-            }
-            Pending::Both(mut codes) => {
-                let both = &mut *codes;
-                outstanding.exchange_codes(&mut both.0);
-                buffer.exchange_codes(&mut both.1);
-                let client = Client::buffering(revision, outstanding, buffer);
-                (client, Pending::Both(codes))
             }
             Pending::Confirm => {
                 let client = Client::confirming(revision, buffer);

@@ -1,14 +1,13 @@
 //! A client in any of the three states.
 
-ghost use Rattle.std.specs.Prelude.{◌≡◌, ◌+◌, ◌<◌, length, IfErr, IfOk, Some};
+ghost use Rattle.std.specs.Prelude.{◌≡◌, ◌+◌, ◌<◌, length, IfErr, IfOk, IsTrue, Some, false};
 ghost use Rattle.std.specs.Option.{option_map, unwrap_or};
 ghost use Rattle.ot_client.specs.Client.{message_of, state_of};
-ghost use Rattle.ot_client.specs.Change.{changed, undoing, Fits};
+ghost use Rattle.ot_client.specs.Change.{changed, undoing, Fits, IsInPlace};
 ghost use Rattle.ot_client.specs.State.{buffering, carried, confirming, delivered, edited, message_acknowledged, message_edited, phase_acknowledged, synchronized, IsAwaiting, MayDeliver, MayEdit};
 ghost use Rattle.ot_client.specs.declared.TheConstants.{REVISION_LIMIT};
 
 use crate::change::Pending;
-use crate::transformed::transformed;
 use crate::{AwaitingConfirm, AwaitingWithBuffer, Change, Sent, Synchronized};
 use ot_text::{Element, TextOp};
 use std::alloc::AllocError;
@@ -87,21 +86,10 @@ impl<T: Element> Client<T> {
         ensures change { IfOk result (λ given. changed (state_of self.now) given.0 ≡ edited (state_of self.now) op.now) }
         ensures sent { IfOk result (λ given. option_map message_of given.1 ≡ message_edited (state_of self.now).revision (state_of self.now).phase op.now) }
     {
-        let revision = self.revision();
         match self {
-            Client::Synchronized(_) => {
-                let pending = Pending::Send(op.copy()?);
-                let op = op.copy()?;
-                Ok((Change { revision, pending }, Some(Sent { revision, op })))
-            }
-            Client::AwaitingConfirm(_) => {
-                let pending = Pending::Buffer(op.copy()?);
-                Ok((Change { revision, pending }, None))
-            }
-            Client::AwaitingWithBuffer(client) => {
-                let pending = Pending::Rebuffer(client.composed(op)?);
-                Ok((Change { revision, pending }, None))
-            }
+            Client::Synchronized(client) => client.prepare_edit(op),
+            Client::AwaitingConfirm(client) => client.prepare_edit(op),
+            Client::AwaitingWithBuffer(client) => client.prepare_edit(op),
         }
     }
 
@@ -118,22 +106,10 @@ impl<T: Element> Client<T> {
         ensures change { IfOk result (λ given. changed (state_of self.now) given.0 ≡ delivered (state_of self.now) op.now) }
         ensures applied { IfOk result (λ given. unwrap_or given.1 op.now ≡ carried (state_of self.now).phase op.now) }
     {
-        let revision = self.revision() + 1;
         match self {
-            Client::Synchronized(_) => {
-                let pending = Pending::Nothing;
-                Ok((Change { revision, pending }, None))
-            }
-            Client::AwaitingConfirm(client) => {
-                let (codes, applied) = transformed(client.outstanding(), op)?;
-                let pending = Pending::Outstanding(codes);
-                Ok((Change { revision, pending }, Some(applied)))
-            }
-            Client::AwaitingWithBuffer(client) => {
-                let (first, second, applied) = client.transform(op)?;
-                let pending = Pending::Both(Box::new(op.allocator(), (first, second))?);
-                Ok((Change { revision, pending }, Some(applied)))
-            }
+            Client::Synchronized(client) => Ok(client.prepare_deliver()),
+            Client::AwaitingConfirm(client) => client.prepare_deliver(op),
+            Client::AwaitingWithBuffer(client) => client.prepare_deliver(op),
         }
     }
 
@@ -147,17 +123,9 @@ impl<T: Element> Client<T> {
         ensures phase { IfOk result (λ given. phase_acknowledged (state_of self.now).phase ≡ Some (changed (state_of self.now) given.0).phase) }
         ensures sent { IfOk result (λ given. option_map message_of given.1 ≡ message_acknowledged ((state_of self.now).revision + 1) (state_of self.now).phase) }
     {
-        let revision = self.revision() + 1;
         match self {
-            Client::AwaitingConfirm(_) => {
-                let pending = Pending::Unsend;
-                Ok((Change { revision, pending }, None))
-            }
-            Client::AwaitingWithBuffer(client) => {
-                let pending = Pending::Confirm;
-                let op = client.buffer().copy()?;
-                Ok((Change { revision, pending }, Some(Sent { revision, op })))
-            }
+            Client::AwaitingConfirm(client) => Ok(client.prepare_acknowledge()),
+            Client::AwaitingWithBuffer(client) => client.prepare_acknowledge(),
             Client::Synchronized(_) => unreachable!(),
         }
     }
@@ -169,6 +137,49 @@ impl<T: Element> Client<T> {
         ensures undoing { change.new ≡ undoing (state_of self.old) change.old }
         ensures fits { Fits (state_of self.new) change.new }
         ensures back { changed (state_of self.new) change.new ≡ state_of self.old }
+    {
+        if !self.exchange_in_place(change) {
+            self.exchange_state(change);
+        }
+    }
+
+    // Does so where the client stays in its state and what changes of it is exchanged where it lies. Else nothing changes, and the answer is no.
+    fn exchange_in_place(&mut self, change: &mut Change<T>) -> bool
+        requires { Fits (state_of self.old) change.old }
+        ensures client { IsTrue result → state_of self.new ≡ changed (state_of self.old) change.old }
+        ensures undoing { IsTrue result → change.new ≡ undoing (state_of self.old) change.old }
+        ensures other { result ≡ false → IsInPlace (state_of self.old).phase change.old.pending → ⊥ }
+        ensures client_same { result ≡ false → self.new ≡ self.old }
+        ensures change_same { result ≡ false → change.new ≡ change.old }
+    {
+        match (self, &mut change.pending) {
+            (Client::Synchronized(client), Pending::Nothing) => {
+                client.exchange_revision(&mut change.revision);
+                true
+            }
+            (Client::AwaitingConfirm(client), Pending::Outstanding(codes)) => {
+                client.exchange_codes(&mut change.revision, codes);
+                true
+            }
+            (Client::AwaitingWithBuffer(client), Pending::Both(codes)) => {
+                let (outstanding, buffer) = &mut **codes;
+                client.exchange_codes(&mut change.revision, outstanding, buffer);
+                true
+            }
+            (Client::AwaitingWithBuffer(client), Pending::Rebuffer(op)) => {
+                client.exchange_buffer(&mut change.revision, op);
+                true
+            }
+            _ => false,
+        }
+    }
+
+    // Does so in all other cases.
+    fn exchange_state(&mut self, change: &mut Change<T>)
+        requires fits { Fits (state_of self.old) change.old }
+        requires other { IsInPlace (state_of self.old).phase change.old.pending → ⊥ }
+        ensures client { state_of self.new ≡ changed (state_of self.old) change.old }
+        ensures undoing { change.new ≡ undoing (state_of self.old) change.old }
     {
         let client = mem::replace(self, Client::synchronized(0));
         let revision = mem::replace(&mut change.revision, client.revision());
@@ -183,8 +194,15 @@ impl<T: Element> Client<T> {
                 pending.exchange_both(revision, outstanding, buffer)
             }
         };
-        *self = client;
-        change.pending = undoing;
+        // What was left in their places holds nothing that would have to be dropped.
+        match mem::replace(self, client) {
+            Client::Synchronized(_) => {}
+            _ => unreachable!(),
+        }
+        match mem::replace(&mut change.pending, undoing) {
+            Pending::Nothing => {}
+            _ => unreachable!(),
+        }
     }
 
     /// Takes the confirmation of the operation that was sent, by the rules of the two states in which one is: the client after it, and what it sends

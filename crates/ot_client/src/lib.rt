@@ -16,13 +16,14 @@
 //! [`Client::prepare_edit`], [`Client::prepare_deliver`] and [`Client::prepare_acknowledge`] take the same steps in two moves. They only read the client,
 //! and give what the step changes of it, a [`Change`], for which all memory is there. [`Client::exchange`] then takes the step and cannot fail; so a
 //! caller can change more than the client, or nothing. What it leaves in the `Change` is the undo record of the step: exchanged once more, the client is
-//! as it was.
+//! as it was. A client that stays in its state changes where it lies.
 //! These are the functions `applyClient`, `applyServer` and `serverAck` of the three states in ot.js' `Client`.
 //!
 //! Contracts see a state as `State` of `specs/State.antt`: a revision and a `Phase`. `edited` and `delivered` are two of the rules, `carried` what a
 //! delivery applies; what an acknowledgement leaves, and what is sent, each call's clause says itself. The types' own values are a revision, a
 //! `Confirming` and a `Buffering`; `synchronized`, `confirming` and `buffering` give each as a `State`, and `state_of` of `specs/Client.antt` a [`Client`].
-//! `specs/Change.antt` says what a [`Change`] changes (`changed`), where it may be exchanged (`Fits`) and what undoes it (`undoing`).
+//! `specs/Change.antt` says what a [`Change`] changes (`changed`), where it may be exchanged (`Fits`), whether in place (`IsInPlace`), and
+//! what undoes it (`undoing`).
 //!
 //! Begin reading at the rules in `specs/State.antt`, then at [`AwaitingConfirm`].
 #![tactic(auto)]

@@ -1,13 +1,19 @@
 //! A client of which nothing is under way.
 
-ghost use Rattle.std.specs.Prelude.{◌≡◌, ◌<◌, IfOk, IfErr};
+ghost use Rattle.std.specs.Prelude.{◌≡◌, ◌+◌, ◌<◌, IfOk, IfErr, None};
 ghost use Rattle.ot_client.specs.Client.{message_of};
-ghost use Rattle.ot_client.specs.State.{confirming, delivered, edited, synchronized};
+ghost use Rattle.std.specs.Option.{option_map};
+ghost use Rattle.ot_client.specs.Change.{changed, Fits};
+ghost use Rattle.ot_client.specs.declared.change.Pending.TheVariants.{Nothing};
+ghost use Rattle.ot_client.specs.State.{confirming, delivered, edited, message_edited, synchronized};
 ghost use Rattle.ot_client.specs.declared.TheConstants.{REVISION_LIMIT};
 
-use crate::{AwaitingConfirm, Sent};
+use crate::change::Pending;
+use crate::{AwaitingConfirm, Change, Sent};
 use ot_text::{Element, TextOp};
+use std::alloc::AllocError;
 use std::marker::Model;
+use std::mem;
 
 /// A client whose document is the server's at its revision: nothing of its own is under way (`Synchronized` of ot.js).
 #[derive(Drop)]
@@ -43,6 +49,40 @@ impl Synchronized {
         ensures { result ≡ self.now }
     {
         Synchronized::new(self.revision)
+    }
+
+    // What the user's edit changes of the client, and what it sends.
+    pub(crate) fn prepare_edit<T: Element>(
+        &self,
+        op: &TextOp<T>,
+    ) -> Result<(Change<T>, Option<Sent<T>>), AllocError>
+        ensures fits { IfOk result (λ given. Fits (synchronized self.now) given.0) }
+        ensures change { IfOk result (λ given. changed (synchronized self.now) given.0 ≡ edited (synchronized self.now) op.now) }
+        ensures sent { IfOk result (λ given. option_map message_of given.1 ≡ message_edited self.now (synchronized self.now).phase op.now) }
+    {
+        let revision = self.revision;
+        let pending = Pending::Send(op.copy()?);
+        let op = op.copy()?;
+        Ok((Change { revision, pending }, Some(Sent { revision, op })))
+    }
+
+    // What the next entry of the server's log changes of the client: the operation that the document is to be changed by is the one that came.
+    pub(crate) fn prepare_deliver<T: Element>(&self) -> (Change<T>, Option<TextOp<T>>)
+        requires { self.now < REVISION_LIMIT }
+        ensures change { result.0 ≡ record { revision = self.now + 1; pending = Nothing } }
+        ensures applied { result.1 ≡ None }
+    {
+        let revision = self.revision + 1;
+        let pending = Pending::Nothing;
+        (Change { revision, pending }, None)
+    }
+
+    // Exchanges the revision.
+    pub(crate) fn exchange_revision(&mut self, revision: &mut u32)
+        ensures client { self.new ≡ revision.old }
+        ensures revision { revision.new ≡ self.old }
+    {
+        mem::swap(&mut self.revision, revision);
     }
 
     /// Takes the user's edit, which is in the user's document already: it is sent with the client's revision, and outstanding from now on. If memory

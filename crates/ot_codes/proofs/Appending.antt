@@ -14,7 +14,7 @@ use Rattle.ot_codes.specs.declared.code.Code.TheVariants.{Retain, Insert, Delete
 use Rattle.ot_codes.specs.declared.code.Sum.{Sum}
 use Rattle.ot_codes.specs.Codes.{run_of, runs_of, spelled, kept_in, deleted_in, inserted_in, sum_of, added, precedes, AreSound, MayEndWith}
 use Rattle.ot_codes.proofs.Put.{runs_of-append}
-use Rattle.ot_codes.proofs.Summing.{same_sum, kept-append, deleted-append, inserted-append, take_more}
+use Rattle.ot_codes.proofs.Summing.{same_sum, sum-append, take_more}
 use Rattle.ot_codes.proofs.Skipping.{base_in, target_in}
 use Rattle.ot_codes.proofs.Marked.{size-spelled}
 
@@ -70,10 +70,7 @@ may_end_at (c ∷ []) (suc k) last code h is may = absurd (omega (arith, h))
 may_end_at (c ∷ d ∷ codes) zero last code h is may = absurd (omega (arith, h))
 may_end_at (c ∷ d ∷ codes) (suc k) last code h is may = may_end_at (d ∷ codes) k last code (omega (arith, h)) is may
 
--- sums behind one another
-
-pub added_more : (xs ys : List Code) → added (sum_of xs) (sum_of ys) ≡ sum_of (xs ++ ys)
-added_more xs ys = same_sum _ _ _ _ _ _ (sym (kept-append xs ys)) (sym (deleted-append xs ys)) (sym (inserted-append xs ys))
+-- codes and their sum
 
 pub sound_is : (codes : List Code) (sum : Sum) → AreSound codes sum → sum ≡ sum_of codes
 sound_is codes sum sound =
@@ -114,7 +111,7 @@ sound_extended old new more sum next first others sound new_is more_is may norma
     let runs : runs_of new ≡ runs_of old ++ run_of first ∷ runs_of others = ap runs_of (new_is ∙ ap (λ m. old ++ m) more_is) ∙ runs_of-append old (first ∷ others) in
     let spells : spelled new ≡ with_runs (spelled old) (runs_of more) = ap spelled new_is ∙ spelled-append old more in
     sound_of new next
-    (next_is ∙ ap (λ s. added s (sum_of more)) (sound_is old sum sound) ∙ added_more old more ∙ ap sum_of (sym new_is))
+    (next_is ∙ ap (λ s. added s (sum_of more)) (sound_is old sum sound) ∙ sum-append old more ∙ ap sum_of (sym new_is))
     (rw runs (normal_append (runs_of old) (run_of first) (runs_of others) sound.normal (subst (λ m. IsNormal (runs_of m)) more_is normal) (may_end old first may)))
     (subst (λ op. IsTooLong op → ⊥) (sym spells) short)
 
@@ -187,17 +184,11 @@ normal_rest codes i normal =
     subst (λ (cs : List Code). IsNormal (runs_of cs)) (sym (rest_of codes i))
     (normal_back (runs_of (take i codes)) (runs_of (drop i codes)) (subst (λ (rs : List (Run (Unit {0}))). IsNormal rs) (parts_at codes i) normal))
 
--- a code, and others behind it
-module _ (op begun : Operation (Unit {0})) (first : Code) (others : List Code) (begun_is : begun ≡ appended op (run_of first)) where
-  pub appended_whole : with_runs begun (runs_of others) ≡ with_runs op (runs_of (first ∷ others))
-  appended_whole =
-      ap (λ (o : Operation (Unit {0})). with_runs o (runs_of others)) (begun_is ∙ sym (with_one op (run_of first)))
-      ∙ sym (with_runs-append op (run_of first ∷ []) (runs_of others))
-
+-- the rest of codes, behind those that are appended
 pub appended_rest :
-    (op begun now : Operation (Unit {0})) (first : Code) (others : List Code) (i : ℕ) → begun ≡ appended op (run_of first) → now ≡ with_runs begun (runs_of (take i others))
-    → with_runs now (runs_of (take (length others - i) (drop i others))) ≡ with_runs op (runs_of (first ∷ others))
-appended_rest op begun now first others i begun_is now_is =
-    ap (λ (cs : List Code). with_runs now (runs_of cs)) (rest_of others i)
-    ∙ ap (λ (o : Operation (Unit {0})). with_runs o (runs_of (drop i others))) now_is
-    ∙ with_rest begun others i ∙ appended_whole op begun first others begun_is
+    (op now : Operation (Unit {0})) (codes : List Code) (i : ℕ) → now ≡ with_runs op (runs_of (take i codes))
+    → with_runs now (runs_of (take (length codes - i) (drop i codes))) ≡ with_runs op (runs_of codes)
+appended_rest op now codes i now_is =
+    ap (λ (cs : List Code). with_runs now (runs_of cs)) (rest_of codes i)
+    ∙ ap (λ (o : Operation (Unit {0})). with_runs o (runs_of (drop i codes))) now_is
+    ∙ with_rest op codes i

@@ -1,5 +1,5 @@
 -- Worked examples of the definitions, by computation.
-use Rattle.std.proofs.Common.{◌≡◌, ℕ, List, [], ◌∷◌, refl}
+use Rattle.std.proofs.Common.{◌≡◌, ℕ, List, [], ◌∷◌, refl, arith}
 use Rattle.ot_operation.specs.Operation.{Operation, Old, New}
 use Rattle.ot_codes.specs.declared.code.Code.{Code}
 use Rattle.ot_codes.specs.declared.code.Code.TheVariants.{Retain, Insert, Delete}
@@ -7,6 +7,7 @@ use Rattle.ot_codes.specs.declared.cut.Cut.{Cut}
 use Rattle.ot_codes.specs.Codes.{spelled, without}
 use Rattle.ot_codes.specs.Shape.{shape, filled}
 use Rattle.ot_codes.specs.Cuts.{carried, with_cut}
+use Rattle.ot_codes.specs.Ends.{start, AreEnds}
 
 -- [2,"xy",-3,1,"z"], with 7, 8 and 9 for its elements
 codes : List Code
@@ -49,3 +50,8 @@ stands_apart :
     with_cut (record { at = 0; gone = 1; from = 0; put = 0 } ∷ []) (record { at = 2; gone = 0; from = 0; put = 3 })
     ≡ record { at = 0; gone = 1; from = 0; put = 0 } ∷ record { at = 2; gone = 0; from = 0; put = 3 } ∷ []
 stands_apart = refl
+
+-- the first two codes are a block with an end, and the other three are the last block
+in_blocks : AreEnds start codes (record { sum = record { kept = 2; deleted = 0; inserted = 2 }; count = 2 } ∷ [])
+unfolding codes
+in_blocks = (record { some = omega arith; few = omega arith; within = omega arith; sum_is = refl }, (omega arith, λ some. omega arith))

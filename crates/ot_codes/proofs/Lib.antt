@@ -21,3 +21,4 @@ pub mod Reading
 pub mod Appending
 pub mod Running
 pub mod Counting
+pub mod Ends

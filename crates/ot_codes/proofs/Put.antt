@@ -139,17 +139,6 @@ at_delete cs k last code h here is =
     let last_is : last ≡ Delete (length_of last) = (before_delete code last is).1 in
     (take k cs, length_of last, ends cs k last h ∙ ap (λ c. take k cs ++ c ∷ []) (sym here ∙ last_is), last_is)
 
-pub joined_length : (last code both : Code) → joined last code ≡ Some both → length_of both ≡ length_of last + length_of code
-joined_length (Retain m) (Retain n) both is = let e : Retain (m + n) ≡ both = cc in ap length_of (sym e)
-joined_length (Insert m) (Insert n) both is = let e : Insert (m + n) ≡ both = cc in ap length_of (sym e)
-joined_length (Delete m) (Delete n) both is = let e : Delete (m + n) ≡ both = cc in ap length_of (sym e)
-joined_length (Retain m) (Insert n) both is = cc
-joined_length (Retain m) (Delete n) both is = cc
-joined_length (Insert m) (Retain n) both is = cc
-joined_length (Insert m) (Delete n) both is = cc
-joined_length (Delete m) (Retain n) both is = cc
-joined_length (Delete m) (Insert n) both is = cc
-
 skip_filled : (xs : List (Run (Unit {0}))) (n : ℕ) → IsNormal (xs ++ Skip n ∷ []) → 0 < n
 skip_filled [] n normal = normal.0
 skip_filled (x ∷ xs) n normal = skip_filled xs n normal.2

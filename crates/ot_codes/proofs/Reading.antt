@@ -1,19 +1,13 @@
--- What is left of codes in leaves.
-use Rattle.std.proofs.Common.{◌≡◌, ℕ, zero, suc, ◌+◌, ◌<◌, ◌≤◌, List, [], ◌∷◌, ◌++◌, length, take, drop, get_or, refl, sym, ap, ◌∙◌, arith}
+-- Codes that fit into a length.
+use Rattle.std.proofs.Common.{◌≡◌, ℕ, suc, ◌+◌, ◌<◌, ◌≤◌, List, [], ◌∷◌, ◌++◌, length, take, drop, get_or, refl, sym, ap, ◌∙◌, arith}
 use Rattle.std.proofs.lemmas.List.{take-append-drop}
-use Rattle.ot_list.specs.Leaves.{concatenated}
 use Rattle.ot_codes.specs.declared.code.Code.{Code}
 use Rattle.ot_codes.specs.declared.code.Code.TheVariants.{Retain, Insert, Delete}
 use Rattle.ot_codes.specs.declared.code.Sum.{Sum}
 use Rattle.ot_codes.specs.declared.cursor.Measure.{Measure}
-use Rattle.ot_codes.specs.Codes.{length_of, counted, total_of, kept_in, deleted_in, inserted_in, sum_of, added}
+use Rattle.ot_codes.specs.Codes.{counted, total_of, kept_in, deleted_in, inserted_in, sum_of, added}
 use Rattle.ot_codes.specs.Runs.{measured}
 use Rattle.ot_codes.proofs.Summing.{same_sum, counted_more, take_more, total-append, total_in}
-
-pub leaf_there : {A : Type 0} (cs : List (List A)) (place : ℕ) → place < length cs → get_or cs place [] ++ concatenated (drop (suc place) cs) ≡ concatenated (drop place cs)
-leaf_there [] place h = absurd (omega (arith, h))
-leaf_there (c ∷ cs) zero h = refl
-leaf_there (c ∷ cs) (suc place) h = leaf_there cs place (omega (arith, h))
 
 -- codes that fit so far, behind others of a sum
 
@@ -50,12 +44,12 @@ module _
       ap (λ (s : Sum). s.kept + s.deleted + s.inserted) next_is in
       omega (arith, total, total_in (take (suc i) codes), total-take codes (suc i), small)
 
-  pub now_small : (sum.kept + length_of code < 4294967296) × (sum.deleted + length_of code < 4294967296) × (sum.inserted + length_of code < 4294967296)
+  pub now_small : (sum.kept + 67108864 ≤ 4294967296) × (sum.deleted + 67108864 ≤ 4294967296) × (sum.inserted + 67108864 ≤ 4294967296)
   now_small = by_code code next_small
     where
       by_code :
           (code : Code) → (counted sum code).kept + (counted sum code).deleted + (counted sum code).inserted < 67108864
-          → (sum.kept + length_of code < 4294967296) × (sum.deleted + length_of code < 4294967296) × (sum.inserted + length_of code < 4294967296)
+          → (sum.kept + 67108864 ≤ 4294967296) × (sum.deleted + 67108864 ≤ 4294967296) × (sum.inserted + 67108864 ≤ 4294967296)
       by_code (Retain n) s = (omega (arith, s), omega (arith, s), omega (arith, s))
       by_code (Insert n) s = (omega (arith, s), omega (arith, s), omega (arith, s))
       by_code (Delete n) s = (omega (arith, s), omega (arith, s), omega (arith, s))

@@ -6,7 +6,7 @@ use Rattle.ot_operation.specs.Run.{Run, IsNormal}
 use Rattle.ot_operation.specs.Steps.{with_runs}
 use Rattle.ot_operation.specs.Steps.{appended, transformed_part}
 use Rattle.ot_operation.specs.Merge.{first_after, second_after}
-use Rattle.ot_operation.proofs.TransformProgress.{Progress, progress_insert_first, progress_insert_second, progress_both_stay, progress_first_goes, progress_second_goes, progress_both_go, progress_end_second}
+use Rattle.ot_operation.proofs.TransformProgress.{Progress, progress_insert_first, progress_insert_second, progress_both_stay, progress_first_goes, progress_second_goes, progress_both_go, progress_end_first, progress_end_second}
 use Rattle.ot_codes.specs.declared.code.Code.{Code}
 use Rattle.ot_codes.specs.declared.code.Code.TheVariants.{Retain, Insert, Delete}
 use Rattle.ot_codes.specs.declared.code.Sum.{Sum}
@@ -75,6 +75,13 @@ pub end_second :
 end_second a b first second xs ys none other w =
     progress_end_second a b first second (runs_of xs) (otherwise xs other)
     (subst (λ zs. Progress a b first second (runs_of xs) (runs_of zs)) (none_left ys none) w)
+
+pub end_first :
+    (a b first second : Op) (xs ys : List Code) → first_of xs ≡ None → insertion_of ys ≡ None
+    → Progress a b first second (runs_of xs) (runs_of ys) → (first ≡ first_after a b) × (second ≡ second_after a b)
+end_first a b first second xs ys none other w =
+    progress_end_first a b first second (runs_of ys) (otherwise ys other)
+    (subst (λ zs. Progress a b first second (runs_of zs) (runs_of ys)) (none_left xs none) w)
 
 -- many codes of one, in a retain of the other
 

@@ -1,11 +1,10 @@
 -- What codes come to, one after the other.
-use Rattle.std.proofs.Common.{◌≡◌, ℕ, suc, zero, ◌+◌, ◌*◌, ◌<◌, ◌≤◌, List, [], ◌∷◌, ◌++◌, take, get_or, length, refl, sym, ap, ◌∙◌, arith, length-append}
-use Rattle.ot_codes.specs.Leaf.{leaf_of}
-use Rattle.ot_codes.specs.declared.leaf.Leaf.{Leaf}
+use Rattle.std.proofs.Common.{◌≡◌, ℕ, suc, zero, ◌+◌, ◌<◌, List, [], ◌∷◌, ◌++◌, take, drop, get_or, length, refl, sym, ap, subst, ◌∙◌, arith}
+use Rattle.std.proofs.Math.Seq.{take-length, drop-cons}
 use Rattle.ot_codes.specs.declared.code.Code.{Code}
 use Rattle.ot_codes.specs.declared.code.Code.TheVariants.{Retain, Insert, Delete}
 use Rattle.ot_codes.specs.declared.code.Sum.{Sum}
-use Rattle.ot_codes.specs.Codes.{length_of, added, counted, kept_in, deleted_in, inserted_in, sum_of, total_of}
+use Rattle.ot_codes.specs.Codes.{HasPart, added, counted, lessened, kept_in, deleted_in, inserted_in, sum_of, total_of}
 
 pub same_sum : (k l m n p q : ℕ) → k ≡ l → m ≡ n → p ≡ q → ◌≡◌ {A = Sum} (record { kept = k; deleted = m; inserted = p }) (record { kept = l; deleted = n; inserted = q })
 same_sum k l m n p q kept deleted inserted = rw (kept, deleted, inserted) refl
@@ -52,39 +51,45 @@ take_more [] i d h = absurd (omega (arith, h))
 take_more (x ∷ xs) zero d h = refl
 take_more {X} (x ∷ xs) (suc i) d h = ap (λ (rest : List X). x ∷ rest) (take_more xs i d (omega (arith, h)))
 
--- the codes so far, each of which is not too long
-pub record IsSumUpTo (codes : List Code) (i : ℕ) (sum : Sum) : Type 0 where
-  pub is : sum ≡ sum_of (take i codes)
-  pub short : sum.kept + sum.deleted + sum.inserted ≤ 67108863 * i
-
-pub sum_next :
-    (codes : List Code) (i j : ℕ) (sum next : Sum) (code d : Code) → IsSumUpTo codes i sum → i < length codes → j ≡ i + 1 → code ≡ get_or codes i d → length_of code < 67108864
-    → next ≡ counted sum code → IsSumUpTo codes j next
-sum_next codes i j sum next code d w h j_is code_is short next_is =
-    let j_suc : j ≡ suc i = omega (arith, j_is) in
-    rw (j_suc, next_is)
-    (record {
-      is = ap (λ s. counted s code) w.is ∙ counted_more (take i codes) code
-          ∙ ap (λ c. sum_of (take i codes ++ c ∷ [])) code_is ∙ ap sum_of (sym (take_more codes i d h));
-      short = by code short;
-    })
-  where
-    by : (code : Code) → length_of code < 67108864 → (counted sum code).kept + (counted sum code).deleted + (counted sum code).inserted ≤ 67108863 * suc i
-    by (Retain n) short = omega (arith, w.short, short)
-    by (Insert n) short = omega (arith, w.short, short)
-    by (Delete n) short = omega (arith, w.short, short)
-
--- two parts of a leaf
+-- codes behind codes
 pub sum-append : (xs ys : List Code) → added (sum_of xs) (sum_of ys) ≡ sum_of (xs ++ ys)
 sum-append xs ys = same_sum _ _ _ _ _ _ (sym (kept-append xs ys)) (sym (deleted-append xs ys)) (sym (inserted-append xs ys))
 
-same_leaf : (s t : Sum) (m n : ℕ) → s ≡ t → m ≡ n → ◌≡◌ {A = Leaf} (record { sum = s; count = m }) (record { sum = t; count = n })
-same_leaf s t m n sums counts = rw (sums, counts) refl
+-- a sum without one of its codes
 
-pub leaf-append :
-    (xs ys : List Code) (leaf behind : Leaf) (sum : Sum) (count : ℕ) → leaf ≡ leaf_of xs → behind ≡ leaf_of ys → sum ≡ added leaf.sum behind.sum → count ≡ leaf.count + behind.count
-    → ◌≡◌ {A = Leaf} (record { sum = sum; count = count }) (leaf_of (xs ++ ys))
-leaf-append xs ys leaf behind sum count leaf_is behind_is sum_is count_is =
-    same_leaf _ _ _ _
-    (sum_is ∙ rw (leaf_is, behind_is) (sum-append xs ys))
-    (count_is ∙ rw (leaf_is, behind_is, length-append) refl)
+pub front_last : (codes : List Code) (i : ℕ) (d : Code) → i + 1 ≡ length codes → codes ≡ take i codes ++ get_or codes i d ∷ []
+front_last codes i d h =
+    let all : length codes ≡ suc i = omega (arith, h) in
+    sym (take-length codes) ∙ ap (λ (k : ℕ). take k codes) all ∙ take_more codes i d (omega (arith, h))
+
+pub has_first : (code : Code) (codes : List Code) → HasPart (sum_of (code ∷ codes)) code
+has_first (Retain n) codes = omega arith
+has_first (Insert n) codes = omega arith
+has_first (Delete n) codes = omega arith
+
+pub less_first : (code : Code) (codes : List Code) → lessened (sum_of (code ∷ codes)) code ≡ sum_of codes
+less_first (Retain n) codes = same_sum _ _ _ _ _ _ (omega arith) refl refl
+less_first (Insert n) codes = same_sum _ _ _ _ _ _ refl refl (omega arith)
+less_first (Delete n) codes = same_sum _ _ _ _ _ _ refl (omega arith) refl
+
+next_first : (codes : List Code) (i : ℕ) (d code : Code) → i < length codes → code ≡ get_or codes i d → drop i codes ≡ code ∷ drop (suc i) codes
+next_first codes i d code h is = drop-cons codes i d h ∙ ap (λ (c : Code). c ∷ drop (suc i) codes) (sym is)
+
+pub has_next : (codes : List Code) (i : ℕ) (d code : Code) → i < length codes → code ≡ get_or codes i d → HasPart (sum_of (drop i codes)) code
+has_next codes i d code h is = subst (λ (cs : List Code). HasPart (sum_of cs) code) (sym (next_first codes i d code h is)) (has_first code (drop (suc i) codes))
+
+pub less_next : (codes : List Code) (i : ℕ) (d code : Code) → i < length codes → code ≡ get_or codes i d → lessened (sum_of (drop i codes)) code ≡ sum_of (drop (suc i) codes)
+less_next codes i d code h is = ap (λ (cs : List Code). lessened (sum_of cs) code) (next_first codes i d code h is) ∙ less_first code (drop (suc i) codes)
+
+pub has_last : (codes : List Code) (code : Code) → HasPart (sum_of (codes ++ code ∷ [])) code
+has_last codes (Retain n) = omega (arith, kept-append codes (Retain n ∷ []))
+has_last codes (Insert n) = omega (arith, inserted-append codes (Insert n ∷ []))
+has_last codes (Delete n) = omega (arith, deleted-append codes (Delete n ∷ []))
+
+pub less_last : (codes : List Code) (code : Code) → lessened (sum_of (codes ++ code ∷ [])) code ≡ sum_of codes
+less_last codes (Retain n) =
+    same_sum _ _ _ _ _ _ (omega (arith, kept-append codes (Retain n ∷ []))) (omega (arith, deleted-append codes (Retain n ∷ []))) (omega (arith, inserted-append codes (Retain n ∷ [])))
+less_last codes (Insert n) =
+    same_sum _ _ _ _ _ _ (omega (arith, kept-append codes (Insert n ∷ []))) (omega (arith, deleted-append codes (Insert n ∷ []))) (omega (arith, inserted-append codes (Insert n ∷ [])))
+less_last codes (Delete n) =
+    same_sum _ _ _ _ _ _ (omega (arith, kept-append codes (Delete n ∷ []))) (omega (arith, deleted-append codes (Delete n ∷ []))) (omega (arith, inserted-append codes (Delete n ∷ [])))

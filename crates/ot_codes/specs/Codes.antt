@@ -136,6 +136,18 @@ counted sum (Retain count) = record sum { kept = sum.kept + count }
 counted sum (Insert count) = record sum { inserted = sum.inserted + count }
 counted sum (Delete count) = record sum { deleted = sum.deleted + count }
 
+-- the code may be one of those that the sum counts
+abbrev pub HasPart : Sum → Code → Type 0
+HasPart sum (Retain count) = count ≤ sum.kept
+HasPart sum (Insert count) = count ≤ sum.inserted
+HasPart sum (Delete count) = count ≤ sum.deleted
+
+-- a sum without one of its codes
+abbrev pub lessened : Sum → Code → Sum
+lessened sum (Retain count) = record sum { kept = sum.kept - count }
+lessened sum (Insert count) = record sum { inserted = sum.inserted - count }
+lessened sum (Delete count) = record sum { deleted = sum.deleted - count }
+
 -- codes in normal form and within the limits, and their sum
 abbrev pub AreSound : List Code → Sum → Type 0
 AreSound codes sum = IsSound (runs_of codes) (sum.kept + sum.deleted) (sum.kept + sum.inserted) sum.inserted
@@ -165,6 +177,10 @@ sum_of codes = record { kept = kept_in codes; deleted = deleted_in codes; insert
 -- two sums together
 abbrev pub added : Sum → Sum → Sum
 added sum more = record { kept = sum.kept + more.kept; deleted = sum.deleted + more.deleted; inserted = sum.inserted + more.inserted }
+
+-- what a sum has more than another
+abbrev pub subtracted : Sum → Sum → Sum
+subtracted sum less = record { kept = sum.kept - less.kept; deleted = sum.deleted - less.deleted; inserted = sum.inserted - less.inserted }
 
 -- the code may stand directly behind these
 abbrev pub MayEndWith : List Code → Code → Type 0

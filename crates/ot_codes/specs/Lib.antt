@@ -4,6 +4,6 @@ pub mod Cuts
 pub mod Splice
 pub mod Laws
 pub mod Packing
-pub mod Leaf
+pub mod Ends
 pub mod Runs
 pub mod Held

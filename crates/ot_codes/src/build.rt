@@ -4,38 +4,46 @@ ghost use Rattle.std.specs.Prelude.{◌≡◌, ◌+◌, ◌<◌, ◌≤◌, ◌^
 ghost use Rattle.ot_operation.specs.Operation.{with_insert};
 ghost use Rattle.ot_operation.specs.Run.{IsNormal, Extends};
 ghost use Rattle.ot_operation.specs.Steps.{appended};
-ghost use Rattle.ot_codes.specs.Codes.{EndsWithDelete, MayEndWith, MayGoBefore, blanks, length_of, run_of, runs_of, total_of};
+ghost use Rattle.ot_codes.specs.Codes.{EndsWithDelete, MayEndWith, MayGoBefore, blanks, length_of, run_of, runs_of, sum_of, total_of};
 
-use crate::code::Code;
+use crate::code::{Code, Sum};
 use crate::code_list::CodeList;
 use crate::packed::Packed;
 use std::alloc::AllocError;
 
-/// Adds a code: a neighbour of its kind is lengthened, and an insertion stands before a deletion.
-pub(crate) fn add(codes: &mut CodeList, code: Code) -> Result<(), AllocError>
+/// Adds a code to others that come to `total`: a neighbour of its kind is lengthened, and an insertion stands before a deletion.
+pub(crate) fn add(codes: &mut CodeList, code: Code, total: Sum) -> Result<(), AllocError>
     requires filled { 0 < length_of code }
+    requires total { total ≡ sum_of codes.old }
     requires normal { IsNormal (runs_of codes.old) }
     requires short { total_of codes.old + length_of code < 2 ^ 26 }
     ensures ok { OnOk result (Extends (runs_of codes.old) (runs_of codes.new) (λ op. appended op (run_of code))) }
     ensures err { OnErr result (codes.new ≡ codes.old) }
 {
+    let packed = Packed::new(code);
     let Some(last) = codes.last() else {
-        return codes.push(Packed::new(code));
+        return codes.push(packed, total);
     };
-    let last = last.code();
-    if let Some(both) = last.joined(code) {
-        codes.set_last(Packed::new(both));
+    if let Some(both) = last.joined(packed) {
+        codes.set_last(both);
         return Ok(());
     }
-    if code.stands_before(last) {
-        return insert_before_delete(codes, last, code.len());
+    if packed.stands_before(last) {
+        return insert_before_delete(codes, last.code(), code.len(), total);
     }
-    codes.push(Packed::new(code))
+    codes.push(packed, total)
 }
 
 // The insertion stands before the deletion at the end.
-fn insert_before_delete(codes: &mut CodeList, last: Code, count: u32) -> Result<(), AllocError>
+#[inline(never)]
+fn insert_before_delete(
+    codes: &mut CodeList,
+    last: Code,
+    count: u32,
+    total: Sum,
+) -> Result<(), AllocError>
     requires filled { 0 < count }
+    requires total { total ≡ sum_of codes.old }
     requires normal { IsNormal (runs_of codes.old) }
     requires short { total_of codes.old + count < 2 ^ 26 }
     requires at_delete { EndsWithDelete codes.old last }
@@ -43,20 +51,21 @@ fn insert_before_delete(codes: &mut CodeList, last: Code, count: u32) -> Result<
     ensures err { OnErr result (codes.new ≡ codes.old) }
 {
     match codes.last_but_one() {
-        None => put_before(codes, last, count),
+        None => put_before(codes, last, count, total),
         Some(before) => match before.code() {
             Code::Insert(length) => {
                 codes.set_last_but_one(Packed::new(Code::Insert(length + count)));
                 Ok(())
             }
-            _ => put_before(codes, last, count),
+            _ => put_before(codes, last, count, total),
         },
     }
 }
 
 // The insertion stands between the deletion at the end and what is before it.
-fn put_before(codes: &mut CodeList, last: Code, count: u32) -> Result<(), AllocError>
+fn put_before(codes: &mut CodeList, last: Code, count: u32, total: Sum) -> Result<(), AllocError>
     requires filled { 0 < count }
+    requires total { total ≡ sum_of codes.old }
     requires normal { IsNormal (runs_of codes.old) }
     requires short { total_of codes.old + count < 2 ^ 26 }
     requires at_delete { EndsWithDelete codes.old last }
@@ -64,7 +73,7 @@ fn put_before(codes: &mut CodeList, last: Code, count: u32) -> Result<(), AllocE
     ensures ok { OnOk result (Extends (runs_of codes.old) (runs_of codes.new) (λ op. with_insert op (blanks count))) }
     ensures err { OnErr result (codes.new ≡ codes.old) }
 {
-    codes.push(Packed::new(last))?;
+    codes.push(Packed::new(last), total)?;
     codes.set_last_but_one(Packed::new(Code::Insert(count)));
     Ok(())
 }

@@ -1,7 +1,7 @@
 //! One code, and what codes come to.
 
-ghost use Rattle.std.specs.Prelude.{◌≡◌, ◌+◌, ◌<◌, ◌≤◌, ◌^◌, ◌↔◌, IfSome, IsTrue};
-ghost use Rattle.ot_codes.specs.Codes.{added, counted, joined, keeps, length_of, precedes, stands_before, with_length};
+ghost use Rattle.std.specs.Prelude.{◌≡◌, ◌+◌, ◌<◌, ◌≤◌, ◌^◌};
+ghost use Rattle.ot_codes.specs.Codes.{HasPart, added, counted, keeps, length_of, lessened, precedes, subtracted, with_length};
 
 /// A component without its elements: what it does, and with how many of them (1 to 1,000,000 in an operation).
 #[derive(Clone, Copy)]
@@ -42,13 +42,6 @@ impl Code {
         matches!(self, Code::Retain(_))
     }
 
-    /// The code is an insertion, and the last one is a deletion: then it stands before it.
-    pub(crate) fn stands_before(self, last: Code) -> bool
-        ensures { result ≡ stands_before self last }
-    {
-        matches!((self, last), (Code::Insert(_), Code::Delete(_)))
-    }
-
     /// The next code may stand directly behind this one: it is of another kind, and no insertion behind a deletion.
     pub(crate) fn precedes(self, next: Code) -> bool
         ensures { result ≡ precedes self next }
@@ -59,19 +52,6 @@ impl Code {
                 | (Code::Insert(_), Code::Retain(_) | Code::Delete(_))
                 | (Code::Delete(_), Code::Retain(_))
         )
-    }
-
-    /// Two codes of one kind as one; none where they are of two kinds.
-    pub(crate) fn joined(self, next: Code) -> Option<Code>
-        requires { length_of self + length_of next < 2 ^ 32 }
-        ensures { result ≡ joined self next }
-    {
-        match (self, next) {
-            (Code::Retain(first), Code::Retain(second)) => Some(Code::Retain(first + second)),
-            (Code::Insert(first), Code::Insert(second)) => Some(Code::Insert(first + second)),
-            (Code::Delete(first), Code::Delete(second)) => Some(Code::Delete(first + second)),
-            _ => None,
-        }
     }
 }
 
@@ -113,17 +93,6 @@ impl Sum {
         }
     }
 
-    /// Two sums together; none where a number would grow too large.
-    pub(crate) fn checked_plus(self, more: Sum) -> Option<Sum>
-        ensures { IfSome result (λ all. all ≡ added self more) }
-    {
-        Some(Sum {
-            kept: self.kept.checked_add(more.kept)?,
-            deleted: self.deleted.checked_add(more.deleted)?,
-            inserted: self.inserted.checked_add(more.inserted)?,
-        })
-    }
-
     /// Two sums together.
     pub(crate) fn plus(self, more: Sum) -> Sum
         requires kept { self.kept + more.kept < 2 ^ 32 }
@@ -135,6 +104,41 @@ impl Sum {
             kept: self.kept + more.kept,
             deleted: self.deleted + more.deleted,
             inserted: self.inserted + more.inserted,
+        }
+    }
+
+    /// The sum without one of its codes.
+    pub(crate) fn less(self, code: Code) -> Sum
+        requires { HasPart self code }
+        ensures { result ≡ lessened self code }
+    {
+        match code {
+            Code::Retain(count) => Sum {
+                kept: self.kept - count,
+                ..self
+            },
+            Code::Insert(count) => Sum {
+                inserted: self.inserted - count,
+                ..self
+            },
+            Code::Delete(count) => Sum {
+                deleted: self.deleted - count,
+                ..self
+            },
+        }
+    }
+
+    /// What a sum has more than another.
+    pub(crate) fn minus(self, other: Sum) -> Sum
+        requires kept { other.kept ≤ self.kept }
+        requires deleted { other.deleted ≤ self.deleted }
+        requires inserted { other.inserted ≤ self.inserted }
+        ensures { result ≡ subtracted self other }
+    {
+        Sum {
+            kept: self.kept - other.kept,
+            deleted: self.deleted - other.deleted,
+            inserted: self.inserted - other.inserted,
         }
     }
 }

@@ -1,23 +1,21 @@
 //! Codes in order, few or many.
 
 ghost use Rattle.std.specs.Prelude.{◌≡◌, ◌+◌, ◌-◌, ◌<◌, ◌≤◌, ◌^◌, [], ◌∷◌, ◌++◌, length, get_or, set, IfOk, MatchOption, OnOk, OnErr};
-ghost use Rattle.ot_list.specs.Leaves.{concatenated};
-ghost use Rattle.ot_codes.specs.Held.{held_codes};
-ghost use Rattle.ot_codes.specs.Codes.{total_of};
+ghost use Rattle.ot_codes.specs.Codes.{sum_of, total_of};
 
+use crate::blocks::Blocks;
+use crate::code::Sum;
 use crate::cursor::Cursor;
 use crate::few::Few;
 use crate::packed::Packed;
-use ot_list::List;
 use std::alloc::{AllocError, Global};
 use std::marker::Model;
-use std::slice;
 
-// A few lie in the value itself, more in leaves.
+// A few lie in the value itself, more in blocks.
 #[derive(Drop)]
 pub(crate) enum Held {
     Few(Few),
-    Many(Box<List<Packed>>),
+    Many(Box<Blocks>),
 }
 
 /// Codes in order: up to five lie in the value itself, without an allocation. A contract sees the list of them.
@@ -43,34 +41,6 @@ impl Drop for CodeList {
     }
 }
 
-// Codes in leaves: a few, and more behind them.
-fn in_leaves(alloc: Global, few: &[Packed], more: &[Packed]) -> Result<Held, AllocError>
-    requires few { length few.now ≤ 64 }
-    requires some { 0 < length more.now }
-    requires small { length more.now ≤ 64 }
-    ensures { IfOk result (λ held. held_codes held ≡ few.now ++ more.now) }
-{
-    let mut list = List::new(alloc);
-    if few.len() > 0 {
-        list.extend(few)?;
-    }
-    list.extend(more)?;
-    let list = Box::new(alloc, list)?;
-    Ok(Held::Many(list))
-}
-
-// How many items lie in leaves. It reads the sums of the leaves alone.
-fn count_in_leaves(list: &List<Packed>) -> usize
-    requires { length (concatenated list.now) < 2 ^ 26 }
-    ensures { result ≡ length (concatenated list.now) }
-{
-    let mut count = 0usize;
-    for leaf in list.sums() {
-        count += leaf.count as usize;
-    }
-    count
-}
-
 impl CodeList {
     /// No codes. Takes no memory; later calls take theirs from `alloc`.
     pub(crate) fn new(alloc: Global) -> CodeList
@@ -87,16 +57,23 @@ impl CodeList {
         self.alloc
     }
 
+    // The codes, in order.
+    fn as_slice(&self) -> &[Packed]
+        ensures { result.now ≡ self.now }
+    {
+        match &self.held {
+            Held::Few(few) => few.as_slice(),
+            Held::Many(blocks) => blocks.as_slice(),
+        }
+    }
+
     /// The last code. None, where there is no code.
     pub(crate) fn last(&self) -> Option<Packed>
         ensures { MatchOption result (length self.now ≡ 0) (λ x. (0 < length self.now) × (x ≡ get_or self.now (length self.now - 1) x)) }
     {
-        match &self.held {
-            Held::Few(few) => match few.as_slice() {
-                [.., last] => Some(*last),
-                [] => None,
-            },
-            Held::Many(list) => list.last(),
+        match self.as_slice() {
+            [.., last] => Some(*last),
+            [] => None,
         }
     }
 
@@ -104,12 +81,21 @@ impl CodeList {
     pub(crate) fn last_but_one(&self) -> Option<Packed>
         ensures { MatchOption result (length self.now < 2) (λ x. (1 < length self.now) × (x ≡ get_or self.now (length self.now - 2) x)) }
     {
-        match &self.held {
-            Held::Few(few) => match few.as_slice() {
-                [.., before, _] => Some(*before),
-                _ => None,
-            },
-            Held::Many(list) => list.last_but_one(),
+        match self.as_slice() {
+            [.., before, _] => Some(*before),
+            _ => None,
+        }
+    }
+
+    // Puts a code in the place of one of the last two.
+    fn set(&mut self, place: usize, code: Packed)
+        requires within { place < length self.old }
+        requires late { length self.old ≤ place + 2 }
+        ensures { self.new ≡ set self.old place code }
+    {
+        match &mut self.held {
+            Held::Few(few) => few.set(place, code),
+            Held::Many(blocks) => blocks.set(place, code),
         }
     }
 
@@ -118,13 +104,8 @@ impl CodeList {
         requires { 0 < length self.old }
         ensures { self.new ≡ set self.old (length self.old - 1) code }
     {
-        match &mut self.held {
-            Held::Few(few) => {
-                let count = few.as_slice().len();
-                few.set(count - 1, code);
-            }
-            Held::Many(list) => list.set_last(code),
-        }
+        let count = self.count();
+        self.set(count - 1, code);
     }
 
     /// Puts a code in the place of the last one but one.
@@ -132,36 +113,52 @@ impl CodeList {
         requires { 1 < length self.old }
         ensures { self.new ≡ set self.old (length self.old - 2) code }
     {
-        match &mut self.held {
-            Held::Few(few) => {
-                let count = few.as_slice().len();
-                few.set(count - 2, code);
-            }
-            Held::Many(list) => list.set_last_but_one(code),
-        }
+        let count = self.count();
+        self.set(count - 2, code);
     }
 
-    /// Adds a code at the end. `AllocError` where a growth was refused: the codes are as they were then.
-    pub(crate) fn push(&mut self, code: Packed) -> Result<(), AllocError>
+    /// Adds a code at the end; `total` is what the others come to. `AllocError` where a growth was refused: the codes are as they were then.
+    #[inline]
+    pub(crate) fn push(&mut self, code: Packed, total: Sum) -> Result<(), AllocError>
+        requires total { total ≡ sum_of self.old }
+        requires small { length self.old < 2 ^ 26 }
+        ensures ok { OnOk result (self.new ≡ self.old ++ code ∷ []) }
+        ensures err { OnErr result (self.new ≡ self.old) }
+    {
+        if let Held::Few(few) = &mut self.held {
+            if few.push(code) {
+                return Ok(());
+            }
+        }
+        self.push_to_blocks(code, total)
+    }
+
+    // The same where the code shall lie in a block.
+    #[inline(never)]
+    fn push_to_blocks(&mut self, code: Packed, total: Sum) -> Result<(), AllocError>
+        requires total { total ≡ sum_of self.old }
+        requires small { length self.old < 2 ^ 26 }
         ensures ok { OnOk result (self.new ≡ self.old ++ code ∷ []) }
         ensures err { OnErr result (self.new ≡ self.old) }
     {
         match &mut self.held {
             Held::Few(few) => {
-                if few.push(code) {
-                    return Ok(());
-                }
-                self.held = in_leaves(self.alloc, few.as_slice(), slice::from_ref(&code))?;
+                let mut blocks = Blocks::new(self.alloc, few.as_slice())?;
+                blocks.push(code, total)?;
+                self.held = Held::Many(Box::new(self.alloc, blocks)?);
                 Ok(())
             }
-            Held::Many(list) => list.push(code),
+            Held::Many(blocks) => blocks.push(code, total),
         }
     }
 
-    /// Adds codes at the end, no more than a leaf may have. `AllocError` where a growth was refused: the codes are as they were then.
-    pub(crate) fn extend(&mut self, codes: &[Packed]) -> Result<(), AllocError>
+    /// Adds codes at the end, no more than a block may have; `total` is what the others come to. `AllocError` where a growth was refused: the codes are as they were
+    /// then.
+    pub(crate) fn extend(&mut self, codes: &[Packed], total: Sum) -> Result<(), AllocError>
         requires some { 0 < length codes.now }
-        requires small { length codes.now ≤ 64 }
+        requires few { length codes.now ≤ 64 }
+        requires total { total ≡ sum_of self.old }
+        requires small { length self.old < 2 ^ 26 }
         ensures ok { OnOk result (self.new ≡ self.old ++ codes.now) }
         ensures err { OnErr result (self.new ≡ self.old) }
     {
@@ -170,31 +167,29 @@ impl CodeList {
                 if few.extend(codes) {
                     return Ok(());
                 }
-                self.held = in_leaves(self.alloc, few.as_slice(), codes)?;
+                let mut blocks = Blocks::new(self.alloc, few.as_slice())?;
+                blocks.extend(codes, total)?;
+                self.held = Held::Many(Box::new(self.alloc, blocks)?);
                 Ok(())
             }
-            Held::Many(list) => list.extend(codes),
+            Held::Many(blocks) => blocks.extend(codes, total),
         }
     }
 
-    /// How many codes there are. It goes through none of them.
+    /// How many codes there are. A look-up.
     pub(crate) fn count(&self) -> usize
-        requires { length self.now < 2 ^ 26 }
         ensures { result ≡ length self.now }
     {
-        match &self.held {
-            Held::Few(few) => few.as_slice().len(),
-            Held::Many(list) => count_in_leaves(list),
-        }
+        self.as_slice().len()
     }
 
-    /// The same codes again, leaf by leaf. `AllocError` where a growth was refused.
+    /// The same codes again. `AllocError` where a growth was refused.
     pub(crate) fn copy(&self) -> Result<CodeList, AllocError>
         ensures { IfOk result (λ copy. copy ≡ self.now) }
     {
         let held = match &self.held {
             Held::Few(few) => Held::Few(few.copy()),
-            Held::Many(list) => Held::Many(Box::new(self.alloc, list.copy()?)?),
+            Held::Many(blocks) => Held::Many(Box::new(self.alloc, blocks.copy()?)?),
         };
         Ok(CodeList {
             held,
@@ -209,7 +204,7 @@ impl CodeList {
     {
         match &self.held {
             Held::Few(few) => Cursor::of_few(few.as_slice()),
-            Held::Many(list) => Cursor::of_leaves(list),
+            Held::Many(blocks) => blocks.cursor(),
         }
     }
 }

@@ -1,19 +1,19 @@
 //! The codes of an operation, and the pen that writes them.
 
 ghost use Rattle.std.specs.Prelude.{◌≡◌, ◌+◌, ◌*◌, ◌<◌, ◌≤◌, ◌∷◌, length, max, false, IsTrue, IfOk, OnOk, OnErr};
-ghost use Rattle.ot_operation.specs.Operation.{IsOperation, IsTooLong, empty, news};
+ghost use Rattle.ot_operation.specs.Operation.{IsOperation, IsTooLong, empty, news, with_retain};
 ghost use Rattle.ot_operation.specs.Run.{IsNormal, normal_runs};
 ghost use Rattle.ot_operation.specs.Steps.{with_runs};
 ghost use Rattle.ot_operation.specs.declared.TheConstants.{LIMIT};
 ghost use Rattle.ot_operation.specs.Steps.{appended};
-ghost use Rattle.ot_codes.specs.Codes.{run_of, runs_of, spelled};
+ghost use Rattle.ot_codes.specs.Codes.{others_of, run_of, runs_of, spelled, sum_of};
+ghost use Rattle.ot_codes.specs.Runs.{IsPartOf};
 
 use crate::build::{add, may_end_with};
 use crate::code::{Code, Sum};
 use crate::code_list::CodeList;
 use crate::cursor::Cursor;
 use crate::packed::Packed;
-use ot_list::Item;
 use std::alloc::{AllocError, Global};
 use std::marker::Model;
 
@@ -63,16 +63,17 @@ impl Codes {
         if code.len() == 0 {
             return Ok(());
         }
-        add(&mut self.list, code)?;
+        add(&mut self.list, code, self.sum)?;
         self.sum = self.sum.with(code);
         Ok(())
     }
 
     // These codes at the end, as they are, where the first of them may stand behind what is there. Else nothing changes, and the answer is no.
-    fn extend(&mut self, codes: &[Packed]) -> Result<bool, AllocError>
+    fn extend(&mut self, codes: &[Packed], sum: Sum) -> Result<bool, AllocError>
         requires some { 0 < length codes.now }
         requires few { length codes.now ≤ 64 }
         requires normal { IsNormal (runs_of codes.now) }
+        requires sum { sum ≡ sum_of codes.now }
         requires short { IsTooLong (with_runs self.old (runs_of codes.now)) → ⊥ }
         ensures yes { IfOk result (λ done. IsTrue done → self.new ≡ with_runs self.old (runs_of codes.now)) }
         ensures no { IfOk result (λ done. done ≡ false → self.new ≡ self.old) }
@@ -80,26 +81,45 @@ impl Codes {
         if !may_end_with(&self.list, codes[0].code()) {
             return Ok(false);
         }
-        self.list.extend(codes)?;
-        self.sum = self.sum.plus(Packed::sum(codes).sum);
+        self.list.extend(codes, self.sum)?;
+        self.sum = self.sum.plus(sum);
         Ok(true)
     }
 
     // Codes in normal form at the end: those that join with what is there one by one, and the others as they are.
-    fn append(&mut self, first: Code, others: &[Packed]) -> Result<(), AllocError>
-        requires few { length others.now ≤ 64 }
-        requires normal { IsNormal (runs_of (first ∷ others.now)) }
-        requires short { IsTooLong (with_runs self.old (runs_of (first ∷ others.now))) → ⊥ }
-        ensures { OnOk result (self.new ≡ with_runs self.old (runs_of (first ∷ others.now))) }
+    fn append(&mut self, codes: &[Packed], sum: Sum) -> Result<(), AllocError>
+        requires few { length codes.now ≤ 64 }
+        requires normal { IsNormal (runs_of codes.now) }
+        requires sum { sum ≡ sum_of codes.now }
+        requires short { IsTooLong (with_runs self.old (runs_of codes.now)) → ⊥ }
+        ensures { OnOk result (self.new ≡ with_runs self.old (runs_of codes.now)) }
     {
-        self.put(first)?;
-        for (place, code) in others.iter().enumerate() {
-            if self.extend(&others[place..])? {
+        let mut left = sum;
+        for (place, code) in codes.iter().enumerate() {
+            if self.extend(&codes[place..], left)? {
                 return Ok(());
             }
-            self.put(code.code())?;
+            let code = code.code();
+            self.put(code)?;
+            left = left.less(code);
         }
         Ok(())
+    }
+
+    // The same of codes of which the first one may be what is left of a longer one.
+    fn append_from(&mut self, first: Code, codes: &[Packed], sum: Sum) -> Result<(), AllocError>
+        requires part { IsPartOf first codes.now }
+        requires few { length codes.now ≤ 64 }
+        requires normal { IsNormal (runs_of (first ∷ others_of codes.now)) }
+        requires sum { sum ≡ sum_of (first ∷ others_of codes.now) }
+        requires short { IsTooLong (with_runs self.old (runs_of (first ∷ others_of codes.now))) → ⊥ }
+        ensures { OnOk result (self.new ≡ with_runs self.old (runs_of (first ∷ others_of codes.now))) }
+    {
+        if first.len() == codes[0].code().len() {
+            return self.append(codes, sum);
+        }
+        self.put(first)?;
+        self.append(&codes[1..], sum.less(first))
     }
 
     /// The codes from the first one on.
@@ -149,7 +169,7 @@ impl Codes {
         self.sum().inserted
     }
 
-    /// How many codes there are. It goes through none of them.
+    /// How many codes there are. A look-up.
     pub fn count(&self) -> usize
         ensures value { result ≡ length (normal_runs self.now) }
         ensures small { result ≤ 2 * LIMIT }
@@ -157,7 +177,7 @@ impl Codes {
         self.list.count()
     }
 
-    /// Equal codes, leaf by leaf. `AllocError` where a growth was refused.
+    /// Equal codes. `AllocError` where a growth was refused.
     pub fn copy(&self) -> Result<Codes, AllocError>
         ensures { IfOk result (λ copy. copy ≡ self.now) }
     {
@@ -169,10 +189,24 @@ impl Codes {
     }
 }
 
+// A retain at the end, where it has elements.
+fn retain(codes: &mut Codes, count: u32) -> Result<(), AllocError>
+    requires { IsTooLong (with_retain codes.old count) → ⊥ }
+    ensures ok { OnOk result (codes.new ≡ with_retain codes.old count) }
+    ensures err { OnErr result (codes.new ≡ codes.old) }
+{
+    if count == 0 {
+        return Ok(());
+    }
+    codes.put(Code::Retain(count))
+}
+
 /// What is written of codes, from left to right, always in normal form.
 #[derive(Drop)]
 pub struct Pen {
     written: Codes,
+    // what is retained behind them: it is written with the next code of another kind
+    kept: u32,
 }
 
 impl Model for Pen {
@@ -180,7 +214,11 @@ impl Model for Pen {
 
     ghost Value = { Operation (Unit {0}) };
 
-    ghost view = { λ p. p.written };
+    ghost use Rattle.ot_operation.specs.Operation.{IsTooLong, with_retain};
+
+    ghost view = { λ p. with_retain p.written p.kept };
+
+    ghost invariant = { λ p. IsTooLong (with_retain p.written p.kept) → ⊥ };
 }
 
 impl Pen {
@@ -190,6 +228,7 @@ impl Pen {
     {
         Pen {
             written: Codes::new(alloc),
+            kept: 0,
         }
     }
 
@@ -200,23 +239,37 @@ impl Pen {
         ensures ok { OnOk result (self.new ≡ appended self.old (run_of code)) }
         ensures err { OnErr result (self.new ≡ self.old) }
     {
+        if let Code::Retain(count) = code {
+            self.kept += count;
+            return Ok(());
+        }
+        retain(&mut self.written, self.kept)?;
+        self.kept = 0;
         self.written.put(code)
     }
 
-    /// Writes codes in normal form, the first of which may join with what is written; the others follow as they are. `AllocError` where a growth was refused.
-    pub fn append(&mut self, first: Code, others: &[Packed]) -> Result<(), AllocError>
-        requires few { length others.now ≤ 64 }
-        requires normal { IsNormal (runs_of (first ∷ others.now)) }
-        requires short { IsTooLong (with_runs self.old (runs_of (first ∷ others.now))) → ⊥ }
-        ensures { OnOk result (self.new ≡ with_runs self.old (runs_of (first ∷ others.now))) }
+    /// Writes codes in normal form, which come to `sum`: `first`, which is the first one of `codes` or what is left of it, and the others. What joins with what is
+    /// written is written code by code, and the others follow as they are. `AllocError` where a growth was refused.
+    pub fn append(&mut self, first: Code, codes: &[Packed], sum: Sum) -> Result<(), AllocError>
+        requires part { IsPartOf first codes.now }
+        requires few { length codes.now ≤ 64 }
+        requires normal { IsNormal (runs_of (first ∷ others_of codes.now)) }
+        requires sum { sum ≡ sum_of (first ∷ others_of codes.now) }
+        requires short { IsTooLong (with_runs self.old (runs_of (first ∷ others_of codes.now))) → ⊥ }
+        ensures { OnOk result (self.new ≡ with_runs self.old (runs_of (first ∷ others_of codes.now))) }
     {
-        self.written.append(first, others)
+        retain(&mut self.written, self.kept)?;
+        self.kept = 0;
+        let done = self.written.append_from(first, codes, sum);
+        let _ = self.written.sum(); // also what is written where a growth was refused is within the limits
+        done
     }
 
-    /// What is written, as the codes of an operation.
-    pub fn finish(self) -> Codes
-        ensures { result ≡ self }
+    /// What is written, as the codes of an operation. `AllocError` where a growth was refused.
+    pub fn finish(mut self) -> Result<Codes, AllocError>
+        ensures { IfOk result (λ codes. codes ≡ self) }
     {
-        self.written
+        retain(&mut self.written, self.kept)?;
+        Ok(self.written)
     }
 }

@@ -47,13 +47,13 @@ pub fn compose(alloc: Global, a: &Codes, b: &Codes) -> Result<Composed, AllocErr
         }
         let Some(ours) = at_a.head() else {
             return Ok(Composed {
-                codes: pen.finish(),
+                codes: pen.finish()?,
                 cuts: splice.cuts,
             });
         };
         let Some(theirs) = at_b.head() else {
             return Ok(Composed {
-                codes: pen.finish(),
+                codes: pen.finish()?,
                 cuts: splice.cuts,
             });
         };

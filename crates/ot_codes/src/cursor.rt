@@ -1,49 +1,51 @@
 //! Reading codes, one after the other, or many at once.
 
-ghost use Rattle.std.specs.Prelude.{◌≡◌, ◌+◌, ◌<◌, ◌≤◌, ◌^◌, [], ◌++◌, length, take, drop, MatchOption};
-ghost use Rattle.ot_list.specs.Leaves.{concatenated};
+ghost use Rattle.std.specs.Prelude.{◌≡◌, ◌+◌, ◌<◌, ◌≤◌, ◌^◌, ◌++◌, length, take, MatchOption};
 ghost use Rattle.ot_codes.specs.Codes.{HasFirst, added, deletion_of, first_of, insertion_of, others_of, past, retain_of, sum_of, total_of, without};
-ghost use Rattle.ot_codes.specs.Leaf.{leaves_left};
-ghost use Rattle.ot_codes.specs.Runs.{IsRun, measured};
+ghost use Rattle.ot_codes.specs.Ends.{AreEnds};
+ghost use Rattle.ot_codes.specs.Runs.{IsPartOf, IsRun, measured};
 
 use crate::code::{Code, Sum};
+use crate::end::End;
 use crate::packed::Packed;
-use ot_list::List;
 use std::marker::Model;
 
 /// What is left of codes: a contract sees a list of codes, of which the first one may be what is left of a longer one.
 #[derive(Drop)]
 pub struct Cursor<'a> {
-    // the code at hand, and those behind it in its leaf
+    // the code at hand: the first one of its block, or what is left of it
     head: Option<Code>,
-    rest: &'a [Packed],
-    // what these come to, where they are a whole leaf
-    leaf: Option<Sum>,
-    // the leaves, if there are any, and which one is next
-    list: Option<&'a List<Packed>>,
-    next: usize,
+    // what is left of that block
+    block: &'a [Packed],
+    // what it comes to, where that is known and all of the block is left
+    sum: Option<Sum>,
+    // the codes behind the block, the ends of their blocks, and the end before them
+    behind: &'a [Packed],
+    ends: &'a [End],
+    done: End,
 }
 
 impl<'a> Model for Cursor<'a> {
-    ghost use Rattle.std.specs.Prelude.{List, ◌++◌, ◌<◌, ◌≤◌, ◌^◌, length, drop};
+    ghost use Rattle.std.specs.Prelude.{List, ◌++◌, ◌<◌, ◌≤◌, ◌^◌, length};
     ghost use Rattle.ot_codes.specs.declared.code.Code.{Code};
 
     ghost Value = { List Code };
 
-    ghost use Rattle.ot_codes.specs.Codes.{codes_left, total_of};
-    ghost use Rattle.ot_codes.specs.Leaf.{leaves_left};
-    ghost use Rattle.ot_codes.specs.Runs.{IsSumOf};
+    ghost use Rattle.ot_codes.specs.Codes.{codes_left, others_of, total_of};
+    ghost use Rattle.ot_codes.specs.Ends.{AreEnds};
+    ghost use Rattle.ot_codes.specs.Runs.{IsHead, IsSumOf};
 
-    ghost view = { λ c. codes_left c.head (c.rest.now ++ leaves_left c.list c.next) };
+    ghost view = { λ c. codes_left c.head (others_of c.block.now ++ c.behind.now) };
 
-    ghost invariant = { λ c. IsSumOf c.leaf c.head c.rest.now × (length c.rest.now ≤ 64) × (total_of (codes_left c.head (c.rest.now ++ leaves_left c.list c.next)) < 2 ^ 26) };
+    ghost invariant = { λ c. IsHead c.head c.block.now × IsSumOf c.sum c.head c.block.now × (length c.block.now ≤ 64) × AreEnds c.done c.behind.now c.ends.now × (total_of (codes_left c.head (others_of c.block.now ++ c.behind.now)) < 2 ^ 26) };
 }
 
-/// Codes that follow one another, the first of which may be what is left of a longer one; how much they retain, delete and insert; and what is left behind them.
+/// Codes that follow one another, of one block, the first of which may be what is left of that code; how much they retain, delete and insert; and what is left behind
+/// them.
 #[derive(Drop)]
 pub struct Run<'a> {
     pub first: Code,
-    pub others: &'a [Packed],
+    pub codes: &'a [Packed],
     pub sum: Sum,
     pub behind: Cursor<'a>,
 }
@@ -78,7 +80,7 @@ fn fitting(codes: &[Packed], from: Sum, limit: u32, by: Measure) -> (usize, Sum)
 {
     let mut sum = from;
     for (count, code) in codes.iter().enumerate() {
-        let next = sum.with(code.code());
+        let next = code.added_to(sum);
         if by.of(next) > limit {
             return (count, sum);
         }
@@ -88,94 +90,74 @@ fn fitting(codes: &[Packed], from: Sum, limit: u32, by: Measure) -> (usize, Sum)
 }
 
 impl<'a> Cursor<'a> {
-    /// All codes of these leaves.
-    pub(crate) fn of_leaves(list: &'a List<Packed>) -> Cursor<'a>
-        requires { total_of (concatenated list.now) < 2 ^ 26 }
-        ensures { result ≡ concatenated list.now }
-    {
-        Cursor::at(list, 0)
-    }
-
-    /// A few codes, which lie in no leaf.
+    /// A few codes, which lie in one block.
     pub(crate) fn of_few(codes: &'a [Packed]) -> Cursor<'a>
         requires few { length codes.now ≤ 64 }
         requires small { total_of codes.now < 2 ^ 26 }
         ensures { result ≡ codes.now }
     {
-        Cursor::behind(codes, None, 0)
+        Cursor::at(codes, &[], End::START)
     }
 
-    // The codes of the leaves from a place on.
-    fn at(list: &'a List<Packed>, place: usize) -> Cursor<'a>
-        requires { total_of (concatenated (drop place list.now)) < 2 ^ 26 }
-        ensures { result ≡ concatenated (drop place list.now) }
+    /// Codes behind an end, in blocks with these ends.
+    pub(crate) fn at(codes: &'a [Packed], ends: &'a [End], done: End) -> Cursor<'a>
+        requires ends { AreEnds done codes.now ends.now }
+        requires small { total_of codes.now < 2 ^ 26 }
+        ensures { result ≡ codes.now }
     {
-        if place >= list.leaf_count() {
-            return Cursor::end();
+        match ends {
+            [end, ends @ ..] => {
+                let count = (end.count - done.count) as usize;
+                let block = &codes[..count];
+                Cursor {
+                    head: Some(block[0].code()),
+                    block,
+                    sum: Some(end.sum.minus(done.sum)),
+                    behind: &codes[count..],
+                    ends,
+                    done: *end,
+                }
+            }
+            [] => Cursor::last_block(codes),
         }
-        let leaf = list.leaf(place);
-        let sums = list.sums();
-        Cursor::of_leaf(leaf, sums[place].sum, list, place + 1)
     }
 
-    // No codes.
-    fn end() -> Cursor<'a>
-        ensures { result ≡ [] }
+    // The codes of the last block.
+    fn last_block(codes: &'a [Packed]) -> Cursor<'a>
+        requires few { length codes.now ≤ 64 }
+        requires small { total_of codes.now < 2 ^ 26 }
+        ensures { result ≡ codes.now }
     {
+        let head = match codes {
+            [first, ..] => Some(first.code()),
+            [] => None,
+        };
         Cursor {
-            head: None,
-            rest: &[],
-            leaf: None,
-            list: None,
-            next: 0,
+            head,
+            block: codes,
+            sum: None,
+            behind: &[],
+            ends: &[],
+            done: End::START,
         }
     }
 
-    // The codes of a leaf, which come to that sum, and those of the leaves from a place on.
-    fn of_leaf(leaf: &'a [Packed], sum: Sum, list: &'a List<Packed>, next: usize) -> Cursor<'a>
-        requires some { 0 < length leaf.now }
-        requires few { length leaf.now ≤ 64 }
-        requires sum { sum ≡ sum_of leaf.now }
-        requires small { total_of (leaf.now ++ concatenated (drop next list.now)) < 2 ^ 26 }
-        ensures { result ≡ leaf.now ++ concatenated (drop next list.now) }
+    // What is left of a block, and the codes behind it.
+    fn within(block: &'a [Packed], behind: &'a [Packed], ends: &'a [End], done: End) -> Cursor<'a>
+        requires few { length block.now ≤ 64 }
+        requires ends { AreEnds done behind.now ends.now }
+        requires small { total_of (block.now ++ behind.now) < 2 ^ 26 }
+        ensures { result ≡ block.now ++ behind.now }
     {
-        match leaf {
-            [] => unreachable!(),
-            [first, rest @ ..] => Cursor {
+        match block {
+            [] => Cursor::at(behind, ends, done),
+            [first, ..] => Cursor {
                 head: Some(first.code()),
-                rest,
-                leaf: Some(sum),
-                list: Some(list),
-                next,
-            },
-        }
-    }
-
-    // What the leaves have from a place on, if there are any.
-    fn next_leaf(list: Option<&'a List<Packed>>, place: usize) -> Cursor<'a>
-        requires { total_of (leaves_left list place) < 2 ^ 26 }
-        ensures { result ≡ leaves_left list.entry place }
-    {
-        match list {
-            None => Cursor::end(),
-            Some(list) => Cursor::at(list, place),
-        }
-    }
-
-    // These codes, and those of the leaves from a place on.
-    fn behind(rest: &'a [Packed], list: Option<&'a List<Packed>>, place: usize) -> Cursor<'a>
-        requires few { length rest.now ≤ 64 }
-        requires small { total_of (rest.now ++ leaves_left list place) < 2 ^ 26 }
-        ensures { result ≡ rest.now ++ leaves_left list.entry place }
-    {
-        match rest {
-            [] => Cursor::next_leaf(list, place),
-            [first, others @ ..] => Cursor {
-                head: Some(first.code()),
-                rest: others,
-                leaf: None,
-                list,
-                next: place,
+                block,
+                sum: None,
+                behind,
+                ends,
+                done,
             },
         }
     }
@@ -217,43 +199,46 @@ impl<'a> Cursor<'a> {
         }
     }
 
-    /// Codes from the one at hand on, of one leaf and whole, that come to at most `limit` elements together; none, where the code at hand comes to more, or there is
-    /// none. Of a whole leaf that fits only the sum is read.
+    /// Codes from the one at hand on, of one block and whole, that come to at most `limit` elements together; none, where the code at hand comes to more, or there is
+    /// none. Of a whole block that fits only the sum is read.
     pub fn run(&self, limit: u32, by: Measure) -> Option<Run<'a>>
-        ensures { MatchOption result (Unit {0}) (λ run. IsRun limit by self.now run.first run.others.now run.sum run.behind) }
+        ensures is { MatchOption result (Unit {0}) (λ run. IsRun limit by self.now run.first (others_of run.codes.now) run.sum run.behind) }
+        ensures part { MatchOption result (Unit {0}) (λ run. IsPartOf run.first run.codes.now) }
     {
         let Some(first) = self.head else {
             return None;
         };
-        if let Some(sum) = self.leaf {
+        if let Some(sum) = self.sum {
             if by.of(sum) <= limit {
                 return Some(Run {
                     first,
-                    others: self.rest,
+                    codes: self.block,
                     sum,
-                    behind: Cursor::next_leaf(self.list, self.next),
+                    behind: Cursor::at(self.behind, self.ends, self.done),
                 });
             }
         }
         self.part(first, limit, by)
     }
 
-    // The same where the leaf is gone through.
+    // The same where the block is gone through.
     fn part(&self, first: Code, limit: u32, by: Measure) -> Option<Run<'a>>
         requires { first_of self.now ≡ Some first }
-        ensures { MatchOption result (Unit {0}) (λ run. IsRun limit by self.now run.first run.others.now run.sum run.behind) }
+        ensures is { MatchOption result (Unit {0}) (λ run. IsRun limit by self.now run.first (others_of run.codes.now) run.sum run.behind) }
+        ensures part { MatchOption result (Unit {0}) (λ run. IsPartOf run.first run.codes.now) }
     {
-        let _ = &self.rest;
+        let _ = &self.block;
         let sum = Sum::ZERO.with(first);
         if by.of(sum) > limit {
             return None;
         }
-        let (count, sum) = fitting(self.rest, sum, limit, by);
+        let (more, sum) = fitting(&self.block[1..], sum, limit, by);
+        let count = more + 1;
         Some(Run {
             first,
-            others: &self.rest[..count],
+            codes: &self.block[..count],
             sum,
-            behind: Cursor::behind(&self.rest[count..], self.list, self.next),
+            behind: Cursor::within(&self.block[count..], self.behind, self.ends, self.done),
         })
     }
 
@@ -262,7 +247,15 @@ impl<'a> Cursor<'a> {
         requires { 0 < length self.old }
         ensures { self.new ≡ others_of self.old }
     {
-        *self = Cursor::behind(self.rest, self.list, self.next);
+        let rest = &self.block[1..];
+        match rest {
+            [] => *self = Cursor::at(self.behind, self.ends, self.done),
+            [first, ..] => {
+                self.head = Some(first.code());
+                self.block = rest;
+                self.sum = None;
+            }
+        }
     }
 
     /// Goes past the first `count` elements of the code at hand.
@@ -278,7 +271,7 @@ impl<'a> Cursor<'a> {
             self.next();
         } else {
             self.head = Some(code.with_len(length - count));
-            self.leaf = None;
+            self.sum = None;
         }
     }
 

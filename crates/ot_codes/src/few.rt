@@ -12,7 +12,7 @@ const FEW: usize = 5;
 #[derive(Drop)]
 pub(crate) struct Few {
     codes: [Packed; FEW],
-    count: usize,
+    count: u32,
 }
 
 impl Model for Few {
@@ -42,7 +42,7 @@ impl Few {
         ensures value { result.now ≡ self.now }
         ensures few { length self.now ≤ 5 }
     {
-        &self.codes[..self.count]
+        &self.codes[..self.count as usize]
     }
 
     /// One more code at the end; no where there is no room for it.
@@ -50,10 +50,11 @@ impl Few {
         ensures yes { IsTrue result → self.new ≡ self.old ++ code ∷ [] }
         ensures no { result ≡ false → self.new ≡ self.old }
     {
-        if self.count == FEW {
+        let count = self.count as usize;
+        if count == FEW {
             return false;
         }
-        self.codes[self.count] = code;
+        self.codes[count] = code;
         self.count += 1;
         true
     }
@@ -63,14 +64,14 @@ impl Few {
         ensures yes { IsTrue result → self.new ≡ self.old ++ codes.now }
         ensures no { result ≡ false → self.new ≡ self.old }
     {
-        let end = self.count;
+        let end = self.count as usize;
         if codes.len() > FEW - end {
             return false;
         }
         let all = &mut self.codes[..];
         let part = &mut all[end..end + codes.len()];
         part.copy_from_slice(codes);
-        self.count += codes.len();
+        self.count += codes.len() as u32;
         true
     }
 

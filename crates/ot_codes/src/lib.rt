@@ -23,23 +23,27 @@
 //!     cuts        at 1: 1 goes, 2 come, from 0              text  x u v z
 //! ```
 //!
-//! Up to five codes lie in the value itself, without an allocation. More lie in leaves of up to 64 (`ot_list`), four bytes each, beside what each leaf comes to:
+//! Up to five codes lie in the value itself, without an allocation. More lie in one vector, four bytes each, in blocks of up to 64. Beside them stands what all codes
+//! before the end of a block come to, and how many they are; the last block has no end yet:
 //!
 //! ```text
-//!     sums     [ 31 kept, 4 deleted, 9 inserted | 12 kept, 0 deleted, 2 inserted ]
-//!     leaves   [ R 3  I 1  R 2  D 4 ..          | R 9  I 2  R 3                  ]
+//!     codes    [ R 3  I 1  R 2  D 4 ..   | I 7  R 9  D 2 ..   | R 9  I 2  R 3 ]
+//!     ends     [ 31 kept, 4 deleted,     | 60 kept, 9 deleted,
+//!                9 inserted, 64 codes    | 20 inserted, 127 codes ]
 //! ```
 //!
 //! They are read through a [`Cursor`] and written by a [`Pen`] alone, each of which a contract sees as a value: what is left, and what is written. [`Cursor::run`] reads
-//! codes of one leaf at once, as many as fit into a length; of a whole leaf it looks at the sum alone. [`Pen::append`] writes them, and joins only what has to be joined.
-//! `transform` does so where codes of one operation lie in a retain of the other: they stay as they are, and the other retains what they make. Else `transform`, and always
-//! `compose`, go code by code: each iteration of a loop ends a code of one operation at least, so they cost the codes of both, whatever is inserted.
+//! codes of one block at once, as many as fit into a length; of a whole block with an end it looks at the sum alone. [`Pen::append`] writes them with that sum, as they lie,
+//! and joins only what has to be joined. `transform` does so where codes of an operation of more than eight lie in a retain of the other: they stay as they are, and the
+//! other retains what they make. Else `transform`, and always `compose`, go code by code: each iteration of a loop ends a code of one operation at least, so they cost the codes
+//! of both, whatever is inserted. A pen writes a retain with the next code of another kind: so what is retained piece by piece is written once.
 //!
 //! Contracts: `specs/Shape.antt` (shapes, and how they are filled), `specs/Codes.antt` (codes as runs of `ot_text` over the unit type), `specs/Cuts.antt` (the text of a
 //! composition, and what carrying out its cuts gives), `specs/Laws.antt` (the laws, each the contract of a function in [`laws`]). `specs/Splice.antt` serves the loop of `compose` alone, `specs/Runs.antt` says what is
-//! read at once. To read: `code.rt`, `packed.rt` (four bytes), `code_list.rt` and `few.rt` (few or many), `build.rt` (normal form), `codes.rt`, `cursor.rt`, then `transformation.rt`, `cut.rt` and `composition.rt`.
+//! read at once. To read: `code.rt`, `packed.rt` (four bytes), `code_list.rt`, `few.rt` and `blocks.rt` (few or many), `build.rt` (normal form), `codes.rt`, `cursor.rt`, then `transformation.rt`, `cut.rt` and `composition.rt`.
 #![tactic(auto)]
 
+mod blocks;
 mod build;
 mod code;
 mod code_list;
@@ -47,9 +51,9 @@ mod codes;
 mod composition;
 mod cursor;
 mod cut;
+mod end;
 mod few;
 pub mod laws;
-mod leaf;
 mod packed;
 mod transformation;
 
@@ -58,6 +62,5 @@ pub use codes::{Codes, Pen};
 pub use composition::{Composed, compose};
 pub use cursor::{Cursor, Measure, Run};
 pub use cut::{Cut, carry};
-pub use leaf::Leaf;
 pub use packed::Packed;
 pub use transformation::{transform, transform_first};

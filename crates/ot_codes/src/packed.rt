@@ -1,13 +1,9 @@
-//! A code in four bytes, and what the codes of a leaf come to.
+//! A code in four bytes.
 
-ghost use Rattle.std.specs.Prelude.{◌≡◌, ◌<◌, ◌^◌, refl};
-ghost use Rattle.ot_codes.specs.Codes.{length_of};
-ghost use Rattle.ot_codes.specs.Leaf.{leaf_of, count_in};
-ghost use Rattle.std.proofs.Common.{rules};
+ghost use Rattle.std.specs.Prelude.{◌≡◌, ◌+◌, ◌<◌, ◌≤◌, ◌^◌};
+ghost use Rattle.ot_codes.specs.Codes.{counted, joined, length_of, stands_before};
 
 use crate::code::{Code, Sum};
-use crate::leaf::Leaf;
-use ot_list::Item;
 use std::marker::Model;
 
 // The kind stands in the two highest bits.
@@ -72,46 +68,43 @@ impl Packed {
             Code::Delete(self.bits - DELETE)
         }
     }
-}
 
-impl Item for Packed {
-    type Sum = Leaf;
-
-    const CAP: usize = 64;
-
-    const FILL: usize = 48;
-
-    ghost CAP = { 64 };
-
-    ghost FILL = { 48 };
-
-    ghost total = { leaf_of };
-
-    ghost count_of = { count_in };
-
-    fn sum(items: &[Packed]) -> Leaf {
-        let mut sum = Sum::ZERO;
-        for item in items {
-            sum = sum.with(item.code());
+    /// Two codes of one kind as one; none where they are of two kinds.
+    pub(crate) fn joined(self, next: Packed) -> Option<Packed>
+        requires { length_of self + length_of next < 2 ^ 26 }
+        ensures { result ≡ joined self next }
+    {
+        if self.bits / INSERT != next.bits / INSERT {
+            return None;
         }
-        Leaf {
-            sum,
-            count: items.len() as u32,
+        Some(Packed {
+            bits: self.bits + next.bits % INSERT,
+        })
+    }
+
+    /// The code is an insertion, and the last one is a deletion: then it stands before it.
+    pub(crate) fn stands_before(self, last: Packed) -> bool
+        ensures { result ≡ stands_before self last }
+    {
+        INSERT <= self.bits && self.bits < DELETE && DELETE <= last.bits
+    }
+
+    /// The sum with this code. No branch depends on the kind.
+    pub(crate) fn added_to(self, sum: Sum) -> Sum
+        requires kept { sum.kept + 2 ^ 26 ≤ 2 ^ 32 }
+        requires deleted { sum.deleted + 2 ^ 26 ≤ 2 ^ 32 }
+        requires inserted { sum.inserted + 2 ^ 26 ≤ 2 ^ 32 }
+        ensures is { result ≡ counted sum self }
+        ensures short { length_of self < 2 ^ 26 }
+    {
+        let (kind, length) = (self.bits / INSERT, self.bits % INSERT);
+        let kept = if kind == 0 { length } else { 0 };
+        let inserted = if kind == 1 { length } else { 0 };
+        let deleted = if kind == 2 { length } else { 0 };
+        Sum {
+            kept: sum.kept + kept,
+            deleted: sum.deleted + deleted,
+            inserted: sum.inserted + inserted,
         }
     }
-
-    fn sum_with(leaf: Leaf, more: &[Packed]) -> Option<Leaf> {
-        let behind = Packed::sum(more);
-        let sum = leaf.sum.checked_plus(behind.sum)?;
-        let count = leaf.count.checked_add(behind.count)?;
-        Some(Leaf { sum, count })
-    }
-
-    fn count(leaf: Leaf) -> usize {
-        leaf.count as usize
-    }
-
-    ghost bounds = { Prim.search rules };
-
-    ghost counts = { λ items small. refl };
 }

@@ -19,11 +19,11 @@ use Rattle.ot_conform.specs.Laws.{Says, data_of}
 use Rattle.ot_conform.specs.Ports.{PortLine}
 use Rattle.ot_conform.specs.Received.{Received, receives}
 use Rattle.ot_conform.specs.Standing.{IsStanding}
-use Rattle.ot_conform.specs.Values.{value_at}
+use Rattle.ot_steps.specs.Text.{value_at}
 use Rattle.ot_conform.specs.declared.comparison.Comparison.{Comparison}
 use Rattle.ot_conform.specs.declared.counts.Counts.{Counts}
-use Rattle.ot_conform.specs.declared.keys.Key.{Key}
-use Rattle.ot_conform.specs.declared.keys.Key.TheVariants as key
+use Rattle.ot_steps.specs.declared.key.Key.{Key}
+use Rattle.ot_steps.specs.declared.key.Key.TheVariants as key
 use Rattle.ot_conform.proofs.Conforming.{Shows, line_agrees, step_shown}
 use Rattle.ot_conform.proofs.DueLines.{step_line_formed}
 use Rattle.ot_conform.proofs.Going.{running}

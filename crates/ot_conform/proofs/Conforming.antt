@@ -23,22 +23,21 @@ use Rattle.ot_model.specs.Runs.{opening_of, place_at}
 use Rattle.ot_machine.specs.Ended.{reached, IsRefusedIn, IsStop, IsStopAt}
 use Rattle.ot_steps.specs.Lines.{Line}
 use Rattle.ot_steps.specs.Lines as lines
-use Rattle.ot_steps.specs.Steps.{applies, end_line, has_document, is_quiet, last_lines, lines_from, opening_line, run_lines, sends, step_line, stop_at, stop_line}
-use Rattle.ot_steps.specs.Text.{Value, Number, Name, Text, Op, Sent, end_text, value_text, word_text}
+use Rattle.ot_steps.specs.Steps.{applies, end_line, has_document, is_quiet, last_lines, lines_from, opening_line, run_lines, sends, step_line, stop_at, stop_line, whole_line}
+use Rattle.ot_steps.specs.Text.{Name, Number, Op, Sent, Text, Value, end_text, text_at, value_at, value_text, word_text}
 use Rattle.ot_steps.proofs.Running.{reached_within}
 use Rattle.ot_values.specs.Values.{phase_word, refusal_text}
 use Rattle.ot_machine.specs.declared.state.Phase.{Phase}
 use Rattle.ot_machine.specs.declared.state.Phase.TheVariants as phase
 use Rattle.ot_conform.specs.Differences.{Ahead, Wanted, Outcome, Conforms, Stopped, ahead_from, ending, field_of, first_key, from_opening, is_limit, is_same, outcome, over, stopping}
 use Rattle.ot_conform.specs.Received.{message_agrees, receives}
-use Rattle.ot_conform.specs.Due.{DueLine, end_due, opening_due, step_due, stop_due, whole_line}
+use Rattle.ot_conform.specs.Due.{DueLine, end_due, opening_due, step_due, stop_due}
 use Rattle.ot_conform.specs.Keys.{agrees, agrees_at, are_plain, first_keys, found_at, is_told, is_written, other_keys}
 use Rattle.ot_conform.specs.Laws as laws
 use Rattle.ot_conform.specs.Laws.{IsOfTable, Say, Says, SaysLine, StepsConform, operation_data, outcome_at}
 use Rattle.ot_conform.specs.Ports.{PortLine, Told, OtherForm, NoText, Nothing, is_opening_line}
-use Rattle.ot_conform.specs.Values.{text_at, value_at}
-use Rattle.ot_conform.specs.declared.keys.Key.{Key}
-use Rattle.ot_conform.specs.declared.keys.Key.TheVariants as key
+use Rattle.ot_steps.specs.declared.key.Key.{Key}
+use Rattle.ot_steps.specs.declared.key.Key.TheVariants as key
 use Rattle.ot_conform.proofs.FirstKey.{all_agree}
 use Rattle.ot_conform.proofs.Outcomes.{ahead_past, ahead_refused, goes_on, over_agrees, stops_all}
 
@@ -91,6 +90,18 @@ unfolding escape_byte
 end_plain true = refl
 end_plain false = refl
 
+refusal_plain : (r : Refusal) → IsPlainName (refusal_text r)
+unfolding escape_byte
+refusal_plain refusal.NoSuchClient = refl
+refusal_plain refusal.StepsFull = refl
+refusal_plain refusal.NotJoined = refl
+refusal_plain refusal.AlreadyJoined = refl
+refusal_plain refusal.BadBase = refl
+refusal_plain refusal.ClientFull = refl
+refusal_plain refusal.LinkEmpty = refl
+refusal_plain refusal.WrongHead = refl
+refusal_plain refusal.Memory = refl
+
 -- ---- what a line says under a key, where it has something there, agrees
 
 abbrev said : Option Value → Option Data
@@ -115,6 +126,7 @@ agrees_with_itself key.Start line = optional key.Start Text line.start (λ text.
 agrees_with_itself key.Do line = optional key.Do (λ w. Name (word_text w)) line.word (λ w. name_written (word_text w) (word_plain w))
 agrees_with_itself key.Client line = optional key.Client Number line.client number_written
 agrees_with_itself key.Edit line = optional key.Edit Op line.edit operation_written
+agrees_with_itself key.Stopped line = optional key.Stopped (λ r. Name (refusal_text r)) line.stopped (λ r. name_written (refusal_text r) (refusal_plain r))
 agrees_with_itself key.Revision line = optional key.Revision Number line.revision number_written
 agrees_with_itself key.State line = optional key.State (λ p. Name (phase_word p)) line.state (λ p. name_written (phase_word p) (phase_plain p))
 agrees_with_itself key.Outstanding line = optional key.Outstanding Op line.outstanding operation_written
@@ -144,7 +156,7 @@ value_agrees k shown line (inr same) = ap (λ (v : Option Value). agrees_at k (t
 key_agrees : (line shown : Line) (d : Data) → Shows shown line → Says shown d → (k : Key) → agrees_at k (text_at k line) (found_at k d) ≡ true
 key_agrees line shown d shows says k = ap (agrees_at k (text_at k line)) (says.under k) ∙ value_agrees k shown line (shows.values k)
 
-pub stop_agrees : (stopped : Option Refusal) → is_told (option_map (λ r. string (refusal_text r)) stopped) ≡ is_some stopped
+pub stop_agrees : (stopped : Option Refusal) → is_told (said (option_map (λ r. Name (refusal_text r)) stopped)) ≡ is_some stopped
 stop_agrees None = refl
 stop_agrees (Some r) = refl
 
@@ -154,7 +166,7 @@ same_stop false = refl
 
 pub line_agrees : (due : DueLine) (shown : Line) (d : Data) → Shows shown due.line → Says shown d → field_of due (Told d) ≡ None
 line_agrees due shown d shows says =
-    let stop : is_told (get (codes "stopped") d) ≡ is_some due.line.stopped = ap is_told says.stopped ∙ stop_agrees shown.stopped ∙ ap is_some shows.stopped in
+    let stop : is_told (get (codes "stopped") d) ≡ is_some due.line.stopped = ap is_told (says.under key.Stopped) ∙ stop_agrees shown.stopped ∙ ap is_some shows.stopped in
     let first : first_key first_keys due.line d ≡ None = all_agree first_keys due.line d (key_agrees due.line shown d shows says) in
     let message : message_agrees due.received (get (codes "message") d) ≡ true = ap (message_agrees due.received) says.message in
     let others : first_key other_keys due.line d ≡ None = all_agree other_keys due.line d (key_agrees due.line shown d shows says) in
@@ -219,6 +231,7 @@ less_shown moved document applied line = record { values = at; stopped = refl }
     at key.Do = inr refl
     at key.Client = inr refl
     at key.Edit = inr refl
+    at key.Stopped = inr refl
     at key.Revision = unless Number moved line.revision
     at key.State = unless (λ p. Name (phase_word p)) moved line.state
     at key.Outstanding = unless Op moved line.outstanding
@@ -327,7 +340,7 @@ pub is_the_opening : (s : Program) (port : PortLine) → SaysLine (opening_line 
 is_the_opening s (Told d) says =
     let at : get (codes "at") d ≡ Some (number (unsigned 0)) = says.under key.At in
     let word : get (codes "do") d ≡ None = says.under key.Do in
-    let stopped : get (codes "stopped") d ≡ None = says.stopped in
+    let stopped : get (codes "stopped") d ≡ None = says.under key.Stopped in
     let end : get (codes "end") d ≡ None = says.under key.End in
     rw (at, word, stopped, end) refl
 is_the_opening s (OtherForm bytes) says = absurd says

@@ -11,7 +11,7 @@ use Rattle.ot_conform.specs.Keys.{is_told}
 use Rattle.ot_conform.specs.Laws.{PlacesAreNotCounted, Say, Says, SaysLine, StepsAreCounted, place_with}
 use Rattle.ot_conform.specs.Ports.{PortLine, Told, OtherForm, NoText, Nothing}
 use Rattle.ot_conform.specs.declared.counts.Counts.{Counts}
-use Rattle.ot_conform.specs.declared.keys.Key.TheVariants as key
+use Rattle.ot_steps.specs.declared.key.Key.TheVariants as key
 
 -- ---- a count never falls to 0
 

@@ -18,7 +18,7 @@ use Rattle.ot_conform.specs.Laws.{place_alone}
 use Rattle.ot_conform.specs.Points.{points_rows}
 use Rattle.ot_conform.specs.Ports.{PortLine, Told}
 use Rattle.ot_conform.specs.Received.{Received, Taken, Delivered, received_agrees}
-use Rattle.ot_conform.specs.declared.keys.Key.TheVariants.{At, Document}
+use Rattle.ot_steps.specs.declared.key.Key.TheVariants.{At, Document}
 use Rattle.ot_conform.specs.declared.meeting.Field.TheVariants.{Key, Message, Stopped}
 
 -- a message is taken, transformed against what the log has gained

@@ -5,8 +5,8 @@ use Rattle.serde_json.specs.Data.{Data}
 use Rattle.ot_steps.specs.Lines.{Line}
 use Rattle.ot_conform.specs.Differences.{first_key}
 use Rattle.ot_conform.specs.Keys.{agrees_at, found_at}
-use Rattle.ot_conform.specs.Values.{text_at}
-use Rattle.ot_conform.specs.declared.keys.Key.{Key}
+use Rattle.ot_steps.specs.Text.{text_at}
+use Rattle.ot_steps.specs.declared.key.Key.{Key}
 
 abbrev agrees_in : Line → Data → Key → Bool
 agrees_in line d k = agrees_at k (text_at k line) (found_at k d)

@@ -1,6 +1,6 @@
 -- Each line of a run has a JSON form.
 use Rattle.std.proofs.Common.{◌≡◌, ℕ, suc, ◌+◌, ◌<◌, ◌≤◌, ◌^◌, List, [], ◌∷◌, ◌++◌, length, take, refl, sym, subst, arith, Option, Some, None, Bool, true, false}
-use Rattle.std.specs.Prelude.{slice_get, codes, if◌then◌else◌, ◌||◌}
+use Rattle.std.specs.Prelude.{slice_get, codes, option_map, if◌then◌else◌, ◌||◌}
 use Rattle.std.specs.Option.{IfSome}
 use Rattle.std.specs.List.{All, AllByRecursion}
 use Rattle.std.specs.Str.{all_scalars}
@@ -28,7 +28,7 @@ use Rattle.ot_values.specs.Values.{phase_word, refusal_text}
 use Rattle.ot_steps.specs.Lines.{Line, Message, Word, bare}
 use Rattle.ot_steps.specs.Lines as lines
 use Rattle.ot_steps.specs.Steps.{applies, appended_by, client_in, document_after, document_in, edit_of, end_line, first_lines, has_document, is_quiet, last_lines, lines_from, message_in, named, opening_line, placed, sends, step_line, stop_at, stop_line, stop_lines, with_client}
-use Rattle.ot_steps.specs.Text.{Field, Value, Number, Name, Text, Op, Sent, end_text, field, opening_fields, named_fields, placed_fields, word_text}
+use Rattle.ot_steps.specs.Text.{Field, Value, Number, Name, Text, Op, Sent, end_text, field, word_text}
 use Rattle.ot_steps.specs.Written.{AreRunLines}
 use Rattle.ot_steps.proofs.Running.{reached_within}
 use Rattle.ot_conform.proofs.Formed.{ClientForm, MessageForm, OpForm, client_form, delivers_form, last_form, log_fits}
@@ -44,7 +44,7 @@ all_both P (x ∷ xs) ys h g = (h.0, all_both P xs ys h.1 g)
 both_formed : (fs gs : List Field) → AreFormed fs → AreFormed gs → AreFormed (fs ++ gs)
 both_formed fs gs h g = all_both IsFieldFormed fs gs h g
 
-field_formed : {A : Type 0} (key : List ℕ) (value : A → Value) (o : Option A) → are_letters key ≡ true → IfSome o (λ x. IsFormed (value x)) → AreFormed (field key value o)
+field_formed : {A : Type 0} (key : List ℕ) (value : A → Value) (o : Option A) → are_letters key ≡ true → IfSome o (λ x. IsFormed (value x)) → AreFormed (field key (option_map value o))
 field_formed key value None letters h = tt
 field_formed key value (Some x) letters h = ((letters, h), tt)
 
@@ -99,35 +99,25 @@ pub record LineForm (line : Line) : Type 0 where
   pub appended : IfSome line.appended OpForm
   pub document : IfSome line.document (λ t. all_scalars t ≡ true)
 
-opening_formed : (line : Line) → LineForm line → AreFormed (opening_fields line)
-opening_formed line h =
-    both_formed _ _ (field_formed (codes "clients") Number line.clients refl h.clients)
-    (both_formed _ _ (field_formed (codes "present") Number line.present refl h.present) (field_formed (codes "start") Text line.start refl h.start))
-
-named_formed : (line : Line) → LineForm line → AreFormed (named_fields line)
-named_formed line h =
-    both_formed _ _ (field_formed (codes "do") (λ w. Name (word_text w)) line.word refl (each _ line.word word_letters))
-    (both_formed _ _ (field_formed (codes "client") Number line.client refl h.client)
-    (both_formed _ _ (field_formed (codes "edit") Op line.edit refl h.edit)
-    (field_formed (codes "stopped") (λ r. Name (refusal_text r)) line.stopped refl (each _ line.stopped refusal_letters))))
-
-placed_formed : (line : Line) → LineForm line → AreFormed (placed_fields line)
-placed_formed line h =
-    both_formed _ _ (field_formed (codes "revision") Number line.revision refl h.revision)
-    (both_formed _ _ (field_formed (codes "state") (λ p. Name (phase_word p)) line.state refl (each _ line.state phase_letters))
-    (both_formed _ _ (field_formed (codes "outstanding") Op line.outstanding refl h.outstanding) (field_formed (codes "buffer") Op line.buffer refl h.buffer)))
-
 pub line_formed : (line : Line) → LineForm line → IsLineFormed line
 line_formed line h = (
   h.at,
-  both_formed (opening_fields line) _ (opening_formed line h)
-      (both_formed (named_fields line) _ (named_formed line h)
-      (both_formed (placed_fields line) _ (placed_formed line h)
+  both_formed _ _ (field_formed (codes "clients") Number line.clients refl h.clients)
+      (both_formed _ _ (field_formed (codes "present") Number line.present refl h.present)
+      (both_formed _ _ (field_formed (codes "start") Text line.start refl h.start)
+      (both_formed _ _ (field_formed (codes "do") (λ w. Name (word_text w)) line.word refl (each _ line.word word_letters))
+      (both_formed _ _ (field_formed (codes "client") Number line.client refl h.client)
+      (both_formed _ _ (field_formed (codes "edit") Op line.edit refl h.edit)
+      (both_formed _ _ (field_formed (codes "stopped") (λ r. Name (refusal_text r)) line.stopped refl (each _ line.stopped refusal_letters))
+      (both_formed _ _ (field_formed (codes "revision") Number line.revision refl h.revision)
+      (both_formed _ _ (field_formed (codes "state") (λ p. Name (phase_word p)) line.state refl (each _ line.state phase_letters))
+      (both_formed _ _ (field_formed (codes "outstanding") Op line.outstanding refl h.outstanding)
+      (both_formed _ _ (field_formed (codes "buffer") Op line.buffer refl h.buffer)
       (both_formed _ _ (field_formed (codes "sent") Sent line.sent refl h.sent)
       (both_formed _ _ (field_formed (codes "applied") Op line.applied refl h.applied)
       (both_formed _ _ (field_formed (codes "appended") Op line.appended refl h.appended)
       (both_formed _ _ (field_formed (codes "document") Text line.document refl h.document)
-      (field_formed (codes "end") (λ q. Name (end_text q)) line.quiet refl (each _ line.quiet end_letters)))))))),
+      (both_formed _ _ (field_formed (codes "end") (λ q. Name (end_text q)) line.quiet refl (each _ line.quiet end_letters)) tt))))))))))))))),
 )
 
 -- ---- instructions

@@ -10,8 +10,8 @@ use Rattle.ot_conform.specs.Keys.{first_keys, found_at, is_told, other_keys}
 use Rattle.ot_conform.specs.Laws.{MessagesConform, received_data, with_message, with_messages}
 use Rattle.ot_conform.specs.Ports.{PortLine, Told, OtherForm, NoText, Nothing, is_opening_line}
 use Rattle.ot_conform.specs.Received.{Received, Taken, Delivered, is_received, message_agrees}
-use Rattle.ot_conform.specs.declared.keys.Key.{Key}
-use Rattle.ot_conform.specs.declared.keys.Key.TheVariants as key
+use Rattle.ot_steps.specs.declared.key.Key.{Key}
+use Rattle.ot_steps.specs.declared.key.Key.TheVariants as key
 use Rattle.ot_conform.specs.declared.meeting.Field.{Field}
 use Rattle.ot_conform.specs.declared.meeting.Field.TheVariants as field
 use Rattle.ot_conform.proofs.Conforming.{number_written, operation_written}
@@ -40,6 +40,7 @@ same_under received ms key.Start = got_put (codes "start") (codes "message") (re
 same_under received ms key.Do = got_put (codes "do") (codes "message") (received_data received) ms
 same_under received ms key.Client = got_put (codes "client") (codes "message") (received_data received) ms
 same_under received ms key.Edit = got_put (codes "edit") (codes "message") (received_data received) ms
+same_under received ms key.Stopped = got_put (codes "stopped") (codes "message") (received_data received) ms
 same_under received ms key.Revision = got_put (codes "revision") (codes "message") (received_data received) ms
 same_under received ms key.State = got_put (codes "state") (codes "message") (received_data received) ms
 same_under received ms key.Outstanding = got_put (codes "outstanding") (codes "message") (received_data received) ms
@@ -51,9 +52,6 @@ same_under received ms key.Applied = got_put (codes "applied") (codes "message")
 same_under received ms key.Appended = got_put (codes "appended") (codes "message") (received_data received) ms
 same_under received ms key.Document = got_put (codes "document") (codes "message") (received_data received) ms
 same_under received ms key.End = got_put (codes "end") (codes "message") (received_data received) ms
-
-same_stopped : (received : Received) (ms : Members) → get (codes "stopped") (with_it received ms) ≡ get (codes "stopped") (object ms)
-same_stopped received ms = got_put (codes "stopped") (codes "message") (received_data received) ms
 
 -- ---- one line
 
@@ -74,7 +72,7 @@ object_still due received ms is agrees =
     let others : first_key other_keys due.line (with_it received ms) ≡ first_key other_keys due.line (object ms) = same_first other_keys due.line (with_it received ms) (object ms) same in
     let message : message_agrees due.received (get (codes "message") (with_it received ms)) ≡ true =
     ap (message_agrees due.received) (message_there received ms) ∙ ap (λ (o : Option Received). message_agrees o (Some (received_data received))) is ∙ own_message received in
-    rw (same_stopped received ms, first, others, message)
+    rw (same_under received ms key.Stopped, first, others, message)
     (none_still (is_same (is_some due.line.stopped) (is_told (get (codes "stopped") (object ms)))) (message_agrees due.received (get (codes "message") (object ms)))
     (first_key first_keys due.line (object ms)) (first_key other_keys due.line (object ms))
     (message_of_stop due.received (message_agrees due.received (get (codes "message") (object ms)))) (message_of_stop due.received true) agrees)
@@ -113,7 +111,7 @@ same_opening (Some received) (Told (boolean b)) = refl
 same_opening (Some received) (Told (number n)) = refl
 same_opening (Some received) (Told (string s)) = refl
 same_opening (Some received) (Told (array ds)) = refl
-same_opening (Some received) (Told (object ms)) = rw (same_under received ms key.At, same_under received ms key.Do, same_stopped received ms, same_under received ms key.End) refl
+same_opening (Some received) (Told (object ms)) = rw (same_under received ms key.At, same_under received ms key.Do, same_under received ms key.Stopped, same_under received ms key.End) refl
 same_opening (Some received) (OtherForm bytes) = refl
 same_opening (Some received) NoText = refl
 same_opening (Some received) Nothing = refl

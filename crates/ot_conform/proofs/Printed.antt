@@ -6,7 +6,7 @@ use Rattle.ot_steps.specs.Lines.{Line}
 use Rattle.ot_steps.specs.Text.{lines_text}
 use Rattle.ot_conform.specs.Laws.{PrintedChosenStepsConform, PrintedStepsConform, Say, chosen}
 use Rattle.ot_conform.specs.Ports.{counted_lines}
-use Rattle.ot_conform.specs.declared.keys.Key.TheVariants as key
+use Rattle.ot_steps.specs.declared.key.Key.TheVariants as key
 use Rattle.ot_conform.proofs.Conforming.{steps_conform}
 use Rattle.ot_conform.proofs.Selecting.{chosen_all, chosen_steps_conform}
 use Rattle.ot_conform.proofs.FormedLines.{run_formed}

@@ -26,7 +26,7 @@ use Rattle.ot_conform.specs.Laws.{ChosenStepsConform, IsOfTable, Say, Says, Says
 use Rattle.ot_conform.specs.Passed.{is_end, is_past, is_stop, passes, passes_step, passes_stop}
 use Rattle.ot_conform.specs.Ports.{PortLine, Told, OtherForm, NoText, Nothing, is_opening_line, is_zero}
 use Rattle.ot_conform.specs.Received.{receives}
-use Rattle.ot_conform.specs.declared.keys.Key.TheVariants as key
+use Rattle.ot_steps.specs.declared.key.Key.TheVariants as key
 use Rattle.ot_conform.proofs.Conforming.{Shows, all_shown, is_the_opening, refused_by_table, says_agrees, step_shown, stop_agrees}
 use Rattle.ot_conform.proofs.Outcomes.{ahead_past, ahead_refused, goes_on, never, nothing_left, over_agrees, over_passes}
 
@@ -66,7 +66,7 @@ told_at : (line : Line) (d : Data) → Says line d → number_at (codes "at") d 
 told_at line d says = let at : get (codes "at") d ≡ Some (number (unsigned line.at)) = says.under key.At in rw at refl
 
 told_stop : (line : Line) (d : Data) → Says line d → is_stop d ≡ is_some line.stopped
-told_stop line d says = ap is_told says.stopped ∙ stop_agrees line.stopped
+told_stop line d says = ap is_told (says.under key.Stopped) ∙ stop_agrees line.stopped
 
 told_end : (line : Line) (d : Data) → Says line d → is_end d ≡ is_some line.quiet
 told_end line d says = ap is_told (says.under key.End) ∙ go line.quiet

@@ -11,18 +11,18 @@ use Rattle.ot_model.specs.declared.shown.Refusal.{Refusal}
 use Rattle.ot_report.specs.Printed.{line}
 use Rattle.ot_values.specs.Values.{refusal_text}
 use Rattle.ot_steps.specs.Lines.{Line, word_of}
-use Rattle.ot_steps.specs.Text.{line_text, word_text}
-use Rattle.ot_conform.specs.Due.{DueLine, What, Opening, Instruction, End, placed_client}
+use Rattle.ot_steps.specs.Steps.{placed_client}
+use Rattle.ot_steps.specs.Text.{Value, Text, key_text, line_text, text_at, value_at, word_text}
+use Rattle.ot_conform.specs.Due.{DueLine, What, Opening, Instruction, End}
 use Rattle.ot_conform.specs.Differences.{Outcome, Conforms, Differs, LeftOver, Stopped, field_of}
-use Rattle.ot_conform.specs.Keys.{found_at, is_null, is_part, key_text}
+use Rattle.ot_conform.specs.Keys.{found_at, is_null, is_part}
 use Rattle.ot_conform.specs.Ports.{PortLine, Told, OtherForm, NoText, Nothing}
 use Rattle.ot_conform.specs.Counted.{is_nothing, tells}
 use Rattle.ot_conform.specs.Received.{received_text}
-use Rattle.ot_conform.specs.Values.{text_at}
 use Rattle.ot_conform.specs.declared.answers.Difference.{Difference}
 use Rattle.ot_conform.specs.declared.counts.Counts.{Counts}
-use Rattle.ot_conform.specs.declared.keys.Key.{Key}
-use Rattle.ot_conform.specs.declared.keys.Key.TheVariants as key
+use Rattle.ot_steps.specs.declared.key.Key.{Key}
+use Rattle.ot_steps.specs.declared.key.Key.TheVariants as key
 use Rattle.ot_conform.specs.declared.meeting.Field.{Field}
 use Rattle.ot_conform.specs.declared.meeting.Field.TheVariants as field
 
@@ -42,13 +42,6 @@ what_text End = codes "end"
 
 -- whether it is a value of the one that moved or was read
 abbrev pub is_theirs : Key → Bool
-is_theirs key.At = false
-is_theirs key.Clients = false
-is_theirs key.Present = false
-is_theirs key.Start = false
-is_theirs key.Do = false
-is_theirs key.Client = false
-is_theirs key.Edit = false
 is_theirs key.Revision = true
 is_theirs key.State = true
 is_theirs key.Outstanding = true
@@ -56,10 +49,8 @@ is_theirs key.Buffer = true
 is_theirs key.Sent = true
 is_theirs key.SentRevision = true
 is_theirs key.SentOperation = true
-is_theirs key.Applied = false
-is_theirs key.Appended = false
 is_theirs key.Document = true
-is_theirs key.End = false
+is_theirs _ = false
 
 abbrev pub with_owner : Option ℕ → List ℕ → List ℕ
 with_owner None name = codes "server " ++ name
@@ -136,26 +127,13 @@ same_front [] ys = 0
 same_front (x ∷ xs) [] = 0
 same_front (x ∷ xs) (y ∷ ys) = if x == y then suc (same_front xs ys) else 0
 
--- the opening's text, and documents
+-- the characters of a text
+abbrev pub letters_of : Value → Option (List ℕ)
+letters_of (Text text) = Some text
+letters_of _ = None
+
 abbrev pub letters_at : Key → Line → Option (List ℕ)
-letters_at key.At line = None
-letters_at key.Clients line = None
-letters_at key.Present line = None
-letters_at key.Start line = line.start
-letters_at key.Do line = None
-letters_at key.Client line = None
-letters_at key.Edit line = None
-letters_at key.Revision line = None
-letters_at key.State line = None
-letters_at key.Outstanding line = None
-letters_at key.Buffer line = None
-letters_at key.Sent line = None
-letters_at key.SentRevision line = None
-letters_at key.SentOperation line = None
-letters_at key.Applied line = None
-letters_at key.Appended line = None
-letters_at key.Document line = line.document
-letters_at key.End line = None
+letters_at k line = option_and_then letters_of (value_at k line)
 
 abbrev pub front_of : Option (List ℕ) → Option (List ℕ) → Option ℕ
 front_of None wanted = None

@@ -4,10 +4,10 @@ use Rattle.serde_json.specs.Data.{Data}
 use Rattle.ot_steps.specs.Lines.{Line}
 use Rattle.ot_conform.specs.Keys.{found_at, is_told}
 use Rattle.ot_conform.specs.Ports.{PortLine, Told, OtherForm, NoText, Nothing}
-use Rattle.ot_conform.specs.Values.{value_at}
+use Rattle.ot_steps.specs.Text.{value_at}
 use Rattle.ot_conform.specs.declared.counts.Counts.{Counts}
-use Rattle.ot_conform.specs.declared.keys.Key.{Key}
-use Rattle.ot_conform.specs.declared.keys.Key.TheVariants as key
+use Rattle.ot_steps.specs.declared.key.Key.{Key}
+use Rattle.ot_steps.specs.declared.key.Key.TheVariants as key
 
 abbrev pub no_counts : Counts
 no_counts =

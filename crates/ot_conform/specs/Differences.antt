@@ -15,8 +15,8 @@ use Rattle.ot_conform.specs.Keys.{agrees_at, first_keys, found_at, is_told, othe
 use Rattle.ot_conform.specs.Passed.{passes}
 use Rattle.ot_conform.specs.Ports.{PortLine, Told, OtherForm, NoText, Nothing, is_opening_line}
 use Rattle.ot_conform.specs.Received.{Received, message_agrees, receives}
-use Rattle.ot_conform.specs.Values.{text_at}
-use Rattle.ot_conform.specs.declared.keys.Key.{Key}
+use Rattle.ot_steps.specs.Text.{text_at}
+use Rattle.ot_steps.specs.declared.key.Key.{Key}
 use Rattle.ot_conform.specs.declared.meeting.Field.{Field}
 use Rattle.ot_conform.specs.declared.meeting.Field.TheVariants as field
 

@@ -4,8 +4,9 @@ use Rattle.std.specs.Str.{bytes_eq}
 use Rattle.serde_json.specs.Data.{Data, null, boolean, number, string, array, object, Items, no_items, item}
 use Rattle.serde_json.specs.Find.{as_null, as_object, get, is_float}
 use Rattle.serde_json.specs.Written.{compact_text}
-use Rattle.ot_conform.specs.declared.keys.Key.{Key}
-use Rattle.ot_conform.specs.declared.keys.Key.TheVariants as key
+use Rattle.ot_steps.specs.Text.{key_text}
+use Rattle.ot_steps.specs.declared.key.Key.{Key}
+use Rattle.ot_steps.specs.declared.key.Key.TheVariants as key
 
 -- the keys in the order in which they are compared: those that say which line it is, before the message,
 abbrev pub first_keys : List Key
@@ -28,47 +29,11 @@ other_keys =
     ∷ key.End
     ∷ []
 
--- how a key is spelled; a message's parts stand in the object under `sent`
-abbrev pub key_text : Key → List ℕ
-key_text key.At = codes "at"
-key_text key.Clients = codes "clients"
-key_text key.Present = codes "present"
-key_text key.Start = codes "start"
-key_text key.Do = codes "do"
-key_text key.Client = codes "client"
-key_text key.Edit = codes "edit"
-key_text key.Revision = codes "revision"
-key_text key.State = codes "state"
-key_text key.Outstanding = codes "outstanding"
-key_text key.Buffer = codes "buffer"
-key_text key.Sent = codes "sent"
-key_text key.SentRevision = codes "revision"
-key_text key.SentOperation = codes "operation"
-key_text key.Applied = codes "applied"
-key_text key.Appended = codes "appended"
-key_text key.Document = codes "document"
-key_text key.End = codes "end"
-
 -- whether it is a part of the message under `sent`
 abbrev pub is_part : Key → Bool
-is_part key.At = false
-is_part key.Clients = false
-is_part key.Present = false
-is_part key.Start = false
-is_part key.Do = false
-is_part key.Client = false
-is_part key.Edit = false
-is_part key.Revision = false
-is_part key.State = false
-is_part key.Outstanding = false
-is_part key.Buffer = false
-is_part key.Sent = false
 is_part key.SentRevision = true
 is_part key.SentOperation = true
-is_part key.Applied = false
-is_part key.Appended = false
-is_part key.Document = false
-is_part key.End = false
+is_part _ = false
 
 -- what a line says under a key, where it is printed
 abbrev pub found_at : Key → Data → Option Data
@@ -109,24 +74,8 @@ is_written text d = is_plain d && bytes_eq (compact_text d) text
 
 -- a message is compared by its parts
 abbrev pub is_message : Key → Bool
-is_message key.At = false
-is_message key.Clients = false
-is_message key.Present = false
-is_message key.Start = false
-is_message key.Do = false
-is_message key.Client = false
-is_message key.Edit = false
-is_message key.Revision = false
-is_message key.State = false
-is_message key.Outstanding = false
-is_message key.Buffer = false
 is_message key.Sent = true
-is_message key.SentRevision = false
-is_message key.SentOperation = false
-is_message key.Applied = false
-is_message key.Appended = false
-is_message key.Document = false
-is_message key.End = false
+is_message _ = false
 
 -- a printed value against the text of what the run has there, if it has something
 abbrev pub agrees : Key → Option (List ℕ) → Data → Bool

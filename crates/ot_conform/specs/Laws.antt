@@ -11,7 +11,6 @@ use Rattle.ot_model.specs.Operation.{Operation}
 use Rattle.ot_model.specs.Runs.{opening_of}
 use Rattle.ot_model.specs.declared.shown.Refusal.{Refusal}
 use Rattle.ot_model.specs.declared.shown.Refusal.TheVariants.{Memory}
-use Rattle.ot_values.specs.Values.{refusal_text}
 use Rattle.ot_steps.specs.Lines.{Line, Message}
 use Rattle.ot_steps.specs.Text.{Value, Number, Name, Text, Op, Sent, lines_text}
 use Rattle.ot_steps.specs.Written.{AreRunLines}
@@ -20,8 +19,8 @@ use Rattle.ot_conform.specs.Differences.{Ahead, Wanted, Limit, Outcome, Conforms
 use Rattle.ot_conform.specs.Keys.{found_at}
 use Rattle.ot_conform.specs.Ports.{PortLine, Told, OtherForm, NoText, Nothing, counted_lines, is_opening_line}
 use Rattle.ot_conform.specs.Received.{Received, Taken, Delivered}
-use Rattle.ot_conform.specs.Values.{value_at}
-use Rattle.ot_conform.specs.declared.keys.Key.{Key}
+use Rattle.ot_steps.specs.Text.{value_at}
+use Rattle.ot_steps.specs.declared.key.Key.{Key}
 
 -- the values of lines as JSON
 abbrev pub operation_data : Operation ℕ → Data
@@ -40,7 +39,6 @@ data_of (Sent m) = message_data m
 -- an object says under each key what the line has there, and nothing where it has nothing; lines of `steps` have no message
 pub record Says (line : Line) (d : Data) : Type 0 where
   pub under : (k : Key) → found_at k d ≡ option_map data_of (value_at k line)
-  pub stopped : get (codes "stopped") d ≡ option_map (λ r. string (refusal_text r)) line.stopped
   pub message : get (codes "message") d ≡ None
 
 -- a port's lines say these, one by one

@@ -4,7 +4,6 @@ pub mod Read
 pub mod Counted
 pub mod Received
 pub mod Due
-pub mod Values
 pub mod Passed
 pub mod Differences
 pub mod Answers

@@ -4,7 +4,8 @@ ghost use Rattle.std.specs.Prelude.{◌≡◌, IfOk, option_map, string_bytes};
 ghost use Rattle.serde_json.specs.View.{items_view, view};
 ghost use Rattle.ot_conform.specs.Keys.{agrees, agrees_at, are_plain, is_plain, is_plain_item, is_written};
 
-use crate::keys::{Key, is_message};
+use crate::keys::is_message;
+use ot_steps::Key;
 use serde_json::Value;
 use std::alloc::{AllocError, Global};
 

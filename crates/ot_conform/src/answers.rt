@@ -6,16 +6,17 @@ ghost use Rattle.serde_json.specs.Find.{as_str};
 ghost use Rattle.serde_json.specs.View.{view};
 ghost use Rattle.ot_conform.specs.Answers.{IsDifference, IsFoundText, IsJson, IsLeftOver, IsLineText, IsToldText, IsValueText, field_text, front_at, instr_text, is_theirs, key_name, message_name, owned, same_front, tells_operation, told_front, wanted_text, what_text, with_owner};
 ghost use Rattle.json.specs.Print.{quoted};
-ghost use Rattle.ot_conform.specs.Due.{Instruction, IsOfMachine, due_of};
+ghost use Rattle.ot_steps.specs.Held.{IsHeld};
+ghost use Rattle.ot_conform.specs.Due.{Instruction, due_of};
 ghost use Rattle.ot_conform.specs.Keys.{found_at};
 ghost use Rattle.ot_conform.specs.Read.{read_as};
 
-use crate::due::{Due, placed_client};
-use crate::keys::{Key, found, is_part, key_text, tells};
+use crate::due::Due;
+use crate::keys::{found, is_part, tells};
 use crate::lines::PortLine;
 use crate::meeting::Field;
 use ot_isa::Instr;
-use ot_steps::word;
+use ot_steps::{Key, Line, key_text, placed_client, word};
 use ot_values::refusal_name;
 use serde_json::Value;
 use std::alloc::{AllocError, Global};
@@ -57,11 +58,11 @@ fn instr_text(alloc: Global, instr: &Instr) -> Result<String, AllocError>
 fn what_text(alloc: Global, due: &Due<'_>) -> Result<String, AllocError>
     ensures { IfOk result (λ s. string_bytes s ≡ what_text (due_of due.now).what) }
 {
-    match due {
-        Due::Opening(_) => String::from_str(alloc, "opening"),
-        Due::Step(step) => instr_text(alloc, step.instr),
-        Due::Stop(stop) => instr_text(alloc, stop.instr),
-        Due::End { .. } => String::from_str(alloc, "end"),
+    match due.line {
+        Line::Opening(_) => String::from_str(alloc, "opening"),
+        Line::Step(step) => instr_text(alloc, step.instr),
+        Line::Stop(stop) => instr_text(alloc, stop.instr),
+        Line::End { .. } => String::from_str(alloc, "end"),
     }
 }
 
@@ -112,11 +113,11 @@ fn owned(alloc: Global, instr: &Instr, key: Key) -> Result<String, AllocError>
 fn message_name(alloc: Global, due: &Due<'_>) -> Result<String, AllocError>
     ensures { IfOk result (λ s. string_bytes s ≡ message_name (due_of due.now).what) }
 {
-    match due {
-        Due::Step(step) => with_owner(alloc, placed_client(step.instr), "message"),
-        Due::Stop(stop) => with_owner(alloc, placed_client(stop.instr), "message"),
-        Due::Opening(_) => String::from_str(alloc, "message"),
-        Due::End { .. } => String::from_str(alloc, "message"),
+    match due.line {
+        Line::Step(step) => with_owner(alloc, placed_client(step.instr), "message"),
+        Line::Stop(stop) => with_owner(alloc, placed_client(stop.instr), "message"),
+        Line::Opening(_) => String::from_str(alloc, "message"),
+        Line::End { .. } => String::from_str(alloc, "message"),
     }
 }
 
@@ -130,11 +131,11 @@ fn field_text(alloc: Global, due: &Due<'_>, field: Field) -> Result<String, Allo
         Field::Message => return message_name(alloc, due),
         Field::Key(key) => key,
     };
-    match due {
-        Due::Opening(_) => key_name(alloc, key),
-        Due::Step(step) => owned(alloc, step.instr, key),
-        Due::Stop(stop) => owned(alloc, stop.instr, key),
-        Due::End { .. } => key_name(alloc, key),
+    match due.line {
+        Line::Opening(_) => key_name(alloc, key),
+        Line::Step(step) => owned(alloc, step.instr, key),
+        Line::Stop(stop) => owned(alloc, stop.instr, key),
+        Line::End { .. } => key_name(alloc, key),
     }
 }
 
@@ -201,11 +202,11 @@ fn line_text(alloc: Global, line: &PortLine<'_>) -> Result<String, AllocError>
 
 // What the run has.
 fn wanted_text(alloc: Global, due: &Due<'_>, field: Field) -> Result<String, AllocError>
-    requires { IsOfMachine due.now }
+    requires { IsHeld due.now.line }
     ensures { IfOk result (λ s. string_bytes s ≡ wanted_text field (due_of due.now)) }
 {
     match field {
-        Field::Line => due.line(alloc),
+        Field::Line => due.line.text(alloc, false),
         Field::Stopped => match due.refusal() {
             Some(refusal) => String::from_str(alloc, refusal_name(refusal)),
             None => String::from_str(alloc, "performed"),
@@ -258,7 +259,7 @@ fn told_front(
     due: &Due<'_>,
     key: Key,
 ) -> Result<Option<usize>, AllocError>
-    requires { IsOfMachine due.now }
+    requires { IsHeld due.now.line }
     ensures { IfOk result (λ n. n ≡ told_front (Field.Key key) (due_of due.now).line (view line.now)) }
 {
     let Some(text) = text_at(line, key) else {
@@ -277,7 +278,7 @@ fn front(
     due: &Due<'_>,
     field: Field,
 ) -> Result<Option<usize>, AllocError>
-    requires { IsOfMachine due.now }
+    requires { IsHeld due.now.line }
     ensures { IfOk result (λ n. n ≡ front_at field (due_of due.now).line (read_as line.now)) }
 {
     match (line, field) {
@@ -305,7 +306,7 @@ pub fn differs(
     due: &Due<'_>,
     field: Field,
 ) -> Result<Difference, AllocError>
-    requires { IsOfMachine due.now }
+    requires { IsHeld due.now.line }
     ensures { IfOk result (λ d. IsDifference (due_of due.now) field (read_as line.now) d) }
 {
     let what = what_text(alloc, due)?;
@@ -314,7 +315,7 @@ pub fn differs(
     let wanted = wanted_text(alloc, due, field)?;
     let front = front(alloc, line, due, field)?;
     Ok(Difference {
-        place: due.place(),
+        place: due.line.place(),
         what,
         name,
         field,

@@ -1,30 +1,25 @@
 //! A port's lines against a run, one line after the other.
 
-ghost use Rattle.std.specs.Prelude.{◌≡◌, Bool, length, IfOk, option_map};
-ghost use Rattle.std.specs.Option.{option_copied};
-ghost use Rattle.ot_isa.specs.Program.{IsForClients};
-ghost use Rattle.ot_steps.specs.Lines.{plain_operation};
-ghost use Rattle.ot_steps.specs.Steps.{line_after};
+ghost use Rattle.std.specs.Prelude.{◌≡◌, Bool, IfOk};
+ghost use Rattle.ot_steps.specs.Held.{IsHeld, printed_of};
 ghost use Rattle.ot_conform.specs.Alike.{IsJudged, StandsFor};
 ghost use Rattle.ot_conform.specs.Counted.{with_port_line};
 ghost use Rattle.ot_conform.specs.Differences.{is_limit};
-ghost use Rattle.ot_conform.specs.Due.{IsOfMachine, due_of, step_due};
+ghost use Rattle.ot_conform.specs.Due.{due_of};
 ghost use Rattle.ot_conform.specs.Ports.{is_nothing};
 ghost use Rattle.ot_conform.specs.Read.{given_as, read_as};
-ghost use Rattle.ot_conform.specs.Received.{received_in};
 
 use crate::answers::{Difference, differs, left_over};
 use crate::counts::Counts;
-use crate::due::{Due, Step, Stop};
+use crate::due::Due;
 use crate::lines::{Given, PortLine, is_opening_line, read_line};
 use crate::meeting::meet;
 use crate::passing::{passes_step, passes_stop};
 use crate::received::Received;
 use crate::same_bytes::printed_form;
-use ot_isa::{Instr, Schedule, Tagged};
+use ot_isa::{Instr, Schedule};
 use ot_machine::{Machine, Refusal};
-use ot_steps::{perform, sends};
-use ot_text::TextOp;
+use ot_steps::{Line, Stop, perform, sends};
 use std::alloc::{AllocError, Global};
 
 /// Which line is due.
@@ -79,7 +74,7 @@ fn compare(
     line: &PortLine<'_>,
     due: &Due<'_>,
 ) -> Result<Result<Counts, Difference>, AllocError>
-    requires { IsOfMachine due.now }
+    requires { IsHeld due.now.line }
     ensures { IfOk result (λ judged. IsJudged counts (due_of due.now) (read_as line.now) judged) }
 {
     match meet(alloc, line, due)? {
@@ -95,7 +90,7 @@ fn compare_given(
     line: Given<'_, '_>,
     due: &Due<'_>,
 ) -> Result<Result<Counts, Difference>, AllocError>
-    requires { IsOfMachine due.now }
+    requires { IsHeld due.now.line }
     ensures { IfOk result (λ judged. IsJudged counts (due_of due.now) (given_as line.entry) judged) }
 {
     match line {
@@ -107,36 +102,23 @@ fn compare_given(
     }
 }
 
-// The same against the line of an instruction that led to this machine. Bytes that `steps` prints are not read.
-fn compare_step<'a>(
+// The same against the line of an instruction that was performed. Bytes that `steps` prints are not read.
+fn compare_step(
     alloc: Global,
     counts: Counts,
     line: Given<'_, '_>,
-    machine: &'a Machine,
-    at: usize,
-    instr: &'a Instr,
-    sent: bool,
-    delivered: Option<&'a TextOp<Tagged>>,
-    received: &'a Received,
+    due: &Due<'_>,
 ) -> Result<Result<Counts, Difference>, AllocError>
-    requires there { IsForClients (length machine.now.clients) instr.now }
-    requires printed { (documents : Bool) → StandsFor (step_due at instr.now sent (option_map plain_operation (option_copied delivered)) (received_in machine.now received.now) machine.now) (line_after documents at instr.now sent (option_map plain_operation (option_copied delivered)) machine.now) }
-    ensures { IfOk result (λ judged. IsJudged counts (step_due at instr.now sent (option_map plain_operation (option_copied delivered.entry)) (received_in machine.now received.now) machine.now) (given_as line.entry) judged) }
+    requires there { IsHeld due.now.line }
+    requires printed { (documents : Bool) → StandsFor (due_of due.now) (printed_of documents due.now.line) }
+    ensures { IfOk result (λ judged. IsJudged counts (due_of due.now) (given_as line.entry) judged) }
 {
-    let step = Step {
-        machine,
-        at,
-        instr,
-        sent,
-        delivered,
-        received,
-    };
     if let Given::Bytes(bytes) = line {
-        if let Some(documents) = printed_form(alloc, &step, bytes) {
-            return Ok(Ok(counts.with_step(&step, documents)));
+        if let Some(documents) = printed_form(alloc, &due.line, bytes) {
+            return Ok(Ok(counts.with_printed(&due.line, documents)));
         }
     }
-    compare_given(alloc, counts, line, &Due::Step(step))
+    compare_given(alloc, counts, line, due)
 }
 
 // Whether the port has no line.
@@ -239,7 +221,11 @@ impl Comparison {
         ensures decided { IfOk result (λ v. IfSome v (λ verdict. (lines : List Printed) → IsVerdict self.old (read_as line.now) (rest schedule.now self.old (front (read_as line.now) lines)) verdict)) }
     {
         self.stage = Stage::Running;
-        let judged = compare(alloc, self.counts, line, &Due::Opening(schedule))?;
+        let opening = Due {
+            line: Line::Opening(schedule),
+            received: &Received::Nothing,
+        };
+        let judged = compare(alloc, self.counts, line, &opening)?;
         Ok(self.settle(judged))
     }
 
@@ -257,9 +243,12 @@ impl Comparison {
             return Ok(Some(Verdict::Conforms(self.counts)));
         }
         self.stage = Stage::Over;
-        let end = Due::End {
-            at: self.place,
-            quiet: self.machine.is_quiet(),
+        let end = Due {
+            line: Line::End {
+                at: self.place,
+                quiet: self.machine.is_quiet(),
+            },
+            received: &Received::Nothing,
         };
         let judged = compare(alloc, self.counts, line, &end)?;
         Ok(self.settle(judged))
@@ -285,7 +274,11 @@ impl Comparison {
             instr,
             refusal,
         };
-        let judged = compare(alloc, self.counts, line, &Due::Stop(stop))?;
+        let due = Due {
+            line: Line::Stop(stop),
+            received: &Received::Nothing,
+        };
+        let judged = compare(alloc, self.counts, line, &due)?;
         Ok(self.settle(judged))
     }
 
@@ -367,17 +360,12 @@ impl Comparison {
         self.stage = Stage::Running;
         self.place += 1;
         let delivered = applied.operation(&self.machine);
-        let judged = compare_step(
-            alloc,
-            self.counts,
-            line,
-            &self.machine,
-            self.place,
-            instr,
-            sent,
-            delivered,
-            &received,
-        )?;
+        let step = Line::step(&self.machine, self.place, instr, sent, delivered);
+        let due = Due {
+            line: step,
+            received: &received,
+        };
+        let judged = compare_step(alloc, self.counts, line, &due)?;
         Ok(self.settle(judged))
     }
 

@@ -2,10 +2,11 @@
 
 ghost use Rattle.std.specs.Prelude.{◌≡◌, ◌++◌, ◌∷◌, IfOk, [], codes, string_bytes};
 ghost use Rattle.serde_json.specs.View.{view};
-ghost use Rattle.ot_conform.specs.Counted.{no_counts, one_more, tells, with_line};
+ghost use Rattle.ot_conform.specs.Counted.{has, no_counts, one_more, tells, with_line};
+ghost use Rattle.ot_steps.specs.Held.{IsHeld, printed_of};
 
-use crate::due::Step;
-use crate::keys::{Key, tells};
+use crate::keys::tells;
+use ot_steps::{Key, Line};
 use serde_json::Value;
 
 /// For each key, on how many lines the port printed a value: the run has one there, and it is equal. Of messages their operations
@@ -36,12 +37,19 @@ fn one_more(told: bool, count: u64) -> u64
     if told { count.saturating_add(1) } else { count }
 }
 
+// Whether the line that `steps` prints has something under a key.
+fn has(line: &Line<'_>, key: Key, documents: bool) -> bool
+    requires { IsHeld line.now }
+    ensures { result ≡ has key (printed_of documents line.now) }
+{
+    line.printed(key, documents).is_some()
+}
+
 impl Counts {
-    ghost use Rattle.std.specs.Prelude.{◌≡◌, length};
+    ghost use Rattle.std.specs.Prelude.{◌≡◌};
     ghost use Rattle.serde_json.specs.View.{view};
-    ghost use Rattle.ot_isa.specs.Program.{IsForClients};
     ghost use Rattle.ot_conform.specs.Counted.{is_nothing, no_counts, no_first, no_other, with_line, with_printed};
-    ghost use Rattle.ot_conform.specs.Due.{printed_line};
+    ghost use Rattle.ot_steps.specs.Held.{IsHeld, printed_of};
 
     /// Nothing was compared yet.
     pub fn none() -> Counts
@@ -90,26 +98,26 @@ impl Counts {
     }
 
     /// With what the line that `steps` prints of an instruction has, with its document or without.
-    pub(crate) fn with_step(self, step: &Step<'_>, documents: bool) -> Counts
-        requires { IsForClients (length step.now.machine.now.clients) step.now.instr.now }
-        ensures { result ≡ with_printed self (printed_line documents step.now) }
+    pub(crate) fn with_printed(self, line: &Line<'_>, documents: bool) -> Counts
+        requires { IsHeld line.now }
+        ensures { result ≡ with_printed self (printed_of documents line.now) }
     {
         Counts {
-            clients: one_more(step.prints(Key::Clients, documents), self.clients),
-            present: one_more(step.prints(Key::Present, documents), self.present),
-            start: one_more(step.prints(Key::Start, documents), self.start),
-            word: one_more(step.prints(Key::Do, documents), self.word),
-            client: one_more(step.prints(Key::Client, documents), self.client),
-            edit: one_more(step.prints(Key::Edit, documents), self.edit),
-            revision: one_more(step.prints(Key::Revision, documents), self.revision),
-            state: one_more(step.prints(Key::State, documents), self.state),
-            outstanding: one_more(step.prints(Key::Outstanding, documents), self.outstanding),
-            buffer: one_more(step.prints(Key::Buffer, documents), self.buffer),
-            sent: one_more(step.prints(Key::SentOperation, documents), self.sent),
-            applied: one_more(step.prints(Key::Applied, documents), self.applied),
-            appended: one_more(step.prints(Key::Appended, documents), self.appended),
-            document: one_more(step.prints(Key::Document, documents), self.document),
-            end: one_more(step.prints(Key::End, documents), self.end),
+            clients: one_more(has(line, Key::Clients, documents), self.clients),
+            present: one_more(has(line, Key::Present, documents), self.present),
+            start: one_more(has(line, Key::Start, documents), self.start),
+            word: one_more(has(line, Key::Do, documents), self.word),
+            client: one_more(has(line, Key::Client, documents), self.client),
+            edit: one_more(has(line, Key::Edit, documents), self.edit),
+            revision: one_more(has(line, Key::Revision, documents), self.revision),
+            state: one_more(has(line, Key::State, documents), self.state),
+            outstanding: one_more(has(line, Key::Outstanding, documents), self.outstanding),
+            buffer: one_more(has(line, Key::Buffer, documents), self.buffer),
+            sent: one_more(has(line, Key::SentOperation, documents), self.sent),
+            applied: one_more(has(line, Key::Applied, documents), self.applied),
+            appended: one_more(has(line, Key::Appended, documents), self.appended),
+            document: one_more(has(line, Key::Document, documents), self.document),
+            end: one_more(has(line, Key::End, documents), self.end),
         }
     }
 

@@ -1,34 +1,12 @@
-//! The keys of a line, and what a port says under them.
+//! What a port says under the keys of a line.
 
 ghost use Rattle.std.specs.Prelude.{◌≡◌, option_map};
 ghost use Rattle.serde_json.specs.Find.{get};
 ghost use Rattle.serde_json.specs.View.{view};
-ghost use Rattle.ot_conform.specs.Keys.{found_at, is_message, is_null, is_part, is_told, key_text};
+ghost use Rattle.ot_conform.specs.Keys.{found_at, is_message, is_null, is_part, is_told};
 
+use ot_steps::{Key, key_text};
 use serde_json::Value;
-
-/// A key of a line, or a part of the message under `sent`.
-#[derive(Clone, Copy, Debug, PartialEq, Eq)]
-pub enum Key {
-    At,
-    Clients,
-    Present,
-    Start,
-    Do,
-    Client,
-    Edit,
-    Revision,
-    State,
-    Outstanding,
-    Buffer,
-    Sent,
-    SentRevision,
-    SentOperation,
-    Applied,
-    Appended,
-    Document,
-    End,
-}
 
 /// The keys that say which line it is, in the order in which they are compared. Behind them the message is.
 pub const FIRST_KEYS: [Key; 6] = [
@@ -56,51 +34,18 @@ pub const OTHER_KEYS: [Key; 12] = [
     Key::End,
 ];
 
-/// How a key is spelled.
-pub fn key_text(key: Key) -> &'static str
-    ensures { result.now ≡ key_text key }
-{
-    match key {
-        Key::At => "at",
-        Key::Clients => "clients",
-        Key::Present => "present",
-        Key::Start => "start",
-        Key::Do => "do",
-        Key::Client => "client",
-        Key::Edit => "edit",
-        Key::Revision => "revision",
-        Key::State => "state",
-        Key::Outstanding => "outstanding",
-        Key::Buffer => "buffer",
-        Key::Sent => "sent",
-        Key::SentRevision => "revision",
-        Key::SentOperation => "operation",
-        Key::Applied => "applied",
-        Key::Appended => "appended",
-        Key::Document => "document",
-        Key::End => "end",
-    }
-}
-
 /// Whether it is a part of the message under `sent`.
 pub(crate) fn is_part(key: Key) -> bool
     ensures { result ≡ is_part key }
 {
-    match key {
-        Key::SentRevision => true,
-        Key::SentOperation => true,
-        _ => false,
-    }
+    matches!(key, Key::SentRevision | Key::SentOperation)
 }
 
 /// Whether it is the message, which is compared by its parts.
 pub(crate) fn is_message(key: Key) -> bool
     ensures { result ≡ is_message key }
 {
-    match key {
-        Key::Sent => true,
-        _ => false,
-    }
+    matches!(key, Key::Sent)
 }
 
 /// What a port's line says under a key, where it is printed.

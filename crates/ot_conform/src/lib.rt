@@ -10,8 +10,8 @@
 //!
 //! - *The port's lines* (`specs/Ports.antt`): an object with a place, a text of another form, bytes that are no text, or none. What is not
 //!   printed is not compared, and `null` says that there is none (`specs/Keys.antt`).
-//! - *What is due* (`specs/Due.antt`, `specs/Values.antt`): all values that the run has for a line, from the written table's states before and
-//!   after the instruction (`ot_model`'s specs/Table.antt), in the form of `ot_steps`.
+//! - *What is due* (`specs/Due.antt`): all values that the run has for a line, from the written table's states before and after the
+//!   instruction (`ot_model`'s specs/Table.antt), as `ot_steps` has them by their keys.
 //! - *The message* (`specs/Received.antt`): what a take or a deliver receives. It is compared before the values that come of it, so that
 //!   a message that was changed on its way is not held against a method.
 //! - *Lines of `steps`* (`specs/Alike.antt`): where the port's bytes are those of the line that `steps` prints of an instruction, nothing is read
@@ -49,13 +49,12 @@ mod reading;
 mod received;
 mod ruling;
 mod same_bytes;
-mod texts;
 
 pub use answers::{Difference, differs, left_over};
 pub use comparison::{Comparison, Stage, Verdict};
 pub use counts::Counts;
-pub use due::{Due, Step, Stop};
-pub use keys::{FIRST_KEYS, Key, OTHER_KEYS, found, key_text};
+pub use due::Due;
+pub use keys::{FIRST_KEYS, OTHER_KEYS, found};
 pub use laws::{
     chosen_steps_conform, messages_conform, places_are_not_counted, printed_chosen_steps_conform,
     printed_steps_conform, steps_are_counted, steps_conform,

@@ -3,17 +3,19 @@
 ghost use Rattle.std.specs.Prelude.{◌≡◌, IfOk, codes};
 ghost use Rattle.serde_json.specs.Find.{get};
 ghost use Rattle.serde_json.specs.View.{view};
-ghost use Rattle.ot_conform.specs.Due.{IsOfMachine, due_of};
+ghost use Rattle.ot_steps.specs.Held.{IsHeld};
+ghost use Rattle.ot_conform.specs.Due.{due_of};
 ghost use Rattle.ot_conform.specs.Differences.{field_of, first_key, keyed_field, stopped_field, told_field};
 ghost use Rattle.ot_conform.specs.Keys.{agrees_at, found_at};
 ghost use Rattle.ot_conform.specs.Read.{read_as};
 ghost use Rattle.ot_conform.specs.Received.{message_agrees};
-ghost use Rattle.ot_conform.specs.Values.{text_at};
+ghost use Rattle.ot_steps.specs.Text.{text_at};
 
 use crate::agreement::agrees;
 use crate::due::Due;
-use crate::keys::{FIRST_KEYS, Key, OTHER_KEYS, found, says};
+use crate::keys::{FIRST_KEYS, OTHER_KEYS, found, says};
 use crate::lines::PortLine;
+use ot_steps::Key;
 use serde_json::Value;
 use std::alloc::{AllocError, Global};
 
@@ -32,7 +34,7 @@ pub enum Field {
 
 // Whether what is printed under a key, if it is, agrees with what the run has there.
 fn agrees_at(alloc: Global, line: &Value, due: &Due<'_>, key: Key) -> Result<bool, AllocError>
-    requires { IsOfMachine due.now }
+    requires { IsHeld due.now.line }
     ensures { IfOk result (λ does. does ≡ agrees_at key (text_at key (due_of due.now).line) (found_at key (view line.now))) }
 {
     let Some(value) = found(line, key) else {
@@ -51,7 +53,7 @@ fn first_key(
     line: &Value,
     due: &Due<'_>,
 ) -> Result<Option<Key>, AllocError>
-    requires { IsOfMachine due.now }
+    requires { IsHeld due.now.line }
     ensures { IfOk result (λ k. k ≡ first_key keys.now (due_of due.now).line (view line.now)) }
 {
     for key in keys {
@@ -74,7 +76,7 @@ fn message_agrees(alloc: Global, line: &Value, due: &Due<'_>) -> Result<bool, Al
 
 // Where the values of a line of the right form differ: the message is compared before the values that come of it.
 fn keyed_field(alloc: Global, line: &Value, due: &Due<'_>) -> Result<Option<Field>, AllocError>
-    requires { IsOfMachine due.now }
+    requires { IsHeld due.now.line }
     ensures { IfOk result (λ f. f ≡ keyed_field (due_of due.now) (view line.now)) }
 {
     if let Some(key) = first_key(alloc, &FIRST_KEYS, line, due)? {
@@ -101,7 +103,7 @@ fn stopped_field(alloc: Global, line: &Value, due: &Due<'_>) -> Result<Option<Fi
 
 // Where a line of the right form differs.
 fn told_field(alloc: Global, line: &Value, due: &Due<'_>) -> Result<Option<Field>, AllocError>
-    requires { IsOfMachine due.now }
+    requires { IsHeld due.now.line }
     ensures { IfOk result (λ f. f ≡ told_field (due_of due.now) (view line.now)) }
 {
     if says(line, "stopped") != due.refusal().is_some() {
@@ -114,7 +116,7 @@ fn told_field(alloc: Global, line: &Value, due: &Due<'_>) -> Result<Option<Field
 /// line it is, the message, and the other keys in their order. Where the port alone stops at an instruction that receives a message, the
 /// message is compared before the stop. Out of memory for the texts of values.
 pub fn meet(alloc: Global, line: &PortLine<'_>, due: &Due<'_>) -> Result<Option<Field>, AllocError>
-    requires { IsOfMachine due.now }
+    requires { IsHeld due.now.line }
     ensures { IfOk result (λ f. f ≡ field_of (due_of due.now) (read_as line.now)) }
 {
     match line {

@@ -8,10 +8,10 @@ ghost use Rattle.ot_conform.specs.Received.{IsHeld, Taken, is_received, received
 ghost use Rattle.serde_json.specs.Find.{get};
 
 use crate::agreement::is_written;
-use crate::texts::{number_text, operation_text, sent_text};
 use ot_client::Sent;
 use ot_isa::{Instr, Tagged};
 use ot_machine::{Head, Machine};
+use ot_steps::Value as LineValue;
 use serde_json::Value;
 use std::alloc::{AllocError, Global};
 
@@ -48,11 +48,11 @@ fn is_sent(alloc: Global, found: &Value, message: &Sent<Tagged>) -> Result<bool,
     if !found.is_object() {
         return Ok(false);
     }
-    let revision = number_text(alloc, message.revision as u64)?;
+    let revision = LineValue::Number(message.revision as u64).text(alloc)?;
     if !is_part_written(alloc, found, "revision", revision.as_str())? {
         return Ok(false);
     }
-    let operation = operation_text(alloc, &message.op)?;
+    let operation = LineValue::Operation(&message.op).text(alloc)?;
     is_part_written(alloc, found, "operation", operation.as_str())
 }
 
@@ -87,9 +87,9 @@ impl Received {
     {
         match self {
             Received::Nothing => Ok(None),
-            Received::Taken(message) => Ok(Some(sent_text(alloc, message)?)),
+            Received::Taken(message) => Ok(Some(LineValue::Message(message).text(alloc)?)),
             Received::Delivered(number) => match machine.entry(*number) {
-                Some(entry) => Ok(Some(operation_text(alloc, entry.operation())?)),
+                Some(entry) => Ok(Some(LineValue::Operation(entry.operation()).text(alloc)?)),
                 None => Ok(None),
             },
         }
@@ -109,7 +109,7 @@ impl Received {
             Received::Taken(message) => is_sent(alloc, found, message),
             Received::Delivered(number) => match machine.entry(*number) {
                 Some(entry) => {
-                    let text = operation_text(alloc, entry.operation())?;
+                    let text = LineValue::Operation(entry.operation()).text(alloc)?;
                     is_written(alloc, found, text.as_str())
                 }
                 None => Ok(found.is_null()),

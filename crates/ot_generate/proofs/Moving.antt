@@ -1,5 +1,5 @@
 -- Which instructions are performed.
-use Rattle.std.proofs.Common.{◌≡◌, ℕ, zero, suc, ◌+◌, ◌-◌, ◌<◌, ◌≤◌, List, [], ◌∷◌, length, drop, refl, sym, ap, ◌∙◌, arith, Bool, true, false, Option, Some, None}
+use Rattle.std.proofs.Common.{◌≡◌, ℕ, zero, suc, ◌+◌, ◌-◌, ◌<◌, ◌≤◌, List, [], ◌∷◌, length, drop, refl, sym, ap, ◌∙◌, arith, Bool, true, false, Option, Some, None, Result, Ok, Err, IfOk}
 use Rattle.std.proofs.lemmas.List.{drop_all}
 use Rattle.std.proofs.lemmas.Option.{slice_get_within}
 use Rattle.std.specs.Prelude.{slice_get, if◌then◌else◌, ◌==◌}
@@ -116,6 +116,12 @@ may_edit w c count list op kept may lists counts base few =
     let clients = kept.clients in
     let row = edit_is w.state c x op j.1 (below_limit w kept) j.2 fits room in
     record { performed = performs _ _ _ row; client = omega arith; room = may.room }
+
+-- an edit that was made, if one was
+pub may_make_edit : {E : Type 0} (w : WalkView) (c count size : ℕ) (list : List Tagged) (r : Result (Operation ℕ) E) → IsWalk w → MayEdit w c → ClientHas w.state c (λ x. x.list) list → ClientHas w.state c (λ x. x.count) count
+    → size ≡ length list → IfOk r (λ op. op.base ≡ size) → IfOk r (λ op. inserted op ≤ 15000 - count) → IfOk r (λ op. MayMake w (Edit c op))
+may_make_edit w c count size list (Ok op) kept may lists counts same base few = may_edit w c count list op kept may lists counts (base ∙ same) few
+may_make_edit w c count size list (Err e) kept may lists counts same base few = tt
 
 pub within_limit : (w : WalkView) (c count : ℕ) → IsWalk w → ClientHas w.state c (λ x. x.count) count → count ≤ 15000
 within_limit w c count kept counts =

@@ -49,10 +49,6 @@ impl Item for Tagged {
         items.len() as u32
     }
 
-    fn sum_with(sum: u32, more: &[Tagged]) -> Option<u32> {
-        sum.checked_add(more.len() as u32)
-    }
-
     fn count(sum: u32) -> usize {
         sum as usize
     }

@@ -9,7 +9,7 @@ use Rattle.ot_list.specs.declared.draft.Draft.{Draft}
 use Rattle.ot_list.specs.Leaves.{concatenated, AreLeaves, MayEnd, last_leaf}
 use Rattle.ot_list.specs.Spans.{reach, all_put, through}
 use Rattle.ot_list.specs.Written.{last_span, spans_of, made_by, place_of, front_of, written, AreApart, IsDraft, Continues, IsWithoutLast, IsWithLeaf, HasClosed, HasHalved, HasFlushed}
-use Rattle.ot_list.proofs.Leaved.{concatenated-append, leaves_push, leaves_front, leaves_end, leaves_last, may_end_more, may_end_by_last, last-push, last_small}
+use Rattle.ot_list.proofs.Leaved.{concatenated-append, leaves_push, leaves_front, leaves_end, may_end_more, may_end_by_last, last-push}
 use Rattle.ot_list.proofs.Through.{span, reach-push, all_put-push, through_add, through_kept, through_reopened, apart_other, apart_same, apart_front, apart_none}
 
 pub item_at : {T : Type 0} (vs : List (Vec T Global)) (k : ℕ) (v : Vec T Global) → k < length vs → v ≡ get_or vs k v → get_or (map (λ w. w.items) vs) k [] ≡ v.items
@@ -30,10 +30,6 @@ split_last {A} xs d h =
 
 pub popped : {X Y : Type 0} (f : X → Y) (vs vs' : List X) (n : ℕ) → n ≡ length vs → vs' ≡ take (n - 1) vs → map f vs' ≡ take (length (map f vs) - 1) (map f vs)
 popped f vs vs' n e p = rw (p, e, length-map) (sym (take-map f (length vs - 1) vs))
-
--- the last leaf has items
-pub last_filled : {A : Type 0} (cap : ℕ) (cs front : List (List A)) (c : List A) → AreLeaves cap cs → cs ≡ front ++ c ∷ [] → 0 < length (last_leaf cs)
-last_filled cap cs front c p e = rw (e, last-push front c) (leaves_last cap front c (rw e at p))
 
 module _ {T S : Type 0} (cap : ℕ) (total : List T → S) (old : List (List T)) where
   -- a draft's numbers
@@ -256,20 +252,19 @@ module _ {T S : Type 0} (cap : ℕ) (total : List T → S) (old : List (List T))
       remade d' (rw (s.spans, s.kept) within) (rw (s.spans, s.kept, s.place) place_is) (rw (s.spans, s.first) h.first_is) (rw (s.leaves, s.first) h.first_within) (rw (s.sums, s.leaves) h.sums) (rw (same_front m d' s) h.leaves) (rw (s.spans, s.leaves, s.first, s.kept) h.apart) short
 
   -- the first pending items have become a leaf
-  pub closed_alone : (d m d' : Draft T S) (leaf : List T) (count : ℕ) → IsDraft cap total old d → IsWithLeaf cap total old d m leaf → leaf ≡ take count d.pending.items → count ≤ length d.pending.items → IsSame m d' → d'.pending.items ≡ drop count m.pending.items → HasClosed cap total old d d' count
-  closed_alone d m d' leaf count h w is enough s pending =
+  pub closed_alone : (d e d' : Draft T S) (leaf : List T) (count : ℕ) → IsSame d e → e.pending.items ≡ drop count d.pending.items → IsWithLeaf cap total old e d' leaf → leaf ≡ take count d.pending.items → count ≤ length d.pending.items → HasClosed cap total old d d' count
+  closed_alone d e d' leaf count s pending w is enough =
       let p : List T = d.pending.items in
-      let left : d'.pending.items ≡ drop count p = pending ∙ ap (λ (t : List T). drop count t) w.pending_is in
-      let front : front_of old d' ≡ front_of old d ++ leaf ∷ [] = same_front m d' s ∙ w.front_is in
-      let short : length d'.pending.items ≤ 2 * cap = let a = h.short in rw (left, length-drop) (omega arith) in
+      let left : d'.pending.items ≡ drop count p = w.pending_is ∙ pending in
+      let front : front_of old d' ≡ front_of old d ++ leaf ∷ [] = w.front_is ∙ ap (λ (f : List (List T)). f ++ leaf ∷ []) (same_front d e s) in
       let last : last_leaf (front_of old d') ≡ leaf = last_is _ _ _ front in
       let size : length leaf ≡ count = rw is (length-take-le count p enough) in
       let all : concatenated (front_of old d') ≡ concatenated (front_of old d) ++ take count p = rw (front, concatenated-append, append-nil, is) refl in
       record {
         continues = record {
-          draft = same_draft m d' s w.draft short;
+          draft = w.draft;
           text_is = rw (append-nil, all, left, append_assoc, take-append-drop count p) refl;
-          place = rw (same_place m d' s, w.place) (omega arith);
+          place = rw (w.place, same_place d e s) (omega arith);
         };
         pending_is = left;
         last = rw (last, size) (omega arith);
@@ -370,28 +365,3 @@ module _ {T S : Type 0} (cap : ℕ) (total : List T → S) (old : List (List T))
 
   pub writing_all : (d cur : Draft T S) (text : List T) (at : ℕ) → IsWriting d cur text at → length text ≤ at → Continues cap total old d cur text
   writing_all d cur text at w h = rw (take_all at text h) at w.continues
-
-  -- the items of the last leaf are pending
-  pub opened : (d e m d' : Draft T S) → IsDraft cap total old d → IsSame d e → d.pending.items ≡ [] → e.pending.items ≡ [] → IsWithoutLast cap total old e m → IsSame m d' → d'.pending.items ≡ last_leaf (front_of old d) → Continues cap total old d d' []
-  opened d e m d' h s none none' o t pending =
-      let x : List T = last_leaf (front_of old d) in
-      let fe : front_of old e ≡ front_of old d = same_front d e s in
-      let front : front_of old d ≡ front_of old m ++ x ∷ [] = sym fe ∙ o.front_is ∙ ap (λ (f : List (List T)). front_of old m ++ last_leaf f ∷ []) fe in
-      let all : concatenated (front_of old d) ≡ concatenated (front_of old m) ++ x = ap concatenated front ∙ rw (concatenated-append, append-nil) refl in
-      let small = last_small cap (front_of old d) h.leaves in
-      let p = o.place in
-      let pe = same_place d e s in
-      record {
-        draft = same_draft m d' t o.draft (rw pending (omega arith));
-        text_is = rw (same_front m d' t, pending, none, append-nil, append-nil, all) refl;
-        place = rw (same_place m d' t) (omega arith);
-      }
-
-  -- without the last pending item
-  pub taken_back : (m d' : Draft T S) (x : T) → IsDraft cap total old m → IsSame m d' → m.pending.items ≡ d'.pending.items ++ x ∷ [] → IsDraft cap total old d' × (written old m ≡ written old d' ++ x ∷ [])
-  taken_back m d' x h s e =
-      let short = h.short in
-      let size : length m.pending.items ≡ length d'.pending.items + 1 = rw (e, length-append) refl in (
-        same_draft m d' s h (omega arith),
-        rw (same_front m d' s, e, append_assoc) refl,
-      )

@@ -1,7 +1,5 @@
 -- Lists in leaves: the rule on neighbours, the last leaf, and what the leaves make together.
-use Rattle.std.proofs.Common.{◌≡◌, add-mul, ℕ, zero, suc, ◌+◌, ◌-◌, ◌*◌, ◌<◌, ◌≤◌, List, [], ◌∷◌, ◌++◌, length, take, drop, get_or, refl, sym, ap, ◌∙◌, arith, append_assoc, length-append}
-use Rattle.std.specs.Prelude.{slice_get}
-use Rattle.std.proofs.lemmas.List.{append-nil}
+use Rattle.std.proofs.Common.{◌≡◌, add-mul, ℕ, zero, suc, ◌+◌, ◌*◌, ◌<◌, ◌≤◌, List, [], ◌∷◌, ◌++◌, length, take, drop, get_or, refl, arith, append_assoc, length-append}
 use Rattle.ot_list.specs.Leaves.{concatenated, AreLeaves, MayEnd, last_leaf}
 
 pub concatenated-append : {A : Type 0} (cs ds : List (List A)) → concatenated (cs ++ ds) ≡ concatenated cs ++ concatenated ds
@@ -39,11 +37,6 @@ leaves_end cap [] d ds p = tt
 leaves_end cap (b ∷ []) d ds p = p.2
 leaves_end cap (b ∷ c ∷ cs) d ds p = leaves_end cap (c ∷ cs) d ds p.3
 
-pub leaves_last : {A : Type 0} (cap : ℕ) (cs : List (List A)) (d : List A) → AreLeaves cap (cs ++ d ∷ []) → 0 < length d
-leaves_last cap [] d p = p.0
-leaves_last cap (b ∷ []) d p = p.3.0
-leaves_last cap (b ∷ c ∷ cs) d p = leaves_last cap (c ∷ cs) d p.3
-
 pub leaves_drop : {A : Type 0} (cap k : ℕ) (cs : List (List A)) → AreLeaves cap cs → AreLeaves cap (drop k cs)
 leaves_drop cap zero cs p = p
 leaves_drop cap (suc k) [] p = tt
@@ -76,29 +69,6 @@ pub last_small : {A : Type 0} (cap : ℕ) (cs : List (List A)) → AreLeaves cap
 last_small cap [] p = omega arith
 last_small cap (b ∷ []) p = p.1
 last_small cap (b ∷ c ∷ cs) p = last_small cap (c ∷ cs) p.3
-
--- no items, no leaves
-pub last_some : {A : Type 0} (cap : ℕ) (cs : List (List A)) → AreLeaves cap cs → 0 < length (concatenated cs) → 0 < length (last_leaf cs)
-last_some cap [] p h = absurd (omega arith)
-last_some cap (b ∷ []) p h = p.0
-last_some cap (b ∷ c ∷ cs) p h = let f = p.3.0 in last_some cap (c ∷ cs) p.3 (omega (arith, length-append c (concatenated cs)))
-
--- the last item of lists in a row, and of leaves
-last_cons : {A : Type 0} (x : A) (ys : List A) → 0 < length ys → slice_get (x ∷ ys) (length (x ∷ ys) - 1) ≡ slice_get ys (length ys - 1)
-last_cons x [] h = absurd (omega arith)
-last_cons {A} x (y ∷ ys) h =
-    let a : length (x ∷ y ∷ ys) - 1 ≡ suc (length ys) = omega arith in
-    let b : length (y ∷ ys) - 1 ≡ length ys = omega arith in
-    ap (λ (n : ℕ). slice_get (x ∷ y ∷ ys) n) a ∙ sym (ap (λ (n : ℕ). slice_get (y ∷ ys) n) b)
-
-pub last_append : {A : Type 0} (xs ys : List A) → 0 < length ys → slice_get (xs ++ ys) (length (xs ++ ys) - 1) ≡ slice_get ys (length ys - 1)
-last_append [] ys h = refl
-last_append (x ∷ xs) ys h = last_cons x (xs ++ ys) (omega (arith, length-append xs ys)) ∙ last_append xs ys h
-
-pub last_concatenated : {A : Type 0} (cap : ℕ) (cs : List (List A)) → AreLeaves cap cs → slice_get (concatenated cs) (length (concatenated cs) - 1) ≡ slice_get (last_leaf cs) (length (last_leaf cs) - 1)
-last_concatenated cap [] p = refl
-last_concatenated cap (b ∷ []) p = rw append-nil refl
-last_concatenated cap (b ∷ c ∷ cs) p = let f = p.3.0 in last_append b (concatenated (c ∷ cs)) (omega (arith, length-append c (concatenated cs))) ∙ last_concatenated cap (c ∷ cs) p.3
 
 few_more : (n leaves size two items all : ℕ) → n ≡ 2 + leaves → all ≡ two + items → size ≤ two → leaves * size ≤ 2 * items + size → n * size ≤ 2 * all + size
 few_more n leaves size two items all m e l h = let d : (2 + leaves) * size ≡ 2 * size + leaves * size = add-mul 2 leaves size in rw m (omega arith)

@@ -1,6 +1,5 @@
 -- Lemmas that several proofs share, and that the crates above may cite.
 pub mod Drafted
-pub mod Ended
 pub mod Examples
 pub mod Keeping
 pub mod Leaved

@@ -1,8 +1,8 @@
 -- Whole leaves that are walked over, and a leaf that is changed where it lies.
-use Rattle.std.proofs.Common.{◌≡◌, ℕ, zero, suc, ◌+◌, ◌-◌, ◌<◌, ◌≤◌, List, [], ◌∷◌, ◌++◌, map, length, take, drop, set, get_or, refl, sym, ap, ◌∙◌, arith, append_assoc, length-append, get_or-set_same, get_or-set_other}
+use Rattle.std.proofs.Common.{◌≡◌, ℕ, zero, suc, ◌+◌, ◌-◌, ◌<◌, ◌≤◌, List, [], ◌∷◌, ◌++◌, map, length, take, drop, set, get_or, refl, sym, ap, ◌∙◌, arith, append_assoc, length-append, get_or-set_same, get_or-set_other, take-add}
 use Rattle.std.specs.Prelude.{Vec, Result, Ok, Err, OnErr}
 use Rattle.std.specs.declared.alloc.Global.{Global}
-use Rattle.std.proofs.lemmas.List.{append-nil, length-map, map-set, take_more, length-drop, length-take-le, get_or-drop, length-set, take-append-le, drop-append-le}
+use Rattle.std.proofs.lemmas.List.{append-nil, length-map, map-set, take_more, length-drop, length-take-le, get_or-drop, drop-drop, length-set, take-append-le, drop-append-le}
 use Rattle.std.proofs.Math.Seq.{take-append-add, drop-append-add, map-set_same}
 use Rattle.ot_list.specs.Leaves.{concatenated, AreLeaves, MayHave, with_run, replaced}
 use Rattle.ot_list.proofs.Leaved.{concatenated-append, leaf_small}
@@ -12,17 +12,28 @@ use Rattle.ot_list.proofs.Keeping.{pair_at}
 pub found_none : {A : Type 0} (cs : List (List A)) (from count : ℕ) → length (concatenated (take (from - from) (drop from cs))) + count ≡ count
 found_none cs from count = let z : from - from ≡ 0 = omega arith in rw z (omega arith)
 
+-- more leaves
+pub walked_more :
+    {A : Type 0} (cs : List (List A)) (from place width : ℕ) → from ≤ place
+    → length (concatenated (take ((place + width) - from) (drop from cs))) ≡ length (concatenated (take (place - from) (drop from cs))) + length (concatenated (take width (drop place cs)))
+walked_more {A} cs from place width order =
+    let k : (place + width) - from ≡ (place - from) + width = omega arith in
+    let at : from + (place - from) ≡ place = omega arith in
+    rw (k, take-add, drop-drop, at, concatenated-append, length-append) refl
+
+-- one more
+pub leaf_more :
+    {A : Type 0} (cs : List (List A)) (from place n : ℕ) → from ≤ place → place < length cs → n ≡ length (get_or cs place [])
+    → length (concatenated (take ((place + 1) - from) (drop from cs))) ≡ length (concatenated (take (place - from) (drop from cs))) + n
+leaf_more {A} cs from place n order within is =
+    let here : place + 0 ≡ place = omega arith in
+    let one : length (concatenated (take 1 (drop place cs))) ≡ n = rw (take_more (drop place cs) 0 [] (omega (arith, length-drop place cs)), get_or-drop, here, append-nil, is) refl in
+    walked_more cs from place 1 order ∙ ap (λ (m : ℕ). length (concatenated (take (place - from) (drop from cs))) + m) one
+
 pub found_more :
     {A : Type 0} (cs : List (List A)) (from place left count n : ℕ) → from ≤ place → place < length cs → n ≡ length (get_or cs place []) → n ≤ left
     → length (concatenated (take (place - from) (drop from cs))) + left ≡ count → length (concatenated (take ((place + 1) - from) (drop from cs))) + (left - n) ≡ count
-found_more {A} cs from place left count n order within is fits before =
-    let k : (place + 1) - from ≡ (place - from) + 1 = omega arith in
-    let at : from + (place - from) ≡ place = omega arith in
-    let more : take ((place - from) + 1) (drop from cs) ≡ take (place - from) (drop from cs) ++ get_or cs place [] ∷ [] =
-    take_more (drop from cs) (place - from) [] (omega (arith, length-drop from cs)) ∙ rw (get_or-drop, at) refl in
-    let items : length (concatenated (take ((place - from) + 1) (drop from cs))) ≡ length (concatenated (take (place - from) (drop from cs))) + n =
-    rw (more, concatenated-append, append-nil, length-append, is) refl in
-    rw k (omega (arith, items))
+found_more {A} cs from place left count n order within is fits before = omega (arith, before, fits, leaf_more cs from place n order within is)
 
 -- a leaf in the place of another, where its neighbours let it
 pub leaves_set :

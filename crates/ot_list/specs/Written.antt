@@ -1,5 +1,5 @@
 -- What a draft has written.
-use Rattle.std.specs.Prelude.{◌≡◌, ℕ, ◌+◌, ◌-◌, ◌*◌, ◌<◌, ◌≤◌, List, [], ◌∷◌, ◌++◌, map, length, drop, Option, Some, None}
+use Rattle.std.specs.Prelude.{◌≡◌, ℕ, ◌+◌, ◌-◌, ◌*◌, ◌<◌, ◌≤◌, List, [], ◌∷◌, ◌++◌, map, length, drop}
 use Rattle.ot_list.specs.declared.span.Span.{Span}
 use Rattle.ot_list.specs.declared.draft.Draft.{Draft}
 use Rattle.ot_list.specs.Leaves.{concatenated, AreLeaves, MayEnd, last_leaf}
@@ -101,8 +101,3 @@ pub record IsAt {T S : Type 0} (draft : Draft T S) (place : ℕ) : Type 0 where
   pub made : length draft.leaves.items ≤ draft.first
   pub none : draft.pending.items ≡ []
   pub place_is : draft.place ≡ place
-
--- what the last whole leaf comes to, or none where there is none
-abbrev pub IsLastSum : {T S : Type 0} → (List T → S) → List (List T) → Option S → Type 0
-IsLastSum total front None = front ≡ []
-IsLastSum total front (Some sum) = (0 < length (last_leaf front)) × (sum ≡ total (last_leaf front))

@@ -1,9 +1,9 @@
 //! A list written from left to right over an old one.
 
-ghost use Rattle.std.specs.Prelude.{◌≡◌, ◌↔◌, ◌+◌, ◌-◌, ◌*◌, ◌<◌, ◌≤◌, ◌++◌, ◌∷◌, List as ListOf, [], length, get_or, slice_get, take, drop, false, IsTrue, OnOk, IfOk};
+ghost use Rattle.std.specs.Prelude.{◌≡◌, ◌↔◌, ◌+◌, ◌-◌, ◌*◌, ◌<◌, ◌≤◌, ◌++◌, ◌∷◌, List as ListOf, [], length, get_or, take, drop, false, IsTrue, OnOk, IfOk};
 ghost use Rattle.ot_list.specs.Leaves.{concatenated, AreLeaves, MayEnd, last_leaf};
 ghost use Rattle.ot_list.specs.Change.{patched, IsOf};
-ghost use Rattle.ot_list.specs.Written.{written, front_of, place_of, IsDraft, Continues, IsWithoutLast, IsWithLeaf, HasClosed, HasHalved, HasFlushed, MayFollow, IsAt, IsLastSum};
+ghost use Rattle.ot_list.specs.Written.{written, front_of, place_of, IsDraft, Continues, IsWithoutLast, IsWithLeaf, HasClosed, HasHalved, HasFlushed, MayFollow, IsAt};
 
 use crate::blocks::move_down;
 use crate::{Item, List, Patch, Span};
@@ -25,7 +25,22 @@ pub struct Draft<E: Item> {
     place: usize,
 }
 
-// Takes the first items out.
+// Takes the first items out, as a leaf. Where these are all, and they have no more room than a leaf, none is copied.
+fn take_front<T: Copy>(items: &mut Vec<T>, count: usize, room: usize) -> Result<Vec<T>, AllocError>
+    requires { count ≤ length items.old.items }
+    ensures front { IfOk result (λ front. front.items ≡ take count items.old.items) }
+    ensures rest { OnOk result (items.new.items ≡ drop count items.old.items) }
+{
+    let alloc = *items.allocator();
+    if count == items.len() && items.capacity() <= room {
+        return Ok(std::mem::replace(items, Vec::new(alloc)));
+    }
+    let front = Vec::from_slice(alloc, &items[..count])?;
+    drop_front(items, count);
+    Ok(front)
+}
+
+// Removes the first items.
 fn drop_front<T: Copy>(items: &mut Vec<T>, count: usize)
     requires { count ≤ length items.old.items }
     ensures { items.new.items ≡ drop count items.old.items }
@@ -38,15 +53,14 @@ fn drop_front<T: Copy>(items: &mut Vec<T>, count: usize)
 }
 
 impl<E: Item> Draft<E> {
-    /// A draft in which nothing is written. `AllocError` where the room in which it writes was refused.
+    /// A draft in which nothing is written. It takes no memory.
     pub fn new(alloc: Global) -> Result<Draft<E>, AllocError>
         ensures draft { IfOk result (λ d. (old : ListOf (ListOf E)) → IsDraft E.CAP E.total old d) }
         ensures empty { IfOk result (λ d. (old : ListOf (ListOf E)) → written old d ≡ []) }
         ensures place { IfOk result (λ d. place_of d ≡ 0) }
     {
-        let pending = Vec::with_capacity(alloc, 2 * E::CAP)?;
         Ok(Draft {
-            pending,
+            pending: Vec::new(alloc),
             spans: Vec::new(alloc),
             leaves: Vec::new(alloc),
             sums: Vec::new(alloc),
@@ -86,37 +100,19 @@ impl<E: Item> Draft<E> {
         &[]
     }
 
-    /// What the last whole leaf that is written comes to, or `None` where there is none: the leaf itself is not read. The `unfinished` items stand behind it.
-    pub fn last_sum(&self, old: &List<E>) -> Option<E::Sum>
-        requires { IsDraft E.CAP E.total old.now self.now }
-        ensures { IsLastSum E.total (front_of old.now self.now) result }
-    {
-        let count = self.sums.len();
-        if count > self.first {
-            return Some(self.sums[count - 1]);
-        }
-        if self.kept > 0 {
-            return Some(old.sums()[self.place - 1]);
-        }
-        None
-    }
-
-    /// The items that are written behind the last whole leaf: at most `2 * CAP`.
-    pub fn unfinished(&self) -> &[E]
-        ensures { result.now ≡ self.now.pending.items }
-    {
-        &self.pending[..]
-    }
-
-    // How many items the last whole leaf has: 0, where there is none.
+    // How many items the last whole leaf has, by its sum: 0, where there is none.
     fn last_count(&self, old: &List<E>) -> usize
         requires { IsDraft E.CAP E.total old.now self.now }
         ensures { result ≡ length (last_leaf (front_of old.now self.now)) }
     {
-        match self.last_sum(old) {
-            Some(sum) => E::count(sum),
-            None => 0,
+        let count = self.sums.len();
+        if count > self.first {
+            return E::count(self.sums[count - 1]);
         }
+        if self.kept > 0 {
+            return E::count(old.sums()[self.place - 1]);
+        }
+        0
     }
 
     // The last whole leaf is written no more.
@@ -167,11 +163,8 @@ impl<E: Item> Draft<E> {
         requires end { MayEnd E.CAP (front_of old.now self.old) count }
         ensures { OnOk result (HasClosed E.CAP E.total old.now self.old self.new count) }
     {
-        let alloc = *self.pending.allocator();
-        let pending = self.pending.as_slice();
-        let leaf = Vec::from_slice(alloc, &pending[..count])?;
+        let leaf = take_front(&mut self.pending, count, E::CAP)?;
         self.add(old, leaf)?;
-        drop_front(&mut self.pending, count);
         Ok(())
     }
 
@@ -251,6 +244,10 @@ impl<E: Item> Draft<E> {
         ensures ok { OnOk result (Continues E.CAP E.total old.now self.old self.new []) }
         ensures room { OnOk result (length self.new.pending.items < 2 * E.CAP) }
     {
+        if self.pending.is_empty() {
+            self.pending.reserve(E::CAP)?;
+            return Ok(());
+        }
         if self.pending.len() < 2 * E::CAP {
             return Ok(());
         }
@@ -258,17 +255,7 @@ impl<E: Item> Draft<E> {
         Ok(())
     }
 
-    /// Writes one item. After an error the draft is abandoned: `begin` makes it one in which nothing is written.
-    pub fn push(&mut self, old: &List<E>, item: E) -> Result<(), AllocError>
-        requires { IsDraft E.CAP E.total old.now self.old }
-        ensures { OnOk result (Continues E.CAP E.total old.now self.old self.new (item ∷ [])) }
-    {
-        self.make_room(old)?;
-        self.pending.push(item)?;
-        Ok(())
-    }
-
-    /// Writes items. After an error the draft is abandoned.
+    /// Writes items. After an error the draft is abandoned: `begin` makes it one in which nothing is written.
     pub fn extend(&mut self, old: &List<E>, items: &[E]) -> Result<(), AllocError>
         requires { IsDraft E.CAP E.total old.now self.old }
         ensures { OnOk result (Continues E.CAP E.total old.now self.old self.new items.now) }
@@ -281,48 +268,6 @@ impl<E: Item> Draft<E> {
             at += step;
         }
         Ok(())
-    }
-
-    /// The last item that is written.
-    pub fn last(&self, old: &List<E>) -> Option<E>
-        requires { IsDraft E.CAP E.total old.now self.now }
-        ensures { result ≡ slice_get (written old.now self.now) (length (written old.now self.now) - 1) }
-    {
-        if self.pending.is_empty() {
-            return self.last_items(old).last().copied();
-        }
-        self.pending.as_slice().last().copied()
-    }
-
-    // Puts the items of the last whole leaf into what is pending.
-    fn open_last(&mut self, old: &List<E>) -> Result<(), AllocError>
-        requires draft { IsDraft E.CAP E.total old.now self.old }
-        requires empty { self.old.pending.items ≡ [] }
-        requires some { 0 < length (written old.now self.old) }
-        ensures ok { OnOk result (Continues E.CAP E.total old.now self.old self.new []) }
-        ensures some { OnOk result (0 < length self.new.pending.items) }
-    {
-        let alloc = *self.pending.allocator();
-        let mut pending = std::mem::replace(&mut self.pending, Vec::new(alloc));
-        pending.extend_from_slice(self.last_items(old))?;
-        self.drop_last(old);
-        self.pending = pending;
-        Ok(())
-    }
-
-    /// Removes the last item. After an error the draft is abandoned.
-    pub fn pop(&mut self, old: &List<E>) -> Result<E, AllocError>
-        requires draft { IsDraft E.CAP E.total old.now self.old }
-        requires some { 0 < length (written old.now self.old) }
-        ensures draft { OnOk result (IsDraft E.CAP E.total old.now self.new) }
-        ensures text { IfOk result (λ item. written old.now self.old ≡ written old.now self.new ++ item ∷ []) }
-        ensures place { OnOk result (place_of self.new ≤ place_of self.old) }
-    {
-        if !self.pending.is_empty() {
-            return Ok(self.pending.take_last());
-        }
-        self.open_last(old)?;
-        Ok(self.pending.take_last())
     }
 
     // May a leaf of that length stand behind all that is written?

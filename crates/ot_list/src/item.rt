@@ -1,6 +1,6 @@
 //! What the items of a list are.
 
-ghost use Rattle.std.specs.Prelude.{◌≡◌, ◌<◌, ◌≤◌, ◌^◌, ◌++◌, ℕ, List as ListOf, length, IfSome};
+ghost use Rattle.std.specs.Prelude.{◌≡◌, ◌<◌, ◌≤◌, ◌^◌, ℕ, List as ListOf, length};
 
 /// A type of items. `sum` says what a leaf's items come to; `count` says by the sum alone how many they are.
 pub trait Item: Copy {
@@ -25,11 +25,6 @@ pub trait Item: Copy {
     fn sum(items: &[Self]) -> Self::Sum
         requires { length items.now ≤ CAP }
         ensures { result ≡ total items.now };
-
-    /// What items of this sum come to with more behind them. It goes through the others alone; none where a number may grow too large for that.
-    fn sum_with(sum: Self::Sum, more: &[Self]) -> Option<Self::Sum>
-        requires { length more.now ≤ CAP }
-        ensures { (items : ListOf Self) → sum ≡ total items → IfSome result (λ all. all ≡ total (items ++ more.now)) };
 
     /// How many items a leaf of this sum has.
     fn count(sum: Self::Sum) -> usize
@@ -58,10 +53,6 @@ impl Item for char {
 
     fn sum(items: &[char]) -> u32 {
         items.len() as u32
-    }
-
-    fn sum_with(sum: u32, more: &[char]) -> Option<u32> {
-        sum.checked_add(more.len() as u32)
     }
 
     fn count(sum: u32) -> usize {

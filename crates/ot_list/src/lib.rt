@@ -4,7 +4,7 @@
 //!   List     sums    [     5     |    4    |      6      ]    what each leaf comes to, side by side
 //!            leaves  [ a b c d e | f g h i | j k l m n o ]    each 1 to CAP items, two neighbours more than CAP
 //!
-//!   Draft    keep leaf 0, push x, extend f g y z, keep leaf 2: what is written is  a b c d e x f g y z j k l m n o
+//!   Draft    keep leaf 0, extend x f g y z, keep leaf 2: what is written is  a b c d e x f g y z j k l m n o
 //!
 //!   Patch    spans   [ 1 kept, 1 gone, 1 put ]
 //!            leaves  [ x f g y z ]                            the new leaves of all spans, with their sums
@@ -18,12 +18,10 @@
 //! new ones come in their place: so spans need no other numbers when they are undone. Of a `Draft` it says what is `written` over the old leaves, and
 //! up to which `place_of` it they are done with.
 //!
-//! - `Draft::begin`, then `keep`, `push`, `extend`, `pop`, and `finish`, which makes the patch; or `list`, where there is no old list. The old list is only
-//!   read. After an error the draft is abandoned: `begin` makes it one in which nothing is written. Its room is kept from one use to the next.
-//! - `Draft::last_sum` and `Draft::unfinished` say how what is written ends, by the sum of the last whole leaf and the items behind it.
+//! - `Draft::new` or `begin`, then `keep`, `extend`, and `finish`, which makes the patch; or `list`, where there is no old list. The old list is only
+//!   read. What is written is copied once where it becomes one leaf. After an error the draft is abandoned: `begin` makes it one in which nothing is written.
 //! - `List::find` walks over leaves by their sums; `List::copy` copies a list. `List::replace_in_leaf` changes one leaf where it lies, if the rule on leaves still
-//!   holds then.
-//! - `List::push`, `extend`, `set_last` and `set_last_but_one` change the end of a list where it lies; where memory is refused, it is as it was.
+//!   holds then. A leaf that grows gets the room of a whole leaf at once.
 //! - `List::prepare` makes room in the patch; that may fail, and changes no value.
 //! - `List::swap` exchanges leaves: it takes no memory, cannot fail, and moves only the headers of leaves. Where as many go as come at each place, it touches
 //!   these alone; else it moves all headers once.
@@ -32,7 +30,6 @@
 
 mod blocks;
 mod draft;
-mod end;
 mod item;
 mod laws;
 mod list;

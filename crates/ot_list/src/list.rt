@@ -8,6 +8,9 @@ use crate::replace::replace;
 use std::alloc::{AllocError, Global};
 use std::marker::Model;
 
+/// So many leaves a block has, whose sums are read together.
+const BLOCK: usize = 8;
+
 /// A list in leaves.
 #[derive(Drop)]
 pub struct List<E: Item> {
@@ -89,6 +92,39 @@ impl<E: Item> List<E> {
         E::count(self.sums[place])
     }
 
+    // How many items a block of leaves has.
+    fn block_size(&self, place: usize) -> usize
+        requires { place + 8 ≤ length self.now }
+        ensures { result ≡ length (concatenated (take 8 (drop place self.now))) }
+    {
+        let _ = self.leaf_count();
+        let mut items = 0;
+        for next in place..place + BLOCK {
+            items += self.size(next);
+        }
+        items
+    }
+
+    // `find` by blocks of leaves: it may stop before it has to.
+    fn skip_blocks(&self, from: usize, count: usize) -> (usize, usize)
+        requires { from ≤ length self.now }
+        ensures order { from ≤ result.0 }
+        ensures within { result.0 ≤ length self.now }
+        ensures count { length (concatenated (take (result.0 - from) (drop from self.now))) + result.1 ≡ count }
+    {
+        let mut place = from;
+        let mut left = count;
+        while self.leaf_count() - place >= BLOCK {
+            let block = self.block_size(place);
+            if block > left {
+                return (place, left);
+            }
+            place += BLOCK;
+            left -= block;
+        }
+        (place, left)
+    }
+
     /// Walks over whole leaves, from one on, as long as they have at most `count` items together. Says before which leaf it stops, and how many items of
     /// the count are left: fewer than that leaf has, if there is one. It reads sums alone.
     pub fn find(&self, from: usize, count: usize) -> (usize, usize)
@@ -98,8 +134,9 @@ impl<E: Item> List<E> {
         ensures count { length (concatenated (take (result.0 - from) (drop from self.now))) + result.1 ≡ count }
         ensures next { result.0 < length self.now → result.1 < length (get_or self.now result.0 []) }
     {
-        let mut left = count;
-        for place in from..self.leaf_count() {
+        let (start, rest) = self.skip_blocks(from, count);
+        let mut left = rest;
+        for place in start..self.leaf_count() {
             let items = self.size(place);
             if items > left {
                 return (place, left);
@@ -149,7 +186,7 @@ impl<E: Item> List<E> {
         if !self.may_have(leaf, left + items.len()) {
             return Ok(false);
         }
-        replace(&mut self.leaves[leaf], at, gone, items)?;
+        replace(&mut self.leaves[leaf], at, gone, items, E::CAP)?;
         self.sums[leaf] = E::sum(self.leaves[leaf].as_slice());
         Ok(true)
     }

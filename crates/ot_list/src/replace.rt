@@ -1,6 +1,6 @@
 //! Items of a list in the place of others, where the list lies.
 
-ghost use Rattle.std.specs.Prelude.{◌≡◌, ◌+◌, ◌≤◌, ◌++◌, length, take, drop, OnOk, OnErr, vec_capacity};
+ghost use Rattle.std.specs.Prelude.{◌≡◌, ◌+◌, ◌-◌, ◌<◌, ◌≤◌, ◌++◌, ◌∷◌, length, take, drop, OnOk, OnErr, vec_capacity};
 ghost use Rattle.ot_list.specs.Leaves.{with_run};
 
 use crate::blocks::{move_down, move_up};
@@ -21,6 +21,17 @@ fn remove<T: Copy>(items: &mut Vec<T>, at: usize, count: usize)
     items.truncate(length - count);
 }
 
+// Puts an item in, for which there is room: one is what a key stroke brings, and the items behind it move all at once.
+fn insert_one<T: Copy>(items: &mut Vec<T>, at: usize, item: T)
+    requires inside { at ≤ length items.old.items }
+    requires room { length items.old.items < vec_capacity items.old }
+    ensures { items.new.items ≡ take at items.old.items ++ item ∷ drop at items.old.items }
+{
+    if items.insert(at, item).is_err() {
+        unreachable!();
+    }
+}
+
 // Puts items in, for which there is room.
 fn insert<T: Copy>(items: &mut Vec<T>, at: usize, come: &[T])
     requires inside { at ≤ length items.old.items }
@@ -28,6 +39,10 @@ fn insert<T: Copy>(items: &mut Vec<T>, at: usize, come: &[T])
     ensures { items.new.items ≡ take at items.old.items ++ come.now ++ drop at items.old.items }
 {
     if come.is_empty() {
+        return;
+    }
+    if let [one] = come {
+        insert_one(items, at, *one);
         return;
     }
     let length = items.len();
@@ -39,18 +54,24 @@ fn insert<T: Copy>(items: &mut Vec<T>, at: usize, come: &[T])
     items.slice_mut(at..end).copy_from_slice(come);
 }
 
-/// From a place on `gone` items go, and others come there. `AllocError` where the growth was refused: the list is as it was then.
+/// From a place on `gone` items go, and others come there. Where the list grows, it gets room for `room` items. `AllocError` where the growth was refused: the list
+/// is as it was then.
 pub fn replace<T: Copy>(
     items: &mut Vec<T>,
     at: usize,
     gone: usize,
     come: &[T],
+    room: usize,
 ) -> Result<(), AllocError>
-    requires { at + gone ≤ length items.old.items }
+    requires within { at + gone ≤ length items.old.items }
+    requires small { length items.old.items ≤ room }
+    requires fits { length items.old.items - gone + length come.now ≤ room }
     ensures ok { OnOk result (items.new.items ≡ with_run items.old.items at gone come.now) }
     ensures err { OnErr result (items.new.items ≡ items.old.items) }
 {
-    items.reserve(come.len())?;
+    if items.len() - gone + come.len() > items.capacity() {
+        items.reserve_exact(room - items.len())?;
+    }
     remove(items, at, gone);
     insert(items, at, come);
     Ok(())

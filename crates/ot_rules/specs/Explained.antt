@@ -5,8 +5,8 @@ use Rattle.ot_isa.specs.declared.instruction.Instr.{Instr}
 use Rattle.ot_model.specs.Runs.{place_at}
 use Rattle.ot_model.specs.Table.{Outcome, Performed, Refused, NoRow, Place, State, step}
 use Rattle.ot_rules.specs.declared.explaining.Difference as program
-use Rattle.ot_rules.specs.declared.field.Field.{Field}
-use Rattle.ot_rules.specs.declared.field.Field.TheVariants as field
+use Rattle.ot_steps.specs.declared.key.Key.{Key}
+use Rattle.ot_steps.specs.declared.key.Key.TheVariants as key
 use Rattle.ot_rules.specs.declared.note.Note.{Note}
 use Rattle.ot_rules.specs.Call.{Call}
 use Rattle.ot_rules.specs.Calling.{call_of}
@@ -17,31 +17,31 @@ use Rattle.ot_rules.specs.Texts.{text_for}
 -- what a port printed that ot.js has not: which value, both as JSON texts, and whether the port printed the operation that the instruction
 -- applies, and it is ot.js'
 pub record Difference : Type 0 where
-  pub field : Field
+  pub key : Option Key
   pub found : List ℕ
   pub wanted : List ℕ
   pub printed : Bool
 
 abbrev pub difference_value : program.Difference → Difference
-difference_value d = record { field = d.field; found = d.found.now; wanted = d.wanted.now; printed = d.printed }
+difference_value d = record { key = d.key; found = d.found.now; wanted = d.wanted.now; printed = d.printed }
 
 -- a rule of ot.js makes the value; the place, the instruction and its client are the schedule's
-abbrev pub has_rule : Field → Bool
-has_rule field.Place = false
-has_rule field.Word = false
-has_rule field.Client = false
+abbrev pub has_rule : Option Key → Bool
+has_rule (Some key.At) = false
+has_rule (Some key.Do) = false
+has_rule (Some key.Client) = false
 has_rule _ = true
 
-abbrev pub note_lines : Option Note → Field → List ℕ
+abbrev pub note_lines : Option Note → Option Key → List ℕ
 note_lines None f = []
 note_lines (Some note) f = codes "note " ++ (sentence note f ++ 10 ∷ [])
 
 -- what notes are asked of, over the text that ot.js' operation applies to
 abbrev pub asked_over : Call → Option (List ℕ) → Difference → Asked
-asked_over call text d = record { call = call; field = d.field; found = d.found; wanted = d.wanted; text = text; printed = d.printed }
+asked_over call text d = record { call = call; key = d.key; found = d.found; wanted = d.wanted; text = text; printed = d.printed }
 
 abbrev pub asked_of : Program → State → Instr → Call → Difference → Asked
-asked_of s state i call d = asked_over call (text_for s.start state i call d.field) d
+asked_of s state i call d = asked_over call (text_for s.start state i call d.key) d
 
 abbrev pub state_in : Place → State
 state_in q = q.state
@@ -50,7 +50,7 @@ state_in q = q.state
 pub record IsExplained (a : Asked) (text : List ℕ) : Type 0 where
   pub note : Option Note
   pub first : IsFirst note a
-  pub are : text ≡ call_lines a.call ++ note_lines note a.field
+  pub are : text ≡ call_lines a.call ++ note_lines note a.key
 
 abbrev pub IsCallExplained : Program → State → Instr → Option Call → Difference → List ℕ → Type 0
 IsCallExplained s state i None d text = text ≡ []
@@ -77,4 +77,4 @@ IsPlaceExplained s place d true text = IsInstrExplained s (slice_get s.instrs pl
 IsPlaceExplained s place d false text = text ≡ []
 
 abbrev pub Explains : Program → ℕ → Difference → List ℕ → Type 0
-Explains s place d text = IsPlaceExplained s place d (has_rule d.field) text
+Explains s place d text = IsPlaceExplained s place d (has_rule d.key) text

@@ -5,20 +5,20 @@ use Rattle.ot_json.specs.Reading.{operation_of_text}
 use Rattle.ot_json.specs.Writing.{text_of_operation}
 use Rattle.ot_json.specs.declared.fault.OpFault.{OpFault}
 use Rattle.ot_operation.specs.Operation.{Operation}
-use Rattle.ot_rules.specs.declared.field.Field.{Field}
-use Rattle.ot_rules.specs.declared.field.Field.TheVariants as field
+use Rattle.ot_steps.specs.declared.key.Key.{Key}
+use Rattle.ot_steps.specs.declared.key.Key.TheVariants as key
 use Rattle.ot_rules.specs.declared.note.Note.{Note}
 use Rattle.ot_rules.specs.declared.note.Note.TheVariants.{SameEffect, InUnits, Turned, Untransformed, HalfTransformed, EditAlone, WithoutEdit, RevisionBefore, RevisionAtOpening, DocumentAlone}
 use Rattle.ot_rules.specs.declared.note.Asked as program
 use Rattle.ot_rules.specs.Call.{Call, ApplyClient, ApplyServer, ServerAck, ReceiveOperation, call_value}
 use Rattle.ot_rules.specs.Units.{in_units}
-use Rattle.ot_rules.specs.Wrong.{in_field, made_by_edit_alone, made_by_half, made_turned, made_untransformed, made_without_edit}
+use Rattle.ot_rules.specs.Wrong.{at_key, made_by_edit_alone, made_by_half, made_turned, made_untransformed, made_without_edit}
 
 -- what was found and what ot.js has, as JSON texts; the call that makes it, which value it is, the text that ot.js' operation applies to,
 -- and whether the port printed the operation that the instruction applies, and it is ot.js'
 pub record Asked : Type 0 where
   pub call : Call
-  pub field : Field
+  pub key : Option Key
   pub found : List ℕ
   pub wanted : List ℕ
   pub text : Option (List ℕ)
@@ -28,7 +28,7 @@ abbrev pub asked_value : program.Asked → Asked
 asked_value a =
     record {
       call = call_value a.call.now;
-      field = a.field;
+      key = a.key;
       found = a.found.now;
       wanted = a.wanted.now;
       text = option_copied a.text;
@@ -58,11 +58,11 @@ counted (Some op) (Some text) = in_units op text
 abbrev pub said : Note → Asked → Option (Operation ℕ)
 said SameEffect a = None
 said InUnits a = counted (operation_in (operation_of_text a.wanted)) a.text
-said Turned a = in_field (made_turned a.call) a.field
-said Untransformed a = in_field (made_untransformed a.call) a.field
-said HalfTransformed a = in_field (made_by_half a.call) a.field
-said EditAlone a = in_field (made_by_edit_alone a.call) a.field
-said WithoutEdit a = in_field (made_without_edit a.call) a.field
+said Turned a = at_key (made_turned a.call) a.key
+said Untransformed a = at_key (made_untransformed a.call) a.key
+said HalfTransformed a = at_key (made_by_half a.call) a.key
+said EditAlone a = at_key (made_by_edit_alone a.call) a.key
+said WithoutEdit a = at_key (made_without_edit a.call) a.key
 said RevisionBefore a = None
 said RevisionAtOpening a = None
 said DocumentAlone a = None
@@ -75,7 +75,7 @@ IsTextOf text (Some op) = text ≡ text_of_operation op
 -- ---- the revision within `sent`
 
 abbrev pub IsSentRevision : ℕ → Asked → Type 0
-IsSentRevision revision a = (a.field ≡ field.SentRevision) × (a.found ≡ decimal revision)
+IsSentRevision revision a = (a.key ≡ Some key.SentRevision) × (a.found ≡ decimal revision)
 
 -- the revision of the client before an acknowledgement
 abbrev pub IsRevisionBefore : Call → Asked → Type 0
@@ -96,7 +96,7 @@ IsTrueOf EditAlone a = IsTextOf a.found (said EditAlone a)
 IsTrueOf WithoutEdit a = IsTextOf a.found (said WithoutEdit a)
 IsTrueOf RevisionBefore a = IsRevisionBefore a.call a
 IsTrueOf RevisionAtOpening a = IsSentRevision 0 a
-IsTrueOf DocumentAlone a = (a.field ≡ field.Document) × (a.printed ≡ true)
+IsTrueOf DocumentAlone a = (a.key ≡ Some key.Document) × (a.printed ≡ true)
 
 -- the order in which they are asked
 abbrev pub rank : Note → ℕ
@@ -118,17 +118,17 @@ IsFirst (Some note) a = IsTrueOf note a × ((n : Note) → rank n < rank note �
 
 -- ---- in words
 
-abbrev pub untransformed : Field → List ℕ
-untransformed field.Outstanding = codes "that is the outstanding operation as it was, not transformed"
-untransformed field.Buffer = codes "that is the buffer as it was, not transformed"
-untransformed field.Appended = codes "that is the message itself, not transformed"
+abbrev pub untransformed : Option Key → List ℕ
+untransformed (Some key.Outstanding) = codes "that is the outstanding operation as it was, not transformed"
+untransformed (Some key.Buffer) = codes "that is the buffer as it was, not transformed"
+untransformed (Some key.Appended) = codes "that is the message itself, not transformed"
 untransformed _ = codes "that is the delivered operation itself, not transformed"
 
-abbrev pub by_half : Field → List ℕ
-by_half field.Buffer = codes "that is the buffer transformed against the delivered operation itself, and not against what the outstanding one makes of it"
+abbrev pub by_half : Option Key → List ℕ
+by_half (Some key.Buffer) = codes "that is the buffer transformed against the delivered operation itself, and not against what the outstanding one makes of it"
 by_half _ = codes "that was transformed against the outstanding operation and not against the buffer"
 
-abbrev pub sentence : Note → Field → List ℕ
+abbrev pub sentence : Note → Option Key → List ℕ
 sentence SameEffect f = codes "the same effect in another form: ot.js keeps an insertion before a deletion and merges neighbours"
 sentence InUnits f = codes "the same operation with lengths counted in UTF-16 units; otbench counts Unicode scalar values"
 sentence Turned f = codes "that is what transform gives if the text of its second argument goes first"

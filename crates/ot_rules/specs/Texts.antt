@@ -11,8 +11,8 @@ use Rattle.ot_model.specs.Operation.{Operation, apply}
 use Rattle.ot_model.specs.Table.{Entry, State, start_list}
 use Rattle.ot_steps.specs.Steps.{client_in}
 use Rattle.ot_rules.specs.declared.call.Waiting.TheVariants.{Nothing, Outstanding, Buffered}
-use Rattle.ot_rules.specs.declared.field.Field.{Field}
-use Rattle.ot_rules.specs.declared.field.Field.TheVariants as field
+use Rattle.ot_steps.specs.declared.key.Key.{Key}
+use Rattle.ot_steps.specs.declared.key.Key.TheVariants as key
 use Rattle.ot_rules.specs.Call.{Call, ApplyClient, ApplyServer, ServerAck, ReceiveOperation}
 use Rattle.ot_rules.specs.Wrong.{first_of, transformed}
 
@@ -77,12 +77,12 @@ applied_to (Some op) (Some text) = applied op text
 abbrev pub text_under_buffer : List ℕ → State → Instr → Call → Option (List ℕ)
 text_under_buffer start s i call = applied_to (outstanding_behind call) (text_behind start s i)
 
--- the text that the operation of a field applies to, in the line of an instruction of a run from this start, before which the state is s
-abbrev pub text_for : List ℕ → State → Instr → Call → Field → Option (List ℕ)
-text_for start s i call field.Edit = own_text s (client_of i)
-text_for start s i call field.Applied = own_text s (client_of i)
-text_for start s i call field.Outstanding = text_behind start s i
-text_for start s i call field.SentOperation = text_behind start s i
-text_for start s i call field.Buffer = text_under_buffer start s i call
-text_for start s i call field.Appended = Some (chars_of s.server)
+-- the text that the operation under a key applies to, in the line of an instruction of a run from this start, before which the state is s
+abbrev pub text_for : List ℕ → State → Instr → Call → Option Key → Option (List ℕ)
+text_for start s i call (Some key.Edit) = own_text s (client_of i)
+text_for start s i call (Some key.Applied) = own_text s (client_of i)
+text_for start s i call (Some key.Outstanding) = text_behind start s i
+text_for start s i call (Some key.SentOperation) = text_behind start s i
+text_for start s i call (Some key.Buffer) = text_under_buffer start s i call
+text_for start s i call (Some key.Appended) = Some (chars_of s.server)
 text_for start s i call _ = None

@@ -5,8 +5,8 @@ use Rattle.ot_operation.specs.Operation.{Operation, news}
 use Rattle.ot_operation.specs.Merge.{transform}
 use Rattle.ot_rules.specs.declared.call.Waiting.{Waiting}
 use Rattle.ot_rules.specs.declared.call.Waiting.TheVariants.{Nothing, Outstanding, Buffered}
-use Rattle.ot_rules.specs.declared.field.Field.{Field}
-use Rattle.ot_rules.specs.declared.field.Field.TheVariants as field
+use Rattle.ot_steps.specs.declared.key.Key.{Key}
+use Rattle.ot_steps.specs.declared.key.Key.TheVariants as key
 use Rattle.ot_rules.specs.declared.wrong.Made.{Made}
 use Rattle.ot_rules.specs.Call.{Call, ApplyClient, ApplyServer, ServerAck, ReceiveOperation}
 use Rattle.ot_operation.specs.declared.TheConstants.{LIMIT}
@@ -34,12 +34,12 @@ turned a b = option_map swapped (transformed b a)
 abbrev pub nothing : Made
 nothing = record { outstanding = None; buffer = None; applied = None; appended = None }
 
-abbrev pub in_field : Made → Field → Option (Operation ℕ)
-in_field made field.Outstanding = made.outstanding
-in_field made field.Buffer = made.buffer
-in_field made field.Applied = made.applied
-in_field made field.Appended = made.appended
-in_field made _ = None
+abbrev pub at_key : Made → Option Key → Option (Operation ℕ)
+at_key made (Some key.Outstanding) = made.outstanding
+at_key made (Some key.Buffer) = made.buffer
+at_key made (Some key.Applied) = made.applied
+at_key made (Some key.Appended) = made.appended
+at_key made _ = None
 
 -- ---- the tie broken the other way: each transform with the text of its second argument first
 

@@ -9,19 +9,19 @@ ghost use Rattle.ot_rules.specs.Texts as texts;
 
 use crate::call::Call;
 use crate::calling::call_of;
-use crate::field::Field;
 use crate::note::{Asked, Note, first_note, sentence};
 use crate::printing::print_call;
 use crate::text::text_for;
 use ot_isa::{Instr, Schedule};
 use ot_machine::{Machine, Refusal};
+use ot_steps::Key;
 use std::alloc::{AllocError, Global};
 
 /// A value that a port printed where ot.js has another.
 #[derive(Clone, Copy)]
 pub struct Difference<'a> {
-    /// Which value it is.
-    pub field: Field,
+    /// The key of the value; none where it is the line itself.
+    pub key: Option<Key>,
     /// The port's value, as compact JSON; or what is said of it where it has none.
     pub found: &'a str,
     /// The value of ot.js, in the same form.
@@ -74,14 +74,14 @@ fn machine_at(
 }
 
 // The line of a note, where there is one.
-fn push_note(text: &mut String, note: Option<Note>, field: Field) -> Result<(), AllocError>
-    ensures { OnOk result (string_bytes text.new ≡ string_bytes text.old ++ explained.note_lines note field) }
+fn push_note(text: &mut String, note: Option<Note>, key: Option<Key>) -> Result<(), AllocError>
+    ensures { OnOk result (string_bytes text.new ≡ string_bytes text.old ++ explained.note_lines note key) }
 {
     match note {
         None => Ok(()),
         Some(note) => {
             text.push_str("note ")?;
-            text.push_str(sentence(note, field))?;
+            text.push_str(sentence(note, key))?;
             text.push_str("\n")
         }
     }
@@ -98,7 +98,7 @@ fn explain_call(
 {
     let asked = Asked {
         call,
-        field: difference.field,
+        key: difference.key,
         found: difference.found,
         wanted: difference.wanted,
         text,
@@ -106,7 +106,7 @@ fn explain_call(
     };
     let note = first_note(alloc, &asked)?;
     let mut lines = print_call(alloc, call)?;
-    push_note(&mut lines, note, difference.field)?;
+    push_note(&mut lines, note, difference.key)?;
     Ok(lines)
 }
 
@@ -131,7 +131,7 @@ fn explain_instr(
 ) -> Result<String, AllocError>
     ensures { IfOk result (λ lines. explained.IsExplained (explained.asked_of schedule.now machine.now instr.now (call_value call.now) (explained.difference_value difference.entry)) (string_bytes lines)) }
 {
-    let text = text_for(alloc, schedule, machine, instr, call, difference.field)?;
+    let text = text_for(alloc, schedule, machine, instr, call, difference.key)?;
     explain_call(alloc, call, letters(&text), difference)
 }
 
@@ -159,10 +159,10 @@ fn explain_step(
 }
 
 // A rule of ot.js makes the value; the place, the instruction and its client are the schedule's.
-fn has_rule(field: Field) -> bool
-    ensures { result ≡ explained.has_rule field }
+fn has_rule(key: Option<Key>) -> bool
+    ensures { result ≡ explained.has_rule key }
 {
-    !matches!(field, Field::Place | Field::Word | Field::Client)
+    !matches!(key, Some(Key::At | Key::Do | Key::Client))
 }
 
 /// The lines that say which rule of ot.js makes the value at the instruction with this number, counted from 0: `rule R`, a line `given NAME V` for each thing
@@ -178,7 +178,7 @@ pub fn explain(
 ) -> Result<String, AllocError>
     ensures { IfOk result (λ lines. explained.Explains schedule.now place (explained.difference_value difference.entry) (string_bytes lines)) }
 {
-    if !has_rule(difference.field) {
+    if !has_rule(difference.key) {
         return Ok(String::new(alloc));
     }
     let Some(instr) = schedule.get(place) else {

@@ -25,7 +25,6 @@
 mod call;
 mod calling;
 mod explaining;
-mod field;
 mod note;
 mod printing;
 mod text;
@@ -35,7 +34,6 @@ mod wrong;
 pub use call::{Call, Waiting};
 pub use calling::call_of;
 pub use explaining::{Difference, explain};
-pub use field::Field;
 pub use note::{Asked, NOTES, Note, first_note, sentence};
 pub use printing::{print_call, rule};
 pub use text::text_for;

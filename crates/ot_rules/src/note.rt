@@ -5,17 +5,17 @@ ghost use Rattle.std.specs.Option.{option_copied};
 ghost use Rattle.ot_json.specs.Reading.{operation_of_text};
 ghost use Rattle.ot_rules.specs.Call.{call_value};
 ghost use Rattle.ot_rules.specs.Notes as notes;
-ghost use Rattle.ot_rules.specs.Wrong.{in_field};
+ghost use Rattle.ot_rules.specs.Wrong.{at_key};
 ghost use Rattle.ot_rules.specs.declared.wrong.Made.{Made};
 
 use crate::call::Call;
-use crate::field::Field;
 use crate::printing::number;
 use crate::units::in_units;
 use crate::wrong::{
-    in_field, made_by_edit_alone, made_by_half, made_turned, made_untransformed, made_without_edit,
+    at_key, made_by_edit_alone, made_by_half, made_turned, made_untransformed, made_without_edit,
 };
 use ot_json::{OpFault, read_op, write_op};
+use ot_steps::Key;
 use ot_text::TextOp;
 use std::alloc::{AllocError, Global};
 
@@ -63,8 +63,8 @@ pub const NOTES: [Note; 10] = [
 pub struct Asked<'a> {
     /// What the instruction calls.
     pub call: &'a Call,
-    /// Which value it is.
-    pub field: Field,
+    /// The key of the value; none where it is the line itself.
+    pub key: Option<Key>,
     /// The port's value and ot.js', as compact JSON.
     pub found: &'a str,
     pub wanted: &'a str,
@@ -115,13 +115,13 @@ fn wanted_in_units(
     }
 }
 
-// A wrong rule makes an operation for this field.
-fn is_made(field: Field) -> bool
-    ensures { result ≡ false → (made : Made) → in_field made field ≡ None }
+// A wrong rule makes an operation under this key.
+fn is_made(key: Option<Key>) -> bool
+    ensures { result ≡ false → (made : Made) → at_key made key ≡ None }
 {
     matches!(
-        field,
-        Field::Outstanding | Field::Buffer | Field::Applied | Field::Appended
+        key,
+        Some(Key::Outstanding | Key::Buffer | Key::Applied | Key::Appended)
     )
 }
 
@@ -132,7 +132,7 @@ fn said(alloc: Global, note: Note, asked: &Asked<'_>) -> Result<Option<TextOp<ch
     if note == Note::InUnits {
         return wanted_in_units(alloc, asked.wanted, asked.text);
     }
-    if !is_made(asked.field) {
+    if !is_made(asked.key) {
         return Ok(None);
     }
     let mut made = match note {
@@ -143,7 +143,7 @@ fn said(alloc: Global, note: Note, asked: &Asked<'_>) -> Result<Option<TextOp<ch
         Note::WithoutEdit => made_without_edit(asked.call)?,
         _ => return Ok(None),
     };
-    Ok(in_field(&mut made, asked.field))
+    Ok(at_key(&mut made, asked.key))
 }
 
 // The text is the operation's.
@@ -160,7 +160,7 @@ fn is_text_of(alloc: Global, text: &str, op: Option<&TextOp<char>>) -> Result<bo
 fn is_sent_revision(alloc: Global, asked: &Asked<'_>, revision: u32) -> Result<bool, AllocError>
     ensures { IfOk result (λ same. IsTrue same ↔ notes.IsSentRevision revision (notes.asked_value asked.now)) }
 {
-    if asked.field != Field::SentRevision {
+    if !matches!(asked.key, Some(Key::SentRevision)) {
         return Ok(false);
     }
     Ok(number(alloc, revision)?.as_str() == asked.found)
@@ -193,7 +193,7 @@ fn is_true(alloc: Global, note: Note, asked: &Asked<'_>) -> Result<bool, AllocEr
         }
         Note::RevisionBefore => is_revision_before(alloc, asked),
         Note::RevisionAtOpening => is_sent_revision(alloc, asked, 0),
-        Note::DocumentAlone => Ok(asked.field == Field::Document && asked.printed),
+        Note::DocumentAlone => Ok(matches!(asked.key, Some(Key::Document)) && asked.printed),
     }
 }
 
@@ -209,9 +209,9 @@ pub fn first_note(alloc: Global, asked: &Asked<'_>) -> Result<Option<Note>, Allo
     Ok(None)
 }
 
-/// The note in words. Which operation is as it was follows from the field.
-pub fn sentence(note: Note, field: Field) -> &'static str
-    ensures { result.now ≡ notes.sentence note field }
+/// The note in words. Which operation is as it was follows from the key.
+pub fn sentence(note: Note, key: Option<Key>) -> &'static str
+    ensures { result.now ≡ notes.sentence note key }
 {
     match note {
         Note::SameEffect => {
@@ -223,8 +223,8 @@ pub fn sentence(note: Note, field: Field) -> &'static str
         Note::Turned => {
             "that is what transform gives if the text of its second argument goes first"
         }
-        Note::Untransformed => untransformed(field),
-        Note::HalfTransformed => by_half(field),
+        Note::Untransformed => untransformed(key),
+        Note::HalfTransformed => by_half(key),
         Note::EditAlone => "that is the edit alone, not composed with the buffer",
         Note::WithoutEdit => "that is the buffer as it was, the edit not composed with it",
         Note::RevisionBefore => "that is the revision before this acknowledgement",
@@ -235,22 +235,22 @@ pub fn sentence(note: Note, field: Field) -> &'static str
     }
 }
 
-fn untransformed(field: Field) -> &'static str
-    ensures { result.now ≡ notes.untransformed field }
+fn untransformed(key: Option<Key>) -> &'static str
+    ensures { result.now ≡ notes.untransformed key }
 {
-    match field {
-        Field::Outstanding => "that is the outstanding operation as it was, not transformed",
-        Field::Buffer => "that is the buffer as it was, not transformed",
-        Field::Appended => "that is the message itself, not transformed",
+    match key {
+        Some(Key::Outstanding) => "that is the outstanding operation as it was, not transformed",
+        Some(Key::Buffer) => "that is the buffer as it was, not transformed",
+        Some(Key::Appended) => "that is the message itself, not transformed",
         _ => "that is the delivered operation itself, not transformed",
     }
 }
 
-fn by_half(field: Field) -> &'static str
-    ensures { result.now ≡ notes.by_half field }
+fn by_half(key: Option<Key>) -> &'static str
+    ensures { result.now ≡ notes.by_half key }
 {
-    match field {
-        Field::Buffer => {
+    match key {
+        Some(Key::Buffer) => {
             "that is the buffer transformed against the delivered operation itself, and not against what the outstanding one makes of it"
         }
         _ => "that was transformed against the outstanding operation and not against the buffer",

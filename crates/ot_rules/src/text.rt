@@ -10,10 +10,10 @@ ghost use Rattle.ot_rules.specs.Call.{call_value};
 ghost use Rattle.ot_rules.specs.Texts as texts;
 
 use crate::call::{Call, Waiting};
-use crate::field::Field;
 use crate::wrong::first_transformed;
 use ot_isa::{Instr, Schedule, Tagged, start_doc};
 use ot_machine::Machine;
+use ot_steps::Key;
 use ot_text::{Doc, TextOp};
 use std::alloc::{AllocError, Global};
 
@@ -159,7 +159,7 @@ fn text_under_buffer(
     }
 }
 
-/// The text that the operation of this field applies to, which the line of the instruction has: the machine is as before it, in a run of the
+/// The text that the operation under this key applies to, which the line of the instruction has: the machine is as before it, in a run of the
 /// schedule, and `call` is what the instruction calls.
 pub fn text_for(
     alloc: Global,
@@ -167,15 +167,17 @@ pub fn text_for(
     machine: &Machine,
     instr: &Instr,
     call: &Call,
-    field: Field,
+    key: Option<Key>,
 ) -> Result<Option<Vec<char>>, AllocError>
-    ensures { IfOk result (λ text. option_map texts.letters text ≡ texts.text_for schedule.now.start machine.now instr.now (call_value call.now) field) }
+    ensures { IfOk result (λ text. option_map texts.letters text ≡ texts.text_for schedule.now.start machine.now instr.now (call_value call.now) key) }
 {
-    match field {
-        Field::Edit | Field::Applied => own_text(alloc, machine, instr),
-        Field::Outstanding | Field::SentOperation => text_behind(alloc, schedule, machine, instr),
-        Field::Buffer => text_under_buffer(alloc, schedule, machine, instr, call),
-        Field::Appended => Ok(Some(letters(alloc, machine.server_document())?)),
+    match key {
+        Some(Key::Edit | Key::Applied) => own_text(alloc, machine, instr),
+        Some(Key::Outstanding | Key::SentOperation) => {
+            text_behind(alloc, schedule, machine, instr)
+        }
+        Some(Key::Buffer) => text_under_buffer(alloc, schedule, machine, instr, call),
+        Some(Key::Appended) => Ok(Some(letters(alloc, machine.server_document())?)),
         _ => Ok(None),
     }
 }

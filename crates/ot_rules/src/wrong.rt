@@ -5,8 +5,8 @@ ghost use Rattle.ot_rules.specs.Call.{call_value};
 ghost use Rattle.ot_rules.specs.Wrong as wrong;
 
 use crate::call::{Call, Waiting};
-use crate::field::Field;
 use ot_algebra::{transform, transform_second};
+use ot_steps::Key;
 use ot_text::{LIMIT, TextOp};
 use std::alloc::{AllocError, Global};
 
@@ -54,15 +54,15 @@ fn in_log(appended: Option<TextOp<char>>) -> Made
     }
 }
 
-/// Takes out the operation of this field, if there is one.
-pub fn in_field(made: &mut Made, field: Field) -> Option<TextOp<char>>
-    ensures { result ≡ wrong.in_field made.old field }
+/// Takes out the operation under this key, if there is one.
+pub fn at_key(made: &mut Made, key: Option<Key>) -> Option<TextOp<char>>
+    ensures { result ≡ wrong.at_key made.old key }
 {
-    match field {
-        Field::Outstanding => made.outstanding.take(),
-        Field::Buffer => made.buffer.take(),
-        Field::Applied => made.applied.take(),
-        Field::Appended => made.appended.take(),
+    match key {
+        Some(Key::Outstanding) => made.outstanding.take(),
+        Some(Key::Buffer) => made.buffer.take(),
+        Some(Key::Applied) => made.applied.take(),
+        Some(Key::Appended) => made.appended.take(),
         _ => None,
     }
 }

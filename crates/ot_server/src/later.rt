@@ -5,7 +5,7 @@ ghost use Rattle.ot_operation.specs.Operation.{IsOperation, news};
 ghost use Rattle.ot_server.specs.History.{IsChain, base_at, inserted_in, transform_over};
 
 use crate::Entry;
-use ot_algebra::transform_first;
+use ot_algebra::transform_in_place;
 use ot_text::{Element, LIMIT, TextOp};
 use std::alloc::AllocError;
 
@@ -57,7 +57,7 @@ pub fn transform_after<T: Element>(
         // For the proof: the invariant of every operation.
         let _operation = carried.base_len();
         let _operation = entry.operation().base_len();
-        carried = transform_first(carried, entry.operation())?;
+        transform_in_place(&mut carried, entry.operation())?;
     }
     // For the proof: the invariant of every operation.
     let _operation = carried.base_len();

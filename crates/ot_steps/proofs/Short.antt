@@ -1,17 +1,16 @@
 -- Short items, put into bytes.
-use Rattle.std.proofs.Common.{◌≡◌, ℕ, zero, suc, ◌+◌, ◌-◌, ◌*◌, ◌<◌, ◌≤◌, List, [], ◌∷◌, ◌++◌, length, map, set, take, get_or, sym, ap, ◌∙◌, subst, arith, append_assoc, length-set, Option, Some, None}
+use Rattle.std.proofs.Common.{◌≡◌, ℕ, zero, suc, ◌+◌, ◌-◌, ◌<◌, ◌≤◌, List, [], ◌∷◌, ◌++◌, length, set, take, sym, ap, ◌∙◌, subst, arith, append_assoc, length-set, Option, Some, None}
 use Rattle.std.specs.Prelude.{IfSome, ◌/◌, ◌%◌, decimal}
 use Rattle.std.specs.Char.{encode_utf8}
-use Rattle.std.specs.Str.{IsAscii, encode_utf8_all}
+use Rattle.std.specs.Str.{IsAscii}
 use Rattle.std.proofs.lemmas.Fmt.{decimal_digit, decimal_step}
 use Rattle.std.proofs.lemmas.Grind.{take-set_at}
-use Rattle.std.proofs.lemmas.List.{append-nil}
 use Rattle.std.proofs.lemmas.Str.{encode_ascii}
 use Rattle.std.proofs.lemmas.Str.Ascii.{IsAscii-nil, IsAscii-cons}
 use Rattle.json.specs.Print.{quoted}
 use Rattle.json.proofs.Printed.Strings.{escape_byte_plain}
 use Rattle.serde_json.specs.Written.{compact_text}
-use Rattle.ot_operation.specs.Run.{Run, Keep, Add, Skip, IsFilled}
+use Rattle.ot_operation.specs.Run.{Run, Keep, Skip, IsFilled}
 use Rattle.ot_json.specs.Writing.{data_of}
 use Rattle.ot_steps.specs.Lettered.{item_text}
 

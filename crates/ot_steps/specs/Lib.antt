@@ -1,6 +1,7 @@
 pub mod Lines
 pub mod Steps
 pub mod Text
+pub mod Held
 pub mod Lettered
 pub mod Fold
 pub mod Written

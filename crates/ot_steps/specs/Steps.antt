@@ -11,6 +11,7 @@ use Rattle.ot_model.specs.Operation.{Operation}
 use Rattle.ot_model.specs.Table.{Phase, NotJoined, Synchronized, AwaitingConfirm, AwaitingWithBuffer, Client, absent, State, Entry, Head, Ack, Op, Performed, Refused, NoRow, carried, downlink, is_joined, step}
 use Rattle.ot_model.specs.Runs.{opening_of}
 use Rattle.ot_machine.specs.Readers.{phase_name}
+use Rattle.ot_machine.specs.declared.state.Phase as shown
 use Rattle.ot_machine.specs.Ended.{reached}
 use Rattle.ot_steps.specs.Lines.{Line, Message, bare, plain_message, plain_operation, word_of}
 
@@ -162,6 +163,71 @@ line_after documents at i sent applied t =
 -- the line of an instruction that leads from the state s to the state t
 abbrev pub step_line : Bool → ℕ → Instr → State → State → Line
 step_line documents at i s t = line_after documents at i (sends i s) (applies i s) t
+
+-- ---- all values that the run has for an instruction's line: `line_after` has those that are printed
+
+-- the client whose state it has; none where it has the server's
+abbrev pub placed_client : Instr → Option ℕ
+placed_client (Edit c op) = Some c
+placed_client (Take c) = None
+placed_client (Deliver c) = Some c
+placed_client (Acknowledge c) = Some c
+placed_client (Join c) = Some c
+placed_client (Read c) = Some c
+placed_client ReadServer = None
+
+-- where that one is in the state t
+abbrev pub revision_at : State → Option ℕ → ℕ
+revision_at t None = length t.log
+revision_at t (Some c) = (client_in t c).revision
+
+abbrev pub state_at : State → Option ℕ → Option shown.Phase
+state_at t None = None
+state_at t (Some c) = Some (phase_name (client_in t c).phase)
+
+abbrev pub outstanding_at : State → Option ℕ → Option (Operation ℕ)
+outstanding_at t None = None
+outstanding_at t (Some c) = outstanding_of (client_in t c).phase
+
+abbrev pub buffer_at : State → Option ℕ → Option (Operation ℕ)
+buffer_at t None = None
+buffer_at t (Some c) = buffer_of (client_in t c).phase
+
+-- what is applied to the client's document: by an edit the edit
+abbrev pub applied_by : Instr → Option (Operation ℕ) → Option (Operation ℕ)
+applied_by (Edit c op) delivered = Some op
+applied_by (Take c) delivered = delivered
+applied_by (Deliver c) delivered = delivered
+applied_by (Acknowledge c) delivered = delivered
+applied_by (Join c) delivered = delivered
+applied_by (Read c) delivered = delivered
+applied_by ReadServer delivered = delivered
+
+abbrev pub message_if : Bool → State → Instr → Option Message
+message_if sent t i = if sent then message_in t (client_of i) else None
+
+-- the values of an instruction that leads to the state t: it has sent a message or not, and applied a delivered operation
+abbrev pub whole_line : ℕ → Instr → Bool → Option (Operation ℕ) → State → Line
+whole_line at i sent delivered t =
+    record {
+      at = at;
+      clients = None;
+      present = None;
+      start = None;
+      word = Some (word_of i);
+      client = client_of i;
+      edit = edit_of i;
+      stopped = None;
+      revision = Some (revision_at t (placed_client i));
+      state = state_at t (placed_client i);
+      outstanding = outstanding_at t (placed_client i);
+      buffer = buffer_at t (placed_client i);
+      sent = message_if sent t i;
+      applied = applied_by i delivered;
+      appended = appended_by i t;
+      document = Some (document_in t i);
+      quiet = None;
+    }
 
 -- ---- the other lines
 

@@ -9,7 +9,7 @@ ghost use Rattle.ot_steps.specs.Text.{lines_text};
 ghost use Rattle.ot_steps.specs.Gathered.{Gathers, GathersMoves, GathersRun, GathersUpTo, MovesUpTo, RunUpTo};
 ghost use Rattle.ot_steps.specs.Written.{IsCaused, IsMove, WritesRun, WritesUpTo};
 
-use crate::lines::{print_end, print_opening, print_stop, write_step};
+use crate::line::{Line, Stop};
 use crate::moving::{perform, sends};
 use ot_isa::{Instr, Schedule};
 use ot_machine::{Machine, Refusal};
@@ -57,9 +57,9 @@ fn write_move(
     at: usize,
     instr: &Instr,
     documents: bool,
-    line: &mut String,
+    text: &mut String,
 ) -> Result<Result<(), Refusal>, AllocError>
-    ensures line { IfOk result (λ answer. OnOk answer (IsMove documents at instr.now machine.old machine.new (string_bytes line.new))) }
+    ensures line { IfOk result (λ answer. OnOk answer (IsMove documents at instr.now machine.old machine.new (string_bytes text.new))) }
     ensures refused { IfOk result (λ answer. IfErr answer (λ r. IsRefusal (table.step machine.old instr.now) r)) }
     ensures unchanged { IfOk result (λ answer. OnErr answer (machine.new ≡ machine.old)) }
 {
@@ -68,8 +68,9 @@ fn write_move(
         Ok(applied) => applied,
         Err(refusal) => return Ok(Err(refusal)),
     };
-    let applied = applied.operation(machine);
-    write_step(alloc, line, machine, at, instr, sent, applied, documents)?;
+    let delivered = applied.operation(machine);
+    let line = Line::step(machine, at, instr, sent, delivered);
+    line.write(alloc, text, documents)?;
     Ok(Ok(()))
 }
 
@@ -124,14 +125,21 @@ fn print_last(
 ) -> Result<String, AllocError>
     ensures { IfOk result (λ s. string_bytes s ≡ lines_text (last_lines schedule.now machine.now stopped)) }
 {
+    let quiet = machine.is_quiet();
     let Some((place, refusal)) = stopped else {
-        return print_end(alloc, schedule.len(), machine.is_quiet());
+        let at = schedule.len();
+        return Line::End { at, quiet }.text(alloc, false);
     };
-    let end = print_end(alloc, place, machine.is_quiet())?;
+    let end = Line::End { at: place, quiet }.text(alloc, false)?;
     let Some(instr) = schedule.get(place) else {
         return Ok(end);
     };
-    let mut text = print_stop(alloc, place, instr, refusal)?;
+    let stop = Stop {
+        at: place,
+        instr,
+        refusal,
+    };
+    let mut text = Line::Stop(stop).text(alloc, false)?;
     text.push_str(end.as_str())?;
     Ok(text)
 }
@@ -150,7 +158,7 @@ fn gather_run<W: Sink>(
 {
     let clients = schedule.clients();
     let mut machine = Machine::with_present(alloc, clients, schedule.present(), schedule.start())?;
-    let opening = print_opening(alloc, schedule)?;
+    let opening = Line::Opening(schedule).text(alloc, documents)?;
     gather(held, opening.as_str(), output)?;
     let stopped = gather_moves(alloc, &mut machine, schedule, documents, held, output)?;
     let last = print_last(alloc, &machine, schedule, stopped)?;

@@ -182,11 +182,12 @@ fn change_list<T: Element>(list: &mut List<T>, op: &TextOp<T>) -> Result<(), All
     ensures size { OnOk result (length (concatenated list.new) ≡ length op.now.image) }
     ensures err { OnErr result (list.new ≡ list.old) }
 {
-    let components = op.components();
+    // For the proof: the invariant of every operation.
+    let _operation = op.base_len();
     if change_in_place(list, op)? {
         return Ok(());
     }
-    rewrite(list, components)
+    rewrite(list, op.components())
 }
 
 fn same_items<T: Element>(a: &[T], b: &[T]) -> bool

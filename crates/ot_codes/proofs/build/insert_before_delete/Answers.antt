@@ -15,6 +15,7 @@ put_before-requires-in_default c =
     let cs = c.args.codes.now in
     record {
       filled = c.requires.filled;
+      total = c.requires.total;
       normal = c.requires.normal;
       short = c.requires.short;
       at_delete = c.requires.at_delete;

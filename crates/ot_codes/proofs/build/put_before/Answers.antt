@@ -2,6 +2,7 @@ use Rattle.std.proofs.Common.{◌≡◌, ◌++◌, ◌∷◌, ◌-◌, [], List,
 use Rattle.ot_codes.specs.declared.code.Code.{Code}
 use Rattle.ot_codes.specs.declared.code.Code.TheVariants.{Delete}
 use Rattle.ot_codes.specs.Codes.{length_of, total_of}
+use Rattle.ot_codes.proofs.Counting.{count_most}
 use Rattle.ot_codes.proofs.Put.{put_before}
 use Rattle.ot_codes.proofs.Summing.{total-append}
 use Rattle.ot_codes.proofs.build.put_before.Goals as goal
@@ -10,6 +11,9 @@ pub new-requires : goal.new-requires
 new-requires c =
     let e = c.requires.at_delete in
     omega (arith, c.requires.short, ap length_of e.3, ap total_of e.2, total-append e.0 (Delete e.1 ∷ []))
+
+pub push-requires-clause-small : goal.push-requires-clause-small
+push-requires-clause-small c = omega (arith, count_most c.args.codes.now c.requires.normal, c.requires.short)
 
 pub returns-clause-ok : goal.returns-clause-ok
 returns-clause-ok c =

@@ -77,7 +77,7 @@ returns-in_default-head c =
     let done =
     splicing_end c.cursor-at_a.result c.cursor-at_b.result c.parts.pen c.parts.splice c.parts.at_a c.parts.at_b (sym c.head.ensures ∙ c.in_default-head.is) (sym c.insertion.ensures ∙ c.in_default-insertion.is) c.parts.invariant in
     record {
-      codes = c.finish.ensures ∙ done.0 ∙ rw (c.cursor-at_a.ensures.spells, c.cursor-at_b.ensures.spells) refl;
+      codes = c.in_ok-finish.ensures ∙ done.0 ∙ rw (c.cursor-at_a.ensures.spells, c.cursor-at_b.ensures.spells) refl;
       cuts = rw (← c.cursor-at_a.ensures.spells, ← c.cursor-at_b.ensures.spells) done.1;
     }
 
@@ -86,7 +86,7 @@ returns-in_default-head-2 c =
     let done =
     splicing_done c.cursor-at_a.result c.cursor-at_b.result c.parts.pen c.parts.splice c.parts.at_a c.parts.at_b (sym c.head-in-parts.ensures ∙ c.in_default-head-2.is) (sym c.deletion.ensures ∙ c.in_default.is) c.parts.invariant in
     record {
-      codes = c.finish-in_default-head-2.ensures ∙ done.0 ∙ rw (c.cursor-at_a.ensures.spells, c.cursor-at_b.ensures.spells) refl;
+      codes = c.in_ok-finish-2.ensures ∙ done.0 ∙ rw (c.cursor-at_a.ensures.spells, c.cursor-at_b.ensures.spells) refl;
       cuts = rw (← c.cursor-at_a.ensures.spells, ← c.cursor-at_b.ensures.spells) done.1;
     }
 

@@ -7,19 +7,19 @@ use Rattle.ot_codes.proofs.cursor.fitting.Goals as goal
 pub loop-count-init : goal.loop-count-init
 loop-count-init c = fits_begun c.args.from c.args.codes.now c.args.limit c.args.by c.requires.fits
 
-pub with-next-requires-clause-kept : goal.with-next-requires-clause-kept
-with-next-requires-clause-kept c = (now_small c.args.from c.args.codes.now c.args.limit c.args.by c.loop-count.count c.loop-count.sum c.code.result c.index-codes-count.result c.loop-count.invariant (omega (arith, c.loop-count-test.true)) (c.code.ensures.is ∙ c.index-codes-count.is) c.requires.small).0
+pub added_to-next-requires-clause-kept : goal.added_to-next-requires-clause-kept
+added_to-next-requires-clause-kept c = (now_small c.args.from c.args.codes.now c.args.limit c.args.by c.loop-count.count c.loop-count.sum c.index-codes-count.result c.index-codes-count.result c.loop-count.invariant (omega (arith, c.loop-count-test.true)) c.index-codes-count.is c.requires.small).0
 
-pub with-next-requires-clause-deleted : goal.with-next-requires-clause-deleted
-with-next-requires-clause-deleted c = (now_small c.args.from c.args.codes.now c.args.limit c.args.by c.loop-count.count c.loop-count.sum c.code.result c.index-codes-count.result c.loop-count.invariant (omega (arith, c.loop-count-test.true)) (c.code.ensures.is ∙ c.index-codes-count.is) c.requires.small).1
+pub added_to-next-requires-clause-deleted : goal.added_to-next-requires-clause-deleted
+added_to-next-requires-clause-deleted c = (now_small c.args.from c.args.codes.now c.args.limit c.args.by c.loop-count.count c.loop-count.sum c.index-codes-count.result c.index-codes-count.result c.loop-count.invariant (omega (arith, c.loop-count-test.true)) c.index-codes-count.is c.requires.small).1
 
-pub with-next-requires-clause-inserted : goal.with-next-requires-clause-inserted
-with-next-requires-clause-inserted c = (now_small c.args.from c.args.codes.now c.args.limit c.args.by c.loop-count.count c.loop-count.sum c.code.result c.index-codes-count.result c.loop-count.invariant (omega (arith, c.loop-count-test.true)) (c.code.ensures.is ∙ c.index-codes-count.is) c.requires.small).2
+pub added_to-next-requires-clause-inserted : goal.added_to-next-requires-clause-inserted
+added_to-next-requires-clause-inserted c = (now_small c.args.from c.args.codes.now c.args.limit c.args.by c.loop-count.count c.loop-count.sum c.index-codes-count.result c.index-codes-count.result c.loop-count.invariant (omega (arith, c.loop-count-test.true)) c.index-codes-count.is c.requires.small).2
 
 pub of-requires : goal.of-requires
 of-requires c =
-    let small = next_small c.args.from c.args.codes.now c.args.limit c.args.by c.loop-count.count c.loop-count.sum c.code.result c.index-codes-count.result c.loop-count.invariant (omega (arith, c.loop-count-test.true)) (c.code.ensures.is ∙ c.index-codes-count.is) c.requires.small in
-    omega (arith, small, ap (λ (s : Sum). s.kept + s.deleted + s.inserted) c.with-next.ensures)
+    let small = next_small c.args.from c.args.codes.now c.args.limit c.args.by c.loop-count.count c.loop-count.sum c.index-codes-count.result c.index-codes-count.result c.loop-count.invariant (omega (arith, c.loop-count-test.true)) c.index-codes-count.is c.requires.small in
+    omega (arith, small, ap (λ (s : Sum). s.kept + s.deleted + s.inserted) c.added_to-next.ensures.is)
 
 pub returns-then-of-limit-clause-sum : goal.returns-then-of-limit-clause-sum
 returns-then-of-limit-clause-sum c = c.loop-count.invariant.is
@@ -29,7 +29,7 @@ returns-then-of-limit-clause-fits c = c.loop-count.invariant.fits
 
 pub loop-count-preserved : goal.loop-count-preserved
 loop-count-preserved c =
-    fits_next c.args.from c.args.codes.now c.args.limit c.args.by c.loop-count.count c.loop-count.sum c.code.result c.index-codes-count.result c.loop-count.invariant (omega (arith, c.loop-count-test.true)) (c.code.ensures.is ∙ c.index-codes-count.is) c.requires.small (c.loop-count.count + 1) c.with-next.result refl c.with-next.ensures (omega (arith, c.if-of-limit.false, c.of.ensures))
+    fits_next c.args.from c.args.codes.now c.args.limit c.args.by c.loop-count.count c.loop-count.sum c.index-codes-count.result c.index-codes-count.result c.loop-count.invariant (omega (arith, c.loop-count-test.true)) c.index-codes-count.is c.requires.small (c.loop-count.count + 1) c.added_to-next.result refl c.added_to-next.ensures.is (omega (arith, c.if-of-limit.false, c.of.ensures))
 
 pub returns-clause-sum : goal.returns-clause-sum
 returns-clause-sum c =

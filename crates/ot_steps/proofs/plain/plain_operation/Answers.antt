@@ -1,4 +1,4 @@
-use Rattle.std.proofs.Common.{◌≡◌, ◌∙◌, ap, length, sym, ℕ, List}
+use Rattle.std.proofs.Common.{◌∙◌, ap, length, sym, ℕ, List}
 use Rattle.ot_codes.specs.Shape.{filled}
 use Rattle.ot_operation.specs.Operation.{news}
 use Rattle.ot_isa.specs.Tagging.{chars_of}

@@ -36,7 +36,7 @@ returns-in_err-gather-in-Ok-clause-err g c =
     let before = c.loop-place.held.items in
     let after = c.gather.new.held.items in
     let f = c.in_err-gather-in-Ok.field-0.0 in
-    let text = string_bytes c.write_move.new.line in
+    let text = string_bytes c.write_move.new.text in
     let move = subst (λ (r : Result (Unit {0}) Refusal). OnOk r (IsMove d (c.loop-place.place + 1) i c.loop-place.machine c.write_move.new.machine text)) c.in-Ok.is c.in_ok-write_move.ensures.line in
     let given = subst (λ (bytes : List ℕ). GathersUpTo f mid new before after bytes) c.as_str.ensures.value c.in_err-gather-in-Ok.ensures.err in
     err_is c.from_residual-in_err-gather-in-Ok.result f (λ (e : StepsFault). MovesUpTo e d s old new held after) c.from_residual-in_err-gather-in-Ok.ensures.1
@@ -61,7 +61,7 @@ loop-place-preserved g c =
     let held = c.args.held.now.items in
     let before = c.loop-place.held.items in
     let after = c.gather.new.held.items in
-    let text = string_bytes c.write_move.new.line in
+    let text = string_bytes c.write_move.new.text in
     let move = subst (λ (r : Result (Unit {0}) Refusal). OnOk r (IsMove d (c.loop-place.place + 1) i c.loop-place.machine c.write_move.new.machine text)) c.in-Ok.is c.in_ok-write_move.ensures.line in
     let given = subst (λ (bytes : List ℕ). Gathers mid new before after bytes) c.as_str.ensures.value c.in_ok-gather-in-Ok.ensures.ok in
     is_next d s c.loop-place.place i c.loop-place.machine c.write_move.new.machine old mid held before text c.loop-place.invariant c.in-Some.ensures.some move new after given

@@ -1,22 +1,33 @@
-use Rattle.std.proofs.Common.{refl}
-use Rattle.ot_codes.specs.Leaf.{leaves_left}
-use Rattle.ot_codes.proofs.Appending.{rest_of}
-use Rattle.ot_codes.proofs.Running.{first_small, rest_small, behind_small, part_is}
+use Rattle.std.proofs.Common.{◌+◌, ◌++◌, List, take, ap, refl, ◌∙◌, arith}
+use Rattle.ot_codes.specs.declared.code.Code.{Code}
+use Rattle.ot_codes.specs.Codes.{first_of, others_of, sum_of, added, total_of}
+use Rattle.ot_codes.proofs.Running.{head_is, part_of, others_few, part_taken, others_taken, block_rest, rest_small, behind_small, part_is}
 use Rattle.ot_codes.proofs.cursor.Cursor.part.Goals as goal
 
-pub of-requires : goal.of-requires
-of-requires c = first_small c.args.self.now c.self.inside.head c.self.inside.rest.now (leaves_left c.self.inside.list c.self.inside.next) c.args.first c.self.view_is c.self.invariant.2 c.requires c.with-sum.result c.with-sum.ensures
+pub fitting-more-requires-clause-small : goal.fitting-more-requires-clause-small
+fitting-more-requires-clause-small c =
+    let s = c.self.inside in
+    omega (arith, rest_small c.args.self.now s.head (others_of s.block.now) s.behind.now c.args.first c.self.view_is c.self.invariant.4 c.requires c.with-sum.result c.with-sum.ensures, ap total_of (block_rest s.block.now 1 0 refl))
 
-pub fitting-count-requires-clause-small : goal.fitting-count-requires-clause-small
-fitting-count-requires-clause-small c = rest_small c.args.self.now c.self.inside.head c.self.inside.rest.now (leaves_left c.self.inside.list c.self.inside.next) c.args.first c.self.view_is c.self.invariant.2 c.requires c.with-sum.result c.with-sum.ensures
+pub within-requires-clause-small : goal.within-requires-clause-small
+within-requires-clause-small c =
+    let s = c.self.inside in
+    behind_small c.args.self.now s.head (others_of s.block.now) s.behind.now c.args.first c.self.view_is c.self.invariant.4 c.requires
+    c.fitting-more.result.0 _ (block_rest s.block.now (c.fitting-more.result.0 + 1) c.fitting-more.result.0 refl)
 
-pub behind-requires-clause-small : goal.behind-requires-clause-small
-behind-requires-clause-small c =
-    behind_small c.args.self.now c.self.inside.head c.self.inside.rest.now (leaves_left c.self.inside.list c.self.inside.next) c.args.first c.self.view_is c.self.invariant.2 c.requires
-    c.fitting-count.result.0 _ (rest_of c.self.inside.rest.now c.fitting-count.result.0)
+pub returns-clause-is : goal.returns-clause-is
+returns-clause-is c =
+    let s = c.self.inside in
+    let part = part_of s.head s.block.now c.args.first (head_is s.head (others_of s.block.now ++ s.behind.now) c.args.first (ap first_of c.self.view_is ∙ c.requires)) c.self.invariant.0 in
+    part_is c.args.self.now s.head (others_of s.block.now) s.behind.now c.args.first c.self.view_is c.self.invariant.4 c.requires
+    c.args.limit c.args.by c.fitting-more.result.0 _ _ c.within.result c.with-sum.result c.fitting-more.result.1 c.with-sum.ensures
+    (others_taken s.block.now (c.fitting-more.result.0 + 1) c.fitting-more.result.0 refl)
+    (block_rest s.block.now (c.fitting-more.result.0 + 1) c.fitting-more.result.0 refl) c.within.ensures
+    (c.fitting-more.ensures.sum ∙ ap (λ (codes : List Code). added c.with-sum.result (sum_of (take c.fitting-more.result.0 codes))) (block_rest s.block.now 1 0 refl))
+    c.fitting-more.ensures.fits (others_few c.args.first s.block.now part c.self.invariant.2)
 
-pub returns : goal.returns
-returns c =
-    part_is c.args.self.now c.self.inside.head c.self.inside.rest.now (leaves_left c.self.inside.list c.self.inside.next) c.args.first c.self.view_is c.self.invariant.2 c.requires
-    c.args.limit c.args.by c.fitting-count.result.0 _ _ c.behind.result c.with-sum.result c.fitting-count.result.1 c.with-sum.ensures refl
-    (rest_of c.self.inside.rest.now c.fitting-count.result.0) c.behind.ensures c.fitting-count.ensures.sum c.fitting-count.ensures.fits c.self.invariant.1
+pub returns-clause-part : goal.returns-clause-part
+returns-clause-part c =
+    let s = c.self.inside in
+    let part = part_of s.head s.block.now c.args.first (head_is s.head (others_of s.block.now ++ s.behind.now) c.args.first (ap first_of c.self.view_is ∙ c.requires)) c.self.invariant.0 in
+    part_taken c.args.first s.block.now (c.fitting-more.result.0 + 1) c.fitting-more.result.0 refl part

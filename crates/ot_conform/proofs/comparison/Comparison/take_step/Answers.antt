@@ -1,10 +1,13 @@
-use Rattle.std.proofs.Common.{◌≡◌, ◌+◌, ap, ◌∙◌, Option}
-use Rattle.std.specs.Option.{option_copied, option_map}
+use Rattle.std.proofs.Common.{◌≡◌, ◌+◌, ap, sym, subst, ◌∙◌, Option}
+use Rattle.std.specs.Option.{option_map}
 use Rattle.ot_isa.specs.declared.elements.Tagged.{Tagged}
 use Rattle.ot_operation.specs.Operation.{Operation}
+use Rattle.ot_steps.specs.Held.{IsHeld, operations, printed_of}
 use Rattle.ot_steps.specs.Lines.{plain_operation}
+use Rattle.ot_steps.specs.declared.line.Line.{Line}
 use Rattle.ot_steps.proofs.Progress.{leads_within}
-use Rattle.ot_conform.specs.Due.{step_due}
+use Rattle.ot_conform.specs.Alike.{StandsFor}
+use Rattle.ot_conform.specs.Due.{due_with}
 use Rattle.ot_conform.specs.Read.{given_as}
 use Rattle.ot_conform.specs.Received.{received_in}
 use Rattle.ot_conform.specs.declared.comparison.Comparison.{Comparison}
@@ -34,14 +37,15 @@ compare_step-requires c =
     let here = c.args.self.now in
     let i = c.args.instr.now in
     let t = c.perform.new.machine in
-    let delivered = option_map plain_operation (option_copied c.operation-delivered.result) in
+    let received = c.in_ok-received.received in
     let is = ap (λ (o : Option (Operation Tagged)). option_map plain_operation o) c.operation-delivered.ensures ∙ c.in-Ok.ensures.applied in
     let performed = c.in-Ok.ensures.done in
     record {
-      there = leads_within here.machine t i c.in-Ok.ensures.done;
+      there = subst IsHeld (sym c.step-step.ensures) (leads_within here.machine t i c.in-Ok.ensures.done);
       printed = λ documents.
-          step_stands documents c.args.schedule.now here i t performed.0 c.sends-sent.result delivered (received_in t c.in_ok-received.received) c.clients-clients.ensures.limits c.requires.standing c.requires.here performed.1 c.sends-sent.ensures is
-          (still_held i here.machine t performed.0 c.in_ok-received.received performed.1 c.in_ok-received.ensures);
+          subst (λ (line : Line). StandsFor (due_with line received) (printed_of documents line)) (sym c.step-step.ensures)
+          (step_stands documents c.args.schedule.now here i t performed.0 c.sends-sent.result (operations c.operation-delivered.result) (received_in t received) c.clients-clients.ensures.limits c.requires.standing c.requires.here performed.1 c.sends-sent.ensures is
+          (still_held i here.machine t performed.0 received performed.1 c.in_ok-received.ensures));
     }
 
 pub returns-clause-goes : goal.returns-clause-goes
@@ -50,12 +54,12 @@ returns-clause-goes c =
     let i = c.args.instr.now in
     let t = c.perform.new.machine in
     let line = given_as c.args.line in
-    let delivered = option_map plain_operation (option_copied c.operation-delivered.result) in
-    let received = received_in t c.in_ok-received.received in
-    let due = step_due (here.place + 1) i c.sends-sent.result delivered received t in
+    let received = c.in_ok-received.received in
+    let due = due_with c.step-step.result received in
     let performed = c.in-Ok.ensures.done in
-    let is = due_is here.place i c.sends-sent.result delivered received here.machine t c.sends-sent.ensures (ap (λ (o : Option (Operation Tagged)). option_map plain_operation o) c.operation-delivered.ensures ∙ c.in-Ok.ensures.applied)
-    (still_held i here.machine t performed.0 c.in_ok-received.received performed.1 c.in_ok-received.ensures) in
+    let is = ap (λ (line : Line). due_with line received) c.step-step.ensures
+    ∙ due_is here.place i c.sends-sent.result (operations c.operation-delivered.result) (received_in t received) here.machine t c.sends-sent.ensures (ap (λ (o : Option (Operation Tagged)). option_map plain_operation o) c.operation-delivered.ensures ∙ c.in-Ok.ensures.applied)
+    (still_held i here.machine t performed.0 received performed.1 c.in_ok-received.ensures) in
     λ none.
     let both = agreed due line here.counts c.in_ok-judged.judged (λ counts. record here { machine = t; place = here.place + 1; stage = Running; counts = counts }) c.settle.new.self
     c.in_ok-judged.ensures (c.settle.ensures.none none) in
@@ -67,10 +71,10 @@ returns-clause-decided c =
     let i = c.args.instr.now in
     let t = c.perform.new.machine in
     let line = given_as c.args.line in
-    let delivered = option_map plain_operation (option_copied c.operation-delivered.result) in
-    let received = received_in t c.in_ok-received.received in
-    let due = step_due (here.place + 1) i c.sends-sent.result delivered received t in
+    let received = c.in_ok-received.received in
+    let due = due_with c.step-step.result received in
     let performed = c.in-Ok.ensures.done in
-    let is = due_is here.place i c.sends-sent.result delivered received here.machine t c.sends-sent.ensures (ap (λ (o : Option (Operation Tagged)). option_map plain_operation o) c.operation-delivered.ensures ∙ c.in-Ok.ensures.applied)
-    (still_held i here.machine t performed.0 c.in_ok-received.received performed.1 c.in_ok-received.ensures) in
+    let is = ap (λ (line : Line). due_with line received) c.step-step.ensures
+    ∙ due_is here.place i c.sends-sent.result (operations c.operation-delivered.result) (received_in t received) here.machine t c.sends-sent.ensures (ap (λ (o : Option (Operation Tagged)). option_map plain_operation o) c.operation-delivered.ensures ∙ c.in-Ok.ensures.applied)
+    (still_held i here.machine t performed.0 received performed.1 c.in_ok-received.ensures) in
     step_decides c.args.schedule.now here line i t performed.0 due c.in_ok-judged.judged c.settle.result c.requires.here performed.1 is c.requires.there c.requires.kept c.in_ok-judged.ensures c.settle.ensures.some

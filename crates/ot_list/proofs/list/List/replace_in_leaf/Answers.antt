@@ -1,4 +1,4 @@
-use Rattle.std.proofs.Common.{◌≡◌, ◌+◌, ◌-◌, ◌<◌, ◌≤◌, length, get_or, [], refl, sym, ap, ◌∙◌, arith, get_or-set_same}
+use Rattle.std.proofs.Common.{◌≡◌, ◌+◌, ◌-◌, ◌<◌, length, get_or, [], refl, sym, ap, ◌∙◌, arith, get_or-set_same}
 use Rattle.ot_list.specs.Leaves.{with_run}
 use Rattle.ot_list.proofs.Keeping.{true_false}
 use Rattle.ot_list.proofs.Replacing.{have_set, set_small, set_have, length-with_run, leaf_is, put_back, put_replaced, put_sums, is_there, given_err}
