@@ -27,7 +27,7 @@ TOP = TESTS.parent
 # By program: the libraries that it uses, its calls, the growth that fails (the program makes fewer by itself), and the lines that say that a call left all as it was.
 PROGRAMS = {
     "board": (
-        "ot_text ot_client ot_isa ot_machine ot_typing ot_board ot_workers anyhow",
+        "ot_text ot_client ot_isa ot_machine ot_plan ot_board ot_workers anyhow",
         ["lend", "settle", "audit"],
         800,
         re.compile(r"(lend|settle) \d: the board is as it was|(audit): a growth was refused"),

@@ -5,7 +5,7 @@ use Rattle.ot_operation.specs.Compose.{compose}
 use Rattle.ot_operation.specs.Merge.{first_after, second_after}
 use Rattle.ot_operation.proofs.TransformedLaws.{news-first_after, news-second_after}
 use Rattle.ot_codes.specs.declared.cut.Cut.{Cut}
-use Rattle.ot_codes.specs.Cuts.{carried, AreWithin, size, GiveText}
+use Rattle.ot_codes.specs.Cuts.{assembled, AreWithin, size, GiveText}
 use Rattle.ot_codes.specs.Shape.{blank, shape, filled}
 use Rattle.ot_codes.proofs.CutLaws.{cuts_give_text}
 use Rattle.ot_codes.proofs.Mapped.{compose-mapped, first_after-mapped, second_after-mapped}
@@ -28,14 +28,14 @@ module _ {A : Type 0} (a b : Operation A) (codes_a codes_b : Operation (Unit {0}
       subst (λ n. AreWithin 0 cuts (length text_a) n) second (subst (λ m. AreWithin 0 cuts m (size codes_b)) first given.within)
 
   pub composed_parts :
-      (cuts : List Cut) (codes : Operation (Unit {0})) (text : List A) → GiveText cuts codes_a codes_b → codes ≡ compose codes_a codes_b → text ≡ carried cuts text_a text_b
+      (cuts : List Cut) (codes : Operation (Unit {0})) (text : List A) → GiveText cuts codes_a codes_b → codes ≡ compose codes_a codes_b → text ≡ assembled cuts text_a text_b
       → AreParts codes text (compose a b)
   composed_parts cuts codes text given codes_are text_is =
       let shapes : GiveText cuts (shape a) (shape b) =
       subst (λ o. GiveText cuts (shape a) o) parts_b.codes_are (subst (λ o. GiveText cuts o codes_b) parts_a.codes_are given) in
       record {
         codes_are = codes_are ∙ ap (λ o. compose o codes_b) parts_a.codes_are ∙ ap (compose (shape a)) parts_b.codes_are ∙ sym (compose-mapped blank a b);
-        text_is = text_is ∙ ap (λ t. carried cuts t text_b) parts_a.text_is ∙ ap (carried cuts (news a.image)) parts_b.text_is ∙ cuts_give_text a b cuts shapes;
+        text_is = text_is ∙ ap (λ t. assembled cuts t text_b) parts_a.text_is ∙ ap (assembled cuts (news a.image)) parts_b.text_is ∙ cuts_give_text a b cuts shapes;
       }
 
   module _ (first : IsOperation a) (second : IsOperation b) (same : a.base ≡ b.base) where

@@ -26,7 +26,7 @@ pub fn compose<T: Element>(
     ensures { IfOk result (λ op. op ≡ composition a.now b.now) }
 {
     let composed = ot_codes::compose(alloc, a.codes(), b.codes())?;
-    let text = ot_codes::carry(alloc, composed.cuts.as_slice(), a.text(), b.text())?;
+    let text = ot_codes::assemble(alloc, composed.cuts.as_slice(), a.text(), b.text())?;
     Ok(TextOp::from_parts(composed.codes, text))
 }
 

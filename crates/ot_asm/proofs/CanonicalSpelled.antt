@@ -6,7 +6,7 @@ use Rattle.std.specs.Str.{is_utf8, all_scalars}
 use Rattle.std.proofs.lemmas.Bool.{ltb-false}
 use Rattle.std.proofs.lemmas.Fmt.{decimal_is_IsNumeral}
 use Rattle.std.proofs.lemmas.List.Elements.{All-head, All-tail}
-use Rattle.line_reader.specs.Lines.{lines_of}
+use Rattle.streams.specs.Lines.{lines_of}
 use Rattle.ot_operation.specs.Operation.{Operation, news}
 use Rattle.ot_json.specs.Writing.{text_of_operation}
 use Rattle.ot_isa.specs.Program.{Program, IsProgram, IsInstr, IsWithinLimit, HasScalars}

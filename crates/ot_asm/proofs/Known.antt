@@ -2,8 +2,8 @@
 use Rattle.std.proofs.Common.{◌≡◌, ◌≢◌, ◌⊎◌, inl, inr, ◌+◌, ◌-◌, ◌<◌, ◌&&◌, ℕ, List, [], length, Bool, true, false, Option, Some, None, Result, Ok, Err, refl, ap, ◌∙◌, arith}
 use Rattle.std.specs.Prelude.{IfSome, OnOk, ⊤}
 use Rattle.std.specs.Io.KnownBytes.{prepend_known}
-use Rattle.line_reader.specs.Lines.{lines_of}
-use Rattle.line_reader.specs.Taken.{TakesLine, Spends, LosesPiece}
+use Rattle.streams.specs.Lines.{lines_of}
+use Rattle.streams.specs.Taken.{TakesLine, Spends, LosesPiece}
 use Rattle.ot_isa.specs.Program.{Program}
 use Rattle.ot_asm.specs.Stepping.{BodyView, line_step, ended, outcome_of_lines, IsFaultlessBefore, HidesOnlyJson, OutOfMemoryIn}
 use Rattle.ot_asm.specs.Words.{trimmed, first_word, keyword_of}

@@ -15,3 +15,9 @@ pub mod Numbered
 pub mod WholeLines
 pub mod CanonicalSpelled
 pub mod Only
+mod ByNumber
+mod Examples
+mod Joined
+mod Listing
+mod Reading
+mod Runs

@@ -2,7 +2,7 @@
 use Rattle.std.proofs.Common.{◌≡◌, ◌+◌, ◌⊎◌, inl, inr, ℕ, List, [], ◌∷◌, ◌++◌, length, map, filter, true, false, Bool, ◌||◌, nat_lt, nat_le, Option, Some, None, Result, Ok, Err, if◌then◌else◌, refl, sym, subst, ap, ◌∙◌, append_assoc, append-nil}
 use Rattle.std.specs.List.{AllByRecursion}
 use Rattle.std.specs.Str.{is_utf8}
-use Rattle.line_reader.specs.Lines.{lines_of}
+use Rattle.streams.specs.Lines.{lines_of}
 use Rattle.ot_asm.specs.declared.fault.AsmFault.{AsmFault}
 use Rattle.ot_isa.specs.Program.{Program, IsProgram, opening, with_instr}
 use Rattle.ot_isa.specs.declared.instruction.Instr.{Instr}

@@ -2,8 +2,8 @@
 use Rattle.std.proofs.Common.{◌⊎◌, inl, inr, ◌≡◌, ◌+◌, ◌-◌, ◌<◌, ◌&&◌, ℕ, Bool, true, false, List, [], ◌∷◌, ◌++◌, length, take, drop, Option, None, Result, Ok, Err, refl, sym, ap, ◌∙◌, arith, append_assoc, append-nil, length-append}
 use Rattle.std.specs.Prelude.{IfOk}
 use Rattle.std.proofs.Math.Seq.{take-append-add, drop-append-add}
-use Rattle.line_reader.specs.Lines.{lines_of, lacks}
-use Rattle.line_reader.proofs.Ends.{lines_last}
+use Rattle.streams.specs.Lines.{lines_of, lacks}
+use Rattle.streams.proofs.Ends.{lines_last}
 use Rattle.ot_asm.specs.Stepping.{BodyView, line_step, go_on, run, ended, outcome_of_lines, IsFaultlessBefore, HidesOnlyJson, OutOfMemoryIn}
 use Rattle.ot_asm.specs.Words.{trimmed, first_word, keyword_of}
 use Rattle.ot_asm.specs.Parts.{is_mark, lines_before, lines_behind}

@@ -7,7 +7,7 @@ use Rattle.std.proofs.lemmas.List.Elements.{All-head, All-tail}
 use Rattle.ot_isa.specs.Program.{Program, opening, with_instr, IsForClients, IsInstr, IsProgram}
 use Rattle.ot_isa.specs.declared.instruction.Instr.{Instr}
 use Rattle.ot_isa.specs.declared.instruction.Instr.TheVariants.{Edit, Take, Deliver, Acknowledge, Read, Join, ReadServer}
-use Rattle.line_reader.specs.Lines.{lines_of}
+use Rattle.streams.specs.Lines.{lines_of}
 use Rattle.ot_asm.specs.Words.{trimmed, counts, first_word, after_word}
 use Rattle.ot_asm.specs.Numbers.{number}
 use Rattle.ot_asm.specs.Stepping.{BodyView, string_of_text, pushed, client_line, start_at, start_line, counted_line, now_drafted, line_step, go_on, run, outcome}

@@ -6,7 +6,7 @@ use Rattle.std.proofs.lemmas.Str.{IsUtf8-from_ascii}
 use Rattle.std.specs.Str.{IsUtf8}
 use Rattle.std.specs.Str.Parse.{AllDigits}
 use Rattle.std.proofs.lemmas.Str.Parse.{digit_from_value}
-use Rattle.line_reader.specs.Lines.{lacks}
+use Rattle.streams.specs.Lines.{lacks}
 use Rattle.ot_asm.specs.Words.{before_blanks, cut_blanks, without_return}
 
 -- no control byte

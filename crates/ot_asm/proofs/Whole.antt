@@ -2,7 +2,7 @@
 use Rattle.std.proofs.Common.{◌≡◌, ◌<◌, ℕ, List, [], ◌∷◌, length, false, Option, None, Some, Result, Ok}
 use Rattle.std.specs.Prelude.{IfSome}
 use Rattle.std.specs.Io.KnownBytes.{prepend_known, IsAtEnd}
-use Rattle.line_reader.specs.Lines.{lines_of}
+use Rattle.streams.specs.Lines.{lines_of}
 use Rattle.ot_isa.specs.Program.{Program, IsProgram}
 use Rattle.ot_asm.specs.Stepping.{outcome, outcome_of_lines, IsFaultlessBefore}
 use Rattle.ot_asm.specs.Spelling.{Spells}

@@ -7,8 +7,8 @@ use Rattle.std.proofs.lemmas.Str.{IsUtf8-append, is_utf8-from_IsUtf8}
 use Rattle.std.proofs.lemmas.List.Elements.{All-head, All-tail}
 use Rattle.json.specs.Print.{quoted}
 use Rattle.json.proofs.Printed.Utf8.{are_ascii, IsUtf8-are_ascii}
-use Rattle.line_reader.specs.Lines.{lines_of, lacks}
-use Rattle.line_reader.proofs.Ends.{lines_piece}
+use Rattle.streams.specs.Lines.{lines_of, lacks}
+use Rattle.streams.proofs.Ends.{lines_piece}
 use Rattle.ot_operation.specs.Operation.{Operation, news}
 use Rattle.ot_operation.specs.Run.{normal_runs}
 use Rattle.ot_json.specs.Writing.{text_of_operation}

@@ -5,3 +5,7 @@ pub mod Spelling
 pub mod Canonical
 pub mod Parts
 pub mod Laws
+pub mod Plain
+pub mod Comments
+pub mod Named
+pub mod Passed

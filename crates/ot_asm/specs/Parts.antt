@@ -1,7 +1,7 @@
 -- An input of a schedule's lines, a line `%%`, and lines of commands.
 use Rattle.std.specs.Prelude.{◌≡◌, ◌+◌, ◌&&◌, ℕ, Bool, true, List, [], ◌∷◌, ◌++◌, length, drop, codes, Option, None, Some, ⊤, ◌-◌, if◌then◌else◌}
 use Rattle.std.specs.Str.{bytes_eq}
-use Rattle.line_reader.specs.Lines.{lines_of, lacks}
+use Rattle.streams.specs.Lines.{lines_of, lacks}
 use Rattle.ot_asm.specs.Words.{trimmed}
 
 -- a line that is `%%` once one CR at its end and then blanks at both ends are dropped

@@ -11,7 +11,7 @@ use Rattle.ot_isa.specs.declared.instruction.Instr.TheVariants as instr
 use Rattle.ot_json.specs.Reading.{operation_of_json}
 use Rattle.ot_json.specs.declared.fault.OpFault.{OpFault}
 use Rattle.ot_json.specs.declared.fault.OpFault.TheVariants as op_fault
-use Rattle.line_reader.specs.Lines.{lines_of}
+use Rattle.streams.specs.Lines.{lines_of}
 use Rattle.ot_asm.specs.Words.{trimmed, counts, first_word, after_word, keyword_of}
 use Rattle.ot_asm.specs.Numbers.{number}
 use Rattle.ot_asm.specs.declared.keyword.Keyword.{Keyword}

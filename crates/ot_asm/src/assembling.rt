@@ -1,7 +1,7 @@
 //! From a text to a schedule.
 
 ghost use Rattle.std.specs.Prelude.{◌≡◌, ◌⊎◌, ◌∷◌, ◌+◌, ◌<◌, ℕ, Ok, Err, IfOk, IfErr, length};
-ghost use Rattle.line_reader.specs.Lines.{lines_of};
+ghost use Rattle.streams.specs.Lines.{lines_of};
 ghost use Rattle.ot_isa.specs.Program.{IsProgram, Program};
 ghost use Rattle.ot_asm.specs.Stepping.{ended, outcome, IsFaultlessBefore, OutOfMemoryIn};
 ghost use Rattle.ot_asm.specs.Spelling.{Spells};
@@ -9,9 +9,9 @@ ghost use Rattle.ot_asm.specs.Spelling.{Spells};
 use crate::body::Body;
 use crate::fault::{AsmFault, Kind};
 use crate::stepping::numbered_step;
-use line_reader::split_line;
 use ot_isa::Schedule;
 use std::alloc::Global;
+use streams::split_line;
 
 /// The first line of a text, and what is below it.
 fn first_line(text: &[u8]) -> (&[u8], &[u8])

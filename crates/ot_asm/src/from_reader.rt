@@ -2,8 +2,8 @@
 
 ghost use Rattle.std.specs.Prelude.{◌≡◌, ◌≢◌, ◌⊎◌, ◌+◌, ◌<◌, ◌^◌, ℕ, true, false, Ok, Err, IfOk, IfErr, IfSome, OnOk, length};
 ghost use Rattle.std.specs.Io.KnownBytes.{IsAtEnd};
-ghost use Rattle.line_reader.specs.Lines.{lines_of};
-ghost use Rattle.line_reader.specs.Taken.{may_take, before};
+ghost use Rattle.streams.specs.Lines.{lines_of};
+ghost use Rattle.streams.specs.Taken.{may_take, before};
 ghost use Rattle.ot_asm.specs.Stepping.{ended, outcome, outcome_of_lines, IsFaultlessBefore, OutOfMemoryIn};
 ghost use Rattle.ot_asm.specs.Spelling.{Spells};
 ghost use Rattle.ot_isa.specs.Program.{Program};
@@ -14,10 +14,10 @@ use crate::body::Body;
 use crate::fault::{AsmFault, Kind};
 use crate::marks::ends_part;
 use crate::stepping::numbered_step;
-use line_reader::{LineFault, ReadAhead};
 use ot_isa::Schedule;
 use std::alloc::Global;
 use std::io::Read;
+use streams::{LineFault, ReadAhead};
 
 /// The schedule at the end of lines, and how many lines were taken.
 fn finished_part(body: Option<Body>, line: u64, taken: u64) -> Result<(Schedule, u64), AsmFault>

@@ -21,10 +21,25 @@
 //! its schedule, without any order of reading), `Canonical.antt`, `Laws.antt` (the canonical text spells its schedule),
 //! `Parts.antt` (an input of a schedule, a line `%%` and commands). Begin with `assemble` in `assembling.rt`, then
 //! `stepping.rt` and `body.rt`.
+//!
+//! Comments may name the clients, and say that the recorded session went on after the schedule's last instruction; a text is then shown with
+//! these names:
+//!
+//! ```text
+//!    ; client 1 is ben           client 1 takes client 0's operation ["client 1"]
+//!    ; cut: "ann, event 9"   ──▶ client 1 (ben) takes client 0's operation ["client 1"]
+//! ```
+//!
+//! - *Comments* (`specs/Comments.antt`): [`comments_of`] reads the names and what is said of the cut. The last comment about something
+//!   counts. [`push_cut`] writes the line that tells of the cut.
+//! - *Plain words* (`specs/Plain.antt`): words with a character that is not seen are not shown.
+//! - *A text with names* (`specs/Named.antt`, from `named_from` on): each byte of a text stands at a [`Place`](place::Place). [`named`] goes over
+//!   the bytes once, and passes over most (`specs/Passed.antt`); where nobody has a name it copies them ([`no_names_no_change`]).
 #![tactic(auto)]
 
 mod assembling;
 mod body;
+mod comments;
 mod disassembling;
 mod fault;
 mod from_reader;
@@ -33,18 +48,24 @@ mod keyword;
 mod laws;
 mod lines;
 mod marks;
+mod naming;
 mod number;
+mod passing;
+mod place;
+mod plain;
 mod section;
 mod stepping;
 mod words;
 mod writing;
 
 pub use assembling::assemble;
+pub use comments::{Comments, comments_of, push_cut};
 pub use disassembling::disassemble;
 pub use fault::{AsmFault, Kind};
 pub use from_reader::{assemble_from, assemble_until_mark};
 pub use json_text::read_text;
-pub use laws::{canonical_spells, spells_at_most_one};
+pub use laws::{canonical_spells, no_names_no_change, spells_at_most_one};
+pub use naming::named;
 pub use number::read_number;
 pub use words::{split_word, trimmed};
 pub use writing::{WriteStop, disassemble_to};

@@ -14,7 +14,7 @@ use Rattle.ot_model.specs.declared.shown.Shown.{Shown}
 use Rattle.ot_model.specs.Operation.{Operation, apply, inserted}
 use Rattle.ot_model.proofs.States.{length-news-tag_items}
 use Rattle.std.proofs.lemmas.Bool.Decides.{nat_tests}
-use Rattle.ot_model.specs.Table.{Client, Phase, Entry, Head, Ack, Op, Message, acknowledged, head_for, Synchronized, AwaitingConfirm, phase_in, carried, delivered, phase_delivered, edited, phase_edited, message_edited, tag_operation}
+use Rattle.ot_model.specs.Table.{Client, Phase, Entry, Head, Ack, Op, Message, acknowledged, head_for, Synchronized, AwaitingConfirm, phase_in, against_pending, delivered, phase_delivered, edited, phase_edited, message_edited, tag_operation}
 use Rattle.ot_model.specs.Laws.{IsDeliverable, MayDeliver}
 use Rattle.ot_model.specs.Sound.{IsInstr, AreInstrs, IsPhaseSound, IsSynchronizedSound, NoneBy, apply_entries}
 use Rattle.ot_model.specs.Part.{Part, PartPerformed, part_row, part_acknowledge, part_deliver, part_edit, part_with, part_read, with_part}
@@ -61,10 +61,10 @@ operations_in state.Synchronized h may = tt
 operations_in (state.AwaitingConfirm o) h may = may
 operations_in (state.AwaitingWithBuffer o b) h may = may
 
-pub carried_in : (phase : state.Phase Tagged) (h : Operation Tagged) → carried (phase_in phase) h ≡ state.carried phase h
-carried_in state.Synchronized h = refl
-carried_in (state.AwaitingConfirm o) h = refl
-carried_in (state.AwaitingWithBuffer o b) h = refl
+pub against_pending_in : (phase : state.Phase Tagged) (h : Operation Tagged) → against_pending (phase_in phase) h ≡ state.against_pending phase h
+against_pending_in state.Synchronized h = refl
+against_pending_in (state.AwaitingConfirm o) h = refl
+against_pending_in (state.AwaitingWithBuffer o b) h = refl
 
 -- an edit of the client's list follows what the client has made
 follows_in :
@@ -132,7 +132,7 @@ rest_of (m ∷ items) y ys e = cc
 pub moved_delivered :
     (x : Session) (start : ProgramPart) (steps steps' : List Instr) (st st' : state.State Tagged) (list list' : List Tagged) (count : ℕ) (incoming incoming' : List ProgramMessage) (sent : Option (Sent Tagged)) (h applied : Operation Tagged)
     → session_in start steps st list count incoming sent ≡ x → IsAllowed (session_in start steps st list count incoming sent) → IsNextHead x (Op h)
-    → st'.revision ≡ suc x.now.client.revision → phase_in st'.phase ≡ phase_delivered x.now.client.phase h → applied ≡ carried x.now.client.phase h → list' ≡ apply applied list
+    → st'.revision ≡ suc x.now.client.revision → phase_in st'.phase ≡ phase_delivered x.now.client.phase h → applied ≡ against_pending x.now.client.phase h → list' ≡ apply applied list
     → incoming' ≡ drop 1 incoming → steps' ≡ steps ++ Deliver start.number ∷ []
     → IsMoved x (Deliver start.number) None (session_in start steps' st' list' count incoming' sent)
 moved_delivered x start steps steps' st st' list list' count incoming incoming' sent h applied view allowed found risen carried_on by changed left one =
@@ -140,7 +140,7 @@ moved_delivered x start steps steps' st st' list list' count incoming incoming' 
     let next : IsNextHead v (Op h) = subst (λ (y : Session). IsNextHead y (Op h)) (sym view) found in
     let revision : st'.revision ≡ suc st.revision = subst (λ (y : Session). st'.revision ≡ suc y.now.client.revision) (sym view) risen in
     let phase : phase_in st'.phase ≡ phase_delivered (phase_in st.phase) h = subst (λ (y : Session). phase_in st'.phase ≡ phase_delivered y.now.client.phase h) (sym view) carried_on in
-    let is : applied ≡ carried (phase_in st.phase) h = subst (λ (y : Session). applied ≡ carried y.now.client.phase h) (sym view) by in
+    let is : applied ≡ against_pending (phase_in st.phase) h = subst (λ (y : Session). applied ≡ against_pending y.now.client.phase h) (sym view) by in
     let row : part_row v.now (Deliver start.number) ≡ PartPerformed (with_part v.now (delivered v.now.client h) next.rest) None =
     own v.now start.number (part_deliver v.now v.now.incoming) refl ∙ ap (part_deliver v.now) next.incoming_is in
     subst (λ (y : Session). IsMoved y (Deliver start.number) None (session_in start steps' st' list' count incoming' sent)) view

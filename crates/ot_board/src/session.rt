@@ -6,7 +6,7 @@ ghost use Rattle.ot_model.specs.Session.{IsAllowed, IsSoundPart, or_else};
 ghost use Rattle.ot_machine.specs.Parts.{part_in};
 ghost use Rattle.std.specs.Prelude.{[], vec_capacity};
 ghost use Rattle.ot_model.specs.Table as table;
-ghost use Rattle.ot_model.specs.Table.{Ack, Op, carried, message_edited, phase_delivered, phase_edited, phase_in, tag_operation};
+ghost use Rattle.ot_model.specs.Table.{Ack, Op, against_pending, message_edited, phase_delivered, phase_edited, phase_in, tag_operation};
 ghost use Rattle.ot_client.specs.Client.{message_of};
 ghost use Rattle.std.specs.Option.{option_map};
 ghost use Rattle.ot_board.specs.Sessions.{IsEditRefusal, IsNext, IsNextHead, IsStepRefusal, MayEdit, begun, present_part, shown_by};
@@ -148,7 +148,7 @@ impl<S: ClientState> Session<S> {
         requires { IsNextHead self.now (Op op.now) }
         ensures revision { IfOk result (λ given. (S.as_state given.0).revision ≡ suc self.now.now.client.revision) }
         ensures phase { IfOk result (λ given. phase_in (S.as_state given.0).phase ≡ phase_delivered self.now.now.client.phase op.now) }
-        ensures applied { IfOk result (λ given. given.1 ≡ carried self.now.now.client.phase op.now) }
+        ensures applied { IfOk result (λ given. given.1 ≡ against_pending self.now.now.client.phase op.now) }
         ensures base { IfOk result (λ given. given.1.base ≡ length self.now.now.client.list) }
     {
         self.state.delivered(op)

@@ -28,7 +28,7 @@ pub trait ClientState: Drop {
         requires revision { (as_state self.now).revision < REVISION_LIMIT }
         requires operations { state.MayDeliver (as_state self.now).phase op.now }
         ensures state { IfOk result (λ given. as_state given.0 ≡ state.delivered (as_state self.now) op.now) }
-        ensures applied { IfOk result (λ given. given.1 ≡ state.carried (as_state self.now).phase op.now) };
+        ensures applied { IfOk result (λ given. given.1 ≡ state.against_pending (as_state self.now).phase op.now) };
 }
 
 /// A state that the user's edit leads on from, as each does.

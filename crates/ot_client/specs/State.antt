@@ -43,10 +43,10 @@ abbrev pub delivered : {A : Type 0} → State A → Operation A → State A
 delivered state op = record { revision = suc state.revision; phase = phase_delivered state.phase op }
 
 -- what the client applies: the operation transformed against all that is pending
-abbrev pub carried : {A : Type 0} → Phase A → Operation A → Operation A
-carried Synchronized op = op
-carried (AwaitingConfirm outstanding) op = second_after outstanding op
-carried (AwaitingWithBuffer outstanding buffer) op = second_after buffer (second_after outstanding op)
+abbrev pub against_pending : {A : Type 0} → Phase A → Operation A → Operation A
+against_pending Synchronized op = op
+against_pending (AwaitingConfirm outstanding) op = second_after outstanding op
+against_pending (AwaitingWithBuffer outstanding buffer) op = second_after buffer (second_after outstanding op)
 
 -- an acknowledgement: what was outstanding is in the server's log, and the buffer is sent; nothing is where nothing was sent
 abbrev pub phase_acknowledged : {A : Type 0} → Phase A → Option (Phase A)

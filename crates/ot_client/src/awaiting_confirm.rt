@@ -6,7 +6,7 @@ ghost use Rattle.ot_operation.specs.Operation.{news};
 ghost use Rattle.ot_codes.specs.Shape.{filled, shape};
 ghost use Rattle.ot_client.specs.Change.{changed, Fits};
 ghost use Rattle.ot_client.specs.declared.change.Pending.TheVariants.{Unsend};
-ghost use Rattle.ot_client.specs.State.{buffering, carried, confirming, delivered, edited};
+ghost use Rattle.ot_client.specs.State.{buffering, against_pending, confirming, delivered, edited};
 ghost use Rattle.ot_operation.specs.declared.TheConstants.{LIMIT};
 ghost use Rattle.ot_client.specs.declared.TheConstants.{REVISION_LIMIT};
 
@@ -90,7 +90,7 @@ impl<T: Element> AwaitingConfirm<T> {
         requires base { op.base ≡ self.outstanding.base }
         requires fits { op.base + length (news self.outstanding.image) + length (news op.image) ≤ LIMIT }
         ensures state { IfOk result (λ given. confirming given.0 ≡ delivered (confirming self) op) }
-        ensures applied { IfOk result (λ given. given.1 ≡ carried (confirming self).phase op) }
+        ensures applied { IfOk result (λ given. given.1 ≡ against_pending (confirming self).phase op) }
         ensures back { IfErr result (λ back. back ≡ (self, op)) }
     {
         let Ok((mut codes, applied)) = transformed(&self.outstanding, &op) else {
@@ -104,10 +104,10 @@ impl<T: Element> AwaitingConfirm<T> {
 
     /// What the document is to be changed by at that entry, the second of what `deliver` gives, under its conditions but for the revision. Costs
     /// the codes of the outstanding operation, and the entry. `Err` comes where memory was refused.
-    pub fn carry(&self, op: &TextOp<T>) -> Result<TextOp<T>, AllocError>
+    pub fn against_pending(&self, op: &TextOp<T>) -> Result<TextOp<T>, AllocError>
         requires base { op.now.base ≡ self.now.outstanding.base }
         requires fits { op.now.base + length (news self.now.outstanding.image) + length (news op.now.image) ≤ LIMIT }
-        ensures { IfOk result (λ applied. applied ≡ carried (confirming self.now).phase op.now) }
+        ensures { IfOk result (λ applied. applied ≡ against_pending (confirming self.now).phase op.now) }
     {
         transform_second(&self.outstanding, op)
     }
@@ -145,7 +145,7 @@ impl<T: Element> AwaitingConfirm<T> {
         requires fits { op.now.base + length (news self.now.outstanding.image) + length (news op.now.image) ≤ LIMIT }
         ensures fits { IfOk result (λ given. Fits (confirming self.now) given.0) }
         ensures change { IfOk result (λ given. changed (confirming self.now) given.0 ≡ delivered (confirming self.now) op.now) }
-        ensures applied { IfOk result (λ given. unwrap_or given.1 op.now ≡ carried (confirming self.now).phase op.now) }
+        ensures applied { IfOk result (λ given. unwrap_or given.1 op.now ≡ against_pending (confirming self.now).phase op.now) }
     {
         let (codes, applied) = transformed(&self.outstanding, op)?;
         let revision = self.revision + 1;

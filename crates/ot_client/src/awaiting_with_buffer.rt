@@ -9,7 +9,7 @@ ghost use Rattle.ot_operation.specs.Merge.{first_after, second_after};
 ghost use Rattle.ot_client.specs.Change.{changed, Fits};
 ghost use Rattle.ot_client.specs.Client.{message_of};
 ghost use Rattle.ot_client.specs.declared.change.Pending.TheVariants.{Confirm};
-ghost use Rattle.ot_client.specs.State.{buffering, carried, confirming, delivered, edited, IsJoined};
+ghost use Rattle.ot_client.specs.State.{buffering, against_pending, confirming, delivered, edited, IsJoined};
 ghost use Rattle.ot_operation.specs.declared.TheConstants.{LIMIT};
 ghost use Rattle.ot_client.specs.declared.TheConstants.{REVISION_LIMIT};
 
@@ -120,7 +120,7 @@ impl<T: Element> AwaitingWithBuffer<T> {
         requires base { op.base ≡ self.outstanding.base }
         requires fits { op.base + length (news self.outstanding.image) + length (news self.buffer.image) + length (news op.image) ≤ LIMIT }
         ensures state { IfOk result (λ given. buffering given.0 ≡ delivered (buffering self) op) }
-        ensures applied { IfOk result (λ given. given.1 ≡ carried (buffering self).phase op) }
+        ensures applied { IfOk result (λ given. given.1 ≡ against_pending (buffering self).phase op) }
         ensures back { IfErr result (λ back. back ≡ (self, op)) }
     {
         let Ok((mut codes, applied)) = self.transform(&op) else {
@@ -137,10 +137,10 @@ impl<T: Element> AwaitingWithBuffer<T> {
 
     /// What the document is to be changed by at that entry, the second of what `deliver` gives, under its conditions but for the revision. Costs
     /// the codes of both operations, and the entry. `Err` comes where memory was refused.
-    pub fn carry(&self, op: &TextOp<T>) -> Result<TextOp<T>, AllocError>
+    pub fn against_pending(&self, op: &TextOp<T>) -> Result<TextOp<T>, AllocError>
         requires base { op.now.base ≡ self.now.outstanding.base }
         requires fits { op.now.base + length (news self.now.outstanding.image) + length (news self.now.buffer.image) + length (news op.now.image) ≤ LIMIT }
-        ensures { IfOk result (λ applied. applied ≡ carried (buffering self.now).phase op.now) }
+        ensures { IfOk result (λ applied. applied ≡ against_pending (buffering self.now).phase op.now) }
     {
         // For the proof: the invariant of every operation.
         let _operation = self.outstanding.base_len();
@@ -191,7 +191,7 @@ impl<T: Element> AwaitingWithBuffer<T> {
         requires fits { op.now.base + length (news self.now.outstanding.image) + length (news self.now.buffer.image) + length (news op.now.image) ≤ LIMIT }
         ensures fits { IfOk result (λ given. Fits (buffering self.now) given.0) }
         ensures change { IfOk result (λ given. changed (buffering self.now) given.0 ≡ delivered (buffering self.now) op.now) }
-        ensures applied { IfOk result (λ given. unwrap_or given.1 op.now ≡ carried (buffering self.now).phase op.now) }
+        ensures applied { IfOk result (λ given. unwrap_or given.1 op.now ≡ against_pending (buffering self.now).phase op.now) }
     {
         let (codes, applied) = self.transform(op)?;
         let revision = self.revision + 1;
@@ -274,7 +274,7 @@ impl<T: Element> AwaitingWithBuffer<T> {
         ensures buffer { IfOk result (λ given. filled given.0.value.1 (news self.now.buffer.image) ≡ first_after self.now.buffer (second_after self.now.outstanding op.now)) }
         ensures base { IfOk result (λ given. given.0.value.1.base ≡ length (first_after self.now.outstanding op.now).image) }
         ensures joined { IsJoined self.now }
-        ensures applied { IfOk result (λ given. given.1 ≡ carried (buffering self.now).phase op.now) }
+        ensures applied { IfOk result (λ given. given.1 ≡ against_pending (buffering self.now).phase op.now) }
     {
         // For the proof: the invariant of every operation.
         let _operation = self.outstanding.base_len();

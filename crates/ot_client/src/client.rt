@@ -4,7 +4,7 @@ ghost use Rattle.std.specs.Prelude.{◌≡◌, ◌+◌, ◌<◌, length, IfErr, 
 ghost use Rattle.std.specs.Option.{option_map, unwrap_or};
 ghost use Rattle.ot_client.specs.Client.{message_of, state_of};
 ghost use Rattle.ot_client.specs.Change.{changed, undoing, Fits, IsInPlace};
-ghost use Rattle.ot_client.specs.State.{buffering, carried, confirming, delivered, edited, message_acknowledged, message_edited, phase_acknowledged, synchronized, IsAwaiting, MayDeliver, MayEdit};
+ghost use Rattle.ot_client.specs.State.{buffering, against_pending, confirming, delivered, edited, message_acknowledged, message_edited, phase_acknowledged, synchronized, IsAwaiting, MayDeliver, MayEdit};
 ghost use Rattle.ot_client.specs.declared.TheConstants.{REVISION_LIMIT};
 
 use crate::change::Pending;
@@ -59,7 +59,7 @@ impl<T: Element> Client<T> {
         requires revision { (state_of self).revision < REVISION_LIMIT }
         requires operations { MayDeliver (state_of self).phase op }
         ensures state { IfOk result (λ given. state_of given.0 ≡ delivered (state_of self) op) }
-        ensures applied { IfOk result (λ given. given.1 ≡ carried (state_of self).phase op) }
+        ensures applied { IfOk result (λ given. given.1 ≡ against_pending (state_of self).phase op) }
         ensures back { IfErr result (λ back. back ≡ (self, op)) }
     {
         match self {
@@ -104,7 +104,7 @@ impl<T: Element> Client<T> {
         requires operations { MayDeliver (state_of self.now).phase op.now }
         ensures fits { IfOk result (λ given. Fits (state_of self.now) given.0) }
         ensures change { IfOk result (λ given. changed (state_of self.now) given.0 ≡ delivered (state_of self.now) op.now) }
-        ensures applied { IfOk result (λ given. unwrap_or given.1 op.now ≡ carried (state_of self.now).phase op.now) }
+        ensures applied { IfOk result (λ given. unwrap_or given.1 op.now ≡ against_pending (state_of self.now).phase op.now) }
     {
         match self {
             Client::Synchronized(client) => Ok(client.prepare_deliver()),
@@ -229,14 +229,14 @@ impl<T: Element> Client<T> {
 
     /// What the document is to be changed by at the next entry of the server's log, an operation of another client, as `deliver` gives it, and no
     /// client after it; `None` where that is the operation as it came. `Err` comes where memory was refused.
-    pub fn carry(&self, op: &TextOp<T>) -> Result<Option<TextOp<T>>, AllocError>
+    pub fn against_pending(&self, op: &TextOp<T>) -> Result<Option<TextOp<T>>, AllocError>
         requires { MayDeliver (state_of self.now).phase op.now }
-        ensures { IfOk result (λ applied. unwrap_or applied op.now ≡ carried (state_of self.now).phase op.now) }
+        ensures { IfOk result (λ applied. unwrap_or applied op.now ≡ against_pending (state_of self.now).phase op.now) }
     {
         match self {
             Client::Synchronized(_) => Ok(None),
-            Client::AwaitingConfirm(client) => Ok(Some(client.carry(op)?)),
-            Client::AwaitingWithBuffer(client) => Ok(Some(client.carry(op)?)),
+            Client::AwaitingConfirm(client) => Ok(Some(client.against_pending(op)?)),
+            Client::AwaitingWithBuffer(client) => Ok(Some(client.against_pending(op)?)),
         }
     }
 

@@ -19,7 +19,7 @@
 //! as it was. A client that stays in its state changes where it lies.
 //! These are the functions `applyClient`, `applyServer` and `serverAck` of the three states in ot.js' `Client`.
 //!
-//! Contracts see a state as `State` of `specs/State.antt`: a revision and a `Phase`. `edited` and `delivered` are two of the rules, `carried` what a
+//! Contracts see a state as `State` of `specs/State.antt`: a revision and a `Phase`. `edited` and `delivered` are two of the rules, `against_pending` what a
 //! delivery applies; what an acknowledgement leaves, and what is sent, each call's clause says itself. The types' own values are a revision, a
 //! `Confirming` and a `Buffering`; `synchronized`, `confirming` and `buffering` give each as a `State`, and `state_of` of `specs/Client.antt` a [`Client`].
 //! `specs/Change.antt` says what a [`Change`] changes (`changed`), where it may be exchanged (`Fits`), whether in place (`IsInPlace`), and

@@ -13,11 +13,11 @@ use Rattle.ot_codes.specs.declared.code.Code.TheVariants.{Retain, Insert, Delete
 use Rattle.ot_codes.specs.declared.cut.Cut.{Cut}
 use Rattle.ot_codes.specs.Codes.{blanks, runs_of, without, past, kept_in, deleted_in, inserted_in}
 use Rattle.ot_codes.specs.Shape.{blank, mapped_item, shape}
-use Rattle.ot_codes.specs.Cuts.{Source, carried, AreWithin, with_cut, places}
+use Rattle.ot_codes.specs.Cuts.{Source, assembled, AreWithin, with_cut, places}
 use Rattle.ot_codes.specs.Cuts.Source.{OfFirst, OfSecond}
 use Rattle.ot_codes.proofs.Mapped.{olds-mapped}
 use Rattle.ot_codes.proofs.Filled.{news_append, news_texts, news_olds}
-use Rattle.ot_codes.proofs.Cutting.{within_more, within_cut, carried_more, carried_cut}
+use Rattle.ot_codes.proofs.Cutting.{within_more, within_cut, assembled_more, assembled_cut}
 use Rattle.ot_codes.proofs.Marked.{length-places, places-add, take-places, drop-places, blanks-places, marked, marked-base, marked-target, marked-without_keep, marked-without_skip}
 use Rattle.ot_codes.proofs.Composing.{first_of_codes, second_of_codes, Composing}
 use Rattle.ot_codes.proofs.Summing.{inserted-append}
@@ -138,8 +138,8 @@ module _ (codes_a codes_b : List Code) (pen : Operation (Unit {0})) (cuts : List
             (marked OfSecond from (Retain n ∷ others)) (omega (arith, within, made))
             (subst (λ xs. ComposeProgress (first_of_codes codes_a) (second_of_codes codes_b) w.built xs (marked OfSecond from (Retain n ∷ others))) (marked-append OfFirst at front rest) w.progress));
         pen_is = shape_with OfFirst at pen w.built front w.pen_is;
-        text = ap (λ zs. carried cuts zs seconds) (parts OfFirst at (inserted_in front))
-            ∙ carried_more 0 cuts (places OfFirst 0 at) text seconds at from (omega (arith, length-places OfFirst 0 at)) w.within
+        text = ap (λ zs. assembled cuts zs seconds) (parts OfFirst at (inserted_in front))
+            ∙ assembled_more 0 cuts (places OfFirst 0 at) text seconds at from (omega (arith, length-places OfFirst 0 at)) w.within
             ∙ ap (λ zs. zs ++ text) w.text ∙ ap (λ zs. news w.built.image ++ zs) (sym (news_marked OfFirst at w.built.base front))
             ∙ sym (news_append w.built.image (image_from w.built.base (marked OfFirst at front)));
         within = within_more 0 cuts at from (at + inserted_in front) from (omega arith) (omega arith) w.within;
@@ -149,7 +149,7 @@ module _ (codes_a codes_b : List Code) (pen : Operation (Unit {0})) (cuts : List
 
   -- codes of the second in a retain of the first: what they insert comes into the text
   pub record ComesIn (next : List Cut) : Type 0 where
-    pub text : carried next (places OfFirst 0 at) seconds ≡ carried cuts (places OfFirst 0 at) seconds ++ places OfSecond from (inserted_in front)
+    pub text : assembled next (places OfFirst 0 at) seconds ≡ assembled cuts (places OfFirst 0 at) seconds ++ places OfSecond from (inserted_in front)
     pub within : AreWithin 0 next at (from + inserted_in front)
 
   pub composing_kept_second :
@@ -186,22 +186,22 @@ module _ (codes_a codes_b : List Code) (pen : Operation (Unit {0})) (cuts : List
       ap (take (inserted_in front)) (drop-places OfSecond 0 from (inserted_in codes_b) (omega (arith, fits)) ∙ ap (λ k. places OfSecond k (inserted_in codes_b - from)) start)
       ∙ take-places OfSecond from (inserted_in front) (inserted_in codes_b - from) (omega (arith, fits)) in
       record {
-        text = ap (λ zs. carried (with_cut cuts next) zs seconds) (sym (append-nil (places OfFirst 0 at)))
-            ∙ carried_cut cuts next (places OfFirst 0 at) [] seconds from w.within (sym (length-places OfFirst 0 at)) refl
-            ∙ ap (λ zs. carried cuts (places OfFirst 0 at) seconds ++ zs) part;
+        text = ap (λ zs. assembled (with_cut cuts next) zs seconds) (sym (append-nil (places OfFirst 0 at)))
+            ∙ assembled_cut cuts next (places OfFirst 0 at) [] seconds from w.within (sym (length-places OfFirst 0 at)) refl
+            ∙ ap (λ zs. assembled cuts (places OfFirst 0 at) seconds ++ zs) part;
         within = subst (λ k. AreWithin 0 (with_cut cuts next) k (from + inserted_in front)) same (within_cut 0 cuts next w.within);
       }
 
   pub comes_nothing : inserted_in front ≡ 0 → AreWithin 0 cuts at from → ComesIn cuts
   comes_nothing none within =
       record {
-        text = sym (ap (λ k. carried cuts (places OfFirst 0 at) seconds ++ places OfSecond from k) none ∙ append-nil (carried cuts (places OfFirst 0 at) seconds));
+        text = sym (ap (λ k. assembled cuts (places OfFirst 0 at) seconds ++ places OfSecond from k) none ∙ append-nil (assembled cuts (places OfFirst 0 at) seconds));
         within = within_more 0 cuts at from at (from + inserted_in front) (omega arith) (omega arith) within;
       }
 
   -- codes of the first in a deletion of the second: what they insert goes from the text
   pub record GoesOut (next : List Cut) : Type 0 where
-    pub text : carried next (places OfFirst 0 (at + inserted_in front)) seconds ≡ carried cuts (places OfFirst 0 at) seconds
+    pub text : assembled next (places OfFirst 0 (at + inserted_in front)) seconds ≡ assembled cuts (places OfFirst 0 at) seconds
     pub within : AreWithin 0 next (at + inserted_in front) from
 
   pub composing_deleted :
@@ -230,9 +230,9 @@ module _ (codes_a codes_b : List Code) (pen : Operation (Unit {0})) (cuts : List
       let next : Cut = record { at = at; gone = inserted_in front; from = from; put = 0 } in
       let same : from + 0 ≡ from = omega arith in
       record {
-        text = ap (λ zs. carried (with_cut cuts next) zs seconds) (parts OfFirst at (inserted_in front))
-            ∙ carried_cut cuts next (places OfFirst 0 at) (places OfFirst at (inserted_in front)) seconds from within (sym (length-places OfFirst 0 at)) (sym (length-places OfFirst at (inserted_in front)))
-            ∙ append-nil (carried cuts (places OfFirst 0 at) seconds);
+        text = ap (λ zs. assembled (with_cut cuts next) zs seconds) (parts OfFirst at (inserted_in front))
+            ∙ assembled_cut cuts next (places OfFirst 0 at) (places OfFirst at (inserted_in front)) seconds from within (sym (length-places OfFirst 0 at)) (sym (length-places OfFirst at (inserted_in front)))
+            ∙ append-nil (assembled cuts (places OfFirst 0 at) seconds);
         within = subst (λ k. AreWithin 0 (with_cut cuts next) (at + inserted_in front) k) same (within_cut 0 cuts next within);
       }
 
@@ -240,6 +240,6 @@ module _ (codes_a codes_b : List Code) (pen : Operation (Unit {0})) (cuts : List
   goes_nothing none within =
       let same : at + inserted_in front ≡ at = omega (arith, none) in
       record {
-        text = ap (λ k. carried cuts (places OfFirst 0 k) seconds) same;
+        text = ap (λ k. assembled cuts (places OfFirst 0 k) seconds) same;
         within = within_more 0 cuts at from (at + inserted_in front) from (omega arith) (omega arith) within;
       }

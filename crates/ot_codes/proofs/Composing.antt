@@ -13,12 +13,12 @@ use Rattle.ot_codes.specs.declared.code.Code.TheVariants.{Retain, Insert, Delete
 use Rattle.ot_codes.specs.declared.cut.Cut.{Cut}
 use Rattle.ot_codes.specs.Codes.{blanks, run_of, runs_of, spelled, length_of, others_of, insertion_of, deletion_of, keeps, without, inserted_in}
 use Rattle.ot_codes.specs.Shape.{mapped_item, blank, shape}
-use Rattle.ot_codes.specs.Cuts.{Source, carried, AreWithin, with_cut, places, size, placed, GiveText}
+use Rattle.ot_codes.specs.Cuts.{Source, assembled, AreWithin, with_cut, places, size, placed, GiveText}
 use Rattle.ot_codes.specs.Cuts.Source.{OfFirst, OfSecond}
 use Rattle.ot_codes.specs.Splice.{composed_code}
 use Rattle.ot_codes.proofs.Mapped.{insert-mapped, retain-mapped, compose-mapped}
 use Rattle.ot_codes.proofs.Filled.{filled_fits, news_append, news_texts, news_olds}
-use Rattle.ot_codes.proofs.Cutting.{within_more, within_cut, carried_more, carried_cut}
+use Rattle.ot_codes.proofs.Cutting.{within_more, within_cut, assembled_more, assembled_cut}
 use Rattle.ot_codes.proofs.Gone.{retain_gone, insert_gone, none_made}
 use Rattle.ot_codes.proofs.Marked.{length-places, places-add, take-places, drop-places, blanks-places, marked, marked-base, marked-target, marked-normal, size-spelled, placed-spelled, marked-otherwise, marked-without_keep, marked-without_skip, marked-without_add}
 
@@ -34,7 +34,7 @@ pub record Composing (codes_a codes_b : List Code) (pen : Operation (Unit {0})) 
   pub built : Operation Source
   pub progress : ComposeProgress (first_of_codes codes_a) (second_of_codes codes_b) built (marked OfFirst at xs) (marked OfSecond from ys)
   pub pen_is : pen ≡ shape built
-  pub text : carried cuts (places OfFirst 0 at) (places OfSecond 0 (inserted_in codes_b)) ≡ news built.image
+  pub text : assembled cuts (places OfFirst 0 at) (places OfSecond 0 (inserted_in codes_b)) ≡ news built.image
   pub within : AreWithin 0 cuts at from
   pub left_first : at + inserted_in xs ≡ inserted_in codes_a
   pub left_second : from + inserted_in ys ≡ inserted_in codes_b
@@ -108,8 +108,8 @@ module _ (codes_a codes_b : List Code) where
           built = with_insert w.built text;
           progress = compose_insert (first_of_codes codes_a) (second_of_codes codes_b) w.built text (marked OfFirst at xs) (marked OfSecond (from + m) ys) w.progress;
           pen_is = ap (λ op. with_insert op (blanks m)) w.pen_is ∙ ap (with_insert (shape w.built)) (sym (blanks-places OfSecond from m)) ∙ sym (insert-mapped blank w.built text);
-          text = ap (λ zs. carried (with_cut cuts next) zs all) (sym (append-nil (places OfFirst 0 at)))
-              ∙ carried_cut cuts next (places OfFirst 0 at) [] all from w.within here refl
+          text = ap (λ zs. assembled (with_cut cuts next) zs all) (sym (append-nil (places OfFirst 0 at)))
+              ∙ assembled_cut cuts next (places OfFirst 0 at) [] all from w.within here refl
               ∙ ap (λ zs. zs ++ take m (drop from all)) w.text ∙ ap (λ zs. news w.built.image ++ zs) (part ∙ sym (news_texts text))
               ∙ sym (news_append w.built.image (map New text));
           within = subst (λ k. AreWithin 0 (with_cut cuts next) k (from + m)) same (within_cut 0 cuts next w.within);
@@ -197,8 +197,8 @@ module _ (codes_a codes_b : List Code) where
             progress = rw (marked-without_add OfFirst at count m xs in_first, marked-without_keep OfSecond from count n ys)
                 (subst (λ t. ComposeProgress (first_of_codes codes_a) (second_of_codes codes_b) (with_insert w.built t) (skipped_made count (Add (places OfFirst at m) ∷ marked OfFirst (at + m) xs)) (skipped count (Keep n ∷ marked OfSecond from ys))) taken part);
             pen_is = ap (λ op. with_insert op (blanks count)) w.pen_is ∙ ap (with_insert (shape w.built)) (sym (blanks-places OfFirst at count)) ∙ sym (insert-mapped blank w.built text);
-            text = ap (λ zs. carried cuts zs all) first_parts
-                ∙ carried_more 0 cuts (places OfFirst 0 at) text all at from (omega (arith, length-places OfFirst 0 at)) w.within
+            text = ap (λ zs. assembled cuts zs all) first_parts
+                ∙ assembled_more 0 cuts (places OfFirst 0 at) text all at from (omega (arith, length-places OfFirst 0 at)) w.within
                 ∙ ap (λ zs. zs ++ text) w.text ∙ ap (λ zs. news w.built.image ++ zs) (sym (news_texts text)) ∙ sym (news_append w.built.image (map New text));
             within = within_more 0 cuts at from (at + count) from (omega arith) (omega arith) w.within;
             left_first = omega (arith, w.left_first, inserted-without count m xs in_first);
@@ -219,9 +219,9 @@ module _ (codes_a codes_b : List Code) where
             built = w.built;
             progress = rw (marked-without_add OfFirst at count m xs in_first, marked-without_skip OfSecond from count n ys) part;
             pen_is = w.pen_is;
-            text = ap (λ zs. carried (with_cut cuts next) zs all) first_parts
-                ∙ carried_cut cuts next (places OfFirst 0 at) (places OfFirst at count) all from w.within (sym (length-places OfFirst 0 at)) (sym (length-places OfFirst at count))
-                ∙ append-nil (carried cuts (places OfFirst 0 at) all) ∙ w.text;
+            text = ap (λ zs. assembled (with_cut cuts next) zs all) first_parts
+                ∙ assembled_cut cuts next (places OfFirst 0 at) (places OfFirst at count) all from w.within (sym (length-places OfFirst 0 at)) (sym (length-places OfFirst at count))
+                ∙ append-nil (assembled cuts (places OfFirst 0 at) all) ∙ w.text;
             within = subst (λ k. AreWithin 0 (with_cut cuts next) (at + count) k) same (within_cut 0 cuts next w.within);
             left_first = omega (arith, w.left_first, inserted-without count m xs in_first);
             left_second = ap (λ k. from + k) (same-without_delete count n ys) ∙ w.left_second;
@@ -270,8 +270,8 @@ module _ (codes_a codes_b : List Code) (pen : Operation (Unit {0})) (cuts : List
             ∙ ap (λ op. compose op (shape b)) (placed_shape OfFirst codes_a) ∙ ap (compose (spelled codes_a)) (placed_shape OfSecond codes_b),
         record {
           within = within_more 0 cuts at from (size (spelled codes_a)) (size (spelled codes_b)) (omega (arith, first_size)) (omega (arith, second_size, w.left_second)) w.within;
-          text = ap (λ n. carried cuts (places OfFirst 0 n) (places OfSecond 0 (size (spelled codes_b)))) (sym first_size)
-              ∙ ap (λ n. carried cuts (places OfFirst 0 at) (places OfSecond 0 n)) (sym second_size)
+          text = ap (λ n. assembled cuts (places OfFirst 0 n) (places OfSecond 0 (size (spelled codes_b)))) (sym first_size)
+              ∙ ap (λ n. assembled cuts (places OfFirst 0 at) (places OfSecond 0 n)) (sym second_size)
               ∙ w.text ∙ ap (λ (op : Operation Source). news op.image) done
               ∙ ap (λ op. news (compose op b).image) (sym (placed-spelled OfFirst codes_a))
               ∙ ap (λ op. news (compose (placed OfFirst (spelled codes_a)) op).image) (sym (placed-spelled OfSecond codes_b));

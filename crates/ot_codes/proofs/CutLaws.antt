@@ -6,11 +6,11 @@ use Rattle.ot_operation.specs.Operation.{Item, Old, New, Operation, news}
 use Rattle.ot_operation.specs.Compose.{compose}
 use Rattle.ot_codes.specs.declared.cut.Cut.{Cut}
 use Rattle.ot_codes.specs.Shape.{mapped_item, mapped, blank, shape, filled_image, filled}
-use Rattle.ot_codes.specs.Cuts.{Source, carried, places, size, placed, GiveText}
+use Rattle.ot_codes.specs.Cuts.{Source, assembled, places, size, placed, GiveText}
 use Rattle.ot_codes.specs.Cuts.Source.{OfFirst, OfSecond}
 use Rattle.ot_codes.proofs.Mapped.{same_parts, news-mapped, compose-mapped}
 use Rattle.ot_codes.proofs.Filled.{filled-shape}
-use Rattle.ot_codes.proofs.Cutting.{carried-map}
+use Rattle.ot_codes.proofs.Cutting.{assembled-map}
 
 -- the element at a place of one of two texts
 abbrev looked_up : {A : Type 0} → List A → List A → Source → Option A
@@ -71,19 +71,19 @@ module _ {A : Type 0} (a b : Operation A) (cuts : List Cut) (given : GiveText cu
       ∙ ap (compose (mapped Some a)) (placed_found (looked_up (news a.image) (news b.image)) OfSecond b in_second)
       ∙ sym (compose-mapped Some a b)
 
-  pub cuts_give_text : carried cuts (news a.image) (news b.image) ≡ news (compose a b).image
+  pub cuts_give_text : assembled cuts (news a.image) (news b.image) ≡ news (compose a b).image
   cuts_give_text =
       some_apart _ _
-      (carried-map Some 0 cuts (news a.image) (news b.image)
-      ∙ ap (λ xs. carried cuts xs (map Some (news b.image))) (sym (places_found (looked_up (news a.image) (news b.image)) OfFirst a in_first))
-      ∙ ap (carried cuts (map (looked_up (news a.image) (news b.image)) (places OfFirst 0 (size (shape a))))) (sym (places_found (looked_up (news a.image) (news b.image)) OfSecond b in_second))
-      ∙ sym (carried-map (looked_up (news a.image) (news b.image)) 0 cuts (places OfFirst 0 (size (shape a))) (places OfSecond 0 (size (shape b))))
+      (assembled-map Some 0 cuts (news a.image) (news b.image)
+      ∙ ap (λ xs. assembled cuts xs (map Some (news b.image))) (sym (places_found (looked_up (news a.image) (news b.image)) OfFirst a in_first))
+      ∙ ap (assembled cuts (map (looked_up (news a.image) (news b.image)) (places OfFirst 0 (size (shape a))))) (sym (places_found (looked_up (news a.image) (news b.image)) OfSecond b in_second))
+      ∙ sym (assembled-map (looked_up (news a.image) (news b.image)) 0 cuts (places OfFirst 0 (size (shape a))) (places OfSecond 0 (size (shape b))))
       ∙ ap (map (looked_up (news a.image) (news b.image))) given.text
       ∙ sym (news-mapped (looked_up (news a.image) (news b.image)) (compose (placed OfFirst (shape a)) (placed OfSecond (shape b))).image)
       ∙ ap (λ (op : Operation (Option A)). news op.image) both
       ∙ news-mapped Some (compose a b).image)
 
-  pub compose_fills : filled (compose (shape a) (shape b)) (carried cuts (news a.image) (news b.image)) ≡ compose a b
+  pub compose_fills : filled (compose (shape a) (shape b)) (assembled cuts (news a.image) (news b.image)) ≡ compose a b
   compose_fills =
       ap (filled (compose (shape a) (shape b))) cuts_give_text
       ∙ ap (λ s. filled s (news (compose a b).image)) (sym (compose-mapped blank a b))

@@ -4,7 +4,7 @@ use Rattle.std.proofs.lemmas.List.{map-append, take-map, drop-map, take-append-l
 use Rattle.std.proofs.Math.Seq.{take-add, take-append_seam, drop-length, drop-nil}
 use borrow.Author.Tests.{eqb-true}
 use Rattle.ot_codes.specs.declared.cut.Cut.{Cut}
-use Rattle.ot_codes.specs.Cuts.{carried_from, carried, AreWithin, meets, longer, with_cut}
+use Rattle.ot_codes.specs.Cuts.{assembled_from, assembled, AreWithin, meets, longer, with_cut}
 
 pub drop-more : {X : Type 0} (m n : ℕ) (xs : List X) → drop n (drop m xs) ≡ drop (m + n) xs
 drop-more zero n xs = ap (λ k. drop k xs) (let e : n ≡ zero + n = omega arith in e)
@@ -27,7 +27,7 @@ meets_first cut next is =
 module _ {A : Type 0} (at : ℕ) (cut next : Cut) (xs ys : List A) where
   as_one :
       cut.at + cut.gone ≡ next.at → cut.from + cut.put ≡ next.from
-      → carried_from at (longer cut next ∷ []) xs ys ≡ carried_from at (cut ∷ next ∷ []) xs ys
+      → assembled_from at (longer cut next ∷ []) xs ys ≡ assembled_from at (cut ∷ next ∷ []) xs ys
   as_one in_first in_second =
       let left : List A = drop (cut.at - at + cut.gone) xs in
       let none : next.at - (cut.at + cut.gone) ≡ 0 = omega (arith, in_first) in
@@ -41,22 +41,22 @@ module _ {A : Type 0} (at : ℕ) (cut next : Cut) (xs ys : List A) where
       rw (put, rest, gone, none)
       (ap (λ zs. take (cut.at - at) xs ++ zs) (append_assoc (take cut.put (drop cut.from ys)) (take next.put (drop next.from ys)) (drop next.gone left)))
 
-  one_more : carried_from at (with_cut (cut ∷ []) next) xs ys ≡ carried_from at (cut ∷ next ∷ []) xs ys
+  one_more : assembled_from at (with_cut (cut ∷ []) next) xs ys ≡ assembled_from at (cut ∷ next ∷ []) xs ys
   one_more = by (meets cut next) (meets_first cut next)
     where
       by :
           (p : Bool) → (p ≡ true → (cut.at + cut.gone ≡ next.at) × (cut.from + cut.put ≡ next.from))
-          → carried_from at (if p then longer cut next ∷ [] else cut ∷ next ∷ []) xs ys ≡ carried_from at (cut ∷ next ∷ []) xs ys
+          → assembled_from at (if p then longer cut next ∷ [] else cut ∷ next ∷ []) xs ys ≡ assembled_from at (cut ∷ next ∷ []) xs ys
       by true meet = let both = meet refl in as_one both.0 both.1
       by false meet = refl
 
-pub with_cut-carried :
-    {A : Type 0} (at : ℕ) (cuts : List Cut) (next : Cut) (xs ys : List A) → carried_from at (with_cut cuts next) xs ys ≡ carried_from at (cuts ++ next ∷ []) xs ys
-with_cut-carried at [] next xs ys = refl
-with_cut-carried at (cut ∷ []) next xs ys = one_more at cut next xs ys
-with_cut-carried at (cut ∷ more ∷ cuts) next xs ys =
+pub with_cut-assembled :
+    {A : Type 0} (at : ℕ) (cuts : List Cut) (next : Cut) (xs ys : List A) → assembled_from at (with_cut cuts next) xs ys ≡ assembled_from at (cuts ++ next ∷ []) xs ys
+with_cut-assembled at [] next xs ys = refl
+with_cut-assembled at (cut ∷ []) next xs ys = one_more at cut next xs ys
+with_cut-assembled at (cut ∷ more ∷ cuts) next xs ys =
     ap (λ zs. take (cut.at - at) xs ++ (take cut.put (drop cut.from ys) ++ zs))
-    (with_cut-carried (cut.at + cut.gone) (more ∷ cuts) next (drop (cut.at - at + cut.gone) xs) ys)
+    (with_cut-assembled (cut.at + cut.gone) (more ∷ cuts) next (drop (cut.at - at + cut.gone) xs) ys)
 
 -- cuts lie in longer texts too
 
@@ -84,61 +84,61 @@ within_cut at (cut ∷ more ∷ cuts) next w = (w.0, omega (arith, w.1), within_
 -- what comes behind the cuts
 
 module _ {A : Type 0} where
-  pub carried_more :
+  pub assembled_more :
       (at : ℕ) (cuts : List Cut) (xs zs ys : List A) (n second : ℕ) → n ≡ at + length xs → AreWithin at cuts n second
-      → carried_from at cuts (xs ++ zs) ys ≡ carried_from at cuts xs ys ++ zs
-  carried_more at [] xs zs ys n second is w = refl
-  carried_more at (cut ∷ cuts) xs zs ys n second is w =
+      → assembled_from at cuts (xs ++ zs) ys ≡ assembled_from at cuts xs ys ++ zs
+  assembled_more at [] xs zs ys n second is w = refl
+  assembled_more at (cut ∷ cuts) xs zs ys n second is w =
       let within = within_from (cut.at + cut.gone) cuts n second w.2 in
       let far : cut.at - at + cut.gone ≤ length xs = omega (arith, within, w.0, is) in
       let front : take (cut.at - at) (xs ++ zs) ≡ take (cut.at - at) xs = take-append-le (cut.at - at) xs zs (omega (arith, far)) in
       let back : drop (cut.at - at + cut.gone) (xs ++ zs) ≡ drop (cut.at - at + cut.gone) xs ++ zs = drop-append-le (cut.at - at + cut.gone) xs zs far in
       let rest =
-      carried_more (cut.at + cut.gone) cuts (drop (cut.at - at + cut.gone) xs) zs ys n second
+      assembled_more (cut.at + cut.gone) cuts (drop (cut.at - at + cut.gone) xs) zs ys n second
       (omega (arith, length-drop (cut.at - at + cut.gone) xs, far, w.0, is)) w.2 in
       rw (front, back, rest)
-      (sym (append_assoc (take (cut.at - at) xs) (take cut.put (drop cut.from ys) ++ carried_from (cut.at + cut.gone) cuts (drop (cut.at - at + cut.gone) xs) ys) zs
-      ∙ ap (λ t. take (cut.at - at) xs ++ t) (append_assoc (take cut.put (drop cut.from ys)) (carried_from (cut.at + cut.gone) cuts (drop (cut.at - at + cut.gone) xs) ys) zs)))
+      (sym (append_assoc (take (cut.at - at) xs) (take cut.put (drop cut.from ys) ++ assembled_from (cut.at + cut.gone) cuts (drop (cut.at - at + cut.gone) xs) ys) zs
+      ∙ ap (λ t. take (cut.at - at) xs ++ t) (append_assoc (take cut.put (drop cut.from ys)) (assembled_from (cut.at + cut.gone) cuts (drop (cut.at - at + cut.gone) xs) ys) zs)))
 
-  carried_last :
+  assembled_last :
       (at : ℕ) (cuts : List Cut) (next : Cut) (xs zs ys : List A) (n second : ℕ) → n ≡ at + length xs → AreWithin at cuts n second → next.at ≡ n → next.gone ≡ length zs
-      → carried_from at (cuts ++ next ∷ []) (xs ++ zs) ys ≡ carried_from at cuts xs ys ++ take next.put (drop next.from ys)
-  carried_last at [] next xs zs ys n second is w here gone =
+      → assembled_from at (cuts ++ next ∷ []) (xs ++ zs) ys ≡ assembled_from at cuts xs ys ++ take next.put (drop next.from ys)
+  assembled_last at [] next xs zs ys n second is w here gone =
       let far : next.at - at ≡ length xs = omega (arith, here, is) in
       let all : next.at - at + next.gone ≡ length (xs ++ zs) = omega (arith, far, gone, length-append xs zs) in
       let front : take (next.at - at) (xs ++ zs) ≡ xs = ap (λ k. take k (xs ++ zs)) far ∙ take-append_seam xs zs in
       let back : drop (next.at - at + next.gone) (xs ++ zs) ≡ [] = ap (λ k. drop k (xs ++ zs)) all ∙ drop-length (xs ++ zs) in
       rw (front, back) (ap (λ t. xs ++ t) (append-nil (take next.put (drop next.from ys))))
-  carried_last at (cut ∷ cuts) next xs zs ys n second is w here gone =
+  assembled_last at (cut ∷ cuts) next xs zs ys n second is w here gone =
       let within = within_from (cut.at + cut.gone) cuts n second w.2 in
       let far : cut.at - at + cut.gone ≤ length xs = omega (arith, within, w.0, is) in
       let front : take (cut.at - at) (xs ++ zs) ≡ take (cut.at - at) xs = take-append-le (cut.at - at) xs zs (omega (arith, far)) in
       let back : drop (cut.at - at + cut.gone) (xs ++ zs) ≡ drop (cut.at - at + cut.gone) xs ++ zs = drop-append-le (cut.at - at + cut.gone) xs zs far in
       let new : List A = take next.put (drop next.from ys) in
       let rest =
-      carried_last (cut.at + cut.gone) cuts next (drop (cut.at - at + cut.gone) xs) zs ys n second
+      assembled_last (cut.at + cut.gone) cuts next (drop (cut.at - at + cut.gone) xs) zs ys n second
       (omega (arith, length-drop (cut.at - at + cut.gone) xs, far, w.0, is)) w.2 here gone in
       rw (front, back, rest)
-      (sym (append_assoc (take (cut.at - at) xs) (take cut.put (drop cut.from ys) ++ carried_from (cut.at + cut.gone) cuts (drop (cut.at - at + cut.gone) xs) ys) new
-      ∙ ap (λ t. take (cut.at - at) xs ++ t) (append_assoc (take cut.put (drop cut.from ys)) (carried_from (cut.at + cut.gone) cuts (drop (cut.at - at + cut.gone) xs) ys) new)))
+      (sym (append_assoc (take (cut.at - at) xs) (take cut.put (drop cut.from ys) ++ assembled_from (cut.at + cut.gone) cuts (drop (cut.at - at + cut.gone) xs) ys) new
+      ∙ ap (λ t. take (cut.at - at) xs ++ t) (append_assoc (take cut.put (drop cut.from ys)) (assembled_from (cut.at + cut.gone) cuts (drop (cut.at - at + cut.gone) xs) ys) new)))
 
   -- one more cut, behind the others, of which `zs` goes
-  pub carried_cut :
+  pub assembled_cut :
       (cuts : List Cut) (next : Cut) (xs zs ys : List A) (second : ℕ) → AreWithin 0 cuts next.at second → next.at ≡ length xs → next.gone ≡ length zs
-      → carried (with_cut cuts next) (xs ++ zs) ys ≡ carried cuts xs ys ++ take next.put (drop next.from ys)
-  carried_cut cuts next xs zs ys second w here gone =
-      with_cut-carried 0 cuts next (xs ++ zs) ys ∙ carried_last 0 cuts next xs zs ys next.at second (omega (arith, here)) w refl gone
+      → assembled (with_cut cuts next) (xs ++ zs) ys ≡ assembled cuts xs ys ++ take next.put (drop next.from ys)
+  assembled_cut cuts next xs zs ys second w here gone =
+      with_cut-assembled 0 cuts next (xs ++ zs) ys ∙ assembled_last 0 cuts next xs zs ys next.at second (omega (arith, here)) w refl gone
 
 -- cuts look at no element
-pub carried-map :
-    {A B : Type 0} (f : A → B) (at : ℕ) (cuts : List Cut) (xs ys : List A) → map f (carried_from at cuts xs ys) ≡ carried_from at cuts (map f xs) (map f ys)
-carried-map f at [] xs ys = refl
-carried-map f at (cut ∷ cuts) xs ys =
-    map-append f (take (cut.at - at) xs) (take cut.put (drop cut.from ys) ++ carried_from (cut.at + cut.gone) cuts (drop (cut.at - at + cut.gone) xs) ys)
+pub assembled-map :
+    {A B : Type 0} (f : A → B) (at : ℕ) (cuts : List Cut) (xs ys : List A) → map f (assembled_from at cuts xs ys) ≡ assembled_from at cuts (map f xs) (map f ys)
+assembled-map f at [] xs ys = refl
+assembled-map f at (cut ∷ cuts) xs ys =
+    map-append f (take (cut.at - at) xs) (take cut.put (drop cut.from ys) ++ assembled_from (cut.at + cut.gone) cuts (drop (cut.at - at + cut.gone) xs) ys)
     ∙ ap (λ t. map f (take (cut.at - at) xs) ++ t)
-    (map-append f (take cut.put (drop cut.from ys)) (carried_from (cut.at + cut.gone) cuts (drop (cut.at - at + cut.gone) xs) ys))
+    (map-append f (take cut.put (drop cut.from ys)) (assembled_from (cut.at + cut.gone) cuts (drop (cut.at - at + cut.gone) xs) ys))
     ∙ rw (
-      carried-map f (cut.at + cut.gone) cuts (drop (cut.at - at + cut.gone) xs) ys,
+      assembled-map f (cut.at + cut.gone) cuts (drop (cut.at - at + cut.gone) xs) ys,
       take-map f (cut.at - at) xs,
       drop-map f (cut.at - at + cut.gone) xs,
       drop-map f cut.from ys,

@@ -6,7 +6,7 @@ use Rattle.ot_codes.specs.declared.code.Code.TheVariants.{Retain, Insert, Delete
 use Rattle.ot_codes.specs.declared.cut.Cut.{Cut}
 use Rattle.ot_codes.specs.Codes.{spelled, without}
 use Rattle.ot_codes.specs.Shape.{shape, filled}
-use Rattle.ot_codes.specs.Cuts.{carried, with_cut}
+use Rattle.ot_codes.specs.Cuts.{assembled, with_cut}
 use Rattle.ot_codes.specs.Ends.{start, AreEnds}
 
 -- [2,"xy",-3,1,"z"], with 7, 8 and 9 for its elements
@@ -37,9 +37,9 @@ whole = refl
 cuts : List Cut
 cuts = record { at = 1; gone = 1; from = 0; put = 2 } ∷ []
 
-carries : carried {A = ℕ} cuts (1 ∷ 2 ∷ 3 ∷ []) (7 ∷ 8 ∷ []) ≡ 1 ∷ 7 ∷ 8 ∷ 3 ∷ []
+assembles : assembled {A = ℕ} cuts (1 ∷ 2 ∷ 3 ∷ []) (7 ∷ 8 ∷ []) ≡ 1 ∷ 7 ∷ 8 ∷ 3 ∷ []
 unfolding cuts
-carries = refl
+assembles = refl
 
 -- a cut that begins where the last one ends lengthens it, and another one does not
 joins : with_cut (record { at = 1; gone = 0; from = 0; put = 2 } ∷ []) (record { at = 1; gone = 1; from = 2; put = 0 }) ≡ cuts

@@ -5,7 +5,7 @@ pub mod Read
 pub mod Steps
 pub mod Sound
 pub mod Cutting
-pub mod Carrying
+pub mod Assembling
 pub mod Marked
 pub mod Gone
 pub mod Composing

@@ -6,13 +6,13 @@ use Rattle.ot_codes.specs.Shape.{filled}
 use Rattle.ot_codes.specs.declared.cut.Cut.{Cut}
 
 -- what cuts make of two texts; the first one, of which `xs` is left, from its place `at` on
-abbrev pub carried_from : {A : Type 0} → ℕ → List Cut → List A → List A → List A
-carried_from at [] xs ys = xs
-carried_from at (cut ∷ cuts) xs ys =
-    take (cut.at - at) xs ++ (take cut.put (drop cut.from ys) ++ carried_from (cut.at + cut.gone) cuts (drop (cut.at - at + cut.gone) xs) ys)
+abbrev pub assembled_from : {A : Type 0} → ℕ → List Cut → List A → List A → List A
+assembled_from at [] xs ys = xs
+assembled_from at (cut ∷ cuts) xs ys =
+    take (cut.at - at) xs ++ (take cut.put (drop cut.from ys) ++ assembled_from (cut.at + cut.gone) cuts (drop (cut.at - at + cut.gone) xs) ys)
 
-abbrev pub carried : {A : Type 0} → List Cut → List A → List A → List A
-carried cuts xs ys = carried_from 0 cuts xs ys
+abbrev pub assembled : {A : Type 0} → List Cut → List A → List A → List A
+assembled cuts xs ys = assembled_from 0 cuts xs ys
 
 -- cuts are in order, from a place of the first text on, and lie in texts of these lengths
 abbrev pub AreWithin : ℕ → List Cut → ℕ → ℕ → Type 0
@@ -54,4 +54,4 @@ placed mark op = filled op (places mark 0 (size op))
 -- the cuts lie within the texts of two operations of these shapes, and make of them the text of their composition: it is so for the places of all elements
 pub record GiveText (cuts : List Cut) (a b : Operation (Unit {0})) : Type 0 where
   pub within : AreWithin 0 cuts (size a) (size b)
-  pub text : carried cuts (places OfFirst 0 (size a)) (places OfSecond 0 (size b)) ≡ news (compose (placed OfFirst a) (placed OfSecond b)).image
+  pub text : assembled cuts (places OfFirst 0 (size a)) (places OfSecond 0 (size b)) ≡ news (compose (placed OfFirst a) (placed OfSecond b)).image

@@ -4,7 +4,7 @@ use Rattle.ot_operation.specs.Operation.{Operation, IsOperation, news, with_reta
 use Rattle.ot_operation.specs.Compose.{compose}
 use Rattle.ot_operation.specs.Merge.{first_after, second_after}
 use Rattle.ot_codes.specs.Shape.{blank, shape, filled}
-use Rattle.ot_codes.specs.Cuts.{carried, GiveText}
+use Rattle.ot_codes.specs.Cuts.{assembled, GiveText}
 use Rattle.ot_codes.specs.declared.cut.Cut.{Cut}
 
 -- a shape is an operation exactly where what it is the shape of is one, and has its lengths
@@ -54,10 +54,10 @@ ComposeKeepsShape A = (a b : Operation A) → shape (compose a b) ≡ compose (s
 
 -- cuts that give the text of a composition by the shapes give it for all operations of these shapes
 abbrev pub CutsGiveText : Type 0 → Type 0
-CutsGiveText A = (a b : Operation A) (cuts : List Cut) → GiveText cuts (shape a) (shape b) → carried cuts (news a.image) (news b.image) ≡ news (compose a b).image
+CutsGiveText A = (a b : Operation A) (cuts : List Cut) → GiveText cuts (shape a) (shape b) → assembled cuts (news a.image) (news b.image) ≡ news (compose a b).image
 
 -- so the composition of the shapes, filled with that text, is the composition
 abbrev pub ComposeFills : Type 0 → Type 0
 ComposeFills A =
     (a b : Operation A) (cuts : List Cut) → GiveText cuts (shape a) (shape b)
-    → filled (compose (shape a) (shape b)) (carried cuts (news a.image) (news b.image)) ≡ compose a b
+    → filled (compose (shape a) (shape b)) (assembled cuts (news a.image) (news b.image)) ≡ compose a b

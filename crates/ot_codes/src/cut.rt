@@ -2,7 +2,7 @@
 
 ghost use Rattle.std.specs.Prelude.{◌≡◌, ◌+◌, ◌-◌, ◌≤◌, [], ◌++◌, length, take, drop, IfOk, OnOk};
 ghost use Rattle.ot_operation.specs.declared.TheConstants.{LIMIT};
-ghost use Rattle.ot_codes.specs.Cuts.{AreWithin, carried, longer, meets, with_cut};
+ghost use Rattle.ot_codes.specs.Cuts.{AreWithin, assembled, longer, meets, with_cut};
 ghost use Rattle.ot_codes.specs.Splice.{HasDeleted, HasInserted, HasKept};
 
 use ot_operation::Element;
@@ -131,14 +131,14 @@ fn add_cut(cuts: &mut Vec<Cut>, cut: Cut) -> Result<(), AllocError>
 
 /// The text that cuts make of two texts, with memory from `alloc`: the first one, in which elements are deleted and others inserted from the second. `AllocError`
 /// where memory was refused.
-pub fn carry<T: Element>(
+pub fn assemble<T: Element>(
     alloc: Global,
     cuts: &[Cut],
     first: &[T],
     second: &[T],
 ) -> Result<Vec<T>, AllocError>
     requires { AreWithin 0 cuts.now (length first.now) (length second.now) }
-    ensures { IfOk result (λ text. text.items ≡ carried cuts.now first.now second.now) }
+    ensures { IfOk result (λ text. text.items ≡ assembled cuts.now first.now second.now) }
 {
     let mut text = Vec::new(alloc);
     let mut at = 0usize;

@@ -61,6 +61,6 @@ pub use code::{Code, Sum};
 pub use codes::{Codes, Pen};
 pub use composition::{Composed, compose};
 pub use cursor::{Cursor, Measure, Run};
-pub use cut::{Cut, carry};
+pub use cut::{Cut, assemble};
 pub use packed::Packed;
 pub use transformation::{transform, transform_first};

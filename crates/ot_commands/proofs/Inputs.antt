@@ -1,7 +1,7 @@
 -- From the bytes that were read to the input.
 use Rattle.std.proofs.Common.{◌≡◌, ◌∙◌, ℕ, Bool, List, Option, Some, None, inr, subst}
 use Rattle.std.specs.Prelude.{IfSome}
-use Rattle.outcomes.specs.Outcomes.{Streams}
+use Rattle.streams.specs.Outcomes.{Streams}
 use Rattle.ot_commands.specs.Explains.{Explains, ExplainsText}
 use Rattle.ot_commands.specs.ExplainsImages.{ExplainsBytes, ExplainsImage}
 

@@ -3,3 +3,6 @@ mod Ran
 mod Told
 mod ToldPlans
 mod Inputs
+mod FaultLines
+mod Judged
+mod Keeping

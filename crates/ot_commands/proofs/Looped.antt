@@ -3,14 +3,14 @@ use Rattle.std.proofs.Common.{◌≡◌, ◌-◌, ◌++◌, ℕ, Bool, true, Lis
 use Rattle.std.specs.Prelude.{IfSome}
 use Rattle.std.specs.Io.KnownBytes.{prepend_known}
 use Rattle.std.proofs.KnownBytes.{Keeps-refl}
-use Rattle.line_reader.specs.Lines.{lines_of}
+use Rattle.streams.specs.Lines.{lines_of}
 use Rattle.ot_isa.specs.Program.{Program}
 use Rattle.ot_asm.specs.Parts.{lines_before, lines_behind, TakesPart}
 use Rattle.ot_asm.specs.Stepping.{outcome_of_lines}
 use Rattle.ot_debug.specs.Session.{Session, started}
 use Rattle.ot_console.specs.declared.looping.LoopStop.{LoopStop}
 use Rattle.ot_console.specs.Looping.{IsCaused, LoopsToEnd, LoopsPart}
-use Rattle.outcomes.specs.Outcomes.{Streams}
+use Rattle.streams.specs.Outcomes.{Streams}
 use Rattle.ot_commands.specs.Debugged.{loop_status, Debugs, MayConverse, TellsStop}
 
 -- each line was answered

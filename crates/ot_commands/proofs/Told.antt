@@ -2,7 +2,7 @@
 use Rattle.std.proofs.Common.{◌≡◌, ◌≢◌, ◌∙◌, ℕ, Bool, List, Option, Some, None, Err, inl, inr, subst, refl}
 use Rattle.std.proofs.KnownBytes.{Keeps-refl}
 use Rattle.std.specs.Prelude.{IfSome}
-use Rattle.outcomes.specs.Outcomes.{Streams}
+use Rattle.streams.specs.Outcomes.{Streams}
 use Rattle.ot_judge.specs.declared.fault.TraceFault.{TraceFault}
 use Rattle.ot_judge.specs.declared.fault.TraceFault.TheVariants as kind
 use Rattle.ot_commands.specs.ExplainedTraces.{ExplainsTrace, IsReasonOfBytes, Tells}

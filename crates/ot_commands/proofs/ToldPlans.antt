@@ -2,7 +2,7 @@
 use Rattle.std.proofs.Common.{◌≡◌, ◌≢◌, ◌∙◌, ℕ, Bool, List, Option, Some, None, Err, inl, inr, subst, refl}
 use Rattle.std.proofs.KnownBytes.{Keeps-refl}
 use Rattle.std.specs.Prelude.{IfSome}
-use Rattle.outcomes.specs.Outcomes.{Streams}
+use Rattle.streams.specs.Outcomes.{Streams}
 use Rattle.ot_plan.specs.Lines.{fault_line}
 use Rattle.ot_plan.specs.Reading.{plan_of_bytes}
 use Rattle.ot_plan.specs.declared.fault.PlanFault.{PlanFault}

@@ -7,7 +7,7 @@ use Rattle.ot_model.specs.declared.shown.Refusal.{Refusal}
 use Rattle.ot_machine.specs.declared.outcome.Ending.{Ending}
 use Rattle.ot_machine.specs.Ended.{IsEnding}
 use Rattle.ot_report.specs.Findings.{findings}
-use Rattle.outcomes.specs.Outcomes.{Streams, Gives, OutOfMemory}
+use Rattle.streams.specs.Outcomes.{Streams, Gives, OutOfMemory}
 use Rattle.ot_commands.specs.Ran.{stop_status}
 
 -- 1 for an instruction that was not performed and for a trace that is too large, else 0

@@ -6,7 +6,7 @@ use Rattle.ot_generate.specs.Completed.{IsCompletion, IsIncomplete}
 use Rattle.ot_generate.specs.declared.completing.Incomplete.{Incomplete}
 use Rattle.ot_generate.specs.declared.completing.Incomplete.TheVariants.{Refused, TooMany, Memory}
 use Rattle.ot_report.specs.Printed.{stop_line}
-use Rattle.outcomes.specs.Outcomes.{Streams, Gives, Refuses, OutOfMemory, memory_fault}
+use Rattle.streams.specs.Outcomes.{Streams, Gives, Refuses, OutOfMemory, memory_fault}
 
 -- the line of a schedule that is not completed
 abbrev pub incomplete_line : Incomplete → List ℕ

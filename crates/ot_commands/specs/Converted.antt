@@ -3,7 +3,7 @@ use Rattle.std.specs.Prelude.{◌⊎◌, ℕ}
 use Rattle.ot_isa.specs.Program.{Program}
 use Rattle.ot_asm.specs.Canonical.{canonical}
 use Rattle.ot_image.specs.Spelling.{bytes2}
-use Rattle.outcomes.specs.Outcomes.{Streams, Gives, OutOfMemory}
+use Rattle.streams.specs.Outcomes.{Streams, Gives, OutOfMemory}
 
 -- the image, or out of memory
 abbrev pub MayGiveImage : Program → ℕ → Streams → Type 0

@@ -1,7 +1,7 @@
 -- What `debug` writes and answers.
 use Rattle.std.specs.Prelude.{◌≡◌, ◌⊎◌, ◌+◌, ◌-◌, ◌++◌, ℕ, Bool, true, List, Option, Ok, length, if◌then◌else◌}
 use Rattle.std.specs.Io.KnownBytes.{Keeps}
-use Rattle.line_reader.specs.Lines.{lines_of}
+use Rattle.streams.specs.Lines.{lines_of}
 use Rattle.ot_isa.specs.Program.{Program}
 use Rattle.ot_asm.specs.declared.fault.Kind.TheVariants as line
 use Rattle.ot_asm.specs.Parts.{lines_before, lines_behind}
@@ -10,8 +10,8 @@ use Rattle.ot_debug.specs.Session.{Session, started}
 use Rattle.ot_console.specs.declared.looping.LoopStop.{LoopStop}
 use Rattle.ot_console.specs.declared.looping.LoopStop.TheVariants as stop
 use Rattle.ot_console.specs.Looping.{Loops, IsCaused, IsWritten, IsNumber}
-use Rattle.outcomes.specs.Outcomes.{Streams, Complains, Gives, OutOfMemory}
-use Rattle.ot_input.specs.Faults.{RefusesLines, line_fault}
+use Rattle.streams.specs.Outcomes.{Streams, Complains, Gives, OutOfMemory}
+use Rattle.ot_commands.specs.Faults.{RefusesLines, line_fault}
 
 -- 1 where a reply was `bad command`, a refused instruction or `no memory`, else 0
 abbrev pub loop_status : Bool → ℕ

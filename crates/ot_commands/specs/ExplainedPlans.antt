@@ -2,7 +2,7 @@
 use Rattle.std.specs.Prelude.{◌≡◌, ◌≢◌, ◌⊎◌, ℕ, List, Bool, true, Ok, Err}
 use Rattle.std.specs.Io.KnownBytes.{Keeps}
 use Rattle.std.specs.Str.{is_utf8}
-use Rattle.outcomes.specs.Outcomes.{Streams, Gives, GivesUp, OutOfMemory}
+use Rattle.streams.specs.Outcomes.{Streams, Gives, GivesUp, OutOfMemory}
 use Rattle.ot_plan.specs.Lines.{fault_line}
 use Rattle.ot_plan.specs.Plan.{PlanView}
 use Rattle.ot_plan.specs.Reading.{plan_of_bytes}

@@ -3,7 +3,7 @@ use Rattle.std.specs.Prelude.{◌≡◌, ◌≢◌, ◌⊎◌, ◌++◌, ℕ, Li
 use Rattle.std.specs.Io.KnownBytes.{Keeps}
 use Rattle.std.specs.Str.{is_utf8}
 use Rattle.streams.specs.Streams.{WritesPart}
-use Rattle.outcomes.specs.Outcomes.{Streams, Gives, GivesUp, OutOfMemory}
+use Rattle.streams.specs.Outcomes.{Streams, Gives, GivesUp, OutOfMemory}
 use Rattle.ot_judge.specs.declared.fault.TraceFault.{TraceFault}
 use Rattle.ot_judge.specs.declared.fault.TraceFault.TheVariants as kind
 use Rattle.ot_judge.specs.declared.verdict.Verdict.{Verdict}
@@ -11,7 +11,7 @@ use Rattle.ot_judge.specs.Verdict.{IsVerdict}
 use Rattle.ot_model.specs.Trace.{TraceView}
 use Rattle.ot_reasons.specs.Words.{IsReason}
 use Rattle.ot_report.specs.Verdicts.{verdict_line}
-use Rattle.ot_verdict_words.specs.Words.{verdict_words}
+use Rattle.ot_report.specs.Words.{verdict_words}
 use Rattle.ot_commands.specs.Judged.{trace_fault, trace_of_bytes, verdict_status}
 
 -- the words for bytes that are refused with this fault; of bytes that are no text nothing is said of them

@@ -2,13 +2,13 @@
 use Rattle.std.specs.Prelude.{◌≡◌, ◌⊎◌, ℕ, List, Bool, true, Option, Ok, if◌then◌else◌}
 use Rattle.std.specs.Io.KnownBytes.{Keeps}
 use Rattle.streams.specs.Streams.{WritesPart}
-use Rattle.line_reader.specs.Lines.{lines_of}
-use Rattle.outcomes.specs.Outcomes.{Complains, GivesUp, Streams, memory_fault}
+use Rattle.streams.specs.Lines.{lines_of}
+use Rattle.streams.specs.Outcomes.{Complains, GivesUp, Streams, memory_fault}
 use Rattle.ot_asm.specs.Stepping.{outcome}
 use Rattle.ot_asm.specs.declared.fault.AsmFault.{AsmFault}
-use Rattle.ot_input.specs.Faults.{IsLineFault, line_fault}
+use Rattle.ot_commands.specs.Faults.{IsLineFault, line_fault}
 use Rattle.ot_isa.specs.Program.{Program}
-use Rattle.ot_names.specs.Comments.{Said, comments_of}
+use Rattle.ot_asm.specs.Comments.{Said, comments_of}
 use Rattle.ot_explain.specs.Explained.{WritesFirst, WritesPartOfRun, WritesRun}
 use Rattle.ot_explain.specs.Placed.{places}
 

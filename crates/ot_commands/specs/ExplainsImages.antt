@@ -1,15 +1,15 @@
 -- What `explain --image` writes and answers.
 use Rattle.std.specs.Prelude.{◌≡◌, ◌⊎◌, ℕ, List, Bool, Option, Some, None, Err}
 use Rattle.std.specs.Io.KnownBytes.{Keeps}
-use Rattle.outcomes.specs.Outcomes.{Complains, GivesUp, Streams, OutOfMemory}
+use Rattle.streams.specs.Outcomes.{Complains, GivesUp, Streams, OutOfMemory}
 use Rattle.ot_asm.specs.Canonical.{canonical}
 use Rattle.ot_image.specs.declared.fault.ImageFault.{ImageFault}
 use Rattle.ot_image.specs.declared.fault.Kind.{Kind}
 use Rattle.ot_image.specs.declared.fault.Kind.TheVariants.{Memory}
 use Rattle.ot_image.specs.Reading.{image_of, IsWant}
 use Rattle.ot_image.specs.Spelling.{IsImageOf}
-use Rattle.ot_image_words.specs.Words.{first_words}
-use Rattle.ot_input.specs.Faults.{byte_fault}
+use Rattle.ot_image.specs.Words.{first_words}
+use Rattle.ot_commands.specs.Faults.{byte_fault}
 use Rattle.ot_isa.specs.Program.{Program}
 use Rattle.ot_commands.specs.Explains.{ExplainsText}
 

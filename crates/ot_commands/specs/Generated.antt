@@ -4,7 +4,7 @@ use Rattle.ot_isa.specs.Program.{Program, IsProgram}
 use Rattle.ot_asm.specs.Canonical.{canonical}
 use Rattle.ot_generate.specs.Generated.{IsGenerated}
 use Rattle.ot_generate.specs.Shapes.{ShapeView}
-use Rattle.outcomes.specs.Outcomes.{Streams, Gives, OutOfMemory}
+use Rattle.streams.specs.Outcomes.{Streams, Gives, OutOfMemory}
 
 -- the canonical text of a schedule within the limits, that was made as the shape asks: each instruction is performed, and unless the end
 -- may be open all is quiet there and everybody is read

@@ -9,7 +9,7 @@ use Rattle.ot_judge.specs.Reading.{trace_of_text}
 use Rattle.ot_judge.specs.Verdict.{IsVerdict}
 use Rattle.ot_model.specs.Trace.{TraceView}
 use Rattle.ot_report.specs.Verdicts.{verdict_line}
-use Rattle.outcomes.specs.Outcomes.{Streams, Refuses, Gives, GivesUp, OutOfMemory}
+use Rattle.streams.specs.Outcomes.{Streams, Refuses, Gives, GivesUp, OutOfMemory}
 
 -- 0 where the property holds
 abbrev pub verdict_status : Verdict → ℕ

@@ -10,3 +10,7 @@ pub mod Generated
 pub mod Judged
 pub mod Ran
 pub mod Stepped
+pub mod Faults
+pub mod Inputs
+pub mod Part
+pub mod Conformed

@@ -7,7 +7,7 @@ use Rattle.ot_machine.specs.declared.outcome.Run.{Run}
 use Rattle.ot_machine.specs.Ended.{IsRun}
 use Rattle.ot_report.specs.Printed.{IsReport}
 use Rattle.ot_report.specs.Written.{WritesFirstReads}
-use Rattle.outcomes.specs.Outcomes.{Streams, Gives, memory_fault}
+use Rattle.streams.specs.Outcomes.{Streams, Gives, memory_fault}
 
 -- 0 where all instructions were performed, 1 where one was not
 abbrev pub stop_status : Option (ℕ × Refusal) → ℕ

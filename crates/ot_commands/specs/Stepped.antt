@@ -2,8 +2,8 @@
 use Rattle.std.specs.Prelude.{◌≡◌, ◌⊎◌, ℕ, List, Bool, true, if◌then◌else◌}
 use Rattle.std.specs.Io.KnownBytes.{Keeps}
 use Rattle.streams.specs.Streams.{WritesPart}
-use Rattle.outcomes.specs.Outcomes.{Streams, memory_fault}
-use Rattle.ot_input.specs.Inputs.{OfText}
+use Rattle.streams.specs.Outcomes.{Streams, memory_fault}
+use Rattle.ot_commands.specs.Inputs.{OfText}
 use Rattle.ot_isa.specs.Program.{Program}
 use Rattle.ot_steps.specs.Written.{WritesFirstLines, WritesPartOfRun, WritesRun}
 

@@ -1,18 +1,17 @@
 //! `check`: what is found of a schedule's run.
 
 ghost use Rattle.std.specs.Prelude.{◌≡◌, IfSome};
-ghost use Rattle.ot_input.specs.Inputs.{OfText};
+ghost use Rattle.ot_commands.specs.Inputs.{OfText};
 ghost use Rattle.ot_commands.specs.Checked.{check_status, MayFind};
 
+use crate::faults::complain_of_line;
 use crate::running::status_of;
 use ot_asm::assemble_from;
-use ot_input::complain_of_line;
 use ot_isa::Schedule;
 use ot_report::{Findings, find};
-use outcomes::{complain_of_memory, give};
 use std::alloc::Global;
 use std::io::{Read, Write};
-use streams::Sink;
+use streams::{Sink, complain_of_memory, give};
 
 // The status of what is found of a run.
 fn check_status(found: &Findings) -> u8

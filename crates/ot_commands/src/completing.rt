@@ -1,20 +1,19 @@
 //! `complete`: a schedule, and behind it what brings its run to quiet.
 
 ghost use Rattle.std.specs.Prelude.{IfSome};
-ghost use Rattle.ot_input.specs.Inputs.{OfText};
+ghost use Rattle.ot_commands.specs.Inputs.{OfText};
 ghost use Rattle.ot_commands.specs.Completes.{incomplete_line, MayComplete};
-ghost use Rattle.outcomes.specs.Outcomes.{Complains};
+ghost use Rattle.streams.specs.Outcomes.{Complains};
 
 use crate::converting::give_text;
+use crate::faults::complain_of_line;
 use ot_asm::assemble_from;
 use ot_generate::{Incomplete, complete};
-use ot_input::complain_of_line;
 use ot_isa::Schedule;
 use ot_report::print_stop;
-use outcomes::{complain, complain_of_memory};
 use std::alloc::Global;
 use std::io::{Read, Write};
-use streams::Sink;
+use streams::{Sink, complain, complain_of_memory};
 
 // Writes why a schedule is not completed.
 fn complain_of_incomplete<F: Write>(alloc: Global, fault: Incomplete, faults: &mut F)

@@ -1,17 +1,16 @@
 //! `asm` and `dis`: between a schedule's text and its image.
 
 ghost use Rattle.std.specs.Prelude.{◌≡◌, IfSome};
-ghost use Rattle.ot_input.specs.Inputs.{OfImage, OfText};
+ghost use Rattle.ot_commands.specs.Inputs.{OfImage, OfText};
 ghost use Rattle.ot_commands.specs.Converted.{MayGiveImage, MayGiveText};
 
+use crate::faults::{complain_of_byte, complain_of_line};
 use ot_asm::{assemble_from, disassemble};
 use ot_image::{encode, load};
-use ot_input::{complain_of_byte, complain_of_line};
 use ot_isa::Schedule;
-use outcomes::{complain_of_input, complain_of_memory, give};
 use std::alloc::Global;
 use std::io::{Read, Write};
-use streams::{Sink, Source};
+use streams::{Sink, Source, complain_of_input, complain_of_memory, give};
 
 // Writes the image of a schedule.
 fn give_image<O: Sink, F: Write>(

@@ -1,20 +1,18 @@
 //! `debug`: a schedule's lines, a line `%%`, and commands that lead through its run back and forth.
 
 ghost use Rattle.std.specs.Prelude.{◌≡◌, Bool, IfSome};
-ghost use Rattle.line_reader.specs.Lines.{lines_of};
-ghost use Rattle.line_reader.specs.Taken.{before};
+ghost use Rattle.streams.specs.Lines.{lines_of};
+ghost use Rattle.streams.specs.Taken.{before};
 ghost use Rattle.ot_commands.specs.Debugged.{loop_status, Debugs, MayConverse, TellsStop};
 
-use line_reader::ReadAhead;
+use crate::faults::complain_of_line;
 use ot_asm::{AsmFault, Kind, assemble_until_mark};
 use ot_console::{LoopStop, command_loop};
 use ot_debug::Stepper;
-use ot_input::complain_of_line;
 use ot_isa::Schedule;
-use outcomes::complain_of_memory;
 use std::alloc::Global;
 use std::io::{Read, Write};
-use streams::Sink;
+use streams::{ReadAhead, Sink, complain_of_memory};
 
 // Writes why the command loop broke off.
 fn complain_of_stop<F: Write>(alloc: Global, stop: LoopStop, faults: &mut F)

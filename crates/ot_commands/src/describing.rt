@@ -10,10 +10,9 @@ ghost use Rattle.ot_plan.specs.declared.fault.PlanFault.TheVariants as kind;
 use ot_asm::read_text;
 use ot_plan::{Plan, fault_line};
 use ot_reasons::{PlanReason, no_plan_text, plan_text, read_plan_or_tell};
-use outcomes::{complain, complain_of_input, complain_of_memory, give};
 use std::alloc::Global;
 use std::io::Write;
-use streams::{Sink, Source};
+use streams::{Sink, Source, complain, complain_of_input, complain_of_memory, give};
 
 // The plan that the bytes are, or why there is none.
 fn plan_or_reason(alloc: Global, bytes: &[u8]) -> Result<Plan, PlanReason>

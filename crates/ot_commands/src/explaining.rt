@@ -6,18 +6,16 @@ ghost use Rattle.ot_commands.specs.Judged.{trace_fault, trace_of_bytes};
 ghost use Rattle.ot_judge.specs.declared.fault.TraceFault.TheVariants as kind;
 ghost use Rattle.ot_judge.specs.Verdict.{IsVerdict};
 ghost use Rattle.ot_report.specs.Verdicts.{verdict_line};
-ghost use Rattle.ot_verdict_words.specs.Words.{verdict_words};
+ghost use Rattle.ot_report.specs.Words.{verdict_words};
 
 use crate::judging::{fault_line, status_of};
 use ot_asm::read_text;
 use ot_judge::{Trace, Verdict, judge};
 use ot_reasons::{Reason, no_text, read_or_tell};
-use ot_report::print_verdict;
-use ot_verdict_words::print_words;
-use outcomes::{complain, complain_of_input, complain_of_memory, give};
+use ot_report::{print_verdict, print_words};
 use std::alloc::{AllocError, Global};
 use std::io::Write;
-use streams::{Sink, Source};
+use streams::{Sink, Source, complain, complain_of_input, complain_of_memory, give};
 
 // The trace that the bytes are, or why there is none.
 fn trace_or_reason(alloc: Global, bytes: &[u8]) -> Result<Trace, Reason>

@@ -5,10 +5,9 @@ ghost use Rattle.ot_commands.specs.Generated.{Generates};
 
 use crate::converting::give_text;
 use ot_generate::{Shape, generate};
-use outcomes::complain_of_memory;
 use std::alloc::Global;
 use std::io::Write;
-use streams::Sink;
+use streams::{Sink, complain_of_memory};
 
 /// Writes the canonical text of the session of this seed.
 pub fn generate_session<O: Sink, F: Write>(

@@ -7,10 +7,9 @@ ghost use Rattle.ot_judge.specs.declared.fault.TraceFault.TheVariants as kind;
 use ot_asm::read_text;
 use ot_judge::{Trace, TraceFault, Verdict, judge, read_trace};
 use ot_report::print_verdict;
-use outcomes::{complain, complain_of_input, complain_of_memory, give};
 use std::alloc::Global;
 use std::io::Write;
-use streams::{Sink, Source};
+use streams::{Sink, Source, complain, complain_of_input, complain_of_memory, give};
 
 /// The status of a verdict.
 pub(crate) fn status_of(verdict: Verdict) -> u8

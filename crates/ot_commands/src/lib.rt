@@ -1,4 +1,4 @@
-//! The program's subcommands but `conform` and `threads`, over any reader and two writers.
+//! The program's subcommands but `threads`, over any reader and two writers.
 //!
 //! ```text
 //!    running      run: a schedule's reads, stop and end
@@ -12,26 +12,42 @@
 //!    describing   explain --plan: what a plan is, or in words where its first fault is
 //!    generating   generate: a session made at random
 //!    completing   complete: a schedule, and behind it what brings its run to quiet
+//!    conforming   conform: the lines that a port of ot.js printed, against the run of the schedule that it performed
 //! ```
 //!
 //! Each call answers the program's status, and says by its clause what it writes: `specs/` has a file for each module (`Ran`, `Stepped`, `Explains`, `ExplainsImages`, `Checked`,
-//! `Debugged`, `Converted`, `Judged`, `ExplainedTraces`, `ExplainedPlans`, `Generated`, `Completes`), over the streams of `outcomes`. Begin with [`run_text`].
+//! `Debugged`, `Converted`, `Judged`, `ExplainedTraces`, `ExplainedPlans`, `Generated`, `Completes`, `Conformed`), over the outcomes of `streams`. Begin with [`run_text`].
+//!
+//! A schedule as the input, and its fault as a line:
+//!
+//! ```text
+//!    text  ── ot_asm ───▶ Schedule, or AsmFault    otbench: line L: Kind
+//!    image ── ot_image ─▶ Schedule, or ImageFault  otbench: byte B: Kind
+//! ```
+//!
+//! `faults.rt` writes such a line. What a subcommand does with its input is stated by `OfText` and `OfImage` of `specs/Inputs.antt`: the input is
+//! refused, or it spells a schedule and that is dealt with. `specs/Faults.antt` has the names of faults as they are printed and when an input
+//! is refused.
 #![tactic(auto)]
 
 mod checking;
 mod completing;
+mod conforming;
 mod converting;
 mod debugging;
 mod describing;
 mod explaining;
+mod faults;
 mod generating;
 mod judging;
+mod part;
 mod running;
 mod stepping;
 mod telling;
 
 pub use checking::check_text;
 pub use completing::complete_text;
+pub use conforming::run_conform;
 pub use converting::{assemble, disassemble_image};
 pub use debugging::debug_text;
 pub use describing::explain_plan;

@@ -1,19 +1,18 @@
 //! `run`: a schedule's reads, its stop and its end.
 
 ghost use Rattle.std.specs.Prelude.{◌≡◌, IfSome};
-ghost use Rattle.ot_input.specs.Inputs.{OfImage, OfText};
+ghost use Rattle.ot_commands.specs.Inputs.{OfImage, OfText};
 ghost use Rattle.ot_commands.specs.Ran.{MayReport, stop_status};
 
+use crate::faults::{complain_of_byte, complain_of_line};
 use ot_asm::assemble_from;
 use ot_image::load;
-use ot_input::{complain_of_byte, complain_of_line};
 use ot_isa::Schedule;
 use ot_model::Refusal;
 use ot_report::{ReportFault, write_report};
-use outcomes::{complain_of_input, complain_of_memory};
 use std::alloc::Global;
 use std::io::{Read, Write};
-use streams::{Sink, Source};
+use streams::{Sink, Source, complain_of_input, complain_of_memory};
 
 /// The status of a run that stopped in this way: 0 where all instructions were performed, else 1.
 pub fn status_of(stopped: Option<(usize, Refusal)>) -> u8

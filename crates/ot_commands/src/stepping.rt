@@ -8,14 +8,13 @@
 ghost use Rattle.std.specs.Prelude.{◌≡◌, IfSome};
 ghost use Rattle.ot_commands.specs.Stepped.{MayStep, Steps};
 
+use crate::faults::complain_of_line;
 use ot_asm::assemble_from;
-use ot_input::complain_of_line;
 use ot_isa::Schedule;
 use ot_steps::{StepsFault, print_steps};
-use outcomes::complain_of_memory;
 use std::alloc::Global;
 use std::io::{Read, Write};
-use streams::Sink;
+use streams::{Sink, complain_of_memory};
 
 // Writes the lines of the schedule's run.
 fn write_steps<O: Sink, F: Write>(

@@ -5,31 +5,28 @@
 //!     ▲ └── refused: the fault's line on the faults, and behind it words about its cause; nothing on the output
 //!     └── ot_asm, the canonical text
 //!    image ── ot_image ──▶ Schedule
-//!       └── refused: the fault's line on the faults, and behind it the words of `ot_image_words`
+//!       └── refused: the fault's line on the faults, and behind it the words of `ot_image`
 //! ```
 //!
 //! The text is read whole, since an instruction is shown with its line, and a fault with its column; comments anywhere in it name clients
-//! (`ot_names`).
+//! (`ot_asm`).
 
 ghost use Rattle.std.specs.Prelude.{◌≡◌, IfSome, option_map};
-ghost use Rattle.outcomes.specs.Outcomes.{Complains};
-ghost use Rattle.ot_image_words.specs.Words.{refusal_text};
-ghost use Rattle.ot_input.specs.Faults.{line_fault};
+ghost use Rattle.streams.specs.Outcomes.{Complains};
+ghost use Rattle.ot_image.specs.Words.{refusal_text};
+ghost use Rattle.ot_commands.specs.Faults.{line_fault};
 ghost use Rattle.ot_commands.specs.Explains.{Explains, ExplainsText, MayExplain, Tells};
 ghost use Rattle.ot_commands.specs.ExplainsImages.{ExplainsBytes, ExplainsCanonical, ExplainsImage, TellsImage, image_words};
 
-use ot_asm::{AsmFault, assemble_from, disassemble};
+use crate::faults::{complain_of_byte, complain_of_line};
+use ot_asm::{AsmFault, Comments, assemble_from, comments_of, disassemble};
 use ot_explain::{explain, fault_words, places};
-use ot_image::{ImageFault, Kind, load};
-use ot_image_words::{Refusal, first_refusal, refusal_text};
-use ot_input::{complain_of_byte, complain_of_line};
+use ot_image::{ImageFault, Kind, Refusal, first_refusal, load, refusal_text};
 use ot_isa::Schedule;
-use ot_names::{Comments, comments_of};
 use ot_steps::StepsFault;
-use outcomes::{complain, complain_of_input, complain_of_memory};
 use std::alloc::Global;
 use std::io::Write;
-use streams::{Sink, Source};
+use streams::{Sink, Source, complain, complain_of_input, complain_of_memory};
 
 // Writes the schedule's run in words; its instructions stand at these lines, and the comments of its text tell this.
 fn write_words<O: Sink, F: Write>(

@@ -18,14 +18,14 @@ use Rattle.ot_model.specs.Laws.{MayDeliver}
 use Rattle.ot_model.specs.Limits.{IsPhaseShort, IsShort}
 use Rattle.ot_model.specs.Operation.{Operation, apply, inserted, second_after}
 use Rattle.ot_model.specs.Sound.{Fits, FitAll, IsPhaseSound, IsSound, apply_entries}
-use Rattle.ot_model.specs.Table.{Phase, NotJoined, Synchronized, AwaitingConfirm, AwaitingWithBuffer, Client, Entry, Message, State, absent, carried, downlink, head_for, is_joined}
+use Rattle.ot_model.specs.Table.{Phase, NotJoined, Synchronized, AwaitingConfirm, AwaitingWithBuffer, Client, Entry, Message, State, absent, against_pending, downlink, head_for, is_joined}
 use Rattle.ot_model.specs.Table as table
 use Rattle.ot_model.proofs.Algebra.{laws}
 use Rattle.ot_model.proofs.Fitting.{deliverable, lengths_fit}
 use Rattle.ot_model.proofs.Lengths.{apply-le}
 use Rattle.ot_steps.specs.Lines as lines
 use Rattle.ot_steps.specs.Lines.{plain_item, plain_message, plain_operation}
-use Rattle.ot_steps.specs.Steps.{buffer_of, carried_head, client_in, delivers, last_of, outstanding_of}
+use Rattle.ot_steps.specs.Steps.{buffer_of, against_pending_head, client_in, delivers, last_of, outstanding_of}
 use Rattle.ot_conform.proofs.Scalars.{AreScalars, InsertsScalars, PhaseScalars, StateScalars, delivery_scalars, entry_here, entry_scalars, message_at, message_in}
 
 -- ---- operations
@@ -123,11 +123,11 @@ client_form s c sound all = client_cases ClientForm s c (λ x at. present_form s
 
 -- ---- what a delivery applies
 
-carried_fits : (c : ℕ) (phase : Phase) (start : List Tagged) (seen ahead : List Entry) (list : List Tagged) (message : Option Message) (h : Entry) → Fits h.op (apply_entries start seen) → IsPhaseSound c phase start seen ahead list message
-    → IsShort h.op → MayDeliver phase h.op → IsOperation (carried phase h.op) × IsShort (carried phase h.op)
-carried_fits c NotJoined start seen ahead list message h fits sound short may = (fits.rising, short)
-carried_fits c Synchronized start seen ahead list message h fits sound short may = (fits.rising, short)
-carried_fits c (AwaitingConfirm o) start seen ahead list message h fits sound short may =
+against_pending_fits : (c : ℕ) (phase : Phase) (start : List Tagged) (seen ahead : List Entry) (list : List Tagged) (message : Option Message) (h : Entry) → Fits h.op (apply_entries start seen) → IsPhaseSound c phase start seen ahead list message
+    → IsShort h.op → MayDeliver phase h.op → IsOperation (against_pending phase h.op) × IsShort (against_pending phase h.op)
+against_pending_fits c NotJoined start seen ahead list message h fits sound short may = (fits.rising, short)
+against_pending_fits c Synchronized start seen ahead list message h fits sound short may = (fits.rising, short)
+against_pending_fits c (AwaitingConfirm o) start seen ahead list message h fits sound short may =
     let d = apply_entries start seen in
     let p = second_after o h.op in
     let p_fits = laws.second_fits o h.op d sound.fits fits in
@@ -137,7 +137,7 @@ carried_fits c (AwaitingConfirm o) start seen ahead list message h fits sound sh
     let image = laws.image_length p p_fits.rising in
     let same : inserted p ≡ inserted h.op = ap length (laws.second_news o h.op sound.fits.rising fits.rising (sound.fits.base ∙ sym fits.base)) in
     (p_fits.rising, record { base = omega (arith, may.1); target = omega (arith, may.1) })
-carried_fits c (AwaitingWithBuffer o b) start seen ahead list message h fits sound short may =
+against_pending_fits c (AwaitingWithBuffer o b) start seen ahead list message h fits sound short may =
     let d = apply_entries start seen in
     let p = second_after o h.op in
     let p_fits = laws.second_fits o h.op d sound.fits fits in
@@ -152,13 +152,13 @@ carried_fits c (AwaitingWithBuffer o b) start seen ahead list message h fits sou
     let again : inserted q ≡ inserted p = ap length (laws.second_news b p sound.buffer_fits.rising p_fits.rising (sound.buffer_fits.base ∙ sym p_fits.base)) in
     (q_fits.rising, record { base = omega (arith, may.1); target = omega (arith, may.1) })
 
-carried_form : (s : State) (c : ℕ) (x : Client) (h : Entry) → IsSound s → StateScalars s → slice_get s.clients c ≡ Some x → is_joined x.phase ≡ true → slice_get s.log x.revision ≡ Some h → h.maker ≢ c
-    → OpForm (plain_operation (carried x.phase h.op))
-carried_form s c x h (start, chars, sound) all at on head other =
+against_pending_form : (s : State) (c : ℕ) (x : Client) (h : Entry) → IsSound s → StateScalars s → slice_get s.clients c ≡ Some x → is_joined x.phase ≡ true → slice_get s.log x.revision ≡ Some h → h.maker ≢ c
+    → OpForm (plain_operation (against_pending x.phase h.op))
+against_pending_form s c x h (start, chars, sound) all at on head other =
     let may = deliverable s c x h (start, chars, sound) at on head other in
     let short = entry_short s.log x.revision h (lengths_fit s (start, chars, sound)).entries head in
-    let fact = carried_fits c x.phase start (take x.revision s.log) (drop x.revision s.log) x.list x.message h (entry_here start chars s x h sound head) (sound.clients c x at) short may.operations in
-    op_form (carried x.phase h.op) fact.0 fact.1 (delivery_scalars start chars s c x h sound all at head).applies
+    let fact = against_pending_fits c x.phase start (take x.revision s.log) (drop x.revision s.log) x.list x.message h (entry_here start chars s x h sound head) (sound.clients c x at) short may.operations in
+    op_form (against_pending x.phase h.op) fact.0 fact.1 (delivery_scalars start chars s c x h sound all at head).applies
 
 first_of : (c r : ℕ) (log : List Entry) → slice_get (map (head_for c) (drop r log)) 0 ≡ option_map (head_for c) (slice_get log r)
 first_of c zero [] = refl
@@ -167,19 +167,19 @@ first_of c (suc r) [] = refl
 first_of c (suc r) (h ∷ log) = first_of c r log
 
 pub delivers_form : (s : State) (c : ℕ) → IsSound s → StateScalars s → IfSome (delivers s c) OpForm
-delivers_form s c sound all = client_cases (λ x. IfSome (carried_head x.phase (slice_get (downlink s c x) 0)) OpForm) s c (λ x at. by_joined x at (is_joined x.phase) refl) tt
+delivers_form s c sound all = client_cases (λ x. IfSome (against_pending_head x.phase (slice_get (downlink s c x) 0)) OpForm) s c (λ x at. by_joined x at (is_joined x.phase) refl) tt
   where
     by_maker : (x : Client) → slice_get s.clients c ≡ Some x → is_joined x.phase ≡ true → (h : Entry) → slice_get s.log x.revision ≡ Some h → (own : Bool) → (h.maker == c) ≡ own
-        → IfSome (carried_head x.phase (Some (if own then table.Ack else table.Op h.op))) OpForm
+        → IfSome (against_pending_head x.phase (Some (if own then table.Ack else table.Op h.op))) OpForm
     by_maker x at on h head true own = tt
-    by_maker x at on h head false own = carried_form s c x h sound all at on head (eqb-false h.maker c own)
+    by_maker x at on h head false own = against_pending_form s c x h sound all at on head (eqb-false h.maker c own)
 
-    by_entry : (x : Client) → slice_get s.clients c ≡ Some x → is_joined x.phase ≡ true → (o : Option Entry) → slice_get s.log x.revision ≡ o → IfSome (carried_head x.phase (option_map (head_for c) o)) OpForm
+    by_entry : (x : Client) → slice_get s.clients c ≡ Some x → is_joined x.phase ≡ true → (o : Option Entry) → slice_get s.log x.revision ≡ o → IfSome (against_pending_head x.phase (option_map (head_for c) o)) OpForm
     by_entry x at on None head = tt
     by_entry x at on (Some h) head = by_maker x at on h head (h.maker == c) refl
 
     by_joined : (x : Client) → slice_get s.clients c ≡ Some x → (on : Bool) → is_joined x.phase ≡ on
-        → IfSome (carried_head x.phase (slice_get (if on then map (head_for c) (drop x.revision s.log) else []) 0)) OpForm
+        → IfSome (against_pending_head x.phase (slice_get (if on then map (head_for c) (drop x.revision s.log) else []) 0)) OpForm
     by_joined x at false off = tt
     by_joined x at true on = rw (first_of c x.revision s.log) (by_entry x at on (slice_get s.log x.revision) refl)
 

@@ -5,10 +5,10 @@ use Rattle.std.specs.Prelude.{◌-◌, ◌^◌, min, IfSome, ⊤}
 use Rattle.std.specs.Str.{is_utf8}
 use Rattle.serde_json.specs.Data.{Data}
 use Rattle.serde_json.specs.Read.{read}
-use Rattle.json_fields.specs.Fields.{number_at}
+use Rattle.ot_json.specs.Fields.{number_at}
 use Rattle.std.specs.Prelude.{codes, is_some}
-use Rattle.line_reader.specs.Lines.{lines_of}
-use Rattle.line_reader.specs.Taken.{TakesLine}
+use Rattle.streams.specs.Lines.{lines_of}
+use Rattle.streams.specs.Taken.{TakesLine}
 use Rattle.ot_asm.specs.Words.{trimmed}
 use Rattle.ot_isa.specs.Program.{Program}
 use Rattle.ot_conform.specs.Compared.{IsNumber, IsVerdictOf, Leads, StopsBehind}

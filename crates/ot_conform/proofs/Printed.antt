@@ -1,7 +1,7 @@
 -- The printed lines of a run, read as a port's lines, say what the lines say; so they conform.
 use Rattle.std.proofs.Common.{◌≡◌, List, [], ◌∷◌, refl, sym, subst}
 use Rattle.std.specs.List.{AllByRecursion}
-use Rattle.line_reader.specs.Lines.{lines_of}
+use Rattle.streams.specs.Lines.{lines_of}
 use Rattle.ot_steps.specs.Lines.{Line}
 use Rattle.ot_steps.specs.Text.{lines_text}
 use Rattle.ot_conform.specs.Laws.{PrintedChosenStepsConform, PrintedStepsConform, Say, chosen}

@@ -10,8 +10,8 @@ use Rattle.json.proofs.Printed.Utf8.{are_ascii, IsUtf8-are_ascii}
 use Rattle.serde_json.specs.Data.{Data, number, unsigned}
 use Rattle.serde_json.specs.Find.{get}
 use Rattle.serde_json.specs.Read.{read}
-use Rattle.line_reader.specs.Lines.{lines_of}
-use Rattle.line_reader.proofs.Ends.{lines_piece}
+use Rattle.streams.specs.Lines.{lines_of}
+use Rattle.streams.proofs.Ends.{lines_piece}
 use Rattle.ot_operation.specs.Run.{normal_runs}
 use Rattle.ot_json.specs.Writing.{text_of_operation}
 use Rattle.ot_asm.specs.Words.{cut_blanks, skip_blanks, trimmed}

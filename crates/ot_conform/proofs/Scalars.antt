@@ -19,7 +19,7 @@ use Rattle.ot_server.specs.History.{transform_over}
 use Rattle.ot_model.specs.Operation.{Operation, apply, compose, first_after, news, second_after}
 use Rattle.ot_model.specs.Runs.{opening_of}
 use Rattle.ot_model.specs.Sound.{Fits, IsPhaseSound, IsSoundFrom, IsSound, apply_entries}
-use Rattle.ot_model.specs.Table.{Phase, NotJoined, Synchronized, AwaitingConfirm, AwaitingWithBuffer, Client, Entry, Message, Outcome, Performed, Refused, NoRow, State, acknowledged, carried, delivered, edited, joined, message_edited, phase_delivered, phase_edited, start_list, step, tag_operation, taken, with_client, with_row}
+use Rattle.ot_model.specs.Table.{Phase, NotJoined, Synchronized, AwaitingConfirm, AwaitingWithBuffer, Client, Entry, Message, Outcome, Performed, Refused, NoRow, State, acknowledged, against_pending, delivered, edited, joined, message_edited, phase_delivered, phase_edited, start_list, step, tag_operation, taken, with_client, with_row}
 use Rattle.ot_model.proofs.Algebra.{laws}
 use Rattle.ot_model.proofs.Clients.{FitAll_at}
 use Rattle.ot_model.proofs.Outcomes.{by_edit, by_take, by_deliver, by_acknowledge, by_join, by_read, by_read_server}
@@ -179,9 +179,9 @@ message_at start chars s c x m sound at sent =
     let q_le : m.revision ≤ x.revision = rw (← len) fact.0 in
     (omega arith, rw (← take-take m.revision x.revision s.log q_le) fact.1)
 
-carried_message : (start : List Tagged) (chars : List ℕ) (s : State) (c : ℕ) (x : Client) (m : Message) → IsSoundFrom start chars s → slice_get s.clients c ≡ Some x → x.message ≡ Some m
+against_pending_message : (start : List Tagged) (chars : List ℕ) (s : State) (c : ℕ) (x : Client) (m : Message) → IsSoundFrom start chars s → slice_get s.clients c ≡ Some x → x.message ≡ Some m
     → news (transform_over m.op (drop m.revision s.log)) ≡ news m.op
-carried_message start chars s c x m sound at sent =
+against_pending_message start chars s c x m sound at sent =
     transform_over_news laws m.op (apply_entries start (take m.revision s.log)) (drop m.revision s.log) (FitAll_drop laws start m.revision s.log sound.fit) (message_at start chars s c x m sound at sent).1
 
 taken_scalars : (start : List Tagged) (chars : List ℕ) (s : State) (c : ℕ) (x : Client) (m : Message) → IsSoundFrom start chars s → StateScalars s → slice_get s.clients c ≡ Some x → x.message ≡ Some m
@@ -190,7 +190,7 @@ taken_scalars start chars s c x m sound all at sent =
     let y : Client = record { revision = x.revision; phase = x.phase; list = x.list; count = x.count; message = None } in
     let was = all.clients c x at in
     let op = transform_over m.op (drop m.revision s.log) in
-    let one : InsertsScalars op = ap (λ (xs : List Tagged). all_scalars (chars_of xs)) (carried_message start chars s c x m sound at sent) ∙ message_in x.message m sent was.message in
+    let one : InsertsScalars op = ap (λ (xs : List Tagged). all_scalars (chars_of xs)) (against_pending_message start chars s c x m sound at sent) ∙ message_in x.message m sent was.message in
     record {
       log = pushed_scalars s.log (record { maker = c; op = op }) all.log one;
       server = applied_scalars op s.server all.server one;
@@ -204,7 +204,7 @@ same_news a b e h = ap (λ (xs : List Tagged). all_scalars (chars_of xs)) e ∙ 
 -- what is pending and what is applied, after another's operation
 pub record DeliveryScalars (phase : Phase) (h : Operation Tagged) : Type 0 where
   pub waits : PhaseScalars (phase_delivered phase h)
-  pub applies : InsertsScalars (carried phase h)
+  pub applies : InsertsScalars (against_pending phase h)
 
 phase_delivered_scalars : (c : ℕ) (phase : Phase) (start : List Tagged) (seen ahead : List Entry) (list : List Tagged) (message : Option Message) (h : Entry) → Fits h.op (apply_entries start seen) → IsPhaseSound c phase start seen ahead list message
     → PhaseScalars phase → InsertsScalars h.op → DeliveryScalars phase h.op
@@ -245,7 +245,7 @@ delivery_scalars start chars s c x h sound all at head =
     (entry_scalars s.log x.revision h all.log head)
 
 delivered_scalars : (x : Client) (h : Operation Tagged) → ClientScalars x → DeliveryScalars x.phase h → ClientScalars (delivered x h)
-delivered_scalars x h was now = record { list = applied_scalars (carried x.phase h) x.list was.list now.applies; phase = now.waits; message = was.message }
+delivered_scalars x h was now = record { list = applied_scalars (against_pending x.phase h) x.list was.list now.applies; phase = now.waits; message = was.message }
 
 -- Acknowledge
 acknowledged_scalars : (s : State) (c : ℕ) (x : Client) (phase : Phase) → StateScalars s → slice_get s.clients c ≡ Some x → PhaseScalars phase → OutcomeScalars (with_row s c (acknowledged x phase))

@@ -3,7 +3,7 @@ use Rattle.std.specs.Prelude.{◌≡◌, ◌≢◌, ◌||◌, ℕ, List, [], ◌
 use Rattle.std.specs.Str.{encode_utf8_all}
 use Rattle.serde_json.specs.Data.{Data, null, boolean, number, unsigned, string, array, object, no_members, member, put}
 use Rattle.serde_json.specs.Find.{get}
-use Rattle.line_reader.specs.Lines.{lines_of}
+use Rattle.streams.specs.Lines.{lines_of}
 use Rattle.ot_operation.specs.Run.{normal_runs}
 use Rattle.ot_json.specs.Writing.{array_of}
 use Rattle.ot_isa.specs.Program.{IsProgram, Program}

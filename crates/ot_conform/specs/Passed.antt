@@ -2,7 +2,7 @@
 use Rattle.std.specs.Prelude.{ℕ, Bool, false, ◌==◌, ◌&&◌, ◌||◌, Option, Some, None, codes, nat_lt}
 use Rattle.serde_json.specs.Data.{Data}
 use Rattle.serde_json.specs.Find.{get}
-use Rattle.json_fields.specs.Fields.{number_at}
+use Rattle.ot_json.specs.Fields.{number_at}
 use Rattle.ot_model.specs.declared.shown.Refusal.{Refusal}
 use Rattle.ot_conform.specs.Due.{DueLine, What, Opening, Instruction, End}
 use Rattle.ot_conform.specs.Keys.{is_told}

@@ -4,7 +4,7 @@ use Rattle.std.specs.Str.{is_utf8}
 use Rattle.serde_json.specs.Data.{Data}
 use Rattle.serde_json.specs.Find.{get}
 use Rattle.serde_json.specs.Read.{read}
-use Rattle.json_fields.specs.Fields.{number_at}
+use Rattle.ot_json.specs.Fields.{number_at}
 use Rattle.ot_asm.specs.Words.{trimmed}
 use Rattle.ot_conform.specs.Keys.{is_told}
 

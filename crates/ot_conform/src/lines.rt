@@ -6,8 +6,8 @@ ghost use Rattle.ot_conform.specs.Ports.{is_opening, is_opening_line, port_line}
 ghost use Rattle.ot_conform.specs.Read.{read_as};
 
 use crate::keys::says;
-use json_fields::number_at;
 use ot_asm::read_text;
+use ot_json::number_at;
 use serde_json::Value;
 use std::alloc::{AllocError, Global};
 

@@ -7,7 +7,7 @@ ghost use Rattle.ot_conform.specs.Read.{read_as};
 
 use crate::keys::says;
 use crate::lines::PortLine;
-use json_fields::number_at;
+use ot_json::number_at;
 use serde_json::Value;
 
 // Whether a place that is given lies behind one, or is that one and something else holds too.

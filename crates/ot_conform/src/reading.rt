@@ -1,19 +1,19 @@
 //! A comparison over the lines of a reader.
 
 ghost use Rattle.std.specs.Prelude.{◌≡◌, ◌∷◌, [], ℕ, false, IfErr, IfOk, IfSome, List, None};
-ghost use Rattle.line_reader.specs.Lines.{lines_of};
-ghost use Rattle.line_reader.specs.Taken.{before};
+ghost use Rattle.streams.specs.Lines.{lines_of};
+ghost use Rattle.streams.specs.Taken.{before};
 ghost use Rattle.ot_conform.specs.Compared.{IsVerdictOf, Leads, StopsBehind};
 ghost use Rattle.ot_asm.specs.Words.{trimmed};
 ghost use Rattle.ot_conform.specs.Ports.{Nothing, counted_lines, is_empty, port_line};
 ghost use Rattle.ot_conform.specs.Standing.{IsStanding, IsVerdict, rest};
 
 use crate::comparison::{Comparison, Verdict};
-use line_reader::{LineFault, ReadAhead};
 use ot_asm::trimmed;
 use ot_isa::Schedule;
 use std::alloc::{AllocError, Global};
 use std::io::Read;
+use streams::{LineFault, ReadAhead};
 
 /// Why a comparison stopped before anything was decided.
 #[derive(Clone, Copy, Debug, PartialEq, Eq)]

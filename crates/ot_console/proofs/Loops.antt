@@ -5,9 +5,9 @@ use Rattle.std.proofs.Math.Bool.{false-or, or-false, or_assoc}
 use Rattle.std.specs.Io.KnownBytes.{Appends}
 use Rattle.std.proofs.KnownBytes.{Appends-trans}
 use Rattle.streams.proofs.Parts.{part_after}
-use Rattle.line_reader.specs.Lines.{lines_of}
-use Rattle.line_reader.specs.Taken.{TakesLine}
-use Rattle.line_reader.proofs.Ends.{lacks_nil}
+use Rattle.streams.specs.Lines.{lines_of}
+use Rattle.streams.specs.Taken.{TakesLine}
+use Rattle.streams.proofs.Ends.{lacks_nil}
 use Rattle.ot_debug.specs.Session.{Session}
 use Rattle.ot_console.specs.declared.looping.LoopStop.TheVariants.{WriteFault}
 use Rattle.ot_console.specs.Looping.{IsTurn, Loops, StopsBehind, LoopsToEnd, LoopsPart, WritesTurn, WritesPartOfTurn}

@@ -2,7 +2,7 @@
 use Rattle.std.proofs.Common.{None, ◌≡◌, ℕ, List, [], ◌∷◌, Bool, true, false, refl, ap, sym, ◌∙◌, subst, ◌<◌, ◌==◌, length, arith}
 use Rattle.std.specs.Prelude.{Option}
 use Rattle.std.proofs.lemmas.Bool.{eqb-true}
-use Rattle.line_reader.specs.Lines.{onto_first}
+use Rattle.streams.specs.Lines.{onto_first}
 use Rattle.ot_asm.specs.Words.{is_blank, skip_blanks, cut_blanks, without_return, trimmed, first_word, after_word}
 use Rattle.ot_console.specs.Commands.{words, bare_command, two_words, three_words, command_in, command_of}
 use Rattle.ot_debug.specs.declared.command.Command.{Command}

@@ -1,7 +1,7 @@
 -- The command that a line is.
 use Rattle.std.specs.Prelude.{ℕ, Bool, true, false, List, [], ◌∷◌, Option, Some, None, option_map, option_and_then, codes, if◌then◌else◌}
 use Rattle.std.specs.Str.{bytes_eq}
-use Rattle.line_reader.specs.Lines.{onto_first}
+use Rattle.streams.specs.Lines.{onto_first}
 use Rattle.ot_asm.specs.Words.{is_blank, trimmed}
 use Rattle.ot_asm.specs.Numbers.{number}
 use Rattle.ot_debug.specs.declared.command.Command.{Command}

@@ -2,7 +2,7 @@
 use Rattle.std.specs.Prelude.{◌≡◌, ◌⊎◌, ◌+◌, ◌-◌, ◌^◌, ◌||◌, min, ℕ, Bool, true, false, List, [], ◌∷◌, ◌++◌, length, Option, Some, None, ⊤, IfSome, MatchBool}
 use Rattle.std.specs.Io.KnownBytes.{Appends}
 use Rattle.streams.specs.Streams.{WritesPart}
-use Rattle.line_reader.specs.Lines.{lines_of, lacks}
+use Rattle.streams.specs.Lines.{lines_of, lacks}
 use Rattle.ot_debug.specs.Session.{Session}
 use Rattle.ot_debug.specs.Answers.{Answers}
 use Rattle.ot_debug.specs.declared.command.Command.{Command}

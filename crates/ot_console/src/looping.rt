@@ -2,15 +2,14 @@
 
 ghost use Rattle.std.specs.Prelude.{◌≡◌, true, [], IfErr, IfOk, OnErr, OnOk};
 ghost use Rattle.std.specs.Io.KnownBytes.{IsAtEnd};
-ghost use Rattle.line_reader.specs.Taken.{before};
+ghost use Rattle.streams.specs.Taken.{before};
 ghost use Rattle.ot_console.specs.Looping.{IsCaused, IsReadFault, LoopsToEnd, LoopsPart, WritesPartOfTurn, WritesTurn};
 
 use crate::turns::respond;
-use line_reader::{LineFault, ReadAhead};
 use ot_debug::Stepper;
 use std::alloc::Global;
 use std::io::Read;
-use streams::{Sink, WriteFault};
+use streams::{LineFault, ReadAhead, Sink, WriteFault};
 
 /// Why a command loop stopped before the end of its lines.
 #[derive(Clone, Copy, Debug, PartialEq, Eq)]

@@ -8,7 +8,7 @@ use Rattle.ot_isa.specs.declared.elements.Tagged.{Tagged}
 use Rattle.ot_isa.specs.declared.instruction.Instr.{Instr}
 use Rattle.ot_isa.specs.declared.instruction.Instr.TheVariants.{Edit, Take, Deliver, Acknowledge, Join, Read, ReadServer}
 use Rattle.ot_model.specs.Operation.{Operation, inserted}
-use Rattle.ot_model.specs.Table.{Client, Entry, State, Phase, Performed, NotJoined, Synchronized, AwaitingConfirm, AwaitingWithBuffer, step, acknowledged, carried, edited, delivered, is_joined, joined, phase_delivered, phase_edited, tag_operation, with_client, with_row}
+use Rattle.ot_model.specs.Table.{Client, Entry, State, Phase, Performed, NotJoined, Synchronized, AwaitingConfirm, AwaitingWithBuffer, step, acknowledged, against_pending, edited, delivered, is_joined, joined, phase_delivered, phase_edited, tag_operation, with_client, with_row}
 use Rattle.ot_model.proofs.Outcomes.{by_edit, by_take, by_deliver, by_acknowledge, by_join, by_read, by_read_server}
 use Rattle.ot_model.proofs.States.{slice_get-set_other, slice_get-set_same}
 use Rattle.ot_machine.specs.declared.state.Phase as names
@@ -64,7 +64,7 @@ edit_told s c op changed is =
 
 pub delivery_told :
     (s : State) (c : ℕ) (changed : Bool)
-    → ((x : Client) (h : Entry) → slice_get s.clients c ≡ Some x → is_joined x.phase ≡ true → slice_get s.log x.revision ≡ Some h → h.maker ≢ c → ChangesList (carried x.phase h.op) x.list changed)
+    → ((x : Client) (h : Entry) → slice_get s.clients c ≡ Some x → is_joined x.phase ≡ true → slice_get s.log x.revision ≡ Some h → h.maker ≢ c → ChangesList (against_pending x.phase h.op) x.list changed)
     → Foretells (step s (Deliver c)) s (watched.Doc c) changed
 delivery_told s c changed is =
     by_deliver (λ o. Foretells o s (watched.Doc c) changed) (λ r. tt) s c (λ x h at below on head other. list_told changed s c x (delivered x h.op) at (is x h at on head other))
@@ -94,10 +94,10 @@ edit_changes s own client first op tagged list changed same has_list has_count i
     subst (λ (n : ℕ). Foretells (step s (Edit own op)) s (watched.Doc n) changed) same
     (edit_told s own op changed (λ x at base few. edit_of_client s own first op tagged list changed x at has_list has_count is told))
 
-delivery_is : (s : State) (c : ℕ) (x : Client) (h : Entry) → is_joined x.phase ≡ true → slice_get s.log x.revision ≡ Some h → h.maker ≢ c → delivery_of s c x ≡ Some (carried x.phase h.op)
+delivery_is : (s : State) (c : ℕ) (x : Client) (h : Entry) → is_joined x.phase ≡ true → slice_get s.log x.revision ≡ Some h → h.maker ≢ c → delivery_of s c x ≡ Some (against_pending x.phase h.op)
 delivery_is s c x h on head other = rw (on, head) (by_maker (h.maker == c) refl)
   where
-    by_maker : (own : Bool) → (h.maker == c) ≡ own → (if own then None else Some (carried x.phase h.op)) ≡ Some (carried x.phase h.op)
+    by_maker : (own : Bool) → (h.maker == c) ≡ own → (if own then None else Some (against_pending x.phase h.op)) ≡ Some (against_pending x.phase h.op)
     by_maker true is = absurd (other (eqb-true h.maker c is))
     by_maker false is = refl
 
@@ -108,8 +108,8 @@ delivery_changes s own client op list changed same has_list has_delivery changes
     subst (λ (n : ℕ). Foretells (step s (Deliver own)) s (watched.Doc n) changed) same
     (delivery_told s own changed
     (λ x h at on head other.
-    let applied : op ≡ carried x.phase h.op = same_Some op (carried x.phase h.op) (sym (has_value s own x (delivery_of s own) (Some op) at has_delivery) ∙ delivery_is s own x h on head other) in
-    subst (λ (d : List Tagged). ChangesList (carried x.phase h.op) d changed) (sym (has_value s own x (λ y. y.list) list at has_list))
+    let applied : op ≡ against_pending x.phase h.op = same_Some op (against_pending x.phase h.op) (sym (has_value s own x (delivery_of s own) (Some op) at has_delivery) ∙ delivery_is s own x h on head other) in
+    subst (λ (d : List Tagged). ChangesList (against_pending x.phase h.op) d changed) (sym (has_value s own x (λ y. y.list) list at has_list))
     (subst (λ (o : Operation Tagged). ChangesList o list changed) applied changes)))
 
 -- where nothing would be applied, no delivery is performed
@@ -118,7 +118,7 @@ no_delivery s own client same has =
     subst (λ (n : ℕ). Foretells (step s (Deliver own)) s (watched.Doc n) false) same
     (delivery_told s own false
     (λ x h at on head other.
-    let none : None ≡ Some (carried x.phase h.op) = sym (has_value s own x (delivery_of s own) None at has) ∙ delivery_is s own x h on head other in absurd (cc)))
+    let none : None ≡ Some (against_pending x.phase h.op) = sym (has_value s own x (delivery_of s own) None at has) ∙ delivery_is s own x h on head other in absurd (cc)))
 
 differ_by : {A : Type 0} (same : Bool) (a b x y : A) → (IsTrue same → a ≡ b) → (a ≡ b → IsTrue same) → a ≡ x → b ≡ y → Differ (not same) x y
 differ_by true a b x y is back e f = sym e ∙ is refl ∙ f

@@ -1,8 +1,8 @@
 -- The lines of instructions, line by line.
 use Rattle.std.proofs.Common.{◌≡◌, ℕ, suc, ◌+◌, ◌≤◌, List, [], ◌∷◌, ◌++◌, length, refl, sym, ap, ◌∙◌, arith, true, add-one, length-append}
 use Rattle.std.proofs.lemmas.List.{append_assoc, append-nil}
-use Rattle.line_reader.specs.Lines.{lacks, lines_of}
-use Rattle.line_reader.proofs.Ends.{lines_piece}
+use Rattle.streams.specs.Lines.{lacks, lines_of}
+use Rattle.streams.proofs.Ends.{lines_piece}
 use Rattle.ot_asm.proofs.Running.{whole_line}
 use Rattle.ot_explain.specs.Placed.{place_of, places, places_from}
 

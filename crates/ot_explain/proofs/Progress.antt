@@ -21,8 +21,8 @@ use Rattle.ot_machine.proofs.Stopping.{stopped_at, whole}
 use Rattle.ot_steps.proofs.Running.{reached_within}
 use Rattle.ot_steps.specs.declared.writing.StepsFault.{StepsFault}
 use Rattle.ot_steps.specs.declared.writing.StepsFault.TheVariants.{Memory, WriteFault}
-use Rattle.ot_names.specs.Comments.{Said}
-use Rattle.ot_names.specs.Named.{named}
+use Rattle.ot_asm.specs.Comments.{Said}
+use Rattle.ot_asm.specs.Named.{named}
 use Rattle.ot_explain.specs.Told.{after, before, heading, opening_words, paragraph}
 use Rattle.ot_explain.specs.Explained.{IsMove, IsRunText, MovesUpTo, WritesMoves, WritesRun, WritesUpTo, first_paragraphs, first_text, last_text, line_at, paragraphs, run_text}
 

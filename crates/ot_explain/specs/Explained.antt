@@ -10,8 +10,8 @@ use Rattle.ot_model.specs.Table.{Place, State, Performed, Refused, NoRow, step}
 use Rattle.ot_model.specs.Runs.{done, opening_of, place_at}
 use Rattle.ot_machine.specs.Ended.{reached, IsStop}
 use Rattle.ot_steps.specs.Steps.{is_quiet}
-use Rattle.ot_names.specs.Comments.{Said, cut_text}
-use Rattle.ot_names.specs.Named.{named}
+use Rattle.ot_asm.specs.Comments.{Said, cut_text}
+use Rattle.ot_asm.specs.Named.{named}
 use Rattle.ot_explain.specs.Told.{opening_words, paragraph}
 use Rattle.ot_explain.specs.Reasons.{refused_paragraph}
 use Rattle.ot_steps.specs.declared.writing.StepsFault.{StepsFault}

@@ -1,7 +1,7 @@
 -- The lines of a text at which its instructions stand.
 use Rattle.std.specs.Prelude.{ℕ, suc, List, [], ◌∷◌, ◌++◌, ◌&&◌, ◌||◌, not, Bool, codes, if◌then◌else◌}
 use Rattle.std.specs.Str.{bytes_eq}
-use Rattle.line_reader.specs.Lines.{lines_of}
+use Rattle.streams.specs.Lines.{lines_of}
 use Rattle.ot_asm.specs.Words.{counts, first_word, trimmed}
 
 -- a word that begins a line above the instructions

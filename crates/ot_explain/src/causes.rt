@@ -5,9 +5,9 @@
 
 ghost use Rattle.std.specs.Prelude.{◌≤◌, length};
 
-use line_reader::split_line;
 use ot_asm::{AsmFault, Kind, read_text, split_word, trimmed};
 use std::alloc::{AllocError, Global};
+use streams::split_line;
 
 // The line with this number, counted from 1, if there is one.
 fn line_of(text: &[u8], number: u64) -> Option<&[u8]> {

@@ -12,7 +12,7 @@
 //! - *Why one is refused* (`specs/Reasons.antt`): `reason`, of the refusal and the state in which the run stands.
 //! - *Where an instruction stands* (`specs/Placed.antt`): [`places`], the lines of a text that are neither blank, nor comments, nor those
 //!   above the instructions.
-//! - *A run* (`specs/Explained.antt`): [`explain`] writes it while the run goes, each paragraph with the clients' names (`ot_names`), and
+//! - *A run* (`specs/Explained.antt`): [`explain`] writes it while the run goes, each paragraph with the clients' names (`ot_asm`), and
 //!   after a fault a first part of it stands.
 //! - *Why a text is no schedule*: [`fault_words`], the column and the cause behind a fault of `ot_asm`. No contract speaks of these words.
 //!

@@ -4,9 +4,9 @@ ghost use Rattle.std.specs.Prelude.{◌≡◌, ◌++◌, IfOk, OnOk};
 ghost use Rattle.ot_asm.specs.Words.{counts};
 ghost use Rattle.ot_explain.specs.Placed.{has_instr, is_above, place_of, places};
 
-use line_reader::split_line;
 use ot_asm::{split_word, trimmed};
 use std::alloc::{AllocError, Global};
+use streams::split_line;
 
 // Whether a line, once trimmed, is neither blank nor a comment.
 fn counts(line: &[u8]) -> bool

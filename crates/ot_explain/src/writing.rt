@@ -6,9 +6,9 @@ ghost use Rattle.ot_steps.specs.Written.{IsCaused};
 ghost use Rattle.ot_explain.specs.Explained.{MovesUpTo, WritesMoves, WritesRun, WritesUpTo};
 
 use crate::paragraphs::{last_words, opening_words, perform};
+use ot_asm::{Comments, named};
 use ot_isa::Schedule;
 use ot_machine::{Machine, Refusal};
-use ot_names::{Comments, named};
 use ot_steps::StepsFault;
 use std::alloc::Global;
 use streams::Sink;

@@ -12,3 +12,5 @@ pub mod Written
 pub mod Examples
 pub mod Past
 pub mod Faults
+pub mod Agreeing
+pub mod FieldSteps

@@ -37,15 +37,40 @@
 //! `specs/Layout.antt` (`fault_of`: the first fault again, from the fields alone: how wide each is, which values are allowed,
 //! and what comes after it). That the two faults are one is a law, `faults_agree`. Begin reading at `loading.rt`, from its
 //! end.
+//!
+//! Why bytes are no image, in words (`refusal.rt`, `whole.rt`, `words.rt`): at which field, what stands there, and what is wanted.
+//!
+//! ```text
+//!    otbench: byte 33: BadOpcode                                       load
+//!      instruction 4, component 2, kind: found 0x2a; wanted 0x10 (retain), 0x11 (insert) or 0x12 (delete)
+//!      └── Place                       └── Reason
+//! ```
+//!
+//! `specs/Fields.antt` has the fields of `Layout` again, each with its [`Place`] and with what is wanted there. `refusal_of` is the first field from
+//! the left that is cut or whose value is not allowed; that it is the field of `load`'s fault is a law, [`faults_are_those_of_the_layout`].
+//! [`first_refusal`] goes over the bytes once, with counters, and takes no memory; [`first_words`] gives the line of a refusal
+//! (`specs/Words.antt`).
 #![tactic(auto)]
 
 mod edits;
 mod fault;
+mod laws;
 mod loading;
+mod named_fields;
+mod named_numbers;
+mod named_operations;
 mod reading;
+mod refusal;
+mod shape;
 mod spot;
+mod whole;
+mod words;
 mod writing;
 
 pub use fault::{ImageFault, Kind};
+pub use laws::faults_are_those_of_the_layout;
 pub use loading::{faults_agree, images_differ, load};
+pub use refusal::{Place, Reason, Refusal, Text, Wanted};
+pub use whole::first_refusal;
+pub use words::{first_words, refusal_text};
 pub use writing::encode;

@@ -4,3 +4,4 @@ pub mod Built
 mod Counted
 pub mod Faults
 mod PlainItems
+pub mod Lists

@@ -13,10 +13,14 @@
 //! operation of a text or its fault) and `specs/Writing.antt` (`text_of_operation`). Begin with `reading.rt`; `building.rt`
 //! has the one pass, and a second one without memory which finds whether a fault stands behind a refused growth. `plain.rt` reads
 //! what a program writes, arrays of strings and integers, with memory that is reused from text to text.
+//!
+//! What stands under the keys of JSON objects (numbers, texts, arrays) is read by [`number_at`] and the others of `fields.rt`; `specs/Fields.antt`
+//! has the same words for the definitions of formats.
 #![tactic(auto)]
 
 mod building;
 mod fault;
+mod fields;
 mod lengths;
 mod part;
 mod plain;
@@ -24,6 +28,7 @@ mod reading;
 mod writing;
 
 pub use fault::OpFault;
+pub use fields::{items_at, items_or_none, number_at, number_or, text_or_empty};
 pub use plain::read_plain;
 pub use reading::{op_of_value, read_op};
 pub use writing::write_op;

@@ -33,8 +33,8 @@ taken [] old = []
 taken (s ∷ ss) old = take s.gone (drop s.kept old) ++ taken ss (drop (s.kept + s.gone) old)
 
 -- the inverse span
-abbrev pub turned : Span → Span
-turned s = record { kept = s.kept; gone = s.put; put = s.gone }
+abbrev pub reversed : Span → Span
+reversed s = record { kept = s.kept; gone = s.put; put = s.gone }
 
 -- as many go as come
 abbrev pub IsEven : Span → Type 0

@@ -2,7 +2,7 @@
 
 ghost use Rattle.std.specs.Prelude.{◌≡◌, ◌+◌, ◌*◌, ◌≤◌, map, length};
 ghost use Rattle.ot_list.specs.Leaves.{concatenated};
-ghost use Rattle.ot_list.specs.Spans.{merged, taken, turned, Fit};
+ghost use Rattle.ot_list.specs.Spans.{merged, taken, reversed, Fit};
 ghost use Rattle.ot_list.specs.Change.{patched, IsOf};
 
 use crate::{Item, List, Patch};
@@ -11,10 +11,10 @@ use crate::{Item, List, Patch};
 /// the patch as it was.
 pub fn taken_back<E: Item>(_list: &List<E>, _patch: &Patch<E>)
     requires { IsOf _list.now _patch.now }
-    ensures of { Fit (map turned _patch.now.spans) (patched _list.now _patch.now) (taken _patch.now.spans _list.now) }
-    ensures list { merged (map turned _patch.now.spans) (patched _list.now _patch.now) (taken _patch.now.spans _list.now) ≡ _list.now }
-    ensures spans { map turned (map turned _patch.now.spans) ≡ _patch.now.spans }
-    ensures leaves { taken (map turned _patch.now.spans) (patched _list.now _patch.now) ≡ _patch.now.leaves }
+    ensures of { Fit (map reversed _patch.now.spans) (patched _list.now _patch.now) (taken _patch.now.spans _list.now) }
+    ensures list { merged (map reversed _patch.now.spans) (patched _list.now _patch.now) (taken _patch.now.spans _list.now) ≡ _list.now }
+    ensures spans { map reversed (map reversed _patch.now.spans) ≡ _patch.now.spans }
+    ensures leaves { taken (map reversed _patch.now.spans) (patched _list.now _patch.now) ≡ _patch.now.leaves }
 {}
 
 /// There are at most two leaves for every `CAP + 1` items, and one more.

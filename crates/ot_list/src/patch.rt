@@ -2,7 +2,7 @@
 
 ghost use Rattle.std.specs.Prelude.{◌≡◌, ◌<◌, ◌^◌, ◌+◌, ◌≤◌, ℕ, List as ListOf, map, length, [], All, OnOk, OnErr, ◌++◌, ◌∷◌};
 ghost use Rattle.ot_list.specs.Leaves.{AreLeaves};
-ghost use Rattle.ot_list.specs.Spans.{all_gone, taken, turned, IsEven};
+ghost use Rattle.ot_list.specs.Spans.{all_gone, taken, reversed, IsEven};
 ghost use Rattle.ot_list.specs.Change.{patched, IsOf, IsReady};
 
 use crate::moves::{Room, are_even, carry_out};
@@ -45,7 +45,7 @@ fn count_gone(spans: &[Span]) -> usize
 
 // The inverse spans.
 fn turn(spans: &mut [Span])
-    ensures { spans.new ≡ map turned spans.old }
+    ensures { spans.new ≡ map reversed spans.old }
 {
     for span in spans.iter_mut() {
         *span = Span {
@@ -144,7 +144,7 @@ impl<E: Item> List<E> {
         requires sound { AreLeaves E.CAP (patched self.old patch.old) }
         requires ready { IsReady self.old patch.old }
         ensures list { self.new ≡ patched self.old patch.old }
-        ensures spans { patch.new.spans ≡ map turned patch.old.spans }
+        ensures spans { patch.new.spans ≡ map reversed patch.old.spans }
         ensures leaves { patch.new.leaves ≡ taken patch.old.spans self.old }
         ensures ready { IsReady self.new patch.new }
     {

@@ -74,7 +74,7 @@ outstanding server seats steps c seat m is_kept at below on message =
     let o = fact.0 in
     let under = fact.3 in
     let rest = FitAll_drop laws start m.revision seen (FitAll_take laws start r server.log sound.fit) in
-    let many : inserted o ≡ inserted m.op = ap inserted (sym under.carried) ∙ ap length (transform_over_news laws m.op (apply_entries start (take m.revision seen)) (drop m.revision seen) rest under.fits) in
+    let many : inserted o ≡ inserted m.op = ap inserted (sym under.transformed) ∙ ap length (transform_over_news laws m.op (apply_entries start (take m.revision seen)) (drop m.revision seen) rest under.fits) in
     let more : pending x ≡ inserted m.op + length (news_kept (phase_of seat.client)) =
     ap (λ (w : Option Message). length (news_sent w ++ news_kept (phase_of seat.client))) message ∙ length-append (news m.op) (news_kept (phase_of seat.client)) in
     let room = room_ahead laws start is_kept.sound.1 (state_from server seats steps) c x r sound found in

@@ -70,7 +70,7 @@ pub may :
     (c : ℕ) (here : program.Client Tagged) (start : List Tagged) (seen ahead : List Entry) (list : List Tagged) (message : Option Message) (h : Entry)
     → FitAll start seen → FitAll (apply_entries start seen) (h ∷ ahead) → h.maker ≢ c → IsPhaseSound c (phase_of (Some here)) start seen (h ∷ ahead) list message
     → length (apply_entries start seen) + (inserted_in (h ∷ ahead) + length (news_sent message ++ news_kept (phase_of (Some here)))) ≤ 1000000
-    → state.MayDeliver (state_of here).phase h.op × ((state.carried (state_of here).phase h.op).base ≡ length list)
+    → state.MayDeliver (state_of here).phase h.op × ((state.against_pending (state_of here).phase h.op).base ≡ length list)
 may c (client.Synchronized here) start seen ahead list message h before all other now room = (tt, all.0.base ∙ ap length (sym now.list_is))
 may c (client.AwaitingConfirm here) start seen ahead list message h before all other now room =
     let o = here.outstanding in

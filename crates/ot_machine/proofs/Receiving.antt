@@ -11,7 +11,7 @@ use Rattle.ot_model.specs.Operation.{Operation}
 use Rattle.ot_model.specs.Laws.{IsDeliverable}
 use Rattle.ot_model.specs.Laws as laws
 use Rattle.ot_model.specs.Sound.{IsSound}
-use Rattle.ot_model.specs.Table.{Client, Entry, State, carried, is_joined, phase_in}
+use Rattle.ot_model.specs.Table.{Client, Entry, State, against_pending, is_joined, phase_in}
 use Rattle.ot_model.proofs.Fitting.{deliverable}
 use Rattle.ot_machine.specs.Readers.{ClientHas}
 use Rattle.ot_machine.specs.Seats.{client_of, phase_of, revision_of}
@@ -28,10 +28,10 @@ may_in state.Synchronized op may = tt
 may_in (state.AwaitingConfirm o) op may = may
 may_in (state.AwaitingWithBuffer o b) op may = may
 
-pub carried_in : (phase : state.Phase Tagged) (op : Operation Tagged) → carried (phase_in phase) op ≡ state.carried phase op
-carried_in state.Synchronized op = refl
-carried_in (state.AwaitingConfirm o) op = refl
-carried_in (state.AwaitingWithBuffer o b) op = refl
+pub against_pending_in : (phase : state.Phase Tagged) (op : Operation Tagged) → against_pending (phase_in phase) op ≡ state.against_pending phase op
+against_pending_in state.Synchronized op = refl
+against_pending_in (state.AwaitingConfirm o) op = refl
+against_pending_in (state.AwaitingWithBuffer o b) op = refl
 
 module _ (s : State) (c : ℕ) (seat : Seat) (here : program.Client Tagged) (h : Entry) (sound : IsSound s) (at : slice_get s.clients c ≡ Some (client_of seat)) (is : seat.client ≡ Some here)
     (head : Some h ≡ slice_get s.log (revision_of seat.client)) (other : (h.maker == c) ≡ false) where
@@ -44,8 +44,8 @@ module _ (s : State) (c : ℕ) (seat : Seat) (here : program.Client Tagged) (h :
   pub may_receive : state.MayDeliver (state_of here).phase h.op
   may_receive = may_in (state_of here).phase h.op (subst (λ p. laws.MayDeliver p h.op) phase_is fits.operations)
 
-  pub received_base : (applied : Operation Tagged) → applied ≡ state.carried (state_of here).phase h.op → ClientHas s c (λ x. length x.list) applied.base
+  pub received_base : (applied : Operation Tagged) → applied ≡ state.against_pending (state_of here).phase h.op → ClientHas s c (λ x. length x.list) applied.base
   received_base applied applied_is =
       let base : applied.base ≡ length seat.list =
-      ap (λ (op : Operation Tagged). op.base) (applied_is ∙ sym (carried_in (state_of here).phase h.op) ∙ ap (λ p. carried p h.op) (sym phase_is)) ∙ fits.base in
+      ap (λ (op : Operation Tagged). op.base) (applied_is ∙ sym (against_pending_in (state_of here).phase h.op) ∙ ap (λ p. against_pending p h.op) (sym phase_is)) ∙ fits.base in
       ap (option_map (λ (x : Client). length x.list)) at ∙ ap (λ n. Some n) (sym base)

@@ -5,7 +5,7 @@ use Rattle.std.proofs.lemmas.Option.{same_Some}
 use Rattle.std.specs.Prelude.{slice_get}
 use Rattle.ot_operation.specs.Operation.{apply}
 use Rattle.ot_isa.specs.declared.elements.Tagged.{Tagged}
-use Rattle.ot_model.specs.Table.{Client, Entry, Phase, State, carried, delivered}
+use Rattle.ot_model.specs.Table.{Client, Entry, Phase, State, against_pending, delivered}
 use Rattle.ot_model.specs.Sound.{IsPhaseSound, IsSoundFrom, apply_entries}
 use Rattle.ot_model.proofs.Clients.{apply_entries_push}
 use Rattle.ot_model.proofs.States.{take_entry}
@@ -87,4 +87,4 @@ pub common_is :
 common_is server seats steps c seat h t None value at head is = tt
 common_is server seats steps c seat h t (Some d) value at head is =
     let here = subst (λ v. IsDelivered v c d) (sym value) is (client_of seat) h (client_at seats c seat at) head in
-    here.1 ∙ ap (λ (p : Phase). apply (carried p h.op) seat.list) (sym here.0)
+    here.1 ∙ ap (λ (p : Phase). apply (against_pending p h.op) seat.list) (sym here.0)

@@ -132,7 +132,7 @@ MayDeliverState client op = (client.revision < REVISION_LIMIT) × state.MayDeliv
 -- and of its list
 abbrev pub MayDeliverTo : Option (program.Client Tagged) → Operation Tagged → List Tagged → Type 0
 MayDeliverTo None op list = ⊥
-MayDeliverTo (Some client) op list = MayDeliverState (state_of client) op × ((state.carried (state_of client).phase op).base ≡ length list)
+MayDeliverTo (Some client) op list = MayDeliverState (state_of client) op × ((state.against_pending (state_of client).phase op).base ≡ length list)
 
 -- what a delivery needs of the seat
 abbrev pub MaySeatDeliver : Seat → Operation Tagged → Type 0

@@ -21,17 +21,17 @@ pub enum Applied {
     /// The operation of the log's entry with this number, counted from 0, as it stands there: the client had no pending operation.
     Entry(usize),
     /// The entry's operation, transformed against the client's pending operations.
-    Carried(TextOp<Tagged>),
+    Transformed(TextOp<Tagged>),
 }
 
 impl Applied {
     // What was transformed, or else the operation of the entry with this number.
     #[inline(always)]
-    pub(crate) fn of(number: usize, carried: Option<TextOp<Tagged>>) -> Applied
-        ensures { (op made : Operation Letter) → unwrap_or carried op ≡ made → IsMadeOf number op made result }
+    pub(crate) fn of(number: usize, applied_op: Option<TextOp<Tagged>>) -> Applied
+        ensures { (op made : Operation Letter) → unwrap_or applied_op op ≡ made → IsMadeOf number op made result }
     {
-        match carried {
-            Some(op) => Applied::Carried(op),
+        match applied_op {
+            Some(op) => Applied::Transformed(op),
             None => Applied::Entry(number),
         }
     }
@@ -47,7 +47,7 @@ impl Applied {
                 Some(entry) => Some(entry.operation()),
                 None => None,
             },
-            Applied::Carried(op) => Some(op),
+            Applied::Transformed(op) => Some(op),
         }
     }
 }
@@ -74,7 +74,7 @@ impl Machine {
             return Ok(None);
         }
         let op = entry.operation();
-        match receiver.carry(op)? {
+        match receiver.against_pending(op)? {
             Some(applied) => Ok(Some(applied)),
             None => Ok(Some(op.copy()?)),
         }

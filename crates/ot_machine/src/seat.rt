@@ -8,7 +8,7 @@ ghost use Rattle.ot_operation.specs.Operation.{apply, news};
 ghost use Rattle.ot_client.specs.State as state;
 ghost use Rattle.ot_client.specs.Client.{message_of, state_of};
 ghost use Rattle.ot_server.specs.History.{fault_of, received, IsUndo};
-ghost use Rattle.ot_model.specs.Table.{absent, acknowledged, carried, delivered, edited, present_with};
+ghost use Rattle.ot_model.specs.Table.{absent, acknowledged, against_pending, delivered, edited, present_with};
 ghost use Rattle.ot_machine.specs.Delivery.{IsMadeOf};
 ghost use Rattle.ot_machine.specs.Seats.{client_of, phase_of, revision_of, view_of, AreSettled, idle, queued, joined_at, under_way, Follows, MayPush, MaySend, HasRoom, HaveRoomFrom, MayDeliverState, MaySeatAcknowledge, MaySeatDeliver, IsMemory, IsReceivable, IsSettled, IsWaiting, emptied, outstanding_at, outstanding_of, received_from};
 ghost use Rattle.ot_machine.specs.Undoing.{message_at, Restores};
@@ -240,14 +240,14 @@ pub(crate) fn deliver<const KEPT: bool>(
     ensures down { OnOk result (seat.new.down.items ≡ drop 1 seat.old.down.items) }
     ensures err { OnErr result (seat.new ≡ seat.old) }
     ensures kept { IsTrue KEPT → IfOk result (λ given. Restores given.0 (client_of seat.old) (client_of seat.new)) }
-    ensures applied { IfOk result (λ given. IsMadeOf (revision_of seat.old.client) op.now (carried (phase_of seat.old.client) op.now) given.1) }
+    ensures applied { IfOk result (λ given. IsMadeOf (revision_of seat.old.client) op.now (against_pending (phase_of seat.old.client) op.now) given.1) }
 {
     let Some(client) = &mut seat.client else {
         unreachable!()
     };
     let number = client.revision() as usize;
-    let (change, carried) = client.prepare_deliver(op)?;
-    let applied = carried.as_ref().unwrap_or(op);
+    let (change, applied_op) = client.prepare_deliver(op)?;
+    let applied = applied_op.as_ref().unwrap_or(op);
     let inverse = kept::inverse_of::<KEPT>(applied, &seat.list)?;
     change_list(&mut seat.list, applied, common)?;
     let mut before = Before {
@@ -259,7 +259,7 @@ pub(crate) fn deliver<const KEPT: bool>(
     };
     client.exchange(&mut before.change);
     let _ = seat.down.pop();
-    Ok((before, Applied::of(number, carried)))
+    Ok((before, Applied::of(number, applied_op)))
 }
 
 // Takes the first message, the acknowledgement of the client's own operation.

@@ -2,7 +2,7 @@
 use Rattle.std.proofs.Common.{◌≡◌, ℕ, suc, ◌≤◌, ◌≢◌, List, [], ◌∷◌, ◌++◌, length, drop, refl, sym, ap, ◌∙◌, arith, inl, inr, Option, Some, None, true}
 use Rattle.std.proofs.lemmas.List.{take-append-le, drop-append-le, length_push, append-nil, take_all, drop_all}
 use Rattle.ot_model.specs.Operation.{Operation, apply, news, first_after, second_after}
-use Rattle.ot_model.specs.Table.{Phase, NotJoined, Synchronized, AwaitingConfirm, AwaitingWithBuffer, is_joined, Client, Entry, Message, phase_edited, message_edited, phase_delivered, carried, acknowledged}
+use Rattle.ot_model.specs.Table.{Phase, NotJoined, Synchronized, AwaitingConfirm, AwaitingWithBuffer, is_joined, Client, Entry, Message, phase_edited, message_edited, phase_delivered, against_pending, acknowledged}
 use Rattle.ot_isa.specs.declared.elements.Tagged.{Tagged}
 use Rattle.ot_server.specs.History.{transform_over}
 use Rattle.ot_model.specs.Sound.{Fits, apply_entries, FitAll, NoneBy, Lands, IsUnderway, IsSent, IsPhaseSound, IsClientSound, news_sent, news_kept, news_pending}
@@ -43,7 +43,7 @@ Lands_made c o (h ∷ log) none = inr (none.0, Lands_made c (first_after o h.op)
 pub IsSent_push : (c : ℕ) (o : Operation Tagged) (start : List Tagged) (seen ahead : List Entry) (message : Option Message) (e : Entry) → e.maker ≢ c → IsSent c o start seen ahead message → IsSent c o start seen (ahead ++ e ∷ []) message
 IsSent_push c o start seen ahead None e other sent = Lands_push c o ahead e sent other
 IsSent_push c o start seen ahead (Some m) e other sent =
-    record { revision = sent.revision; fits = sent.fits; carried = sent.carried; none = NoneBy_push c ahead e sent.none other }
+    record { revision = sent.revision; fits = sent.fits; transformed = sent.transformed; none = NoneBy_push c ahead e sent.none other }
 
 pub IsPhaseSound_push : (c : ℕ) (phase : Phase) (start : List Tagged) (seen ahead : List Entry) (list : List Tagged) (message : Option Message) (e : Entry) → e.maker ≢ c → IsPhaseSound c phase start seen ahead list message → IsPhaseSound c phase start seen (ahead ++ e ∷ []) list message
 IsPhaseSound_push c NotJoined start seen ahead list message e other sound = tt
@@ -58,7 +58,7 @@ IsPhaseSound_push c (AwaitingWithBuffer o b) start seen ahead list message e oth
 pub taken_is : (c : ℕ) (o : Operation Tagged) (start : List Tagged) (seen ahead : List Entry) (m : Message) → IsUnderway c o start seen ahead m → transform_over m.op (drop m.revision (seen ++ ahead)) ≡ transform_over o ahead
 taken_is c o start seen ahead m u =
     let in_seen : m.revision ≤ length seen = u.revision in
-    rw (drop-append-le m.revision seen ahead in_seen, transform_over-append, u.carried)
+    rw (drop-append-le m.revision seen ahead in_seen, transform_over-append, u.transformed)
 
 pub IsPhaseSound_taken : (c : ℕ) (phase : Phase) (start : List Tagged) (seen ahead : List Entry) (list : List Tagged) (m : Message) → IsPhaseSound c phase start seen ahead list (Some m)
     → IsPhaseSound c phase start seen (ahead ++ record { maker = c; op = transform_over m.op (drop m.revision (seen ++ ahead)) } ∷ []) list None
@@ -90,7 +90,7 @@ module _ (laws : AlgebraLaws) where
         sent = record {
           revision = omega arith;
           fits = rw (take_all x.revision seen le) f;
-          carried = rw (drop_all x.revision seen le);
+          transformed = rw (drop_all x.revision seen le);
           none = sound.none;
         };
       }
@@ -121,12 +121,12 @@ module _ (laws : AlgebraLaws) where
       record {
         revision = rw length_push (omega arith);
         fits = rw (take-append-le m.revision seen (h ∷ []) le) sent.fits;
-        carried = rw (drop-append-le m.revision seen (h ∷ []) le, transform_over-append m.op (drop m.revision seen) (h ∷ []), sent.carried);
+        transformed = rw (drop-append-le m.revision seen (h ∷ []) le, transform_over-append m.op (drop m.revision seen) (h ∷ []), sent.transformed);
         none = sent.none.1;
       }
 
   pub IsPhaseSound_delivered : (c : ℕ) (phase : Phase) (start : List Tagged) (seen ahead : List Entry) (list : List Tagged) (message : Option Message) (h : Entry) → h.maker ≢ c → Fits h.op (apply_entries start seen) → IsPhaseSound c phase start seen (h ∷ ahead) list message
-      → IsPhaseSound c (phase_delivered phase h.op) start (seen ++ h ∷ []) ahead (apply (carried phase h.op) list) message
+      → IsPhaseSound c (phase_delivered phase h.op) start (seen ++ h ∷ []) ahead (apply (against_pending phase h.op) list) message
   IsPhaseSound_delivered c NotJoined start seen ahead list message h other fits sound = tt
   IsPhaseSound_delivered c Synchronized start seen ahead list message h other fits sound =
       record {
@@ -194,7 +194,7 @@ module _ (laws : AlgebraLaws) where
           sent = record {
             revision = rw length_push (omega arith);
             fits = rw (take_all (suc x.revision) (seen ++ h ∷ []) le) f;
-            carried = rw (drop_all (suc x.revision) (seen ++ h ∷ []) le);
+            transformed = rw (drop_all (suc x.revision) (seen ++ h ∷ []) le);
             none = facts.2;
           };
         },

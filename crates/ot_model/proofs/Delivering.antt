@@ -7,7 +7,7 @@ use Rattle.std.specs.Prelude.{slice_get}
 use Rattle.ot_model.specs.Operation.{Operation, apply, news, first_after, second_after}
 use Rattle.ot_isa.specs.declared.elements.Tag.{Tag}
 use Rattle.ot_isa.specs.declared.elements.Tagged.{Tagged}
-use Rattle.ot_model.specs.Table.{Phase, NotJoined, Synchronized, AwaitingConfirm, AwaitingWithBuffer, is_joined, Client, State, Entry, phase_delivered, carried, delivered, with_client}
+use Rattle.ot_model.specs.Table.{Phase, NotJoined, Synchronized, AwaitingConfirm, AwaitingWithBuffer, is_joined, Client, State, Entry, phase_delivered, against_pending, delivered, with_client}
 use Rattle.ot_model.specs.Sound.{Fits, apply_entries, FitAll, IsSent, IsPhaseSound, times, news_sent, news_kept, IsSoundFrom}
 use Rattle.ot_model.proofs.Algebra.{AlgebraLaws}
 use Rattle.ot_model.proofs.Vertices.{operations, past_outstanding, IsOwnTag}
@@ -58,7 +58,7 @@ module _ (laws : AlgebraLaws) (keeps_both : KeepsBoth) (start : List Tagged) (te
 
   delivered_phase : (c : ℕ) (x : Client) (h : Entry) (phase : Phase) → slice_get s.clients c ≡ Some x → slice_get s.log x.revision ≡ Some h → h.maker ≢ c → is_joined x.phase ≡ true → x.phase ≡ phase
       → IsPhaseSound c phase start (take x.revision s.log) (drop x.revision s.log) x.list x.message
-      → Holds (tags start) trace (with_own c (made_by l c) (logged l.entries (suc x.revision))) (apply (carried phase h.op) x.list)
+      → Holds (tags start) trace (with_own c (made_by l c) (logged l.entries (suc x.revision))) (apply (against_pending phase h.op) x.list)
       × HoldsFirst start trace (with_own c (sent_by l c) (logged l.entries (suc x.revision))) (apply h.op (apply_entries start (take x.revision s.log))) (phase_delivered phase h.op)
   delivered_phase c x h NotJoined at head other on is now = absurd (let off = ap is_joined is in cc)
   delivered_phase c x h Synchronized at head other on is now =

@@ -11,7 +11,7 @@ use Rattle.ot_isa.specs.declared.elements.Tagged.{Tagged}
 use Rattle.ot_server.specs.History.{History, base_at, length_at, longest_at, fault_of}
 use Rattle.ot_server.specs.History as server
 use Rattle.ot_model.specs.Operation.{Operation, apply, inserted, news, second_after}
-use Rattle.ot_model.specs.Table.{Phase, NotJoined, Synchronized, AwaitingConfirm, AwaitingWithBuffer, is_joined, Client, State, Entry, Message, carried}
+use Rattle.ot_model.specs.Table.{Phase, NotJoined, Synchronized, AwaitingConfirm, AwaitingWithBuffer, is_joined, Client, State, Entry, Message, against_pending}
 use Rattle.ot_model.specs.Sound.{Fits, apply_entries, FitAll, IsPhaseSound, IsSoundFrom, IsSound, pending, news_sent, news_kept, inserted_in}
 use Rattle.ot_model.specs.Limits.{IsShort, IsPhaseShort, IsWithinLimits}
 use Rattle.ot_model.specs.Laws.{history_of, MayDeliver, IsDeliverable}
@@ -117,7 +117,7 @@ accepts s c x m (start, text, sound) below at sent =
 -- a client
 phase_deliverable : (c : ℕ) (phase : Phase) (start : List Tagged) (seen ahead : List Entry) (list : List Tagged) (message : Option Message) (h : Entry) → FitAll start seen → FitAll (apply_entries start seen) (h ∷ ahead) → h.maker ≢ c → is_joined phase ≡ true → IsPhaseSound c phase start seen (h ∷ ahead) list message
     → length (apply_entries start seen) + (inserted_in (h ∷ ahead) + length (news_sent message ++ news_kept phase)) ≤ 1000000
-    → MayDeliver phase h.op × ((carried phase h.op).base ≡ length list)
+    → MayDeliver phase h.op × ((against_pending phase h.op).base ≡ length list)
 phase_deliverable c NotJoined start seen ahead list message h before all other on now room = absurd (cc)
 phase_deliverable c Synchronized start seen ahead list message h before all other on now room = (tt, all.0.base ∙ ap length (sym now.list_is))
 phase_deliverable c (AwaitingConfirm o) start seen ahead list message h before all other on now room =

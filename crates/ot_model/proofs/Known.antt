@@ -92,7 +92,7 @@ module _ (laws : AlgebraLaws) (order : OrderLaws) where
   outstanding_has c o start seen ahead None t before all fits sent h = inr (Lands_has c o (apply_entries start seen) ahead t all fits sent h)
   outstanding_has c o start seen ahead (Some m) t before all fits sent h =
       let rest = FitAll_drop laws start m.revision seen before in
-      let e : news o ≡ news m.op = ap (λ (a : Operation Tagged). news a) (sym sent.carried) ∙ transform_over_news laws m.op (apply_entries start (take m.revision seen)) (drop m.revision seen) rest sent.fits in
+      let e : news o ≡ news m.op = ap (λ (a : Operation Tagged). news a) (sym sent.transformed) ∙ transform_over_news laws m.op (apply_entries start (take m.revision seen)) (drop m.revision seen) rest sent.fits in
       inl (rw e at h)
 
   pub sent_or : (c : ℕ) (o : Operation Tagged) (start : List Tagged) (seen ahead : List Entry) (message : Option Message) → IsSent c o start seen ahead message → NoneBy c ahead ⊎ Lands c o ahead

@@ -89,7 +89,7 @@ module _ (laws : AlgebraLaws) where
   outstanding-le c o start seen ahead None before all fits sent = omega (arith, Lands_inserted c o (apply_entries start seen) ahead all fits sent)
   outstanding-le c o start seen ahead (Some m) before all fits sent =
       let rest = FitAll_drop laws start m.revision seen before in
-      let e : inserted o ≡ inserted m.op = ap (λ (a : Operation Tagged). inserted a) (sym sent.carried) ∙ ap length (transform_over_news laws m.op (apply_entries start (take m.revision seen)) (drop m.revision seen) rest sent.fits) in
+      let e : inserted o ≡ inserted m.op = ap (λ (a : Operation Tagged). inserted a) (sym sent.transformed) ∙ ap length (transform_over_news laws m.op (apply_entries start (take m.revision seen)) (drop m.revision seen) rest sent.fits) in
       omega arith
 
   -- a delivery has room: the document, the entry, and what the client keeps
@@ -103,5 +103,5 @@ module _ (laws : AlgebraLaws) where
       omega (arith, sum_by-cons (λ (e : Entry). inserted e.op) h ahead, l)
   deliver_room c o b start seen ahead (Some m) h before all fits other sent room =
       let rest = FitAll_drop laws start m.revision seen before in
-      let e : inserted o ≡ inserted m.op = ap (λ (a : Operation Tagged). inserted a) (sym sent.carried) ∙ ap length (transform_over_news laws m.op (apply_entries start (take m.revision seen)) (drop m.revision seen) rest sent.fits) in
+      let e : inserted o ≡ inserted m.op = ap (λ (a : Operation Tagged). inserted a) (sym sent.transformed) ∙ ap length (transform_over_news laws m.op (apply_entries start (take m.revision seen)) (drop m.revision seen) rest sent.fits) in
       omega (arith, sum_by-cons (λ (e : Entry). inserted e.op) h ahead)

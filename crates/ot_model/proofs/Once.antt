@@ -222,7 +222,7 @@ module _ (laws : AlgebraLaws) (order : OrderLaws) where
   sent_times c o start seen ahead None t before all fits sent = let le = landed_times c o (apply_entries start seen) ahead t all fits sent in omega arith
   sent_times c o start seen ahead (Some m) t before all fits sent =
       let rest = FitAll_drop laws start m.revision seen before in
-      let e = ap (λ (a : Operation Tagged). times t (news a)) (sym sent.carried) ∙ ap (times t) (transform_over_news laws m.op (apply_entries start (take m.revision seen)) (drop m.revision seen) rest sent.fits) in
+      let e = ap (λ (a : Operation Tagged). times t (news a)) (sym sent.transformed) ∙ ap (times t) (transform_over_news laws m.op (apply_entries start (take m.revision seen)) (drop m.revision seen) rest sent.fits) in
       let le = past_times c o (apply_entries start seen) ahead t all fits sent.none in
       omega arith
 

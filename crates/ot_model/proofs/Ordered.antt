@@ -94,7 +94,7 @@ module _ (laws : AlgebraLaws) (order : OrderLaws) where
       let parts = client_fits laws order start text s c x sound at in
       let seen = take x.revision s.log in
       let rest = FitAll_drop laws start m.revision seen parts.0 in
-      let e : news o ≡ news m.op = ap (λ (a : Operation Tagged). news a) (sym sent.carried) ∙ transform_over_news laws m.op (apply_entries start (take m.revision seen)) (drop m.revision seen) rest sent.fits in
+      let e : news o ≡ news m.op = ap (λ (a : Operation Tagged). news a) (sym sent.transformed) ∙ transform_over_news laws m.op (apply_entries start (take m.revision seen)) (drop m.revision seen) rest sent.fits in
       let under : Has t (news_sent x.message) = rw is (rw e at h) in
       own_tag start text s c x t sound at (inl (Has_left t (news_sent x.message) (news_kept x.phase) under))
 

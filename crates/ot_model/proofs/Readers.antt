@@ -168,7 +168,7 @@ outstanding_by : (c : ℕ) (o : Operation Tagged) (start : List Tagged) (seen ah
 outstanding_by c o start seen ahead None t before all fits sent h = inr (Lands_by c o (apply_entries start seen) ahead t all fits sent h)
 outstanding_by c o start seen ahead (Some m) t before all fits sent h =
     let rest = FitAll_drop laws start m.revision seen before in
-    let e : news o ≡ news m.op = ap (λ (a : Operation Tagged). news a) (sym sent.carried) ∙ transform_over_news laws m.op (apply_entries start (take m.revision seen)) (drop m.revision seen) rest sent.fits in
+    let e : news o ≡ news m.op = ap (λ (a : Operation Tagged). news a) (sym sent.transformed) ∙ transform_over_news laws m.op (apply_entries start (take m.revision seen)) (drop m.revision seen) rest sent.fits in
     inl (rw e at h)
 
 -- what a client's phase holds beyond the document at its revision

@@ -97,7 +97,7 @@ module _ (laws : AlgebraLaws) (order : OrderLaws) where
       let with_o_at : IsConsistent u (apply last (apply_entries doc ahead)) = subst (λ (l : List Tagged). IsConsistent u l) reach with_o in
       let last_fits = transform_over_fits laws o doc ahead all fits in
       let rest = FitAll_drop laws start m.revision seen before in
-      let same_news : news last ≡ news m.op = transform_over_news laws o doc ahead all fits ∙ ap (λ (a : Operation Tagged). news a) (sym sent.carried) ∙ transform_over_news laws m.op (apply_entries start (take m.revision seen)) (drop m.revision seen) rest sent.fits in
+      let same_news : news last ≡ news m.op = transform_over_news laws o doc ahead all fits ∙ ap (λ (a : Operation Tagged). news a) (sym sent.transformed) ∙ transform_over_news laws m.op (apply_entries start (take m.revision seen)) (drop m.revision seen) rest sent.fits in
       record {
         next = second_after last e.op;
         path = past_taken_other d o ahead e other sent.none;

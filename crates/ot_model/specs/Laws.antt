@@ -6,7 +6,7 @@ use Rattle.ot_isa.specs.declared.instruction.Instr.{Instr}
 use Rattle.ot_client.specs.State as client
 use Rattle.ot_server.specs.History.{History, fault_of}
 use Rattle.ot_model.specs.Operation.{Operation}
-use Rattle.ot_model.specs.Table.{Phase, by_rule, is_joined, Client, State, Place, Entry, Message, opening, begin, run, step, carried, IsQuiet}
+use Rattle.ot_model.specs.Table.{Phase, by_rule, is_joined, Client, State, Place, Entry, Message, opening, begin, run, step, against_pending, IsQuiet}
 use Rattle.ot_model.specs.Sound.{IsSound, IsInstr, AreInstrs, IsOutcomeSound}
 use Rattle.ot_model.specs.Limits.{IsWithinLimits}
 use Rattle.ot_model.specs.Runs.{IsRunnable, done, place_at}
@@ -66,7 +66,7 @@ MayDeliver phase h = by_rule (Unit {0}) (λ p. client.MayDeliver p h) phase
 pub record IsDeliverable (x : Client) (h : Operation Tagged) : Type 0 where
   pub revision : x.revision < REVISION_LIMIT
   pub operations : MayDeliver x.phase h
-  pub base : (carried x.phase h).base ≡ length x.list
+  pub base : (against_pending x.phase h).base ≡ length x.list
 
 -- a sound state gives it, for the entry at the head of a joined client's downlink
 abbrev pub DeliveriesFit : Type 0

@@ -40,7 +40,7 @@ Lands c o (h ∷ log) = (h.maker ≡ c) × (h.op ≡ o) × NoneBy c log ⊎ ((h.
 pub record IsUnderway (c : ℕ) (o : Operation Tagged) (start : List Tagged) (seen ahead : List Entry) (m : Message) : Type 0 where
   pub revision : m.revision ≤ length seen
   pub fits : Fits m.op (apply_entries start (take m.revision seen))
-  pub carried : transform_over m.op (drop m.revision seen) ≡ o
+  pub transformed : transform_over m.op (drop m.revision seen) ≡ o
   pub none : NoneBy c ahead
 
 -- the outstanding operation o is under way or in the log

@@ -162,15 +162,15 @@ abbrev pub phase_delivered : Phase → Operation Tagged → Phase
 phase_delivered phase h = by_rule NotJoined (λ p. phase_in (client.phase_delivered p h)) phase
 
 -- what the client applies
-abbrev pub carried : Phase → Operation Tagged → Operation Tagged
-carried phase h = by_rule h (λ p. client.carried p h) phase
+abbrev pub against_pending : Phase → Operation Tagged → Operation Tagged
+against_pending phase h = by_rule h (λ p. client.against_pending p h) phase
 
 abbrev pub delivered : Client → Operation Tagged → Client
 delivered x h =
     record {
       revision = suc x.revision;
       phase = phase_delivered x.phase h;
-      list = apply (carried x.phase h) x.list;
+      list = apply (against_pending x.phase h) x.list;
       count = x.count;
       message = x.message;
     }

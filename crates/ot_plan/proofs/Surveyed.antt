@@ -11,13 +11,13 @@ use Rattle.serde_json.specs.Data.{Data, Items, no_items, item}
 use Rattle.serde_json.specs.Find.{as_array}
 use Rattle.serde_json.specs.View.{view, items_view}
 use Rattle.serde_json.specs.declared.value.Value.{Value}
-use Rattle.json_fields.specs.Fields.{all_of, keep_if}
-use Rattle.json_fields.proofs.Lists.{some-same, then-some, map-some, all_of-length}
-use Rattle.ot_typing.specs.Typing.{Action}
+use Rattle.ot_json.specs.Fields.{all_of, keep_if}
+use Rattle.ot_json.proofs.Lists.{some-same, then-some, map-some, all_of-length}
+use Rattle.ot_plan.specs.Typing.{Action}
 use Rattle.ot_plan.specs.declared.fault.PlanFault.{PlanFault}
 use Rattle.ot_plan.specs.declared.layout.Layout.{Layout}
 use Rattle.ot_plan.specs.declared.survey.Survey.{Survey}
-use Rattle.ot_typing.specs.Typing.{inserted}
+use Rattle.ot_plan.specs.Typing.{inserted}
 use Rattle.ot_plan.specs.Plan.{PlanView, IsAction, AreActions, IsPlan}
 use Rattle.ot_plan.specs.Reading.{action_of, row_of, is_action, is_short, is_few, PlanData, plan_data, with_typing, shape_from, shape_of, are_clients, has_lists, has_numbers, is_in_range, fits, first_fault, fault_of, unless_fault, plan_of_shape}
 use Rattle.ot_plan.specs.Layout.{layout_view, row_survey, rows_survey, action_in_range, row_in_range}

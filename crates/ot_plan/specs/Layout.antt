@@ -5,8 +5,8 @@ use Rattle.std.specs.Str.{chars}
 use Rattle.serde_json.specs.Data.{Data}
 use Rattle.serde_json.specs.Find.{as_array}
 use Rattle.serde_json.specs.View.{items_view}
-use Rattle.json_fields.specs.Fields.{keep_if, all_of}
-use Rattle.ot_typing.specs.Typing.{Action}
+use Rattle.ot_json.specs.Fields.{keep_if, all_of}
+use Rattle.ot_plan.specs.Typing.{Action}
 use Rattle.ot_plan.specs.declared.action.ActionText.{ActionText}
 use Rattle.ot_plan.specs.declared.layout.Layout.{Layout}
 use Rattle.ot_plan.specs.declared.survey.Survey.{Survey}

@@ -2,3 +2,4 @@ pub mod Plan
 pub mod Reading
 pub mod Layout
 pub mod Lines
+pub mod Typing

@@ -1,6 +1,6 @@
 -- What a plan says, and the limits of its type invariant.
 use Rattle.std.specs.Prelude.{◌≡◌, ℕ, ◌≤◌, List, length, All}
-use Rattle.ot_typing.specs.Typing.{Action, inserted}
+use Rattle.ot_plan.specs.Typing.{Action, inserted}
 use Rattle.ot_isa.specs.declared.builder.TheConstants.{CLIENT_LIMIT, START_LIMIT}
 use Rattle.ot_isa.specs.declared.tagging.TheConstants.{INSERTED_LIMIT}
 use Rattle.ot_operation.specs.declared.TheConstants.{LIMIT}

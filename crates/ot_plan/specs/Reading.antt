@@ -5,8 +5,8 @@ use Rattle.std.specs.Str.{is_utf8}
 use Rattle.serde_json.specs.Data.{Data, Items}
 use Rattle.serde_json.specs.Find.{get, as_array}
 use Rattle.serde_json.specs.Read.{read}
-use Rattle.json_fields.specs.Fields.{all_of, items_at, number_at, number_or, text_or_empty}
-use Rattle.ot_typing.specs.Typing.{Action, inserted}
+use Rattle.ot_json.specs.Fields.{all_of, items_at, number_at, number_or, text_or_empty}
+use Rattle.ot_plan.specs.Typing.{Action, inserted}
 use Rattle.ot_plan.specs.declared.fault.PlanFault.{PlanFault}
 use Rattle.ot_plan.specs.declared.fault.PlanFault.TheVariants.{NotJson, BadShape, BadNumber, TooLong, TooMany}
 use Rattle.ot_plan.specs.Plan.{PlanView}

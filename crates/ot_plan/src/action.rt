@@ -3,13 +3,13 @@
 ghost use Rattle.std.specs.Prelude.{◌≡◌, IfOk, length, option_map, true};
 ghost use Rattle.std.specs.Str.{chars};
 ghost use Rattle.serde_json.specs.View.{view};
-ghost use Rattle.ot_typing.specs.Typing.{action_view};
+ghost use Rattle.ot_plan.specs.Typing.{action_view};
 ghost use Rattle.ot_plan.specs.Reading.{action_of, is_action};
 ghost use Rattle.ot_plan.specs.Layout.{text_action};
 
-use json_fields::{number_at, number_or, text_or_empty};
+use crate::typing::Typing;
+use ot_json::{number_at, number_or, text_or_empty};
 use ot_text::LIMIT;
-use ot_typing::Typing;
 use serde_json::Value;
 use std::alloc::{AllocError, Global};
 

@@ -10,8 +10,8 @@ ghost use Rattle.ot_plan.specs.Layout.{layout_view};
 use crate::action::char_count;
 use crate::fault::PlanFault;
 use crate::survey::{Survey, survey_rows};
-use json_fields::{items_at, number_at, number_or, text_or_empty};
 use ot_isa::{CLIENT_LIMIT, START_LIMIT};
+use ot_json::{items_at, number_at, number_or, text_or_empty};
 use serde_json::Value;
 
 /// The most characters of a start text.

@@ -2,9 +2,9 @@
 
 ghost use Rattle.std.specs.Prelude.{◌≡◌};
 ghost use Rattle.ot_plan.specs.Plan.{IsPlan};
-ghost use Rattle.ot_typing.specs.Typing.{typing_view};
+ghost use Rattle.ot_plan.specs.Typing.{typing_view};
 
-use ot_typing::Typing;
+use crate::typing::Typing;
 use std::marker::Model;
 
 /// How many clients and workers there are, which text they start with, and what each client's user types: 1 to 64 clients, of
@@ -21,7 +21,7 @@ pub struct Plan {
 
 impl Model for Plan {
     ghost use Rattle.ot_plan.specs.Plan.{PlanView, IsPlan};
-    ghost use Rattle.ot_typing.specs.Typing.{typing_view};
+    ghost use Rattle.ot_plan.specs.Typing.{typing_view};
 
     ghost Value = { PlanView };
 

@@ -4,16 +4,16 @@ ghost use Rattle.std.specs.Option.{IsSomeAnd};
 ghost use Rattle.std.specs.Prelude.{◌≡◌, ◌<◌, ◌⊎◌, ◌≢◌, length, None, Some, Ok, Err, IfOk, IfErr, IsErrOf, IsOk, option_map};
 ghost use Rattle.serde_json.specs.Read.{read};
 ghost use Rattle.serde_json.specs.View.{items_view, view};
-ghost use Rattle.json_fields.specs.Fields.{all_of};
+ghost use Rattle.ot_json.specs.Fields.{all_of};
 ghost use Rattle.ot_plan.specs.Layout.{action_in_range, layout_view, row_in_range};
-ghost use Rattle.ot_typing.specs.Typing.{row_view, typing_view};
+ghost use Rattle.ot_plan.specs.Typing.{row_view, typing_view};
 ghost use Rattle.ot_plan.specs.Reading.{fault_of, plan_of_shape, plan_of_text, shape_from, shape_of};
 
 use crate::action::{action_of, chars_of, is_action, typing_of};
 use crate::fault::PlanFault;
 use crate::layout::{Layout, checked_layout};
 use crate::plan::Plan;
-use ot_typing::Typing;
+use crate::typing::Typing;
 use serde_json::Value;
 use std::alloc::{AllocError, Global};
 

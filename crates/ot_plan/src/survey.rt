@@ -2,7 +2,7 @@
 
 ghost use Rattle.std.specs.Prelude.{◌≡◌, option_map};
 ghost use Rattle.serde_json.specs.View.{items_view, view};
-ghost use Rattle.json_fields.specs.Fields.{all_of};
+ghost use Rattle.ot_json.specs.Fields.{all_of};
 ghost use Rattle.ot_plan.specs.Reading.{action_of, row_of};
 ghost use Rattle.ot_plan.specs.Layout.{both, row_survey, rows_survey};
 

@@ -7,11 +7,11 @@ use Rattle.std.proofs.lemmas.List.Elements.{All-head, All-tail}
 use Rattle.std.proofs.lemmas.List.Sums.{sum_by-cons}
 use Rattle.serde_json.specs.Data.{Data, Items, no_items, item, null, boolean, number, string, array, object}
 use Rattle.serde_json.specs.Find.{as_array, get}
-use Rattle.json_fields.specs.Fields.{all_of, items_at, number_at, number_or, text_or_empty}
-use Rattle.json_fields.proofs.Lists.{map-some, some-same, then-some}
+use Rattle.ot_json.specs.Fields.{all_of, items_at, number_at, number_or, text_or_empty}
+use Rattle.ot_json.proofs.Lists.{map-some, some-same, then-some}
 use Rattle.ot_isa.specs.declared.builder.TheConstants.{CLIENT_LIMIT, START_LIMIT}
 use Rattle.ot_operation.specs.declared.TheConstants.{LIMIT}
-use Rattle.ot_typing.specs.Typing.{Action}
+use Rattle.ot_plan.specs.Typing.{Action}
 use Rattle.ot_plan.specs.Plan.{AreActions, IsPlan, PlanView}
 use Rattle.ot_plan.specs.Layout.{row_survey}
 use Rattle.ot_plan.specs.Reading.{PlanData, action_of, are_clients, first_fault, fits, has_lists, has_numbers, is_action, is_few, is_in_range, is_short, plan_data, plan_of_shape, row_of, shape_from, shape_of, unless_fault, with_typing}

@@ -2,7 +2,7 @@
 use Rattle.std.specs.Prelude.{◌≡◌, ◌⊎◌, ◌==◌, ℕ, List, [], ◌++◌, length, Some, None, codes, decimal, if◌then◌else◌, sum_by}
 use Rattle.serde_json.specs.Data.{Data}
 use Rattle.serde_json.specs.Read.{read}
-use Rattle.ot_typing.specs.Typing.{Action}
+use Rattle.ot_plan.specs.Typing.{Action}
 use Rattle.ot_plan.specs.Plan.{PlanView}
 use Rattle.ot_plan.specs.declared.fault.PlanFault.{PlanFault}
 use Rattle.ot_reasons.specs.declared.plan_faults.PlanRefusal.{PlanRefusal}

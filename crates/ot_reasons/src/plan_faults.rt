@@ -12,8 +12,8 @@ ghost use Rattle.ot_reasons.specs.PlanFaults.{action_fault, action_keys, action_
 
 use crate::checks::{count, unless, wants};
 use crate::place::{Fault, Field, HERE, Place, Wanted};
-use json_fields::{items_at, number_at, number_or, text_or_empty};
 use ot_isa::{CLIENT_LIMIT, START_LIMIT};
+use ot_json::{items_at, number_at, number_or, text_or_empty};
 use ot_plan::PlanFault;
 use ot_plan::action::{ActionText, action_of, char_count};
 use ot_plan::layout::{Layout, has_lists, layout_of};

@@ -3,7 +3,7 @@
 ghost use Rattle.std.specs.Prelude.{◌≡◌, ◌^◌, ◌-◌, IfOk, Err, min, string_bytes};
 ghost use Rattle.serde_json.specs.View.{view};
 ghost use Rattle.ot_plan.specs.Reading.{plan_of_shape, shape_of};
-ghost use Rattle.ot_typing.specs.Typing.{typing_view};
+ghost use Rattle.ot_plan.specs.Typing.{typing_view};
 ghost use Rattle.ot_reasons.specs.PlanWords.{IsValueReason, action_count, counted, ending, plan_text};
 
 use crate::plan_faults::plan_fault;

@@ -3,3 +3,5 @@ pub mod AllLines
 pub mod Progress
 pub mod Quiet
 pub mod Reported
+pub mod Below
+pub mod Exact

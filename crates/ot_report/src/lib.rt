@@ -10,18 +10,37 @@
 //! contract says every byte: `specs/Printed.antt` has the lines of a run, `specs/Verdicts.antt` those of verdicts, `specs/Findings.antt` what
 //! is found of a schedule; `specs/Written.antt` has what stands on the output after a fault. Begin with [`print_run`], [`write_report`] and
 //! [`find`].
+//!
+//! The verdict of a trace in words ([`print_words`]): which events, which elements, and what each list has.
+//!
+//! ```text
+//!   Trace, Verdict ── print_words ──▶   event 2 is a read of replica 0; its list has 0:0 at 0 and 1:0 at 1
+//!                                       event 4 is a read of replica 1; its list has 1:0 at 0 and 0:0 at 1
+//! ```
+//!
+//! Each of these lines begins with two blanks and names an event and its replica; where the property holds, one line says how much was
+//! judged. The sentences are true of every trace, since they say what is found there, whatever the verdict: a search that finds nothing has
+//! words of its own. `specs/Causes.antt` has `cause_of`, the first cause why an event does not see what it has to, in the order of
+//! `SeesRightly` (the clause `exact` of [`cause_of`]: there is one exactly then); `specs/Finds.antt` where an element stands in a list, and which
+//! events insert and delete it; `specs/Words.antt` every byte. Each search goes once over the events, the lists or the replicas; whether an
+//! event sees another costs one more look at the events before that one.
 #![tactic(auto)]
 
+mod causes;
 mod ending;
 mod findings;
+mod finds;
 mod lines;
 mod running;
 mod verdicts;
+mod words;
 mod writing;
 
+pub use causes::{Cause, cause_of};
 pub use ending::print_end;
 pub use findings::{Findings, find};
 pub use lines::{print_client, print_read, print_server, print_stop, push_read, quiet_text};
 pub use running::print_run;
 pub use verdicts::{print_convergence, print_unsettled, print_verdict, tag_name};
+pub use words::print_words;
 pub use writing::{ReportFault, write_report};

@@ -6,7 +6,7 @@ use Rattle.ot_operation.specs.Operation.{Operation}
 use Rattle.ot_operation.specs.Run.{Run, Keep, Add, Skip}
 use Rattle.ot_rules.specs.Text.{concurrent_lines, given_operation}
 use Rattle.ot_rules.specs.Units.{IsAdded, behind, unit_run, units_from, with_one_more}
-use Rattle.ot_rules.specs.Wrong.{Pair, second_of, swapped, transformed, turned_over}
+use Rattle.ot_rules.specs.Wrong.{Pair, second_of, swapped, transformed, other_tie_over}
 
 pub drop_here : {A : Type 0} (xs : List A) (i : ℕ) (x : A) → i < length xs → x ≡ get_or xs i x → drop i xs ≡ x ∷ drop (i + 1) xs
 drop_here xs i x here is =
@@ -17,21 +17,21 @@ drop_here xs i x here is =
 
 abbrev over_rest : Option (Operation ℕ) → List (Operation ℕ) → Option (Operation ℕ)
 over_rest None rest = None
-over_rest (Some next) rest = turned_over next rest
+over_rest (Some next) rest = other_tie_over next rest
 
-over_pair : (p : Option Pair) (rest : List (Operation ℕ)) → (elim (option_map swapped p) as (λ _. Option (Operation ℕ)) [ None ↦ None | Some pair ↦ turned_over pair.0 rest ]) ≡ over_rest (second_of p) rest
+over_pair : (p : Option Pair) (rest : List (Operation ℕ)) → (elim (option_map swapped p) as (λ _. Option (Operation ℕ)) [ None ↦ None | Some pair ↦ other_tie_over pair.0 rest ]) ≡ over_rest (second_of p) rest
 over_pair None rest = refl
 over_pair (Some pair) rest = refl
 
-module _ (op carried other : Operation ℕ) (xs : List (Operation ℕ)) (i : ℕ) (here : i < length xs) (is : other ≡ get_or xs i other)
-    (so_far : turned_over carried (drop i xs) ≡ turned_over op xs) where
-  left : over_rest (second_of (transformed other carried)) (drop (i + 1) xs) ≡ turned_over op xs
-  left = sym (over_pair (transformed other carried) (drop (i + 1) xs)) ∙ ap (turned_over carried) (sym (drop_here xs i other here is)) ∙ so_far
+module _ (op current other : Operation ℕ) (xs : List (Operation ℕ)) (i : ℕ) (here : i < length xs) (is : other ≡ get_or xs i other)
+    (so_far : other_tie_over current (drop i xs) ≡ other_tie_over op xs) where
+  left : over_rest (second_of (transformed other current)) (drop (i + 1) xs) ≡ other_tie_over op xs
+  left = sym (over_pair (transformed other current) (drop (i + 1) xs)) ∙ ap (other_tie_over current) (sym (drop_here xs i other here is)) ∙ so_far
 
-  pub over_none : second_of (transformed other carried) ≡ None → None ≡ turned_over op xs
+  pub over_none : second_of (transformed other current) ≡ None → None ≡ other_tie_over op xs
   over_none e = ap (λ o. over_rest o (drop (i + 1) xs)) (sym e) ∙ left
 
-  pub over_more : (next : Operation ℕ) → second_of (transformed other carried) ≡ Some next → turned_over next (drop (i + 1) xs) ≡ turned_over op xs
+  pub over_more : (next : Operation ℕ) → second_of (transformed other current) ≡ Some next → other_tie_over next (drop (i + 1) xs) ≡ other_tie_over op xs
   over_more next e = ap (λ o. over_rest o (drop (i + 1) xs)) (sym e) ∙ left
 
 -- ---- components over a text

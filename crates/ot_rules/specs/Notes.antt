@@ -12,7 +12,7 @@ use Rattle.ot_rules.specs.declared.note.Note.TheVariants.{SameEffect, InUnits, T
 use Rattle.ot_rules.specs.declared.note.Asked as program
 use Rattle.ot_rules.specs.Call.{Call, ApplyClient, ApplyServer, ServerAck, ReceiveOperation, call_value}
 use Rattle.ot_rules.specs.Units.{in_units}
-use Rattle.ot_rules.specs.Wrong.{at_key, made_by_edit_alone, made_by_half, made_turned, made_untransformed, made_without_edit}
+use Rattle.ot_rules.specs.Wrong.{at_key, made_by_edit_alone, made_by_half, made_other_tie, made_untransformed, made_without_edit}
 
 -- what was found and what ot.js has, as JSON texts; the call that makes it, which value it is, the text that ot.js' operation applies to,
 -- and whether the port printed the operation that the instruction applies, and it is ot.js'
@@ -58,7 +58,7 @@ counted (Some op) (Some text) = in_units op text
 abbrev pub said : Note → Asked → Option (Operation ℕ)
 said SameEffect a = None
 said InUnits a = counted (operation_in (operation_of_text a.wanted)) a.text
-said Turned a = at_key (made_turned a.call) a.key
+said Turned a = at_key (made_other_tie a.call) a.key
 said Untransformed a = at_key (made_untransformed a.call) a.key
 said HalfTransformed a = at_key (made_by_half a.call) a.key
 said EditAlone a = at_key (made_by_edit_alone a.call) a.key

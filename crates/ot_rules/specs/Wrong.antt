@@ -26,8 +26,8 @@ abbrev pub swapped : Pair → Pair
 swapped pair = (pair.1, pair.0)
 
 -- the same, with the text of the second first where both insert at one place
-abbrev pub turned : Operation ℕ → Operation ℕ → Option Pair
-turned a b = option_map swapped (transformed b a)
+abbrev pub other_tie : Operation ℕ → Operation ℕ → Option Pair
+other_tie a b = option_map swapped (transformed b a)
 
 -- ---- what a line has behind the call
 
@@ -43,32 +43,32 @@ at_key made _ = None
 
 -- ---- the tie broken the other way: each transform with the text of its second argument first
 
-abbrev pub turned_past : Option Pair → Made
-turned_past None = nothing
-turned_past (Some first) = record nothing { outstanding = Some first.0; applied = Some first.1 }
+abbrev pub other_tie_past : Option Pair → Made
+other_tie_past None = nothing
+other_tie_past (Some first) = record nothing { outstanding = Some first.0; applied = Some first.1 }
 
-abbrev pub turned_past_both : Operation ℕ → Option Pair → Made
-turned_past_both outstanding None = nothing
-turned_past_both outstanding (Some second) = record nothing { outstanding = Some outstanding; buffer = Some second.0; applied = Some second.1 }
+abbrev pub other_tie_past_both : Operation ℕ → Option Pair → Made
+other_tie_past_both outstanding None = nothing
+other_tie_past_both outstanding (Some second) = record nothing { outstanding = Some outstanding; buffer = Some second.0; applied = Some second.1 }
 
-abbrev pub turned_past_buffer : Operation ℕ → Option Pair → Made
-turned_past_buffer buffer None = nothing
-turned_past_buffer buffer (Some first) = turned_past_both first.0 (turned buffer first.1)
+abbrev pub other_tie_past_buffer : Operation ℕ → Option Pair → Made
+other_tie_past_buffer buffer None = nothing
+other_tie_past_buffer buffer (Some first) = other_tie_past_both first.0 (other_tie buffer first.1)
 
-abbrev pub turned_delivery : Waiting → Operation ℕ → Made
-turned_delivery Nothing op = nothing
-turned_delivery (Outstanding o) op = turned_past (turned o op)
-turned_delivery (Buffered o b) op = turned_past_buffer b (turned o op)
+abbrev pub other_tie_delivery : Waiting → Operation ℕ → Made
+other_tie_delivery Nothing op = nothing
+other_tie_delivery (Outstanding o) op = other_tie_past (other_tie o op)
+other_tie_delivery (Buffered o b) op = other_tie_past_buffer b (other_tie o op)
 
-abbrev pub turned_over : Operation ℕ → List (Operation ℕ) → Option (Operation ℕ)
-turned_over op [] = Some op
-turned_over op (other ∷ others) = elim (turned op other) [ None ↦ None | Some pair ↦ turned_over pair.0 others ]
+abbrev pub other_tie_over : Operation ℕ → List (Operation ℕ) → Option (Operation ℕ)
+other_tie_over op [] = Some op
+other_tie_over op (other ∷ others) = elim (other_tie op other) [ None ↦ None | Some pair ↦ other_tie_over pair.0 others ]
 
-abbrev pub made_turned : Call → Made
-made_turned (ApplyClient w op) = nothing
-made_turned (ApplyServer w op) = turned_delivery w op
-made_turned (ServerAck revision w) = nothing
-made_turned (ReceiveOperation revision op concurrent) = record nothing { appended = turned_over op concurrent }
+abbrev pub made_other_tie : Call → Made
+made_other_tie (ApplyClient w op) = nothing
+made_other_tie (ApplyServer w op) = other_tie_delivery w op
+made_other_tie (ServerAck revision w) = nothing
+made_other_tie (ReceiveOperation revision op concurrent) = record nothing { appended = other_tie_over op concurrent }
 
 -- ---- no transform: each operation as it was
 

@@ -12,7 +12,7 @@ use crate::call::Call;
 use crate::printing::number;
 use crate::units::in_units;
 use crate::wrong::{
-    at_key, made_by_edit_alone, made_by_half, made_turned, made_untransformed, made_without_edit,
+    at_key, made_by_edit_alone, made_by_half, made_other_tie, made_untransformed, made_without_edit,
 };
 use ot_json::{OpFault, read_op, write_op};
 use ot_steps::Key;
@@ -136,7 +136,7 @@ fn said(alloc: Global, note: Note, asked: &Asked<'_>) -> Result<Option<TextOp<ch
         return Ok(None);
     }
     let mut made = match note {
-        Note::Turned => made_turned(alloc, asked.call)?,
+        Note::Turned => made_other_tie(alloc, asked.call)?,
         Note::Untransformed => made_untransformed(asked.call)?,
         Note::HalfTransformed => made_by_half(alloc, asked.call)?,
         Note::EditAlone => made_by_edit_alone(asked.call)?,

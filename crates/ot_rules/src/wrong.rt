@@ -116,12 +116,12 @@ fn second_transformed(
 }
 
 // Both, with the text of the second argument first where both insert at one place.
-fn turned(
+fn other_tie(
     alloc: Global,
     a: &TextOp<char>,
     b: &TextOp<char>,
 ) -> Result<Option<(TextOp<char>, TextOp<char>)>, AllocError>
-    ensures { IfOk result (λ pair. pair ≡ wrong.turned a.now b.now) }
+    ensures { IfOk result (λ pair. pair ≡ wrong.other_tie a.now b.now) }
 {
     match transformed(alloc, b, a)? {
         Some((second, first)) => Ok(Some((first, second))),
@@ -130,18 +130,18 @@ fn turned(
 }
 
 // A delivery over the outstanding operation and the buffer.
-fn turned_past_buffer(
+fn other_tie_past_buffer(
     alloc: Global,
     outstanding: &TextOp<char>,
     buffer: &TextOp<char>,
     op: &TextOp<char>,
 ) -> Result<Made, AllocError>
-    ensures { IfOk result (λ made. made ≡ wrong.turned_past_buffer buffer.now (wrong.turned outstanding.now op.now)) }
+    ensures { IfOk result (λ made. made ≡ wrong.other_tie_past_buffer buffer.now (wrong.other_tie outstanding.now op.now)) }
 {
-    let Some((outstanding, passed)) = turned(alloc, outstanding, op)? else {
+    let Some((outstanding, passed)) = other_tie(alloc, outstanding, op)? else {
         return Ok(nothing());
     };
-    let Some((buffer, applied)) = turned(alloc, buffer, &passed)? else {
+    let Some((buffer, applied)) = other_tie(alloc, buffer, &passed)? else {
         return Ok(nothing());
     };
     Ok(Made {
@@ -152,12 +152,16 @@ fn turned_past_buffer(
     })
 }
 
-fn turned_delivery(alloc: Global, waiting: &Waiting, op: &TextOp<char>) -> Result<Made, AllocError>
-    ensures { IfOk result (λ made. made ≡ wrong.turned_delivery waiting.now op.now) }
+fn other_tie_delivery(
+    alloc: Global,
+    waiting: &Waiting,
+    op: &TextOp<char>,
+) -> Result<Made, AllocError>
+    ensures { IfOk result (λ made. made ≡ wrong.other_tie_delivery waiting.now op.now) }
 {
     match waiting {
         Waiting::Nothing => Ok(nothing()),
-        Waiting::Outstanding(outstanding) => match turned(alloc, outstanding, op)? {
+        Waiting::Outstanding(outstanding) => match other_tie(alloc, outstanding, op)? {
             None => Ok(nothing()),
             Some((outstanding, applied)) => Ok(Made {
                 outstanding: Some(outstanding),
@@ -167,37 +171,37 @@ fn turned_delivery(alloc: Global, waiting: &Waiting, op: &TextOp<char>) -> Resul
             }),
         },
         Waiting::Buffered(outstanding, buffer) => {
-            turned_past_buffer(alloc, outstanding, buffer, op)
+            other_tie_past_buffer(alloc, outstanding, buffer, op)
         }
     }
 }
 
 // A message transformed against the log, where the text of each entry goes first.
-fn turned_over(
+fn other_tie_over(
     op: &TextOp<char>,
     concurrent: &[TextOp<char>],
 ) -> Result<Option<TextOp<char>>, AllocError>
-    ensures { IfOk result (λ carried. carried ≡ wrong.turned_over op.now concurrent.now) }
+    ensures { IfOk result (λ current. current ≡ wrong.other_tie_over op.now concurrent.now) }
 {
-    let mut carried = op.copy()?;
+    let mut current = op.copy()?;
     for other in concurrent {
-        let Some(next) = second_transformed(other, &carried)? else {
+        let Some(next) = second_transformed(other, &current)? else {
             return Ok(None);
         };
-        carried = next;
+        current = next;
     }
-    Ok(Some(carried))
+    Ok(Some(current))
 }
 
 /// The rule with a transform in which the text of the second argument goes first. A message transformed against the log costs for each entry what
 /// `transform_second` of `ot_algebra` does.
-pub fn made_turned(alloc: Global, call: &Call) -> Result<Made, AllocError>
-    ensures { IfOk result (λ made. made ≡ wrong.made_turned (call_value call.now)) }
+pub fn made_other_tie(alloc: Global, call: &Call) -> Result<Made, AllocError>
+    ensures { IfOk result (λ made. made ≡ wrong.made_other_tie (call_value call.now)) }
 {
     match call {
-        Call::ApplyServer(waiting, op) => turned_delivery(alloc, waiting, op),
+        Call::ApplyServer(waiting, op) => other_tie_delivery(alloc, waiting, op),
         Call::ReceiveOperation(_, op, concurrent) => {
-            Ok(in_log(turned_over(op, concurrent.as_slice())?))
+            Ok(in_log(other_tie_over(op, concurrent.as_slice())?))
         }
         Call::ApplyClient(..) | Call::ServerAck(..) => Ok(nothing()),
     }

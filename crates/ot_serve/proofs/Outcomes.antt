@@ -4,7 +4,7 @@ use Rattle.std.specs.Prelude.{IfSome, IsSome}
 use Rattle.std.proofs.KnownBytes.{Keeps-refl}
 use Rattle.streams.specs.Streams.{WritesPart}
 use Rattle.clap.specs.Words.{Text, takes}
-use Rattle.outcomes.specs.Outcomes.{Streams, memory_fault}
+use Rattle.streams.specs.Outcomes.{Streams, memory_fault}
 use Rattle.ot_words.specs.declared.words.Asked.{Asked}
 use Rattle.ot_words.specs.Requests.{otbench_app, request_of}
 use Rattle.ot_serve.specs.Served.{ServesAsked, ServesWords}

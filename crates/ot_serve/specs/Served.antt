@@ -3,8 +3,8 @@ use Rattle.std.specs.Prelude.{◌≡◌, ◌⊎◌, ℕ, Bool, true, List, Some,
 use Rattle.std.specs.Io.KnownBytes.{Keeps}
 use Rattle.streams.specs.Streams.{WritesPart}
 use Rattle.clap.specs.Words.{Text, takes}
-use Rattle.ot_input.specs.Inputs.{OfText, OfImage}
-use Rattle.outcomes.specs.Outcomes.{Streams, OutOfMemory}
+use Rattle.ot_commands.specs.Inputs.{OfText, OfImage}
+use Rattle.streams.specs.Outcomes.{Streams, OutOfMemory}
 use Rattle.ot_words.specs.Requests.{otbench_app, request_of}
 use Rattle.ot_commands.specs.Ran.{MayReport}
 use Rattle.ot_commands.specs.Completes.{MayComplete}
@@ -18,7 +18,7 @@ use Rattle.ot_commands.specs.Debugged.{Debugs}
 use Rattle.ot_commands.specs.Stepped.{Steps as DoesSteps}
 use Rattle.ot_commands.specs.Explains.{Explains}
 use Rattle.ot_commands.specs.ExplainsImages.{ExplainsImage}
-use Rattle.ot_conform_command.specs.Conformed.{Compares}
+use Rattle.ot_commands.specs.Conformed.{Compares}
 use Rattle.ot_threads.specs.Threaded.{Threads as DoesThreads}
 use Rattle.ot_words.specs.declared.words.Form.TheVariants as form
 use Rattle.ot_words.specs.declared.words.Subject.TheVariants as subject

@@ -1,9 +1,8 @@
 //! The whole program over any reader and two writers, as a library.
 //!
 //! ```text
-//!    words ── ot_words ──▶ Asked ── serve ──▶ ot_commands         run, steps, explain, check, debug, asm, dis, judge, generate, complete
-//!                                    ├──▶ ot_conform_command  conform: a port's lines against the run
-//!                                    └──▶ ot_threads          threads: a plan that workers on threads type, as the schedule that they record
+//!    words ── ot_words ──▶ Asked ── serve ──▶ ot_commands  run, steps, explain, check, debug, asm, dis, judge, generate, complete, conform
+//!                                    └──▶ ot_threads   threads: a plan that workers on threads type, as the schedule that they record
 //! ```
 //!
 //! [`serve`] says by its clause what it writes and answers (`specs/Served.antt`); the program `otbench` hands it the process's own

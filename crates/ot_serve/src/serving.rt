@@ -4,26 +4,24 @@ ghost use Rattle.std.specs.Prelude.{◌≡◌, ◌⊎◌, List, ℕ, IfSome, map
 ghost use Rattle.streams.specs.Streams.{WritesPart};
 ghost use Rattle.clap.specs.Values.{kind_of};
 ghost use Rattle.clap.specs.declared.error.kind.ErrorKind.TheVariants.{OutOfMemory};
-ghost use Rattle.outcomes.specs.Outcomes.{memory_fault};
+ghost use Rattle.streams.specs.Outcomes.{memory_fault};
 ghost use Rattle.ot_serve.specs.Served.{Serves, ServesAsked, ServesWords};
 
 use clap::Error;
 use clap::error::ErrorKind;
 use ot_commands::{
     assemble, check_text, complete_text, debug_text, disassemble_image, explain_plan,
-    explain_trace, generate_session, judge_input, run_explain, run_explain_image, run_image,
-    run_steps, run_text,
+    explain_trace, generate_session, judge_input, run_conform, run_explain, run_explain_image,
+    run_image, run_steps, run_text,
 };
-use ot_conform_command::run_conform;
 use ot_threads::run_threads;
 use ot_words::{Asked, Form, Request, Subject, read_request};
-use outcomes::{complain, complain_of_memory};
 use std::alloc::Global;
 use std::convert::AsStr;
 use std::io::Write;
 use std::sync::Wait;
 use std::thread::Threads;
-use streams::{Sink, Source};
+use streams::{Sink, Source, complain, complain_of_memory};
 
 // Writes `clap`'s text where the words gave no subcommand.
 fn no_matches<F: Write>(alloc: Global, error: &Error, faults: &mut F) -> u8

@@ -48,18 +48,18 @@ pub fn transform_after<T: Element>(
     requires base { op.now.base ≡ base_at entries.now end }
     requires chain { IsChain entries.now end }
     requires fits { op.now.base + inserted_in entries.now + length (news op.now.image) ≤ LIMIT }
-    ensures value { IfOk result (λ carried. carried ≡ transform_over op.now entries.now) }
-    ensures base { IfOk result (λ carried. carried.base ≡ end) }
-    ensures operation { IfOk result (λ carried. IsOperation carried) }
+    ensures value { IfOk result (λ transformed. transformed ≡ transform_over op.now entries.now) }
+    ensures base { IfOk result (λ transformed. transformed.base ≡ end) }
+    ensures operation { IfOk result (λ transformed. IsOperation transformed) }
 {
-    let mut carried = op.copy()?;
+    let mut transformed = op.copy()?;
     for entry in entries {
         // For the proof: the invariant of every operation.
-        let _operation = carried.base_len();
+        let _operation = transformed.base_len();
         let _operation = entry.operation().base_len();
-        transform_in_place(&mut carried, entry.operation())?;
+        transform_in_place(&mut transformed, entry.operation())?;
     }
     // For the proof: the invariant of every operation.
-    let _operation = carried.base_len();
-    Ok(carried)
+    let _operation = transformed.base_len();
+    Ok(transformed)
 }

@@ -111,8 +111,8 @@ impl<T: Element> Server<T> {
         ensures ok { OnOk result (self.new ≡ received self.old maker revision op.now) }
         ensures err { OnErr result (self.new ≡ self.old) }
     {
-        let carried = self.after_log(revision, op)?;
-        self.append(maker, carried)?;
+        let transformed = self.after_log(revision, op)?;
+        self.append(maker, transformed)?;
         Ok(())
     }
 
@@ -151,9 +151,9 @@ impl<T: Element> Server<T> {
     // The operation after the entries from the revision on, or why it is not received.
     fn after_log(&self, revision: u32, op: &TextOp<T>) -> Result<TextOp<T>, ServerFault>
         ensures fault { Names result (fault_of self.now revision op.now) }
-        ensures value { IfOk result (λ carried. carried ≡ transform_over op.now (drop revision self.now.log)) }
-        ensures base { IfOk result (λ carried. carried.base ≡ length self.now.document) }
-        ensures operation { IfOk result (λ carried. IsOperation carried) }
+        ensures value { IfOk result (λ transformed. transformed ≡ transform_over op.now (drop revision self.now.log)) }
+        ensures base { IfOk result (λ transformed. transformed.base ≡ length self.now.document) }
+        ensures operation { IfOk result (λ transformed. IsOperation transformed) }
         ensures room { OnOk result (length self.now.log < LOG_LIMIT) }
     {
         let count = self.log.len();

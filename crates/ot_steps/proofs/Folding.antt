@@ -12,7 +12,7 @@ use Rattle.ot_isa.specs.declared.instruction.Instr.{Instr}
 use Rattle.ot_isa.specs.declared.instruction.Instr.TheVariants.{Edit, Take, Deliver, Acknowledge, Join, Read, ReadServer}
 use Rattle.ot_isa.specs.Tagging.{chars_of, tagged_chars, tagged_items}
 use Rattle.ot_model.specs.Operation.{Item, Old, New, Operation}
-use Rattle.ot_model.specs.Table.{Phase, NotJoined, Synchronized, AwaitingConfirm, AwaitingWithBuffer, Client, Entry, Message, State, Head, Op, Outcome, Performed, Refused, NoRow, acknowledged, carried, delivered, downlink, edited, head_for, is_joined, joined, step, tag_operation, taken, with_row}
+use Rattle.ot_model.specs.Table.{Phase, NotJoined, Synchronized, AwaitingConfirm, AwaitingWithBuffer, Client, Entry, Message, State, Head, Op, Outcome, Performed, Refused, NoRow, acknowledged, against_pending, delivered, downlink, edited, head_for, is_joined, joined, step, tag_operation, taken, with_row}
 use Rattle.ot_model.specs.Table as table
 use Rattle.ot_model.proofs.Outcomes.{by_edit, by_take, by_deliver, by_acknowledge, by_join, by_read, by_read_server}
 use Rattle.ot_model.proofs.States.{slice_get-set_same, drop_entry}
@@ -142,7 +142,7 @@ module _ (documents : Bool) (at : ℕ) (s : State) (c : ℕ) (x : Client) (here 
   fold_deliver h on head other =
       let y = delivered x h.op in
       rw (told_here s c x here, client_here s c x here, client_then s c x y here, head_is s c x h on head other)
-      (client_set s c y _ (same_parts y _ _ (apply_plain (carried x.phase h.op) x.list) refl))
+      (client_set s c y _ (same_parts y _ _ (apply_plain (against_pending x.phase h.op) x.list) refl))
 
   -- an acknowledgement
   fold_acknowledge : (phase : Phase) → x.phase ≡ phase → IsFolded documents at (Acknowledge c) s (with_row s c (acknowledged x phase))

@@ -8,7 +8,7 @@ use Rattle.ot_isa.specs.declared.instruction.Instr.TheVariants.{Edit, Take, Deli
 use Rattle.ot_model.specs.declared.shown.Refusal.{Refusal}
 use Rattle.ot_model.specs.declared.shown.Shown.{Shown}
 use Rattle.ot_model.specs.Operation.{Operation}
-use Rattle.ot_model.specs.Table.{Phase, NotJoined, Synchronized, AwaitingConfirm, AwaitingWithBuffer, Client, absent, State, Entry, Head, Ack, Op, Performed, Refused, NoRow, carried, downlink, is_joined, step}
+use Rattle.ot_model.specs.Table.{Phase, NotJoined, Synchronized, AwaitingConfirm, AwaitingWithBuffer, Client, absent, State, Entry, Head, Ack, Op, Performed, Refused, NoRow, against_pending, downlink, is_joined, step}
 use Rattle.ot_model.specs.Runs.{opening_of}
 use Rattle.ot_machine.specs.Readers.{phase_name}
 use Rattle.ot_machine.specs.declared.state.Phase as shown
@@ -59,13 +59,13 @@ sends (Read c) s = false
 sends ReadServer s = false
 
 -- what a client makes of the message at the head of its downlink, if that is another's operation
-abbrev pub carried_head : Phase → Option Head → Option (Operation ℕ)
-carried_head phase None = None
-carried_head phase (Some Ack) = None
-carried_head phase (Some (Op op)) = Some (plain_operation (carried phase op))
+abbrev pub against_pending_head : Phase → Option Head → Option (Operation ℕ)
+against_pending_head phase None = None
+against_pending_head phase (Some Ack) = None
+against_pending_head phase (Some (Op op)) = Some (plain_operation (against_pending phase op))
 
 abbrev pub delivers : State → ℕ → Option (Operation ℕ)
-delivers s c = carried_head (client_in s c).phase (slice_get (downlink s c (client_in s c)) 0)
+delivers s c = against_pending_head (client_in s c).phase (slice_get (downlink s c (client_in s c)) 0)
 
 -- the operation that an instruction applies to the client's document by a delivery
 abbrev pub applies : Instr → State → Option (Operation ℕ)

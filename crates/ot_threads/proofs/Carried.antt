@@ -5,7 +5,7 @@ use Rattle.std.specs.List.{All}
 use Rattle.std.proofs.lemmas.Option.{get_or_from_slice_get, slice_get_within}
 use Rattle.ot_model.specs.Table.{Client}
 use Rattle.ot_model.proofs.Steps.{each_opening}
-use Rattle.ot_typing.specs.Typing.{Action}
+use Rattle.ot_plan.specs.Typing.{Action}
 use Rattle.ot_plan.specs.Plan.{PlanView, IsPlan, AreActions}
 use Rattle.ot_board.specs.Boards.{BoardView, fresh}
 use Rattle.ot_workers.specs.Sharing.{MayShare, MayType}

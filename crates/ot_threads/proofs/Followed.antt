@@ -17,7 +17,7 @@ use Rattle.ot_model.specs.Table.{Client, State, Place, Performed, Refused, step,
 use Rattle.ot_model.specs.Runs.{done, place_at}
 use Rattle.ot_model.proofs.States.{take_entry}
 use Rattle.ot_model.proofs.Runs.{run-append, place_at-next, reaches}
-use Rattle.ot_typing.specs.Typing.{Action, edit_of}
+use Rattle.ot_plan.specs.Typing.{Action, edit_of}
 use Rattle.ot_plan.specs.Plan.{PlanView}
 use Rattle.ot_threads.specs.Follows.{is_edit_of, edits, actions_of, IsTyped, EndsQuiet, Follows}
 use Rattle.ot_threads.specs.Stepping.{IsEdit, IsNext, counted, AreComplete}

@@ -6,7 +6,7 @@ use Rattle.ot_isa.specs.declared.instruction.Instr.TheVariants.{Edit, Take, Deli
 use Rattle.ot_model.specs.Operation.{Operation}
 use Rattle.ot_model.specs.Table.{Client, Place, IsQuiet}
 use Rattle.ot_model.specs.Runs.{place_at}
-use Rattle.ot_typing.specs.Typing.{Action, edit_of}
+use Rattle.ot_plan.specs.Typing.{Action, edit_of}
 use Rattle.ot_plan.specs.Plan.{PlanView}
 
 -- whether an instruction is an edit of this client

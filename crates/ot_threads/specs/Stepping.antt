@@ -4,7 +4,7 @@ use Rattle.ot_isa.specs.declared.instruction.Instr.{Instr}
 use Rattle.ot_isa.specs.declared.instruction.Instr.TheVariants.{Edit, Take, Deliver, Acknowledge, Read, Join, ReadServer}
 use Rattle.ot_model.specs.Operation.{Operation}
 use Rattle.ot_model.specs.Table.{Client, State}
-use Rattle.ot_typing.specs.Typing.{Action, edit_of}
+use Rattle.ot_plan.specs.Typing.{Action, edit_of}
 use Rattle.ot_plan.specs.Plan.{PlanView}
 use Rattle.ot_threads.specs.Follows.{actions_of}
 

@@ -1,7 +1,7 @@
 -- What `threads` writes and answers.
 use Rattle.std.specs.Prelude.{◌≡◌, ◌≢◌, ◌⊎◌, ℕ, ◌<◌, List, [], ◌∷◌, ◌++◌, length, Bool, true, Ok, Err, codes}
 use Rattle.std.specs.Str.{is_utf8}
-use Rattle.outcomes.specs.Outcomes.{Streams, Gives, GivesUp, Refuses, OutOfMemory, memory_fault}
+use Rattle.streams.specs.Outcomes.{Streams, Gives, GivesUp, Refuses, OutOfMemory, memory_fault}
 use Rattle.ot_board.specs.declared.auditing.AuditFault.{AuditFault}
 use Rattle.ot_board.specs.declared.auditing.AuditFault.TheVariants as audit
 use Rattle.ot_board.specs.Boards.{BoardView}

@@ -1,7 +1,7 @@
 //! A plan carried out by workers.
 
 ghost use Rattle.std.specs.Prelude.{◌≡◌, IfOk, map};
-ghost use Rattle.ot_typing.specs.Typing.{action_view, row_view, typing_view};
+ghost use Rattle.ot_plan.specs.Typing.{action_view, row_view, typing_view};
 ghost use Rattle.ot_threads.specs.Concluded.{AreLeft};
 
 use ot_board::Board;

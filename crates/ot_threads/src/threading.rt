@@ -11,12 +11,11 @@ use ot_asm::read_text;
 use ot_board::Board;
 use ot_plan::{Plan, PlanFault, fault_line, read_plan};
 use ot_workers::WorkerEnd;
-use outcomes::{complain, complain_of_input, complain_of_memory, give};
 use std::alloc::Global;
 use std::io::Write;
 use std::sync::Wait;
 use std::thread::Threads;
-use streams::{Sink, Source};
+use streams::{Sink, Source, complain, complain_of_input, complain_of_memory, give};
 
 // The plan that the bytes are.
 fn plan_in(alloc: Global, bytes: &[u8]) -> Result<Plan, PlanFault>

@@ -7,8 +7,8 @@ use Rattle.std.proofs.lemmas.Bool.{cases_lt}
 use Rattle.std.proofs.lemmas.List.{length-map}
 use Rattle.std.proofs.lemmas.List.Sums.{sum_by-cons}
 use Rattle.std.proofs.lemmas.Option.{same_Some, slice_get-get_or, slice_get-map, slice_get_within}
-use Rattle.ot_typing.specs.declared.typing.Typing.{Typing}
-use Rattle.ot_typing.specs.Typing.{Action, action_view, inserted, row_view, typing_view}
+use Rattle.ot_plan.specs.declared.typing.Typing.{Typing}
+use Rattle.ot_plan.specs.Typing.{Action, action_view, inserted, row_view, typing_view}
 use Rattle.ot_board.specs.Boards.{BoardView}
 use Rattle.ot_workers.specs.Sharing.{MayShare, MayType}
 

@@ -3,7 +3,7 @@ use Rattle.std.proofs.Common.{◌≡◌, ℕ, zero, suc, ◌-◌, ◌<◌, ◌�
 use Rattle.std.specs.Prelude.{slice_get}
 use Rattle.std.proofs.lemmas.Option.{same_Some, slice_get_within}
 use Rattle.ot_model.specs.Table.{Client, start_list, present_with, absent}
-use Rattle.ot_typing.specs.Typing.{Action, inserted}
+use Rattle.ot_plan.specs.Typing.{Action, inserted}
 use Rattle.ot_board.specs.Boards.{fresh}
 use Rattle.ot_workers.specs.Sharing.{MayShare}
 

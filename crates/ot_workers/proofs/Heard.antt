@@ -17,7 +17,7 @@ use Rattle.ot_model.specs.Part.{Part, PartOutcome, PartPerformed, PartRefused, P
 use Rattle.ot_model.specs.Session.{Session, IsAllowed, installed, or_else}
 use Rattle.ot_model.proofs.Fitting.{lengths_fit}
 use Rattle.ot_model.proofs.Sessions.{present_sound, goes_on}
-use Rattle.ot_typing.specs.Typing.{Action, edit_of}
+use Rattle.ot_plan.specs.Typing.{Action, edit_of}
 use Rattle.ot_board.specs.Sessions.{IsNext, IsNextHead}
 use Rattle.ot_workers.specs.Playing.{step_for, heard, part_after, typed_on, HasMade, HasHeard, IsCutShort}
 

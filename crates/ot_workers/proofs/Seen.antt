@@ -8,7 +8,7 @@ use Rattle.std.proofs.lemmas.Option.{same_Some}
 use Rattle.ot_model.specs.Table.{Client, State}
 use Rattle.ot_model.proofs.States.{slice_get-set_other}
 use Rattle.ot_machine.specs.Readers.{ClientHas}
-use Rattle.ot_typing.specs.declared.typing.Typing.{Typing}
+use Rattle.ot_plan.specs.declared.typing.Typing.{Typing}
 use Rattle.ot_board.specs.Boards.{BoardView}
 use Rattle.ot_workers.specs.declared.choosing.Seat.{Seat}
 use Rattle.ot_workers.specs.Turns.{AreSeen, IsSeen, next_action}

@@ -1,7 +1,7 @@
 -- Which client a worker's turn goes on with.
 use Rattle.std.specs.Prelude.{◌≡◌, ℕ, zero, suc, ◌+◌, ◌%◌, List, length, slice_index_or, false, ◌||◌, Option, Some, None, option_copied, if◌then◌else◌}
 use Rattle.ot_model.specs.Session.{Session}
-use Rattle.ot_typing.specs.declared.typing.Typing.{Typing}
+use Rattle.ot_plan.specs.declared.typing.Typing.{Typing}
 use Rattle.ot_workers.specs.declared.choosing.Seat.{Seat}
 use Rattle.ot_workers.specs.declared.choosing.Way.{Way}
 use Rattle.ot_workers.specs.declared.choosing.Way.TheVariants.{PickUp, Lend, Join}

@@ -8,7 +8,7 @@ use Rattle.ot_model.specs.declared.shown.Refusal.TheVariants as table
 use Rattle.ot_model.specs.Table.{Head, Ack, Op}
 use Rattle.ot_model.specs.Part.{Part, Leads, PartRefused, part_row, run_part}
 use Rattle.ot_model.specs.Session.{Session}
-use Rattle.ot_typing.specs.Typing.{Action, action_view, edit_of}
+use Rattle.ot_plan.specs.Typing.{Action, action_view, edit_of}
 use Rattle.ot_board.specs.Sessions.{IsNext}
 use Rattle.ot_workers.specs.declared.fault.WorkFault.{WorkFault}
 use Rattle.ot_workers.specs.declared.fault.WorkFault.TheVariants.{RecordFull, Stopped, Memory, Refused}

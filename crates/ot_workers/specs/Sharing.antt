@@ -1,7 +1,7 @@
 -- What a board and its users' actions have to be for workers to share them.
 use Rattle.std.specs.Prelude.{◌≡◌, ℕ, ◌+◌, ◌≤◌, List, length, slice_get, Some, false}
 use Rattle.ot_model.specs.Table.{Client}
-use Rattle.ot_typing.specs.Typing.{Action, inserted}
+use Rattle.ot_plan.specs.Typing.{Action, inserted}
 use Rattle.ot_board.specs.Boards.{BoardView}
 use Rattle.ot_isa.specs.declared.tagging.TheConstants.{INSERTED_LIMIT}
 

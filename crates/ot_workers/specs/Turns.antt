@@ -7,7 +7,7 @@ use Rattle.ot_isa.specs.declared.instruction.Instr.TheVariants.{Join as Joins}
 use Rattle.ot_model.specs.Table.{Client, State, downlink, is_joined}
 use Rattle.ot_model.specs.Session.{Session}
 use Rattle.ot_machine.specs.Readers.{ClientHas}
-use Rattle.ot_typing.specs.declared.typing.Typing.{Typing}
+use Rattle.ot_plan.specs.declared.typing.Typing.{Typing}
 use Rattle.ot_board.specs.declared.receipt.Receipt.{Receipt}
 use Rattle.ot_board.specs.Boards.{BoardView, IsBegun, IsRecorded, with_out, with_parked}
 use Rattle.ot_board.specs.Lents.{session_of}

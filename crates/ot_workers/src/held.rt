@@ -8,7 +8,7 @@ ghost use Rattle.ot_workers.specs.Playing.{MayPlay};
 use crate::choosing::Way;
 use crate::playing::Task;
 use ot_board::Lent;
-use ot_typing::Typing;
+use ot_plan::Typing;
 
 /// A session, and what is to be done with it off the lock.
 pub(crate) struct Held<'a> {

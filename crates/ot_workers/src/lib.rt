@@ -45,7 +45,7 @@ pub use ot_board::{
     AuditFault, Board, BoardRefusal, ClientState, EditedState, Finished, Lent, Receipt, Replayed,
     SESSION_LIMIT, Session, SessionRefusal, SettleRefusal, StillOut, audit,
 };
-pub use ot_typing::Typing;
+pub use ot_plan::Typing;
 pub use playing::{Task, play};
 pub use shared::Shared;
 pub use sharing::{ACTION_LIMIT, can_share};

@@ -4,7 +4,7 @@ ghost use Rattle.std.specs.Prelude.{◌≡◌, ◌<◌, None, Some, length, IfEr
 ghost use Rattle.ot_isa.specs.declared.instruction.Instr.TheVariants.{Edit, Read as ReadStep};
 ghost use Rattle.ot_board.specs.Sessions.{IsNext};
 ghost use Rattle.ot_board.specs.Lents.{session_of};
-ghost use Rattle.ot_typing.specs.Typing.{action_view, edit_of};
+ghost use Rattle.ot_plan.specs.Typing.{action_view, edit_of};
 ghost use Rattle.ot_workers.specs.Playing.{heard, turn_steps, HasHeard, HasMade, IsCutShort, IsEnterFault, IsPlayFault, MayPlay};
 ghost use Rattle.ot_workers.specs.declared.playing.Task.TheVariants as Task;
 ghost use Rattle.ot_model.specs.declared.limits.TheConstants.{SESSION_LIMIT};
@@ -13,8 +13,8 @@ use crate::fault::WorkFault;
 use crate::gate::Gate;
 use crate::session_calls::{acknowledge, deliver, edit, read};
 use ot_board::{Lent, SessionRefusal};
+use ot_plan::Typing;
 use ot_text::OpRefusal;
-use ot_typing::Typing;
 use std::alloc::Global;
 
 /// How many messages a turn delivers or acknowledges at most.

@@ -1,12 +1,12 @@
 //! One lock round a board.
 
 ghost use Rattle.std.specs.Prelude.{◌≡◌, IfErr};
-ghost use Rattle.ot_typing.specs.Typing.{typing_view};
+ghost use Rattle.ot_plan.specs.Typing.{typing_view};
 ghost use Rattle.ot_workers.specs.Sharing.{MayShare};
 
 use crate::choosing::Seat;
 use ot_board::Board;
-use ot_typing::Typing;
+use ot_plan::Typing;
 use std::alloc::{AllocError, Global};
 use std::sync::{Condvar, Mutex, Wait};
 

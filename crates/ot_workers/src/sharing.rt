@@ -1,12 +1,12 @@
 //! Whether workers may share a board.
 
 ghost use Rattle.std.specs.Prelude.{◌≡◌, ◌<◌, ◌≤◌, ◌↔◌, length, map, IsTrue};
-ghost use Rattle.ot_typing.specs.Typing.{action_view, inserted, typing_view};
+ghost use Rattle.ot_plan.specs.Typing.{action_view, inserted, typing_view};
 ghost use Rattle.ot_workers.specs.Sharing.{MayShare, MayType};
 
 use ot_board::Board;
 use ot_machine::INSERTED_LIMIT;
-use ot_typing::Typing;
+use ot_plan::Typing;
 
 /// How many actions a client's user has at most.
 pub const ACTION_LIMIT: usize = 1_000;

@@ -13,7 +13,7 @@ use crate::held::{Held, in_hand};
 use crate::playing::Task;
 use crate::shared::Inside;
 use ot_board::{Board, Lent, Receipt, Replayed};
-use ot_typing::Typing;
+use ot_plan::Typing;
 
 /// What a turn comes to under the lock.
 pub(crate) enum Next<'a> {

@@ -1,9 +1,10 @@
-//! Whole reads and whole writes over any reader and writer, each error of the device a fault.
+//! Bytes in and out, over any reader and writer: whole reads and whole writes, lines, and what a subcommand leaves. Each error of the device is a fault.
 //!
 //! std's `write_all` and `read_to_end` try an `Interrupted` call again, and say nothing of the bytes at an error. [`put`] and
 //! [`Source::read_whole`] call `write` and `read` themselves: `Interrupted` is a fault, and so is a write that takes no byte; and after a
 //! fault the writer has got a first part of the bytes (`WritesPart`), the reader has lost bytes at its front (`Loses`).
-//! Both definitions stand in `specs/Streams.antt`.
+//! Both definitions stand in `specs/Streams.antt`. [`ReadAhead`] (`ahead.rt`) takes one line of a reader at a time, and `outcomes.rt` has what a
+//! subcommand leaves on its output, on the faults and as its status.
 //!
 //! ```text
 //!    Device<D> ── Sink::put ──────────▶ failed: a write has failed
@@ -14,11 +15,18 @@
 //! function over one can ensure that it speaks of a fault only where there was one. [`Device`] is both, over any reader or writer.
 #![tactic(auto)]
 
+mod ahead;
+mod outcomes;
+mod splitting;
+
 ghost use Rattle.std.specs.Prelude.{◌≡◌, ◌≤◌, ℕ, List, length, Bool, true, false, IfSome, IfOk, IfErr, OnOk, OnErr, vec_len};
 ghost use Rattle.std.specs.Io.KnownBytes.{Appends, Consumes, IsAtEnd};
 ghost use Rattle.streams.specs.Streams.{WritesPart, Loses};
 ghost use Rattle.streams.specs.declared.InputFault.TheVariants.{Memory, Read as ReadFault};
 
+pub use ahead::{LineFault, MOST_BYTES, ReadAhead};
+pub use outcomes::{complain, complain_of_input, complain_of_memory, give};
+pub use splitting::split_line;
 use std::alloc::{AllocError, Global};
 use std::io;
 use std::io::{Read, Write};

@@ -1,6 +1,6 @@
 use Rattle.std.proofs.Common.{◌≡◌, ◌∙◌, length, arith, rules, inr}
 use Rattle.std.proofs.lemmas.Result.{IfOk-weaker, IfErr-weaker}
-use Rattle.line_reader.specs.Lines.{lines_of}
+use Rattle.streams.specs.Lines.{lines_of}
 use Rattle.ot_asm.proofs.Running.{started, stepped, faulted, wanting, at_last, fault_of, fault_is, no_lines}
 use Rattle.ot_asm.proofs.assembling.assembled.Goals as goal
 

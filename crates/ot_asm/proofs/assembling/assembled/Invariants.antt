@@ -1,5 +1,5 @@
 use Rattle.std.proofs.Common.{◌≤◌, ◌+◌, length}
-use Rattle.line_reader.specs.Lines.{lines_of}
+use Rattle.streams.specs.Lines.{lines_of}
 use Rattle.ot_asm.proofs.Running.{HasRead}
 use Rattle.ot_asm.proofs.assembling.assembled.Given as goal
 

@@ -1,8 +1,8 @@
 use Rattle.std.proofs.Common.{length, ap, ◌∙◌, arith, refl}
 use Rattle.std.proofs.Math.Seq.{take_all}
 use Rattle.std.proofs.lemmas.List.{drop_all}
-use Rattle.line_reader.specs.Lines.{lines_of}
-use Rattle.line_reader.proofs.Ends.{lines_piece}
+use Rattle.streams.specs.Lines.{lines_of}
+use Rattle.streams.proofs.Ends.{lines_piece}
 use Rattle.ot_asm.proofs.Running.{whole_line}
 use Rattle.ot_asm.proofs.assembling.first_line.Goals as goal
 

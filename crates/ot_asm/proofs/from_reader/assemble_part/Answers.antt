@@ -1,6 +1,6 @@
 use Rattle.std.proofs.Common.{inl, ◌≡◌, ◌<◌, ◌&&◌, true, false, rules, arith, Ok, Err}
 use Rattle.std.proofs.lemmas.Result.{IfOk-weaker, IfErr-weaker}
-use Rattle.line_reader.specs.Taken.{may_take, before}
+use Rattle.streams.specs.Taken.{may_take, before}
 use Rattle.ot_asm.specs.Parts.{is_mark}
 use Rattle.ot_asm.proofs.Known.{started_known, stepped_known, faulted_known, wanting_known, marked_known, marked_part, ended_known, ended_part, spends_none, spends_more, other_fault, named, on_ok}
 use Rattle.ot_asm.proofs.from_reader.assemble_part.Goals as goal

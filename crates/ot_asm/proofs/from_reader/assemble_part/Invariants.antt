@@ -1,5 +1,5 @@
 use Rattle.std.proofs.Common.{◌≤◌, ◌+◌}
-use Rattle.line_reader.specs.Taken.{may_take, before, Spends}
+use Rattle.streams.specs.Taken.{may_take, before, Spends}
 use Rattle.ot_asm.proofs.Known.{IsTakenKnown}
 use Rattle.ot_asm.proofs.from_reader.assemble_part.Given as goal
 

@@ -3,7 +3,7 @@ use Rattle.std.proofs.KnownBytes.{Keeps-refl}
 use Rattle.ot_judge.specs.Making.{is_full}
 use Rattle.ot_model.specs.Events.{trace_of}
 use Rattle.ot_report.specs.Findings.{findings}
-use Rattle.outcomes.specs.Outcomes.{Puts}
+use Rattle.streams.specs.Outcomes.{Puts}
 use Rattle.ot_commands.specs.Checked.{check_status}
 use Rattle.ot_commands.proofs.checking.report_findings.Goals as goal
 

@@ -1,6 +1,6 @@
 use Rattle.std.proofs.Common.{◌∙◌, List, ℕ, subst, inl}
 use Rattle.std.proofs.KnownBytes.{Keeps-refl}
-use Rattle.outcomes.specs.Outcomes.{Puts}
+use Rattle.streams.specs.Outcomes.{Puts}
 use Rattle.ot_commands.proofs.converting.give_image.Goals as goal
 
 pub returns : goal.returns

@@ -1,4 +1,4 @@
-use Rattle.line_reader.specs.Taken.{before}
+use Rattle.streams.specs.Taken.{before}
 use Rattle.ot_commands.proofs.Looped.{converses, breaks_off}
 use Rattle.ot_commands.proofs.debugging.converse.Goals as goal
 

@@ -1,4 +1,4 @@
-use Rattle.line_reader.specs.Taken.{before}
+use Rattle.streams.specs.Taken.{before}
 use Rattle.ot_commands.proofs.Looped.{debugged}
 use Rattle.ot_commands.proofs.debugging.debug_text.Goals as goal
 

@@ -1,8 +1,8 @@
 use Rattle.std.proofs.Common.{◌∙◌, ◌++◌, List, ℕ, subst, inl}
 use Rattle.std.proofs.KnownBytes.{Keeps-refl}
 use Rattle.ot_report.specs.Verdicts.{verdict_line}
-use Rattle.ot_verdict_words.specs.Words.{verdict_words}
-use Rattle.outcomes.specs.Outcomes.{Puts}
+use Rattle.ot_report.specs.Words.{verdict_words}
+use Rattle.streams.specs.Outcomes.{Puts}
 use Rattle.ot_commands.proofs.explaining.tell_verdict.Goals as goal
 
 pub returns : goal.returns

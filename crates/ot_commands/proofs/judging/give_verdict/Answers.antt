@@ -1,7 +1,7 @@
 use Rattle.std.proofs.Common.{◌∙◌, List, ℕ, subst, inl}
 use Rattle.std.proofs.KnownBytes.{Keeps-refl}
 use Rattle.ot_report.specs.Verdicts.{verdict_line}
-use Rattle.outcomes.specs.Outcomes.{Puts}
+use Rattle.streams.specs.Outcomes.{Puts}
 use Rattle.ot_commands.proofs.judging.give_verdict.Goals as goal
 
 pub returns : goal.returns

@@ -1,5 +1,5 @@
 use Rattle.std.proofs.Common.{◌∙◌, List, ℕ, inl, subst}
-use Rattle.outcomes.specs.Outcomes.{Streams}
+use Rattle.streams.specs.Outcomes.{Streams}
 use Rattle.ot_commands.specs.Explains.{ExplainsText}
 use Rattle.ot_commands.proofs.telling.explain_canonical.Goals as goal
 

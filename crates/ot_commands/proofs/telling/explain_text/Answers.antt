@@ -1,7 +1,7 @@
 use Rattle.std.proofs.Common.{◌∙◌, List, ℕ, inl, inr, refl, subst}
 use Rattle.std.proofs.KnownBytes.{Keeps-refl}
-use Rattle.outcomes.specs.Outcomes.{Streams}
-use Rattle.ot_names.specs.Comments.{Said, comments_of}
+use Rattle.streams.specs.Outcomes.{Streams}
+use Rattle.ot_asm.specs.Comments.{Said, comments_of}
 use Rattle.ot_commands.specs.Explains.{MayExplain}
 use Rattle.ot_commands.proofs.telling.explain_text.Goals as goal
 

@@ -1,5 +1,5 @@
 use Rattle.std.proofs.Common.{◌≡◌, ◌+◌, ◌-◌, ◌^◌, ◌<◌, min, arith, subst, List, [], ◌∷◌, ℕ}
-use Rattle.line_reader.specs.Taken.{before, may_take}
+use Rattle.streams.specs.Taken.{before, may_take}
 use Rattle.ot_conform.specs.Compared.{Leads}
 use Rattle.ot_conform.specs.Ports.{counted_lines}
 use Rattle.ot_conform.proofs.Leading.{decided, finished, goes_further, is_begun, memory_at_first}

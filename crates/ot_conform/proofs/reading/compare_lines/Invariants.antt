@@ -1,5 +1,5 @@
 use Rattle.std.proofs.Common.{◌≤◌, ◌+◌}
-use Rattle.line_reader.specs.Taken.{may_take, before}
+use Rattle.streams.specs.Taken.{may_take, before}
 use Rattle.ot_conform.proofs.Leading.{IsUnderWay}
 use Rattle.ot_conform.proofs.reading.compare_lines.Given as goal
 

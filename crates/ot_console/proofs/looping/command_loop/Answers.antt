@@ -1,5 +1,5 @@
 use Rattle.std.proofs.Common.{◌<◌, arith}
-use Rattle.line_reader.specs.Taken.{before, may_take}
+use Rattle.streams.specs.Taken.{before, may_take}
 use Rattle.ot_console.proofs.Loops.{ended, one_more, write_stopped}
 use Rattle.ot_console.proofs.looping.command_loop.Goals as goal
 

@@ -1,5 +1,5 @@
 use Rattle.std.proofs.Common.{◌≤◌, ◌+◌}
-use Rattle.line_reader.specs.Taken.{may_take, before}
+use Rattle.streams.specs.Taken.{may_take, before}
 use Rattle.ot_console.proofs.Loops.{IsLooped}
 use Rattle.ot_console.proofs.looping.command_loop.Given as goal
 

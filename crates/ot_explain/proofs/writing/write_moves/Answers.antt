@@ -5,7 +5,7 @@ use Rattle.streams.specs.Streams.{WritesPart}
 use Rattle.ot_model.specs.Table.{step}
 use Rattle.ot_model.specs.declared.shown.Refusal.{Refusal}
 use Rattle.ot_machine.specs.Answers.{IsRefusal}
-use Rattle.ot_names.specs.Named.{named}
+use Rattle.ot_asm.specs.Named.{named}
 use Rattle.ot_explain.specs.Explained.{IsMove, MovesUpTo, line_at}
 use Rattle.ot_steps.specs.declared.writing.StepsFault.{StepsFault}
 use Rattle.ot_steps.specs.declared.writing.StepsFault.TheVariants.{Memory, WriteFault}

@@ -1,8 +1,8 @@
 use Rattle.std.proofs.Common.{◌≡◌, drop, ◌++◌}
 use Rattle.std.specs.Prelude.{option_map}
 use Rattle.serde_json.specs.View.{items_view}
-use Rattle.json_fields.specs.Fields.{all_of}
-use Rattle.ot_typing.specs.Typing.{row_view}
+use Rattle.ot_json.specs.Fields.{all_of}
+use Rattle.ot_plan.specs.Typing.{row_view}
 use Rattle.ot_plan.specs.Layout.{action_in_range}
 use Rattle.ot_plan.proofs.reading.actions_from.Given as goal
 

@@ -1,8 +1,8 @@
 use Rattle.std.proofs.Common.{◌≡◌, sym, ◌∙◌, ap, subst}
 use Rattle.std.specs.Prelude.{Some, None, option_map}
-use Rattle.json_fields.proofs.Lists.{some-same}
+use Rattle.ot_json.proofs.Lists.{some-same}
 use Rattle.ot_plan.specs.Plan.{IsPlan}
-use Rattle.ot_typing.specs.Typing.{typing_view}
+use Rattle.ot_plan.specs.Typing.{typing_view}
 use Rattle.ot_plan.proofs.Surveyed.{ready, made-is}
 use Rattle.ot_plan.proofs.reading.plan_from.Goals as goal
 

@@ -1,7 +1,7 @@
 use Rattle.std.proofs.Common.{◌≡◌, ◌+◌, ◌-◌, ◌^◌, ◌≤◌, drop, true}
 use Rattle.std.specs.Prelude.{option_map}
 use Rattle.serde_json.specs.View.{items_view}
-use Rattle.json_fields.specs.Fields.{all_of}
+use Rattle.ot_json.specs.Fields.{all_of}
 use Rattle.ot_plan.specs.Reading.{action_of}
 use Rattle.ot_plan.proofs.Surveyed.{counted}
 use Rattle.ot_plan.proofs.survey.survey_items.Given as goal

@@ -1,7 +1,7 @@
 use Rattle.std.proofs.Common.{◌≡◌, drop}
 use Rattle.std.specs.Prelude.{option_map}
 use Rattle.serde_json.specs.View.{items_view}
-use Rattle.json_fields.specs.Fields.{all_of}
+use Rattle.ot_json.specs.Fields.{all_of}
 use Rattle.ot_plan.specs.Reading.{row_of}
 use Rattle.ot_plan.specs.Layout.{both, rows_survey}
 use Rattle.ot_plan.proofs.survey.survey_rows.Given as goal

@@ -1,5 +1,5 @@
 use Rattle.std.proofs.Common.{◌≡◌, take, ◌^◌, ◌-◌, min}
-use Rattle.ot_typing.specs.Typing.{typing_view}
+use Rattle.ot_plan.specs.Typing.{typing_view}
 use Rattle.ot_reasons.specs.PlanWords.{action_count}
 use Rattle.ot_reasons.proofs.plan_words.action_count.Given as goal
 

@@ -1,5 +1,5 @@
 use Rattle.std.proofs.Common.{◌∙◌, ◌^◌, ◌-◌, List, ap, min, sym}
-use Rattle.ot_typing.specs.Typing.{Action}
+use Rattle.ot_plan.specs.Typing.{Action}
 use Rattle.ot_reasons.specs.PlanWords.{action_count}
 use Rattle.ot_reasons.proofs.PlanExact.{few-actions}
 use Rattle.ot_reasons.proofs.plan_words.actions_of.Goals as goal

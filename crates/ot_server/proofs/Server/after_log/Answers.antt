@@ -1,5 +1,5 @@
 use Rattle.std.proofs.Common.{length, arith}
-use Rattle.ot_server.proofs.Carried.{slice_rest, chain_drop}
+use Rattle.ot_server.proofs.Transformed.{slice_rest, chain_drop}
 use Rattle.ot_server.proofs.Server.after_log.Goals as goal
 
 pub transform_after-requires-clause-chain : goal.transform_after-requires-clause-chain

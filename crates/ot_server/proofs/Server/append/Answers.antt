@@ -1,5 +1,5 @@
 use Rattle.std.proofs.Common.{◌≡◌, ◌<◌, ◌∷◌, [], length, length-append, arith}
-use Rattle.ot_server.proofs.Carried.{chain_received}
+use Rattle.ot_server.proofs.Transformed.{chain_received}
 use Rattle.ot_server.proofs.Server.append.Goals as goal
 
 pub invariant_of-self-2 : goal.invariant_of-self-2

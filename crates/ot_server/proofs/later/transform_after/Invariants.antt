@@ -1,5 +1,5 @@
-use Rattle.ot_server.proofs.Carried.{IsCarried}
+use Rattle.ot_server.proofs.Transformed.{IsTransformed}
 use Rattle.ot_server.proofs.later.transform_after.Given as goal
 
 abbrev pub invariant-loop-entry : goal.invariant-loop-entry
-invariant-loop-entry g l = IsCarried l.op l.entries l.end l.entry-index l.carried
+invariant-loop-entry g l = IsTransformed l.op l.entries l.end l.entry-index l.transformed

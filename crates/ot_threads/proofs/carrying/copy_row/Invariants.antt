@@ -1,6 +1,6 @@
 use Rattle.std.proofs.Common.{◌≡◌, ◌++◌, drop}
 use Rattle.std.specs.Prelude.{map}
-use Rattle.ot_typing.specs.Typing.{action_view, row_view}
+use Rattle.ot_plan.specs.Typing.{action_view, row_view}
 use Rattle.ot_threads.proofs.carrying.copy_row.Given as goal
 
 abbrev pub invariant-loop-action : goal.invariant-loop-action

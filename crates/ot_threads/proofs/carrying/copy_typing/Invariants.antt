@@ -1,5 +1,5 @@
 use Rattle.std.proofs.Common.{◌≡◌, ◌++◌, drop}
-use Rattle.ot_typing.specs.Typing.{typing_view}
+use Rattle.ot_plan.specs.Typing.{typing_view}
 use Rattle.ot_threads.proofs.carrying.copy_typing.Given as goal
 
 abbrev pub invariant-loop-actions : goal.invariant-loop-actions

@@ -1,5 +1,5 @@
 use Rattle.std.proofs.Common.{◌∙◌}
-use Rattle.ot_typing.specs.Typing.{typing_view}
+use Rattle.ot_plan.specs.Typing.{typing_view}
 use Rattle.ot_threads.proofs.Carried.{shared_from}
 use Rattle.ot_threads.proofs.carrying.shared_of.Goals as goal
 

@@ -3,7 +3,7 @@ use Rattle.std.specs.Prelude.{IfErr, IfOk, Some}
 use Rattle.std.proofs.lemmas.Result.{IfErr-weaker, IfOk-weaker}
 use Rattle.ot_board.specs.declared.lent.Lent.{Lent}
 use Rattle.ot_board.specs.Lents.{session_of}
-use Rattle.ot_typing.specs.Typing.{action_view}
+use Rattle.ot_plan.specs.Typing.{action_view}
 use Rattle.ot_workers.specs.Playing.{turn_steps, HasMade, IsCutShort}
 use Rattle.ot_workers.specs.declared.playing.Task.TheVariants.{Enter}
 use Rattle.ot_workers.proofs.Heard.{heard_few, turn_made, turn_short}

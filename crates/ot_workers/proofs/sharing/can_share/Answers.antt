@@ -1,6 +1,6 @@
 use Rattle.std.proofs.Common.{◌≡◌, ℕ, List, length, map, arith, rules, subst, ap, ◌∙◌, get_or}
-use Rattle.ot_typing.specs.declared.typing.Typing.{Typing}
-use Rattle.ot_typing.specs.Typing.{action_view}
+use Rattle.ot_plan.specs.declared.typing.Typing.{Typing}
+use Rattle.ot_plan.specs.Typing.{action_view}
 use Rattle.ot_workers.specs.Sharing.{MayType}
 use Rattle.ot_workers.proofs.Counted.{first_all, first_more}
 use Rattle.ot_workers.proofs.sharing.can_share.Goals as goal

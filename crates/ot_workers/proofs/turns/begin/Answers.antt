@@ -3,7 +3,7 @@ use Rattle.std.specs.Vec.{with_items}
 use Rattle.std.proofs.lemmas.List.{with_items_is}
 use Rattle.ot_board.specs.declared.lent.Lent.{Lent}
 use Rattle.ot_board.specs.Lents.{session_of}
-use Rattle.ot_typing.specs.declared.typing.Typing.{Typing}
+use Rattle.ot_plan.specs.declared.typing.Typing.{Typing}
 use Rattle.ot_workers.specs.Choosing.{choice, IsTaskFor}
 use Rattle.ot_workers.specs.declared.choosing.Seat.{Seat}
 use Rattle.ot_workers.specs.Turns.{AreSeen, IsHadFrom, next_action}

@@ -2,9 +2,9 @@ use Rattle.std.proofs.Common.{◌<◌, ap, sym, ◌∙◌, subst}
 use Rattle.ot_isa.specs.declared.elements.Tagged.{Tagged}
 use Rattle.ot_operation.specs.Operation.{Operation}
 use Rattle.ot_model.specs.Laws.{MayDeliver}
-use Rattle.ot_model.specs.Table.{Phase, carried}
+use Rattle.ot_model.specs.Table.{Phase, against_pending}
 use Rattle.ot_model.specs.Session.{Session, IsAllowed}
-use Rattle.ot_board.proofs.Moves.{next_deliverable, operations_in, carried_in}
+use Rattle.ot_board.proofs.Moves.{next_deliverable, operations_in, against_pending_in}
 use Rattle.std.proofs.lemmas.Result.{IfOk-weaker}
 use Rattle.ot_board.proofs.session.Session.delivered.Goals as goal
 
@@ -25,4 +25,4 @@ returns-clause-base g c =
     let phase = (g.S.ClientState.as_state c.self.inside.state).phase in
     let same = ap (λ (x : Session). x.now.client.phase) c.self.view_is in
     let op = c.args.op.now in
-    IfOk-weaker c.delivered.result _ _ (λ given is. ap (λ (o : Operation Tagged). o.base) (is ∙ sym (carried_in phase op) ∙ ap (λ (p : Phase). carried p op) same) ∙ fits.base) c.delivered.ensures.applied
+    IfOk-weaker c.delivered.result _ _ (λ given is. ap (λ (o : Operation Tagged). o.base) (is ∙ sym (against_pending_in phase op) ∙ ap (λ (p : Phase). against_pending p op) same) ∙ fits.base) c.delivered.ensures.applied

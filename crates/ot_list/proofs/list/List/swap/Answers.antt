@@ -2,8 +2,8 @@ use Rattle.std.proofs.Common.{◌≡◌, ap, length, map, refl, sym, ◌∙◌, 
 use Rattle.std.specs.Vec.{with_items}
 use Rattle.std.proofs.lemmas.List.{length-map, with_items_is}
 use Rattle.ot_list.specs.declared.span.Span.{Span}
-use Rattle.ot_list.specs.Spans.{merged, taken, turned}
-use Rattle.ot_list.proofs.Turned.{map-merged, map-taken, ready_parts, ready_back}
+use Rattle.ot_list.specs.Spans.{merged, taken, reversed}
+use Rattle.ot_list.proofs.Reversed.{map-merged, map-taken, ready_parts, ready_back}
 use Rattle.ot_list.proofs.list.List.swap.Goals as goal
 
 pub carry_out-requires-clause-ready : goal.carry_out-requires-clause-ready
@@ -59,5 +59,5 @@ returns-clause-ready g c =
     let made : map (λ v. v.items) c.carry_out.new.list.items ≡ merged c.patch.inside.spans.items (map (λ v. v.items) c.self.inside.leaves.items) (map (λ v. v.items) c.patch.inside.leaves.items) = rw (c.carry_out.ensures.list, c.as_slice.ensures.value) (map-merged (λ v. v.items) c.patch.inside.spans.items c.self.inside.leaves.items c.patch.inside.leaves.items) in
     let gone : map (λ v. v.items) c.carry_out.new.others.items ≡ taken c.patch.inside.spans.items (map (λ v. v.items) c.self.inside.leaves.items) = rw (c.carry_out.ensures.others, c.as_slice.ensures.value) (map-taken (λ v. v.items) c.patch.inside.spans.items c.self.inside.leaves.items) in
     let size : length c.turn.new.spans ≡ c.patch.inside.spans.len = rw c.turn.ensures (length-map _ _) ∙ c.as_mut_slice.ensures.len in
-    let back : (with_items c.patch.inside.spans c.turn.new.spans).items ≡ map turned c.patch.inside.spans.items = with_items_is c.patch.inside.spans c.turn.new.spans size ∙ c.turn.ensures ∙ ap (λ (t : List Span). map turned t) c.as_mut_slice.ensures.value in
+    let back : (with_items c.patch.inside.spans c.turn.new.spans).items ≡ map reversed c.patch.inside.spans.items = with_items_is c.patch.inside.spans c.turn.new.spans size ∙ c.turn.ensures ∙ ap (λ (t : List Span). map reversed t) c.as_mut_slice.ensures.value in
     rw (back, made, gone) b

@@ -1,0 +1,66 @@
+-- A comparison behind a mark, from its parts.
+use Rattle.std.proofs.Common.{◌≡◌, ◌-◌, ℕ, Bool, true, List, [], Option, Some, None, Ok, length, refl, ap, arith, inl, inr}
+use Rattle.std.specs.Prelude.{IfSome}
+use Rattle.std.specs.Io.KnownBytes.{Keeps, prepend_known}
+use Rattle.streams.specs.Lines.{lines_of}
+use Rattle.ot_isa.specs.Program.{Program}
+use Rattle.ot_asm.specs.Parts.{lines_before, lines_behind, TakesPart}
+use Rattle.ot_asm.specs.Stepping.{outcome_of_lines}
+use Rattle.ot_asm.specs.declared.fault.AsmFault.{AsmFault}
+use Rattle.ot_asm.specs.Comments.{Said, comments_of}
+use Rattle.ot_commands.specs.Faults.{IsLineFault, line_fault}
+use Rattle.streams.specs.Outcomes.{Refuses, Streams, OutOfMemory}
+use Rattle.ot_conform.specs.Compared.{IsVerdictOf, StopsBehind}
+use Rattle.ot_conform.specs.Ports.{counted_lines}
+use Rattle.ot_conform.specs.declared.comparison.Verdict.{Verdict}
+use Rattle.ot_conform.specs.declared.reading.CompareStop.{CompareStop}
+use Rattle.ot_commands.specs.Conformed.{Compares, MayJudge, MayWrite, TellsStop}
+
+-- the verdict on the lines that are left is written
+pub judged : (sparse : Bool) (said : Said) (schedule : Program) (earlier : ℕ) (input : Option (List ℕ)) (verdict : Verdict) (status : ℕ) (streams : Streams)
+    → IfSome input (λ text. IsVerdictOf sparse schedule (counted_lines (lines_of text)) verdict) → MayWrite said schedule verdict status streams
+    → IfSome input (λ text. MayJudge sparse said schedule (lines_of text) earlier status streams)
+judged sparse said schedule earlier None verdict status streams is wrote = tt
+judged sparse said schedule earlier (Some text) verdict status streams is (inl answers) = inl (record { verdict = verdict; is = is; answers = answers })
+judged sparse said schedule earlier (Some text) verdict status streams is (inr wants) = inr (inr wants)
+
+-- the comparison broke off
+pub broke_off : (sparse : Bool) (said : Said) (schedule : Program) (earlier : ℕ) (input : Option (List ℕ)) (stop : CompareStop) (streams : Streams)
+    → IfSome input (λ text. StopsBehind sparse schedule stop earlier (lines_of text)) → Keeps streams.output streams.output' → TellsStop stop streams.faults streams.faults'
+    → IfSome input (λ text. MayJudge sparse said schedule (lines_of text) earlier 1 streams)
+broke_off sparse said schedule earlier None stop streams behind silent tells = tt
+broke_off sparse said schedule earlier (Some text) stop streams behind silent tells =
+    inr (inl (record { stop = stop; behind = behind; silent = silent; tells = tells; status_is = refl }))
+
+-- the lines before the mark, and the comparison of those behind it
+pub compared : (sparse : Bool) (held : List ℕ) (known rest : Option (List ℕ)) (kept : List ℕ) (said : Said) (schedule : Program) (taken status : ℕ) (streams : Streams) → held ≡ []
+    → TakesPart true (prepend_known held known) rest taken
+    → IfSome (prepend_known held known) (λ text. outcome_of_lines (lines_before true (lines_of text)) ≡ Ok schedule)
+    → IfSome (prepend_known held known) (λ text. lines_of kept ≡ lines_before true (lines_of text))
+    → said ≡ comments_of kept
+    → IfSome rest (λ behind. MayJudge sparse said schedule (lines_of behind) taken status streams)
+    → IfSome known (λ text. Compares sparse text status streams)
+compared sparse held None rest kept said schedule taken status streams none part spelled keeps told judged = tt
+compared sparse held (Some text) None kept said schedule taken status streams none part spelled keeps told judged = absurd part
+compared sparse held (Some text) (Some behind) kept said schedule taken status streams none part spelled keeps told judged =
+    let here = rw none at part in
+    let so_many : taken ≡ length (lines_of text) - length (lines_behind true (lines_of text)) = omega (arith, here.1, ap length here.0) in
+    let spells = rw none at spelled in
+    let same = rw none at keeps in
+    inr (schedule, spells, rw (← so_many, ← here.0, ← same, ← told) judged)
+
+-- memory for their comments ran out
+pub wanted : (sparse : Bool) (held : List ℕ) (known : Option (List ℕ)) (schedule : Program) (status : ℕ) (streams : Streams) → held ≡ []
+    → IfSome (prepend_known held known) (λ text. outcome_of_lines (lines_before true (lines_of text)) ≡ Ok schedule)
+    → OutOfMemory status streams
+    → IfSome known (λ text. Compares sparse text status streams)
+wanted sparse held None schedule status streams none spelled wants = tt
+wanted sparse held (Some text) schedule status streams none spelled wants = inr (schedule, rw none at spelled, inr (inr wants))
+
+-- they are refused
+pub refused : (sparse : Bool) (held : List ℕ) (known : Option (List ℕ)) (fault : AsmFault) (status : ℕ) (streams : Streams) → held ≡ []
+    → IfSome (prepend_known held known) (λ text. IsLineFault (lines_before true (lines_of text)) fault)
+    → Refuses (line_fault fault) status streams
+    → IfSome known (λ text. Compares sparse text status streams)
+refused sparse held None fault status streams none is refuses = tt
+refused sparse held (Some text) fault status streams none is refuses = inl (record { fault = fault; is_fault = rw none at is; refuses = refuses })

@@ -1,0 +1,17 @@
+use Rattle.std.proofs.Common.{◌≤◌, ◌+◌}
+use Rattle.streams.specs.Taken.{before, may_take}
+use Rattle.ot_commands.proofs.Keeping.{IsKeptKnown}
+use Rattle.ot_commands.proofs.part.keep_part.Given as goal
+
+-- the lines that were taken are kept, and none is a mark
+abbrev pub invariant-loop-line : goal.invariant-loop-line
+invariant-loop-line g l =
+    let remaining = g.R.Read.remaining in
+    record {
+      kept : IsKeptKnown (before l.fn.ahead (remaining l.fn.input)) (before l.ahead (remaining l.input)) l.number l.text.items;
+      low : 1 ≤ l.number;
+      few : l.number + may_take l.ahead ≤ 1 + may_take l.fn.ahead;
+    }
+
+abbrev pub decreases-loop-line : goal.decreases-loop-line
+decreases-loop-line g l = may_take l.ahead

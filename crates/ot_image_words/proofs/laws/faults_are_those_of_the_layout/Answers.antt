@@ -1,5 +1,0 @@
-use Rattle.ot_image_words.proofs.Agreeing.{refusals_agree}
-use Rattle.ot_image_words.proofs.laws.faults_are_those_of_the_layout.Goals as goal
-
-pub returns : goal.returns
-returns c = refusals_agree

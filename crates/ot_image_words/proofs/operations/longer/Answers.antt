@@ -1,5 +1,0 @@
-use Rattle.ot_image_words.proofs.Steps.{same_shape}
-use Rattle.ot_image_words.proofs.operations.longer.Goals as goal
-
-pub returns-clause-value : goal.returns-clause-value
-returns-clause-value c = same_shape c.args.code _ _ _ _ c.base_after-base.ensures.value c.target_after-target.ensures.value

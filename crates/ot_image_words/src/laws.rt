@@ -1,8 +1,0 @@
-//! What is refused.
-
-ghost use Rattle.ot_image_words.specs.Fields.{RefusalsAgree};
-
-/// A field is refused exactly where `ot_image::load` gives a fault other than `Memory`, or would if there were memory, and it is that fault's.
-pub fn faults_are_those_of_the_layout()
-    ensures { RefusalsAgree }
-{}

@@ -1,6 +1,0 @@
-mod ByNumber
-mod Examples
-mod Joined
-mod Listing
-mod Reading
-mod Runs

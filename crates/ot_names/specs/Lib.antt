@@ -1,4 +1,0 @@
-pub mod Plain
-pub mod Comments
-pub mod Named
-pub mod Passed

@@ -1,9 +1,0 @@
-use Rattle.std.proofs.Common.{◌≡◌}
-use Rattle.std.specs.Prelude.{None}
-use Rattle.ot_judge.specs.Views.{views}
-use Rattle.ot_verdict_words.specs.Causes.{lacked_at}
-use Rattle.ot_verdict_words.specs.Searches.{first_below}
-use Rattle.ot_verdict_words.proofs.causes.first_lacking.Given as goal
-
-abbrev pub invariant-loop-d : goal.invariant-loop-d
-invariant-loop-d l = first_below l.d (lacked_at (views l.events) l.e) ≡ None

@@ -1,4 +1,0 @@
-pub mod Searches
-pub mod Causes
-pub mod Finds
-pub mod Words
