@@ -110,8 +110,8 @@ fn perform_first(machine: &mut Machine, steps: &[Instr]) -> (usize, Option<Settl
     ensures stop { IsStop machine.new steps.now result.0 result.1 }
 {
     for place in 0..steps.len() {
-        match machine.perform(&steps[place]) {
-            Ok(_reader) => {}
+        match machine.perform::<false>(&steps[place]) {
+            Ok(_effect) => {}
             Err(refusal) => return (place, Some(stop_of(refusal))),
         }
     }

@@ -70,7 +70,7 @@ fn whole_trace(alloc: Global, schedule: &Schedule, noted: Vec<Event>) -> Result<
     Ok(Trace::from_parts(replicas, start, noted))
 }
 
-/// Runs the schedule once and gives where the run ended, as [`ot_machine::end_of_run`] does, with its trace, as [`trace_of`] does: none
+/// Runs the schedule once and gives where the run ended, as [`run_on`] does from the opening, with its trace, as [`trace_of`] does: none
 /// where it has more than 4,000 events or 4,000,000 list entries. As soon as that is known, what was made of the trace is dropped, and the
 /// run goes on to its end without it.
 ///

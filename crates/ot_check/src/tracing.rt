@@ -37,8 +37,8 @@ fn perform(machine: &mut Machine, instr: &Instr) -> Result<(), Halt>
     ensures unchanged { OnErr result (machine.new ≡ machine.old) }
     ensures not_full { result ≡ Err Halt.Full → ⊥ }
 {
-    match machine.perform(instr) {
-        Ok(_who) => Ok(()),
+    match machine.perform::<false>(instr) {
+        Ok(_effect) => Ok(()),
         Err(Refusal::Memory) => Err(Halt::Memory),
         Err(refusal) => Err(Halt::Refused(refusal)),
     }

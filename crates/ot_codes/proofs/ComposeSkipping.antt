@@ -1,8 +1,8 @@
 -- Codes of one operation that lie in a single code of the other: what the loop of compose keeps past all of them.
-use Rattle.std.proofs.Common.{◌≡◌, ℕ, ◌+◌, ◌-◌, ◌≤◌, List, [], ◌∷◌, ◌++◌, map, take, drop, nat_eq, Bool, true, false, if◌then◌else◌, refl, sym, ap, subst, ◌∙◌, arith, append-nil}
+use Rattle.std.proofs.Common.{◌≡◌, ℕ, ◌+◌, ◌-◌, ◌≤◌, List, [], ◌∷◌, ◌++◌, map, nat_eq, Bool, true, false, if◌then◌else◌, refl, sym, ap, subst, ◌∙◌, arith}
 use Rattle.std.proofs.lemmas.List.{map-append}
-use Rattle.ot_operation.specs.Operation.{Item, New, Operation, olds, news, with_delete}
-use Rattle.ot_operation.specs.Run.{Run, Keep, Add, Skip, base_of, image_from}
+use Rattle.ot_operation.specs.Operation.{Item, New, Operation, olds, news}
+use Rattle.ot_operation.specs.Run.{Run, Keep, Add, Skip, image_from}
 use Rattle.ot_operation.specs.Steps.{with_runs}
 use Rattle.ot_operation.proofs.RunLemmas.{same_operation}
 use Rattle.ot_operation.specs.Steps.{target_of}
@@ -11,18 +11,18 @@ use Rattle.ot_operation.proofs.ComposeProgress.{ComposeProgress}
 use Rattle.ot_codes.specs.declared.code.Code.{Code}
 use Rattle.ot_codes.specs.declared.code.Code.TheVariants.{Retain, Insert, Delete}
 use Rattle.ot_codes.specs.declared.cut.Cut.{Cut}
-use Rattle.ot_codes.specs.Codes.{blanks, runs_of, without, past, kept_in, deleted_in, inserted_in}
+use Rattle.ot_codes.specs.Codes.{blanks, runs_of, without, past, kept_in, inserted_in}
 use Rattle.ot_codes.specs.Shape.{blank, mapped_item, shape}
-use Rattle.ot_codes.specs.Cuts.{Source, assembled, AreWithin, with_cut, places}
+use Rattle.ot_codes.specs.Cuts.{Source, assembled, places}
 use Rattle.ot_codes.specs.Cuts.Source.{OfFirst, OfSecond}
 use Rattle.ot_codes.proofs.Mapped.{olds-mapped}
 use Rattle.ot_codes.proofs.Filled.{news_append, news_texts, news_olds}
-use Rattle.ot_codes.proofs.Cutting.{within_more, within_cut, assembled_more, assembled_cut}
-use Rattle.ot_codes.proofs.Marked.{length-places, places-add, take-places, drop-places, blanks-places, marked, marked-base, marked-target, marked-without_keep, marked-without_skip}
+use Rattle.ot_codes.proofs.Cutting.{within_more, assembled_more}
+use Rattle.ot_codes.proofs.Marked.{length-places, places-add, blanks-places, marked, marked-base, marked-target, marked-without_keep}
 use Rattle.ot_codes.proofs.Composing.{first_of_codes, second_of_codes, Composing}
 use Rattle.ot_codes.proofs.Summing.{inserted-append}
-use Rattle.ot_codes.proofs.Skipping.{base_in, target_in}
-use Rattle.ot_codes.proofs.ComposeSkips.{composed_moved, composed_kept_first, composed_kept_second, composed_deleted}
+use Rattle.ot_codes.proofs.Skipping.{target_in}
+use Rattle.ot_codes.proofs.ComposeSkips.{composed_moved, composed_kept_first}
 
 -- codes with places, of two parts
 
@@ -91,12 +91,6 @@ marked-past_keep mark at count n codes =
     marked_by mark at (nat_eq count 0) (Retain n ∷ codes) (without count (Retain n ∷ codes))
     ∙ ap (λ (rest : List (Run Source)). if nat_eq count 0 then marked mark at (Retain n ∷ codes) else rest) (marked-without_keep mark at count n codes)
 
-pub marked-past_skip :
-    (mark : ℕ → Source) (at count n : ℕ) (codes : List Code) → marked mark at (past count (Delete n ∷ codes)) ≡ after_kept count (marked mark at (Delete n ∷ codes))
-marked-past_skip mark at count n codes =
-    marked_by mark at (nat_eq count 0) (Delete n ∷ codes) (without count (Delete n ∷ codes))
-    ∙ ap (λ (rest : List (Run Source)). if nat_eq count 0 then marked mark at (Delete n ∷ codes) else rest) (marked-without_skip mark at count n codes)
-
 inserted_by : (b : Bool) (codes rest : List Code) → inserted_in codes ≡ inserted_in rest → inserted_in (if b then codes else rest) ≡ inserted_in codes
 inserted_by true codes rest same = refl
 inserted_by false codes rest same = sym same
@@ -108,10 +102,6 @@ if_same false codes code same = same
 pub past_keeps_inserted : (count n : ℕ) (codes : List Code) → inserted_in (past count (Retain n ∷ codes)) ≡ inserted_in codes
 past_keeps_inserted count n codes =
     inserted_by (nat_eq count 0) (Retain n ∷ codes) (without count (Retain n ∷ codes)) (sym (if_same (nat_eq count n) codes (Retain (n - count)) refl))
-
-pub past_skips_inserted : (count n : ℕ) (codes : List Code) → inserted_in (past count (Delete n ∷ codes)) ≡ inserted_in codes
-past_skips_inserted count n codes =
-    inserted_by (nat_eq count 0) (Delete n ∷ codes) (without count (Delete n ∷ codes)) (sym (if_same (nat_eq count n) codes (Delete (n - count)) refl))
 
 -- past them
 
@@ -145,101 +135,4 @@ module _ (codes_a codes_b : List Code) (pen : Operation (Unit {0})) (cuts : List
         within = within_more 0 cuts at from (at + inserted_in front) from (omega arith) (omega arith) w.within;
         left_first = omega (arith, w.left_first, inserted-append front rest);
         left_second = ap (λ k. from + k) (past_keeps_inserted (kept_in front + inserted_in front) n others) ∙ w.left_second;
-      }
-
-  -- codes of the second in a retain of the first: what they insert comes into the text
-  pub record ComesIn (next : List Cut) : Type 0 where
-    pub text : assembled next (places OfFirst 0 at) seconds ≡ assembled cuts (places OfFirst 0 at) seconds ++ places OfSecond from (inserted_in front)
-    pub within : AreWithin 0 next at (from + inserted_in front)
-
-  pub composing_kept_second :
-      (next : List Cut) → kept_in front + deleted_in front ≤ n → ComesIn next → Composing codes_a codes_b pen cuts at from (Retain n ∷ others) (front ++ rest)
-      → Composing codes_a codes_b (with_runs pen (runs_of front)) next at (from + inserted_in front) (past (kept_in front + deleted_in front) (Retain n ∷ others)) rest
-  composing_kept_second next within comes w =
-      let taken : base_of (marked OfSecond from front) ≡ kept_in front + deleted_in front = marked-base OfSecond from front ∙ base_in front in
-      record {
-        built = with_runs w.built (marked OfSecond from front);
-        progress = composed_moved (first_of_codes codes_a) (second_of_codes codes_b) _ _ _ _ _ _ refl
-            (ap (λ count. after_kept count (marked OfFirst at (Retain n ∷ others))) taken ∙ sym (marked-past_keep OfFirst at (kept_in front + deleted_in front) n others)) refl
-            (composed_kept_second (first_of_codes codes_a) (second_of_codes codes_b) w.built (marked OfSecond from front) (marked OfSecond (from + inserted_in front) rest)
-            (marked OfFirst at (Retain n ∷ others)) (omega (arith, within, taken))
-            (subst (λ ys. ComposeProgress (first_of_codes codes_a) (second_of_codes codes_b) w.built (marked OfFirst at (Retain n ∷ others)) ys) (marked-append OfSecond from front rest) w.progress));
-        pen_is = shape_with OfSecond from pen w.built front w.pen_is;
-        text = comes.text ∙ ap (λ zs. zs ++ places OfSecond from (inserted_in front)) w.text
-            ∙ ap (λ zs. news w.built.image ++ zs) (sym (news_marked OfSecond from w.built.base front))
-            ∙ sym (news_append w.built.image (image_from w.built.base (marked OfSecond from front)));
-        within = comes.within;
-        left_first = ap (λ k. at + k) (past_keeps_inserted (kept_in front + deleted_in front) n others) ∙ w.left_first;
-        left_second = omega (arith, w.left_second, inserted-append front rest);
-      }
-
-  -- it comes by a cut, or is nothing
-  pub comes_by_cut :
-      Composing codes_a codes_b pen cuts at from (Retain n ∷ others) (front ++ rest)
-      → ComesIn (with_cut cuts (record { at = at; gone = 0; from = from; put = inserted_in front }))
-  comes_by_cut w =
-      let next : Cut = record { at = at; gone = 0; from = from; put = inserted_in front } in
-      let fits : from + inserted_in front ≤ inserted_in codes_b = omega (arith, w.left_second, inserted-append front rest) in
-      let start : 0 + from ≡ from = omega arith in
-      let same : at + 0 ≡ at = omega arith in
-      let part : take (inserted_in front) (drop from seconds) ≡ places OfSecond from (inserted_in front) =
-      ap (take (inserted_in front)) (drop-places OfSecond 0 from (inserted_in codes_b) (omega (arith, fits)) ∙ ap (λ k. places OfSecond k (inserted_in codes_b - from)) start)
-      ∙ take-places OfSecond from (inserted_in front) (inserted_in codes_b - from) (omega (arith, fits)) in
-      record {
-        text = ap (λ zs. assembled (with_cut cuts next) zs seconds) (sym (append-nil (places OfFirst 0 at)))
-            ∙ assembled_cut cuts next (places OfFirst 0 at) [] seconds from w.within (sym (length-places OfFirst 0 at)) refl
-            ∙ ap (λ zs. assembled cuts (places OfFirst 0 at) seconds ++ zs) part;
-        within = subst (λ k. AreWithin 0 (with_cut cuts next) k (from + inserted_in front)) same (within_cut 0 cuts next w.within);
-      }
-
-  pub comes_nothing : inserted_in front ≡ 0 → AreWithin 0 cuts at from → ComesIn cuts
-  comes_nothing none within =
-      record {
-        text = sym (ap (λ k. assembled cuts (places OfFirst 0 at) seconds ++ places OfSecond from k) none ∙ append-nil (assembled cuts (places OfFirst 0 at) seconds));
-        within = within_more 0 cuts at from at (from + inserted_in front) (omega arith) (omega arith) within;
-      }
-
-  -- codes of the first in a deletion of the second: what they insert goes from the text
-  pub record GoesOut (next : List Cut) : Type 0 where
-    pub text : assembled next (places OfFirst 0 (at + inserted_in front)) seconds ≡ assembled cuts (places OfFirst 0 at) seconds
-    pub within : AreWithin 0 next (at + inserted_in front) from
-
-  pub composing_deleted :
-      (next : List Cut) → kept_in front + inserted_in front ≤ n → GoesOut next → Composing codes_a codes_b pen cuts at from (front ++ rest) (Delete n ∷ others)
-      → Composing codes_a codes_b (with_delete pen (kept_in front + deleted_in front)) next (at + inserted_in front) from rest (past (kept_in front + inserted_in front) (Delete n ∷ others))
-  composing_deleted next within goes w =
-      let made : target_of (marked OfFirst at front) ≡ kept_in front + inserted_in front = marked-target OfFirst at front ∙ target_in front in
-      let taken : base_of (marked OfFirst at front) ≡ kept_in front + deleted_in front = marked-base OfFirst at front ∙ base_in front in
-      record {
-        built = with_delete w.built (kept_in front + deleted_in front);
-        progress = composed_moved (first_of_codes codes_a) (second_of_codes codes_b) _ _ _ _ _ _ (ap (with_delete w.built) taken) refl
-            (ap (λ count. after_kept count (marked OfSecond from (Delete n ∷ others))) made ∙ sym (marked-past_skip OfSecond from (kept_in front + inserted_in front) n others))
-            (composed_deleted (first_of_codes codes_a) (second_of_codes codes_b) w.built (marked OfFirst at front) (marked OfFirst (at + inserted_in front) rest)
-            (marked OfSecond from (Delete n ∷ others)) (omega (arith, within, made))
-            (subst (λ xs. ComposeProgress (first_of_codes codes_a) (second_of_codes codes_b) w.built xs (marked OfSecond from (Delete n ∷ others))) (marked-append OfFirst at front rest) w.progress));
-        pen_is = ap (λ op. with_delete op (kept_in front + deleted_in front)) w.pen_is;
-        text = goes.text ∙ w.text;
-        within = goes.within;
-        left_first = omega (arith, w.left_first, inserted-append front rest);
-        left_second = ap (λ k. from + k) (past_skips_inserted (kept_in front + inserted_in front) n others) ∙ w.left_second;
-      }
-
-  -- it goes by a cut, or is nothing
-  pub goes_by_cut : AreWithin 0 cuts at from → GoesOut (with_cut cuts (record { at = at; gone = inserted_in front; from = from; put = 0 }))
-  goes_by_cut within =
-      let next : Cut = record { at = at; gone = inserted_in front; from = from; put = 0 } in
-      let same : from + 0 ≡ from = omega arith in
-      record {
-        text = ap (λ zs. assembled (with_cut cuts next) zs seconds) (parts OfFirst at (inserted_in front))
-            ∙ assembled_cut cuts next (places OfFirst 0 at) (places OfFirst at (inserted_in front)) seconds from within (sym (length-places OfFirst 0 at)) (sym (length-places OfFirst at (inserted_in front)))
-            ∙ append-nil (assembled cuts (places OfFirst 0 at) seconds);
-        within = subst (λ k. AreWithin 0 (with_cut cuts next) (at + inserted_in front) k) same (within_cut 0 cuts next within);
-      }
-
-  pub goes_nothing : inserted_in front ≡ 0 → AreWithin 0 cuts at from → GoesOut cuts
-  goes_nothing none within =
-      let same : at + inserted_in front ≡ at = omega (arith, none) in
-      record {
-        text = ap (λ k. assembled cuts (places OfFirst 0 k) seconds) same;
-        within = within_more 0 cuts at from (at + inserted_in front) from (omega arith) (omega arith) within;
       }

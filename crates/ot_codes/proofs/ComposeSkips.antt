@@ -3,14 +3,12 @@ use Rattle.std.proofs.Common.{◌≡◌, ◌+◌, ◌≤◌, List, [], ◌∷◌
 use Rattle.std.proofs.Math.Seq.{take-length}
 use borrow.Author.Tests.{eq-eqb}
 use Rattle.ot_operation.specs.Operation.{Operation, with_retain, with_insert, with_delete}
-use Rattle.ot_operation.specs.Run.{Run, Keep, Add, Skip, base_of}
+use Rattle.ot_operation.specs.Run.{Run, Keep, Add, Skip}
 use Rattle.ot_operation.specs.Steps.{with_runs}
 use Rattle.ot_operation.specs.Steps.{target_of, skipped, skipped_made}
-use Rattle.ot_operation.proofs.SkippedLaws.{skipped_retain-whole, skipped_delete-whole}
-use Rattle.ot_operation.proofs.ComposeProgress.{ComposeProgress, compose_delete, compose_insert, retain_retain, insert_retain}
+use Rattle.ot_operation.proofs.SkippedLaws.{skipped_retain-whole}
+use Rattle.ot_operation.proofs.ComposeProgress.{ComposeProgress, compose_delete, retain_retain, insert_retain}
 use Rattle.ot_operation.proofs.KeptRuns.{first_keep, after_kept, with_runs-none, with_runs-keep, with_runs-add, with_runs-skip, kept_none, kept_more, first_more}
-use Rattle.ot_codes.proofs.Gone.{retain_gone, insert_gone}
-use Rattle.ot_codes.proofs.TransformSkips.{first_skip, delete-none, delete-more, gone_more, gone_first}
 
 pub composed_moved :
     {A : Type 0} (a b f g : Operation A) (xs vs ys zs : List (Run A)) → f ≡ g → xs ≡ vs → ys ≡ zs → ComposeProgress a b f xs ys → ComposeProgress a b g vs zs
@@ -54,68 +52,3 @@ composed_kept_first a b built (Add text ∷ front) rest (Keep n ∷ ys) within w
     composed_moved a b _ _ rest rest (after_kept (target_of front) (skipped (length text) (Keep n ∷ ys))) (after_kept (length text + target_of front) (Keep n ∷ ys))
     (with_runs-add built text front) refl (kept_more (length text) (target_of front) n ys w.first_normal.0 within)
     (composed_kept_first a b (with_insert built text) front rest (skipped (length text) (Keep n ∷ ys)) (first_more (length text) (target_of front) n ys within) one)
-
--- past runs of the second in what the first keeps
-pub composed_kept_second :
-    {A : Type 0} (a b built : Operation A) (front rest xs : List (Run A)) → base_of front ≤ first_keep xs
-    → ComposeProgress a b built xs (front ++ rest)
-    → ComposeProgress a b (with_runs built front) (after_kept (base_of front) xs) rest
-composed_kept_second a b built [] rest xs within w =
-    composed_moved a b built (with_runs built []) xs (after_kept 0 xs) rest rest (sym (with_runs-none built)) (sym (kept_none xs)) refl w
-composed_kept_second a b built (Add text ∷ front) rest xs within w =
-    composed_moved a b _ _ (after_kept (base_of front) xs) (after_kept (base_of front) xs) rest rest (with_runs-add built text front) refl refl
-    (composed_kept_second a b (with_insert built text) front rest xs within (compose_insert a b built text xs (front ++ rest) w))
-composed_kept_second a b built (Keep m ∷ front) rest [] within w = absurd (omega (arith, within, w.second_normal.0))
-composed_kept_second a b built (Keep m ∷ front) rest (Add text ∷ xs) within w = absurd (omega (arith, within, w.second_normal.0))
-composed_kept_second a b built (Keep m ∷ front) rest (Skip n ∷ xs) within w = absurd (omega (arith, within, w.second_normal.0))
-composed_kept_second a b built (Keep m ∷ front) rest (Keep n ∷ xs) within w =
-    let one : ComposeProgress a b (with_retain built m) (skipped m (Keep n ∷ xs)) (front ++ rest) =
-    subst (λ ys. ComposeProgress a b (with_retain built m) (skipped m (Keep n ∷ xs)) ys)
-    (skipped_retain-whole m m (front ++ rest) (omega arith))
-    (retain_retain a b built m xs (front ++ rest) n m (omega (arith, within)) (omega arith) w) in
-    composed_moved a b _ _ (after_kept (base_of front) (skipped m (Keep n ∷ xs))) (after_kept (m + base_of front) (Keep n ∷ xs)) rest rest
-    (with_runs-keep built m front) (kept_more m (base_of front) n xs w.second_normal.0 within) refl
-    (composed_kept_second a b (with_retain built m) front rest (skipped m (Keep n ∷ xs)) (first_more m (base_of front) n xs within) one)
-composed_kept_second a b built (Skip m ∷ front) rest [] within w = absurd (omega (arith, within, w.second_normal.0))
-composed_kept_second a b built (Skip m ∷ front) rest (Add text ∷ xs) within w = absurd (omega (arith, within, w.second_normal.0))
-composed_kept_second a b built (Skip m ∷ front) rest (Skip n ∷ xs) within w = absurd (omega (arith, within, w.second_normal.0))
-composed_kept_second a b built (Skip m ∷ front) rest (Keep n ∷ xs) within w =
-    let one : ComposeProgress a b (with_delete built m) (skipped m (Keep n ∷ xs)) (front ++ rest) =
-    subst (λ ys. ComposeProgress a b (with_delete built m) (skipped m (Keep n ∷ xs)) ys)
-    (skipped_delete-whole m m (front ++ rest) (omega arith))
-    (retain_gone a b built m xs (front ++ rest) n m (omega (arith, within)) (omega arith) w) in
-    composed_moved a b _ _ (after_kept (base_of front) (skipped m (Keep n ∷ xs))) (after_kept (m + base_of front) (Keep n ∷ xs)) rest rest
-    (with_runs-skip built m front) (kept_more m (base_of front) n xs w.second_normal.0 within) refl
-    (composed_kept_second a b (with_delete built m) front rest (skipped m (Keep n ∷ xs)) (first_more m (base_of front) n xs within) one)
-
--- past runs of the first in what the second deletes
-pub composed_deleted :
-    {A : Type 0} (a b built : Operation A) (front rest ys : List (Run A)) → target_of front ≤ first_skip ys
-    → ComposeProgress a b built (front ++ rest) ys
-    → ComposeProgress a b (with_delete built (base_of front)) rest (after_kept (target_of front) ys)
-composed_deleted a b built [] rest ys within w =
-    composed_moved a b built (with_delete built 0) rest rest ys (after_kept 0 ys) (sym (delete-none built)) refl (sym (kept_none ys)) w
-composed_deleted a b built (Skip m ∷ front) rest ys within w =
-    composed_moved a b _ _ rest rest (after_kept (target_of front) ys) (after_kept (target_of front) ys) (delete-more built m (base_of front)) refl refl
-    (composed_deleted a b (with_delete built m) front rest ys within (compose_delete a b built m (front ++ rest) ys w))
-composed_deleted a b built (Keep m ∷ front) rest [] within w = absurd (omega (arith, within, w.first_normal.0))
-composed_deleted a b built (Keep m ∷ front) rest (Add text ∷ ys) within w = absurd (omega (arith, within, w.first_normal.0))
-composed_deleted a b built (Keep m ∷ front) rest (Keep n ∷ ys) within w = absurd (omega (arith, within, w.first_normal.0))
-composed_deleted a b built (Keep m ∷ front) rest (Skip n ∷ ys) within w =
-    let one : ComposeProgress a b (with_delete built m) (front ++ rest) (skipped m (Skip n ∷ ys)) =
-    subst (λ xs. ComposeProgress a b (with_delete built m) xs (skipped m (Skip n ∷ ys)))
-    (skipped_retain-whole m m (front ++ rest) (omega arith))
-    (retain_gone a b built m (front ++ rest) ys m n (omega arith) (omega (arith, within)) w) in
-    composed_moved a b _ _ rest rest (after_kept (target_of front) (skipped m (Skip n ∷ ys))) (after_kept (m + target_of front) (Skip n ∷ ys))
-    (delete-more built m (base_of front)) refl (gone_more m (target_of front) n ys w.first_normal.0 within)
-    (composed_deleted a b (with_delete built m) front rest (skipped m (Skip n ∷ ys)) (gone_first m (target_of front) n ys within) one)
-composed_deleted a b built (Add text ∷ front) rest [] within w = absurd (omega (arith, within, w.first_normal.0))
-composed_deleted a b built (Add text ∷ front) rest (Add more ∷ ys) within w = absurd (omega (arith, within, w.first_normal.0))
-composed_deleted a b built (Add text ∷ front) rest (Keep n ∷ ys) within w = absurd (omega (arith, within, w.first_normal.0))
-composed_deleted a b built (Add text ∷ front) rest (Skip n ∷ ys) within w =
-    let one : ComposeProgress a b built (front ++ rest) (skipped (length text) (Skip n ∷ ys)) =
-    subst (λ xs. ComposeProgress a b built xs (skipped (length text) (Skip n ∷ ys))) (inserted_whole text (front ++ rest))
-    (insert_gone a b built (length text) (front ++ rest) ys text n (omega arith) (omega (arith, within)) w) in
-    composed_moved a b _ _ rest rest (after_kept (target_of front) (skipped (length text) (Skip n ∷ ys))) (after_kept (length text + target_of front) (Skip n ∷ ys))
-    refl refl (gone_more (length text) (target_of front) n ys w.first_normal.0 within)
-    (composed_deleted a b built front rest (skipped (length text) (Skip n ∷ ys)) (gone_first (length text) (target_of front) n ys within) one)

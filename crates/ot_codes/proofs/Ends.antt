@@ -36,10 +36,11 @@ reach done codes (end ∷ ends) are =
       two = λ some. omega (arith, b.some, b.within, r.two some, rest);
     }
 
-block_longer : (done : End) (codes more : List Code) (end : End) → IsBlock done codes end → IsBlock done (codes ++ more) end
+pub block_longer : (done : End) (codes more : List Code) (end : End) → IsBlock done codes end → IsBlock done (codes ++ more) end
 block_longer done codes more end b =
     record {
       some = b.some;
+      two = b.two;
       few = b.few;
       within = omega (arith, b.within, length-append codes more);
       sum_is = b.sum_is ∙ ap (λ (cs : List Code). added done.sum (sum_of cs)) (sym (take-append-le (between done end) codes more b.within));
@@ -57,7 +58,7 @@ longer done codes more (end ∷ ends) are few =
           (longer end (drop (between done end) codes) more ends are.1 (omega (arith, few, b.some, b.within, length-drop (between done end) codes))),
     )
 
-added_added : (a b c : Sum) → added a (added b c) ≡ added (added a b) c
+pub added_added : (a b c : Sum) → added a (added b c) ≡ added (added a b) c
 added_added a b c = same_sum _ _ _ _ _ _ (omega arith) (omega arith) (omega arith)
 
 -- the sum before an end, from a later one on
@@ -76,23 +77,24 @@ sum_from done next end codes b apart is =
 -- one more end, and more codes behind it
 pub ended :
     (done : End) (codes more : List Code) (ends : List End) (end : End) → AreEnds done codes ends → (last_end done ends).count < end.count
+    → (0 < (last_end done ends).count → (last_end done ends).count + 1 < end.count)
     → end.count ≤ done.count + length codes → end.sum ≡ added done.sum (sum_of (take (between done end) codes))
     → done.count + (length codes + length more) ≤ end.count + 64 → end.count + 1 < done.count + (length codes + length more)
     → AreEnds done (codes ++ more) (ends ++ end ∷ [])
-ended done codes more [] end are later within sum_is few two =
+ended done codes more [] end are later apart within sum_is few two =
     let all = length-append codes more in
     let rest = length-drop (between done end) (codes ++ more) in (
-      block_longer done codes more end (record { some = later; few = omega (arith, are.0, within); within = omega (arith, within); sum_is = sum_is }),
+      block_longer done codes more end (record { some = later; two = λ some. omega (arith, apart some); few = omega (arith, are.0, within); within = omega (arith, within); sum_is = sum_is }),
       (omega (arith, all, rest, few, within, later), λ some. omega (arith, all, rest, two, within, later)),
     )
-ended done codes more (next ∷ ends) end are later within sum_is few two =
+ended done codes more (next ∷ ends) end are later two_more within sum_is few two =
     let b = are.0 in
     let r = reach next (drop (between done next) codes) ends are.1 in
     let rest = length-drop (between done next) codes in
     let apart : between done end ≡ between done next + between next end = omega (arith, b.some, r.later, later) in (
       block_longer done codes more next b,
       subst (λ (cs : List Code). AreEnds next cs (ends ++ end ∷ [])) (sym (drop-append-le (between done next) codes more b.within))
-          (ended next (drop (between done next) codes) more ends end are.1 later (omega (arith, within, b.some, b.within, rest)) (sum_from done next end codes b apart sum_is)
+          (ended next (drop (between done next) codes) more ends end are.1 later two_more (omega (arith, within, b.some, b.within, rest)) (sum_from done next end codes b apart sum_is)
           (omega (arith, few, b.some, b.within, rest)) (omega (arith, two, b.some, b.within, rest))),
     )
 
@@ -109,6 +111,7 @@ set_late done codes (end ∷ ends) k code are late =
     let place : k ≡ between done end + (k - between done end) = omega arith in (
       record {
         some = b.some;
+        two = b.two;
         few = b.few;
         within = omega (arith, b.within, length-set codes k code);
         sum_is = b.sum_is ∙ ap (λ (cs : List Code). added done.sum (sum_of cs)) (sym (take-set-le (between done end) codes k code behind));
@@ -118,7 +121,7 @@ set_late done codes (end ∷ ends) k code are late =
           (set_late end (drop (between done end) codes) ends (k - between done end) code are.1 (omega (arith, late, behind, rest))),
     )
 
-none_added : (s : Sum) → s ≡ added start.sum s
+pub none_added : (s : Sum) → s ≡ added start.sum s
 none_added s = same_sum s.kept (0 + s.kept) s.deleted (0 + s.deleted) s.inserted (0 + s.inserted) (omega arith) (omega arith) (omega arith)
 
 -- the last end, of a block of up to 64 codes, and the codes behind it
@@ -130,12 +133,15 @@ module _
   pub more_codes : (more : List Code) → length codes - before + length more ≤ 64 → AreEnds start (codes ++ more) ends
   more_codes more few = longer start codes more ends are (omega (arith, few, before_few, before_is))
 
+  pub before_two : 0 < before → before + 1 < length codes
+  before_two some = omega (arith, (reach start codes ends are).two (omega (arith, some, before_is)), before_is)
+
   pub more_ends :
-      (more : List Code) (end : End) → before < end.count → end.count ≤ length codes → end.sum ≡ sum_of (take end.count codes) → length codes + length more ≤ end.count + 64
+      (more : List Code) (end : End) → before < end.count → (0 < before → before + 1 < end.count) → end.count ≤ length codes → end.sum ≡ sum_of (take end.count codes) → length codes + length more ≤ end.count + 64
       → end.count + 1 < length codes + length more → AreEnds start (codes ++ more) (ends ++ end ∷ [])
-  more_ends more end later within sum_is few two =
+  more_ends more end later two_more within sum_is few two =
       let whole : end.count - 0 ≡ end.count = omega arith in
-      ended start codes more ends end are (omega (arith, later, before_is)) (omega (arith, within))
+      ended start codes more ends end are (omega (arith, later, before_is)) (λ some. omega (arith, two_more (omega (arith, some, before_is)), before_is)) (omega (arith, within))
       (sum_is ∙ none_added (sum_of (take end.count codes)) ∙ ap (λ (k : ℕ). added start.sum (sum_of (take k codes))) (sym whole))
       (omega (arith, few)) (omega (arith, two))
 

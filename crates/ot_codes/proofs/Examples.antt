@@ -54,4 +54,4 @@ stands_apart = refl
 -- the first two codes are a block with an end, and the other three are the last block
 in_blocks : AreEnds start codes (record { sum = record { kept = 2; deleted = 0; inserted = 2 }; count = 2 } ∷ [])
 unfolding codes
-in_blocks = (record { some = omega arith; few = omega arith; within = omega arith; sum_is = refl }, (omega arith, λ some. omega arith))
+in_blocks = (record { some = omega arith; two = λ some. omega arith; few = omega arith; within = omega arith; sum_is = refl }, (omega arith, λ some. omega arith))

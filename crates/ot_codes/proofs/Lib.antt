@@ -22,3 +22,5 @@ pub mod Appending
 pub mod Running
 pub mod Counting
 pub mod Ends
+pub mod Stretches
+pub mod Parts

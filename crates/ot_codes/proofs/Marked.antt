@@ -92,6 +92,33 @@ marked-normal mark at (Insert n ∷ codes) normal =
     (omega (arith, normal.0, length-blanks n, length-places mark at n), lead_add mark (at + n) (blanks n) (places mark at n) codes normal.1, marked-normal mark (at + n) codes normal.2)
 marked-normal mark at (Delete n ∷ codes) normal = (normal.0, lead_skip mark at n codes normal.1, marked-normal mark at codes normal.2)
 
+-- and back
+
+back_keep : (mark : ℕ → Source) (at m : ℕ) (codes : List Code) → MayLead (Keep m) (marked mark at codes) → MayLead (Keep m) (runs_of codes)
+back_keep mark at m [] may = tt
+back_keep mark at m (Retain n ∷ codes) may = may
+back_keep mark at m (Insert n ∷ codes) may = tt
+back_keep mark at m (Delete n ∷ codes) may = tt
+
+back_skip : (mark : ℕ → Source) (at m : ℕ) (codes : List Code) → MayLead (Skip m) (marked mark at codes) → MayLead (Skip m) (runs_of codes)
+back_skip mark at m [] may = tt
+back_skip mark at m (Retain n ∷ codes) may = tt
+back_skip mark at m (Insert n ∷ codes) may = may
+back_skip mark at m (Delete n ∷ codes) may = may
+
+back_add : (mark : ℕ → Source) (at : ℕ) (s : List (Unit {0})) (t : List Source) (codes : List Code) → MayLead (Add t) (marked mark at codes) → MayLead (Add s) (runs_of codes)
+back_add mark at s t [] may = tt
+back_add mark at s t (Retain n ∷ codes) may = tt
+back_add mark at s t (Insert n ∷ codes) may = may
+back_add mark at s t (Delete n ∷ codes) may = tt
+
+pub normal-marked : (mark : ℕ → Source) (at : ℕ) (codes : List Code) → IsNormal (marked mark at codes) → IsNormal (runs_of codes)
+normal-marked mark at [] normal = tt
+normal-marked mark at (Retain n ∷ codes) normal = (normal.0, back_keep mark at n codes normal.1, normal-marked mark at codes normal.2)
+normal-marked mark at (Insert n ∷ codes) normal =
+    (omega (arith, normal.0, length-blanks n, length-places mark at n), back_add mark (at + n) (blanks n) (places mark at n) codes normal.1, normal-marked mark (at + n) codes normal.2)
+normal-marked mark at (Delete n ∷ codes) normal = (normal.0, back_skip mark at n codes normal.1, normal-marked mark at codes normal.2)
+
 pub filled_marked : (mark : ℕ → Source) (at : ℕ) (code : Code) (codes : List Code) → IsNormal (marked mark at (code ∷ codes)) → 0 < length_of code
 filled_marked mark at (Retain n) codes normal = normal.0
 filled_marked mark at (Insert n) codes normal = omega (arith, normal.0, length-places mark at n)

@@ -1,12 +1,12 @@
 -- Lists of codes from their first one on.
-use Rattle.std.proofs.Common.{◌≡◌, ℕ, zero, suc, ◌+◌, ◌-◌, ◌<◌, ◌≤◌, List, [], ◌∷◌, Bool, true, false, Some, None, nat_eq, if◌then◌else◌, refl, ap, arith}
+use Rattle.std.proofs.Common.{◌≡◌, ℕ, zero, suc, ◌+◌, ◌-◌, ◌<◌, ◌≤◌, List, [], ◌∷◌, Bool, true, false, Some, None, nat_eq, if◌then◌else◌, refl, sym, ap, arith}
 use borrow.Author.Tests.{eq-eqb, ne_eqb}
 use Rattle.ot_operation.specs.Run.{Keep, Skip, IsNormal}
 use Rattle.ot_operation.specs.Steps.{skipped}
 use Rattle.ot_operation.proofs.RunSlots.{StartsOtherwise}
 use Rattle.ot_codes.specs.declared.code.Code.{Code}
 use Rattle.ot_codes.specs.declared.code.Code.TheVariants.{Retain, Insert, Delete}
-use Rattle.ot_codes.specs.Codes.{run_of, runs_of, length_of, with_length, first_of, insertion_of, others_of, without, HasFirst, total_of}
+use Rattle.ot_codes.specs.Codes.{run_of, runs_of, length_of, with_length, first_of, head_of, insertion_of, others_of, without, HasFirst, total_of}
 use Rattle.ot_codes.proofs.Put.{length-blanks}
 
 pub inserts : (codes : List Code) (count : ℕ) → insertion_of codes ≡ Some count → codes ≡ Insert count ∷ others_of codes
@@ -14,6 +14,24 @@ inserts [] count is = cc
 inserts (Retain n ∷ codes) count is = cc
 inserts (Insert n ∷ codes) count is = let e : n ≡ count = cc in ap (λ m. Insert m ∷ codes) e
 inserts (Delete n ∷ codes) count is = cc
+
+-- the code at hand of codes that are read
+
+pub inserts_first : (codes : List Code) (count : ℕ) → head_of codes ≡ Insert count → insertion_of codes ≡ Some count
+inserts_first [] count is = cc
+inserts_first (Retain n ∷ codes) count is = cc
+inserts_first (Insert n ∷ codes) count is = let e : n ≡ count = cc in ap Some e
+inserts_first (Delete n ∷ codes) count is = cc
+
+pub inserts_nothing : (codes : List Code) → ((n : ℕ) → head_of codes ≡ Insert n → ⊥) → insertion_of codes ≡ None
+inserts_nothing [] other = refl
+inserts_nothing (Retain n ∷ codes) other = refl
+inserts_nothing (Insert n ∷ codes) other = absurd (other n refl)
+inserts_nothing (Delete n ∷ codes) other = refl
+
+pub head_there : (codes : List Code) (code : Code) → code ≡ head_of codes → 0 < length_of code → first_of codes ≡ Some code
+head_there [] code is some = absurd (omega (arith, some, ap length_of is))
+head_there (c ∷ codes) code is some = ap Some (sym is)
 
 pub none_left : (codes : List Code) → first_of codes ≡ None → codes ≡ []
 none_left [] is = refl
@@ -30,6 +48,11 @@ pub filled_first : (code : Code) (codes : List Code) → IsNormal (runs_of (code
 filled_first (Retain n) codes normal = normal.0
 filled_first (Insert n) codes normal = omega (arith, normal.0, length-blanks n)
 filled_first (Delete n) codes normal = normal.0
+
+-- so where none is at hand, nothing is left
+pub head_gone : (codes : List Code) (code : Code) → code ≡ head_of codes → IsNormal (runs_of codes) → length_of code ≡ 0 → first_of codes ≡ None
+head_gone [] code is normal none = refl
+head_gone (c ∷ codes) code is normal none = absurd (omega (arith, filled_first c codes normal, none, ap length_of is))
 
 -- without the first elements
 

@@ -1,6 +1,6 @@
 -- Codes of one operation that lie in a single code of the other: what transform and compose make of all of them at once.
 use Rattle.std.proofs.Common.{◌≡◌, ℕ, ◌+◌, ◌<◌, ◌≤◌, List, [], ◌∷◌, ◌++◌, nat_eq, Bool, true, false, if◌then◌else◌, refl, sym, ap, subst, ◌∙◌, arith}
-use Rattle.ot_operation.specs.Operation.{Operation, with_retain, with_delete}
+use Rattle.ot_operation.specs.Operation.{Operation, with_retain}
 use Rattle.ot_operation.specs.Run.{Run, base_of, IsNormal}
 use Rattle.ot_operation.specs.Steps.{with_runs}
 use Rattle.ot_operation.specs.Steps.{target_of}
@@ -10,8 +10,8 @@ use Rattle.ot_codes.specs.declared.code.Code.{Code}
 use Rattle.ot_codes.specs.declared.code.Code.TheVariants.{Retain, Insert, Delete}
 use Rattle.ot_codes.specs.Codes.{runs_of, without, past, kept_in, deleted_in, inserted_in}
 use Rattle.ot_codes.proofs.Put.{length-blanks, runs_of-append}
-use Rattle.ot_codes.proofs.Read.{without_keep, without_skip}
-use Rattle.ot_codes.proofs.TransformSkips.{AddNothing, moved_to, progress_kept_second, progress_deleted, progress_deleted_second}
+use Rattle.ot_codes.proofs.Read.{without_keep}
+use Rattle.ot_codes.proofs.TransformSkips.{moved_to, progress_kept_second}
 
 -- what codes take and make
 
@@ -27,13 +27,6 @@ target_in (Retain n ∷ codes) = omega (arith, target_in codes)
 target_in (Insert n ∷ codes) = omega (arith, target_in codes, length-blanks n)
 target_in (Delete n ∷ codes) = target_in codes
 
--- codes in normal form that insert no element have no insertion
-pub adds_nothing : (codes : List Code) → IsNormal (runs_of codes) → inserted_in codes ≡ 0 → AddNothing (runs_of codes)
-adds_nothing [] normal none = tt
-adds_nothing (Retain n ∷ codes) normal none = adds_nothing codes normal.2 none
-adds_nothing (Insert n ∷ codes) normal none = absurd (omega (arith, none, normal.0, length-blanks n))
-adds_nothing (Delete n ∷ codes) normal none = adds_nothing codes normal.2 none
-
 -- what is left of the single code
 
 past_by : (count : ℕ) (b : Bool) (codes rest : List Code) → runs_of (if b then codes else rest) ≡ (if b then runs_of codes else runs_of rest)
@@ -44,11 +37,6 @@ pub past_keep : (count n : ℕ) (codes : List Code) → runs_of (past count (Ret
 past_keep count n codes =
     past_by count (nat_eq count 0) (Retain n ∷ codes) (without count (Retain n ∷ codes))
     ∙ ap (λ (rest : List (Run (Unit {0}))). if nat_eq count 0 then runs_of (Retain n ∷ codes) else rest) (without_keep count n codes)
-
-pub past_skip : (count n : ℕ) (codes : List Code) → runs_of (past count (Delete n ∷ codes)) ≡ after_kept count (runs_of (Delete n ∷ codes))
-past_skip count n codes =
-    past_by count (nat_eq count 0) (Delete n ∷ codes) (without count (Delete n ∷ codes))
-    ∙ ap (λ (rest : List (Run (Unit {0}))). if nat_eq count 0 then runs_of (Delete n ∷ codes) else rest) (without_skip count n codes)
 
 -- the front of codes in normal form is in normal form
 
@@ -79,29 +67,3 @@ module _ (a b first second : Operation (Unit {0})) (front rest others : List Cod
       (ap (λ (count : ℕ). after_kept count (runs_of (Retain n ∷ others))) (base_in front) ∙ sym (past_keep (kept_in front + deleted_in front) n others)) refl
       (progress_kept_second a b first second (runs_of front) (runs_of rest) (runs_of (Retain n ∷ others)) (omega (arith, within, base_in front))
       (subst (λ ys. Progress a b first second (runs_of (Retain n ∷ others)) ys) (runs_of-append front rest) w))
-
-  -- codes of the first that insert nothing, in a deletion of the second
-  pub skip_first_deleted :
-      inserted_in front ≡ 0 → kept_in front + deleted_in front ≤ n → Progress a b first second (runs_of (front ++ rest)) (runs_of (Delete n ∷ others))
-      → Progress a b first (with_delete second (kept_in front)) (runs_of rest) (runs_of (past (kept_in front + deleted_in front) (Delete n ∷ others)))
-  skip_first_deleted bare within w =
-      let whole : Progress a b first second (runs_of front ++ runs_of rest) (runs_of (Delete n ∷ others)) =
-      subst (λ xs. Progress a b first second xs (runs_of (Delete n ∷ others))) (runs_of-append front rest) w in
-      let kept : target_of (runs_of front) ≡ kept_in front = omega (arith, target_in front, bare) in
-      moved_to a b _ _ _ _ _ _ _ _ refl (ap (with_delete second) kept) refl
-      (ap (λ (count : ℕ). after_kept count (runs_of (Delete n ∷ others))) (base_in front) ∙ sym (past_skip (kept_in front + deleted_in front) n others))
-      (progress_deleted a b first second (runs_of front) (runs_of rest) (runs_of (Delete n ∷ others))
-      (adds_nothing front (normal_front (runs_of front) (runs_of rest) whole.first_normal) bare) (omega (arith, within, base_in front)) whole)
-
-  -- codes of the second that insert nothing, in a deletion of the first
-  pub skip_second_deleted :
-      inserted_in front ≡ 0 → kept_in front + deleted_in front ≤ n → Progress a b first second (runs_of (Delete n ∷ others)) (runs_of (front ++ rest))
-      → Progress a b (with_delete first (kept_in front)) second (runs_of (past (kept_in front + deleted_in front) (Delete n ∷ others))) (runs_of rest)
-  skip_second_deleted bare within w =
-      let whole : Progress a b first second (runs_of (Delete n ∷ others)) (runs_of front ++ runs_of rest) =
-      subst (λ ys. Progress a b first second (runs_of (Delete n ∷ others)) ys) (runs_of-append front rest) w in
-      let kept : target_of (runs_of front) ≡ kept_in front = omega (arith, target_in front, bare) in
-      moved_to a b _ _ _ _ _ _ _ _ (ap (with_delete first) kept) refl
-      (ap (λ (count : ℕ). after_kept count (runs_of (Delete n ∷ others))) (base_in front) ∙ sym (past_skip (kept_in front + deleted_in front) n others)) refl
-      (progress_deleted_second a b first second (runs_of front) (runs_of rest) (runs_of (Delete n ∷ others))
-      (adds_nothing front (normal_front (runs_of front) (runs_of rest) whole.second_normal) bare) (omega (arith, within, base_in front)) whole)

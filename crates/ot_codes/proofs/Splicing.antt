@@ -1,20 +1,24 @@
 -- The steps of compose's loop.
-use Rattle.std.proofs.Common.{◌≡◌, ℕ, ◌+◌, ◌<◌, ◌≤◌, List, [], ◌∷◌, length, max, Some, None, refl, ap, subst, arith}
+use Rattle.std.proofs.Common.{◌≡◌, ℕ, ◌+◌, ◌<◌, ◌≤◌, List, [], ◌∷◌, ◌++◌, length, max, Some, None, refl, ap, subst, ◌∙◌, arith}
 use Rattle.ot_operation.specs.Operation.{Operation, IsTooLong}
-use Rattle.ot_operation.specs.Run.{image_from}
+use Rattle.ot_operation.specs.Run.{IsNormal, image_from}
 use Rattle.ot_operation.proofs.RunLemmas.{length-news-le}
 use Rattle.ot_operation.specs.Compose.{compose}
-use Rattle.ot_operation.specs.Steps.{appended}
+use Rattle.ot_operation.specs.Steps.{appended, with_runs}
 use Rattle.ot_operation.proofs.ComposeProgress.{ComposeBounds}
 use Rattle.ot_codes.specs.declared.code.Code.{Code}
 use Rattle.ot_codes.specs.declared.code.Code.TheVariants.{Retain, Insert, Delete}
+use Rattle.ot_codes.specs.declared.code.Sum.{Sum}
 use Rattle.ot_codes.specs.declared.cut.Splice.{Splice}
-use Rattle.ot_codes.specs.Codes.{run_of, runs_of, spelled, length_of, others_of, first_of, insertion_of, deletion_of, keeps, without, total_of, inserted_in}
+use Rattle.ot_codes.specs.Codes.{run_of, runs_of, spelled, length_of, others_of, first_of, insertion_of, deletion_of, retain_of, keeps, past, without, total_of, kept_in, inserted_in, sum_of}
 use Rattle.ot_codes.specs.Cuts.{with_cut, GiveText}
 use Rattle.ot_codes.specs.Cuts.Source.{OfFirst, OfSecond}
-use Rattle.ot_codes.specs.Splice.{HasInserted, composed_code, SplicesCode, inserts}
-use Rattle.ot_codes.proofs.Marked.{size-spelled, filled_marked}
+use Rattle.ot_codes.specs.Splice.{HasInserted, HasKept, composed_code, SplicesCode, inserts}
+use Rattle.ot_codes.proofs.Marked.{size-spelled, filled_marked, normal-marked}
 use Rattle.ot_codes.proofs.Composing.{first_of_codes, second_of_codes, Composing, state_moved, composing_insert, composing_retain, composing_keep, composing_cut, composing_bounds, composing_small, composing_end, composing_none}
+use Rattle.ot_codes.proofs.ComposeSkipping.{composing_kept_first}
+use Rattle.ot_codes.proofs.Steps.{normal_run, retains, total-run}
+use Rattle.ot_codes.proofs.Summing.{inserted-append}
 
 -- what is known of both operations
 
@@ -129,6 +133,45 @@ module _ (codes_a codes_b : List Code) (pen : Operation (Unit {0})) (s : Splice)
       let f : d ≡ y = cc in
       rw (e, f)
       (small_at count x y xs ys some (omega (arith, in_first, ap length_of e)) (omega (arith, in_second, ap length_of f)) not_c not_d whole w)
+
+  -- codes of the first in a retain of the second
+  module _
+      (xs ys behind : List Code) (first : Code) (others : List Code) (sum : Sum) (count : ℕ)
+      (parts : xs ≡ (first ∷ others) ++ behind) (sum_is : sum ≡ sum_of (first ∷ others)) where
+    abbrev front : List Code
+    front = first ∷ others
+
+    kept :
+        retain_of ys ≡ Some count → sum.kept + sum.inserted ≤ count → Spliced codes_a codes_b pen s xs ys
+        → Composing codes_a codes_b (with_runs pen (runs_of front)) s.cuts.items (s.at + inserted_in front) s.from behind (past (kept_in front + inserted_in front) (Retain count ∷ others_of ys))
+    kept is within w =
+        let made : sum.kept + sum.inserted ≡ kept_in front + inserted_in front = ap (λ (k : Sum). k.kept + k.inserted) sum_is in
+        composing_kept_first codes_a codes_b pen s.cuts.items s.at s.from front behind (others_of ys) count (omega (arith, within, made))
+        (subst (λ zs. Spliced codes_a codes_b pen s (front ++ behind) zs) (retains ys count is) (subst (λ zs. Spliced codes_a codes_b pen s zs ys) parts w))
+
+    pub splicing_run :
+        (next : Splice) → retain_of ys ≡ Some count → sum.kept + sum.inserted ≤ count → HasKept s next sum.inserted → Spliced codes_a codes_b pen s xs ys
+        → Spliced codes_a codes_b (with_runs pen (runs_of front)) next behind (past (sum.kept + sum.inserted) ys)
+    splicing_run next is within has w =
+        let made : sum.kept + sum.inserted ≡ kept_in front + inserted_in front = ap (λ (k : Sum). k.kept + k.inserted) sum_is in
+        let far : next.at ≡ s.at + inserted_in front = omega (arith, has.at, ap (λ (k : Sum). k.inserted) sum_is) in
+        state_moved codes_a codes_b (with_runs pen (runs_of front)) (with_runs pen (runs_of front)) s.cuts.items next.cuts.items (s.at + inserted_in front) next.at s.from next.from
+        behind behind (past (kept_in front + inserted_in front) (Retain count ∷ others_of ys)) (past (sum.kept + sum.inserted) ys)
+        refl has.cuts far has.from refl (ap (λ k. past k ys) made ∙ ap (past (kept_in front + inserted_in front)) (retains ys count is)) (kept is within w)
+
+    pub small_run :
+        retain_of ys ≡ Some count → sum.kept + sum.inserted ≤ count → Whole codes_a codes_b → Spliced codes_a codes_b pen s xs ys → IsTooLong (with_runs pen (runs_of front)) → ⊥
+    small_run is within whole w = composing_small codes_a codes_b _ _ _ _ _ _ whole.bounds (kept is within w)
+
+    pub reach_run : Whole codes_a codes_b → Spliced codes_a codes_b pen s xs ys → s.at + sum.inserted ≤ 1000000
+    reach_run whole w =
+        omega (arith, (reach xs ys whole w).0, ap inserted_in parts, inserted-append front behind, ap (λ (k : Sum). k.inserted) sum_is)
+
+    pub normal_kept : Spliced codes_a codes_b pen s xs ys → IsNormal (runs_of (first ∷ others))
+    normal_kept w = normal_run xs (first ∷ others) behind parts (normal-marked OfFirst s.at xs w.progress.first_normal)
+
+    pub total-kept : Spliced codes_a codes_b pen s xs ys → total_of behind < total_of xs
+    total-kept w = total-run xs behind first others parts (normal-marked OfFirst s.at xs w.progress.first_normal)
 
   pub splicing_end :
       (xs ys : List Code) → first_of xs ≡ None → insertion_of ys ≡ None → Spliced codes_a codes_b pen s xs ys

@@ -10,9 +10,9 @@ use Rattle.ot_operation.proofs.TransformProgress.{Progress, progress_insert_firs
 use Rattle.ot_codes.specs.declared.code.Code.{Code}
 use Rattle.ot_codes.specs.declared.code.Code.TheVariants.{Retain, Insert, Delete}
 use Rattle.ot_codes.specs.declared.code.Sum.{Sum}
-use Rattle.ot_codes.specs.Codes.{blanks, run_of, runs_of, length_of, first_of, insertion_of, retain_of, others_of, past, without, keeps, kept_in, deleted_in, inserted_in, sum_of, HasFirst, total_of}
+use Rattle.ot_codes.specs.Codes.{blanks, run_of, runs_of, length_of, first_of, head_of, insertion_of, retain_of, others_of, past, without, keeps, kept_in, deleted_in, inserted_in, sum_of, HasFirst, total_of}
 use Rattle.ot_codes.proofs.Put.{length-blanks, runs_of-append}
-use Rattle.ot_codes.proofs.Read.{filled_first, inserts, none_left, otherwise, total-without, without_keep, without_skip}
+use Rattle.ot_codes.proofs.Read.{filled_first, head_gone, head_there, inserts, inserts_nothing, none_left, otherwise, total-without, without_keep, without_skip}
 use Rattle.ot_codes.proofs.Skipping.{normal_front, skip_first, skip_second}
 use Rattle.ot_codes.proofs.Summing.{total-append}
 
@@ -83,9 +83,32 @@ end_first a b first second xs ys none other w =
     progress_end_first a b first second (runs_of ys) (otherwise ys other)
     (subst (λ zs. Progress a b first second (runs_of zs) (runs_of ys)) (none_left xs none) w)
 
+-- the same by the codes at hand, of which one is there or not
+
+pub step_heads :
+    (a b first second : Op) (count : ℕ) (c d : Code) (xs ys : List Code) → c ≡ head_of xs → d ≡ head_of ys
+    → 0 < count → count ≤ length_of c → count ≤ length_of d
+    → ((n : ℕ) → c ≡ Insert n → ⊥) → ((n : ℕ) → d ≡ Insert n → ⊥) → Progress a b first second (runs_of xs) (runs_of ys)
+    → Progress a b (transformed_part first (keeps c) (keeps d) count) (transformed_part second (keeps d) (keeps c) count)
+    (runs_of (without count xs)) (runs_of (without count ys))
+step_heads a b first second count c d xs ys c_is d_is some in_first in_second not_c not_d w =
+    step_part a b first second count c d xs ys (head_there xs c c_is (omega (arith, some, in_first))) (head_there ys d d_is (omega (arith, some, in_second)))
+    in_first in_second (inserts_nothing xs (λ n is. not_c n (c_is ∙ is))) (inserts_nothing ys (λ n is. not_d n (d_is ∙ is))) w
+
+pub end_heads :
+    (a b first second : Op) (c d : Code) (xs ys : List Code) → c ≡ head_of xs → d ≡ head_of ys → (0 < length_of c → length_of d ≡ 0)
+    → ((n : ℕ) → c ≡ Insert n → ⊥) → ((n : ℕ) → d ≡ Insert n → ⊥) → Progress a b first second (runs_of xs) (runs_of ys)
+    → (first ≡ first_after a b) × (second ≡ second_after a b)
+end_heads a b first second c d xs ys c_is d_is none not_c not_d w = by (length_of c) refl
+  where
+    by : (n : ℕ) → length_of c ≡ n → (first ≡ first_after a b) × (second ≡ second_after a b)
+    by zero e = end_first a b first second xs ys (head_gone xs c c_is w.first_normal e) (inserts_nothing ys (λ n is. not_d n (d_is ∙ is))) w
+    by (suc n) e =
+        end_second a b first second xs ys (head_gone ys d d_is w.second_normal (none (omega (arith, e)))) (inserts_nothing xs (λ m is. not_c m (c_is ∙ is))) w
+
 -- many codes of one, in a retain of the other
 
-retains : (codes : List Code) (count : ℕ) → retain_of codes ≡ Some count → codes ≡ Retain count ∷ others_of codes
+pub retains : (codes : List Code) (count : ℕ) → retain_of codes ≡ Some count → codes ≡ Retain count ∷ others_of codes
 retains [] count is = cc
 retains (Retain n ∷ codes) count is = let e : n ≡ count = cc in ap (λ m. Retain m ∷ codes) e
 retains (Insert n ∷ codes) count is = cc

@@ -1,5 +1,5 @@
 -- The codes of an operation: its components without their elements. They spell an operation whose elements are all the one of the unit type.
-use Rattle.std.specs.Prelude.{◌≡◌, ℕ, ◌+◌, ◌-◌, ◌<◌, ◌≤◌, List, [], ◌∷◌, ◌++◌, map, replicate, Bool, true, false, Option, Some, None, nat_eq, if◌then◌else◌}
+use Rattle.std.specs.Prelude.{◌≡◌, ℕ, zero, suc, ◌+◌, ◌-◌, ◌<◌, ◌≤◌, List, [], ◌∷◌, ◌++◌, map, replicate, Bool, true, false, Option, Some, None, nat_eq, if◌then◌else◌}
 use Rattle.ot_operation.specs.Operation.{Operation}
 use Rattle.ot_operation.specs.Run.{Run, Keep, Add, Skip, operation_of, MayFollow, IsNormal, IsSound}
 use Rattle.ot_codes.specs.declared.code.Sum.{Sum}
@@ -191,3 +191,15 @@ MayEndWith (first ∷ next ∷ codes) code = MayEndWith (next ∷ codes) code
 -- the codes without the first `count` elements of their first code, or all of them
 abbrev pub past : ℕ → List Code → List Code
 past count codes = if nat_eq count 0 then codes else without count codes
+
+-- the code at hand of codes that are read; a retain of no elements where there is none
+abbrev pub head_of : List Code → Code
+head_of [] = Retain 0
+head_of (code ∷ codes) = code
+
+-- the codes from one at hand on; none, where it is a retain of no elements
+abbrev pub read_from : Code → List Code → List Code
+read_from (Retain zero) codes = []
+read_from (Retain (suc count)) codes = Retain (suc count) ∷ codes
+read_from (Insert count) codes = Insert count ∷ codes
+read_from (Delete count) codes = Delete count ∷ codes

@@ -1,6 +1,6 @@
 //! Codes in blocks.
 
-ghost use Rattle.std.specs.Prelude.{◌≡◌, ◌+◌, ◌-◌, ◌<◌, ◌≤◌, ◌^◌, [], ◌∷◌, ◌++◌, length, set, IfOk, OnOk, OnErr};
+ghost use Rattle.std.specs.Prelude.{◌≡◌, ◌+◌, ◌-◌, ◌<◌, ◌≤◌, ◌^◌, [], ◌∷◌, ◌++◌, length, set, false, IsTrue, IfOk, OnOk, OnErr};
 ghost use Rattle.ot_codes.specs.Codes.{sum_of, total_of};
 ghost use Rattle.ot_codes.specs.Ends.{last_end, start};
 
@@ -8,6 +8,7 @@ use crate::code::Sum;
 use crate::cursor::Cursor;
 use crate::end::End;
 use crate::packed::Packed;
+use crate::stretch::Stretch;
 use std::alloc::{AllocError, Global};
 use std::marker::Model;
 use std::slice;
@@ -132,6 +133,28 @@ impl Blocks {
         Ok(())
     }
 
+    /// Adds codes in blocks of their own at the end, before `left` others; `total` is what those there come to. No where there are none, or the first of these blocks has a
+    /// single code. `AllocError` where a growth was refused: the codes are as they were then.
+    pub(crate) fn extend_blocks(
+        &mut self,
+        more: &Stretch<'_>,
+        total: Sum,
+        left: usize,
+    ) -> Result<bool, AllocError>
+        requires total { total ≡ sum_of self.old }
+        requires fits { total.kept + total.deleted + total.inserted < 2 ^ 26 }
+        requires small { length self.old + length more.now < 2 ^ 26 }
+        ensures yes { IfOk result (λ done. IsTrue done → self.new ≡ self.old ++ more.now) }
+        ensures no { IfOk result (λ done. done ≡ false → self.new ≡ self.old) }
+        ensures err { OnErr result (self.new ≡ self.old) }
+    {
+        if self.codes.is_empty() {
+            return Ok(false);
+        }
+        let room = left.saturating_add(BLOCK); // since what is written between may be split
+        more.add_to(&mut self.codes, &mut self.ends, total, room)
+    }
+
     /// Another code in the place of one of the last two.
     pub(crate) fn set(&mut self, place: usize, code: Packed)
         requires within { place < length self.old }
@@ -156,6 +179,6 @@ impl Blocks {
         requires { total_of self.now < 2 ^ 26 }
         ensures { result ≡ self.now }
     {
-        Cursor::at(self.codes.as_slice(), self.ends.as_slice(), End::START)
+        Cursor::at(&Stretch::new(self.codes.as_slice(), self.ends.as_slice()))
     }
 }

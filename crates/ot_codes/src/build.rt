@@ -79,11 +79,11 @@ fn put_before(codes: &mut CodeList, last: Code, count: u32, total: Sum) -> Resul
 }
 
 /// May that code stand directly behind these?
-pub(crate) fn may_end_with(codes: &CodeList, code: Code) -> bool
+pub(crate) fn may_end_with(codes: &[Packed], code: Code) -> bool
     ensures { IsTrue result → MayEndWith codes.now code }
 {
-    match codes.last() {
-        None => true,
-        Some(last) => last.code().precedes(code),
+    match codes {
+        [.., last] => last.code().precedes(code),
+        [] => true,
     }
 }

@@ -1,13 +1,14 @@
 //! Codes in order, few or many.
 
-ghost use Rattle.std.specs.Prelude.{◌≡◌, ◌+◌, ◌-◌, ◌<◌, ◌≤◌, ◌^◌, [], ◌∷◌, ◌++◌, length, get_or, set, IfOk, MatchOption, OnOk, OnErr};
-ghost use Rattle.ot_codes.specs.Codes.{sum_of, total_of};
+ghost use Rattle.std.specs.Prelude.{◌≡◌, ◌+◌, ◌-◌, ◌<◌, ◌≤◌, ◌^◌, [], ◌∷◌, ◌++◌, length, get_or, set, false, IsTrue, IfOk, MatchOption, OnOk, OnErr};
+ghost use Rattle.ot_codes.specs.Codes.{MayEndWith, length_of, sum_of, total_of};
 
 use crate::blocks::Blocks;
-use crate::code::Sum;
+use crate::code::{Code, Sum};
 use crate::cursor::Cursor;
 use crate::few::Few;
 use crate::packed::Packed;
+use crate::stretch::Stretch;
 use std::alloc::{AllocError, Global};
 use std::marker::Model;
 
@@ -57,8 +58,9 @@ impl CodeList {
         self.alloc
     }
 
-    // The codes, in order.
-    fn as_slice(&self) -> &[Packed]
+    /// The codes, in order. A look-up.
+    #[inline(always)]
+    pub(crate) fn as_slice(&self) -> &[Packed]
         ensures { result.now ≡ self.now }
     {
         match &self.held {
@@ -117,6 +119,20 @@ impl CodeList {
         self.set(count - 2, code);
     }
 
+    /// Adds a code at the end of a few, where it may stand directly behind the last one; no where it may not, or there is no room for it among them.
+    #[inline(always)]
+    pub(crate) fn push_behind(&mut self, code: Code) -> bool
+        requires { length_of code < 2 ^ 26 }
+        ensures yes { IsTrue result → self.new ≡ self.old ++ code ∷ [] }
+        ensures may { IsTrue result → MayEndWith self.old code }
+        ensures no { result ≡ false → self.new ≡ self.old }
+    {
+        match &mut self.held {
+            Held::Few(few) => few.push_behind(code),
+            Held::Many(_) => false,
+        }
+    }
+
     /// Adds a code at the end; `total` is what the others come to. `AllocError` where a growth was refused: the codes are as they were then.
     #[inline]
     pub(crate) fn push(&mut self, code: Packed, total: Sum) -> Result<(), AllocError>
@@ -173,6 +189,27 @@ impl CodeList {
                 Ok(())
             }
             Held::Many(blocks) => blocks.extend(codes, total),
+        }
+    }
+
+    /// Adds codes in blocks of their own at the end, before `left` others; `total` is what those there come to. No where these do not lie in blocks, or the first block of
+    /// `more` has a single code. `AllocError` where a growth was refused: the codes are as they were then.
+    pub(crate) fn extend_blocks(
+        &mut self,
+        more: &Stretch<'_>,
+        total: Sum,
+        left: usize,
+    ) -> Result<bool, AllocError>
+        requires total { total ≡ sum_of self.old }
+        requires fits { total.kept + total.deleted + total.inserted < 2 ^ 26 }
+        requires small { length self.old + length more.now < 2 ^ 26 }
+        ensures yes { IfOk result (λ done. IsTrue done → self.new ≡ self.old ++ more.now) }
+        ensures no { IfOk result (λ done. done ≡ false → self.new ≡ self.old) }
+        ensures err { OnErr result (self.new ≡ self.old) }
+    {
+        match &mut self.held {
+            Held::Few(_) => Ok(false),
+            Held::Many(blocks) => blocks.extend_blocks(more, total, left),
         }
     }
 

@@ -10,8 +10,12 @@ ghost use Rattle.ot_codes.specs.Splice.{SplicesCode, composed_code, inserts};
 
 use crate::code::Code;
 use crate::codes::{Codes, Pen};
+use crate::cursor::Measure;
 use crate::cut::{Cut, Splice};
 use std::alloc::{AllocError, Global};
+
+// How many codes the first operation has at most where none are read at once.
+const SHORT: usize = 8;
 
 /// A composition: its codes, and the cuts that make its text of the first operation's and the second's.
 #[derive(Drop)]
@@ -33,7 +37,19 @@ pub fn compose(alloc: Global, a: &Codes, b: &Codes) -> Result<Composed, AllocErr
     let mut at_b = b.cursor();
     let mut pen = Pen::new(alloc);
     let mut splice = Splice::new(alloc);
+    let long = a.count() > SHORT;
     'parts: loop {
+        if long {
+            if let Some(count) = at_b.retain() {
+                if let Some(run) = at_a.run(count, Measure::Made) {
+                    pen.append(&run)?;
+                    splice.keep(run.sum.inserted);
+                    at_b.pass(run.sum.kept + run.sum.inserted);
+                    at_a = run.behind;
+                    continue 'parts;
+                }
+            }
+        }
         if let Some(count) = at_a.deletion() {
             pen.put(Code::Delete(count))?;
             at_a.next();

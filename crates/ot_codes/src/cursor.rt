@@ -2,12 +2,11 @@
 
 ghost use Rattle.std.specs.Prelude.{◌≡◌, ◌+◌, ◌<◌, ◌≤◌, ◌^◌, ◌++◌, length, take, MatchOption};
 ghost use Rattle.ot_codes.specs.Codes.{HasFirst, added, deletion_of, first_of, insertion_of, others_of, past, retain_of, sum_of, total_of, without};
-ghost use Rattle.ot_codes.specs.Ends.{AreEnds};
-ghost use Rattle.ot_codes.specs.Runs.{IsPartOf, IsRun, measured};
+ghost use Rattle.ot_codes.specs.Runs.{IsRun, measured};
 
 use crate::code::{Code, Sum};
-use crate::end::End;
 use crate::packed::Packed;
+use crate::stretch::Stretch;
 use std::marker::Model;
 
 /// What is left of codes: a contract sees a list of codes, of which the first one may be what is left of a longer one.
@@ -19,10 +18,7 @@ pub struct Cursor<'a> {
     block: &'a [Packed],
     // what it comes to, where that is known and all of the block is left
     sum: Option<Sum>,
-    // the codes behind the block, the ends of their blocks, and the end before them
-    behind: &'a [Packed],
-    ends: &'a [End],
-    done: End,
+    behind: Stretch<'a>,
 }
 
 impl<'a> Model for Cursor<'a> {
@@ -32,21 +28,22 @@ impl<'a> Model for Cursor<'a> {
     ghost Value = { List Code };
 
     ghost use Rattle.ot_codes.specs.Codes.{codes_left, others_of, total_of};
-    ghost use Rattle.ot_codes.specs.Ends.{AreEnds};
     ghost use Rattle.ot_codes.specs.Runs.{IsHead, IsSumOf};
 
-    ghost view = { λ c. codes_left c.head (others_of c.block.now ++ c.behind.now) };
+    ghost view = { λ c. codes_left c.head (others_of c.block.now ++ c.behind) };
 
-    ghost invariant = { λ c. IsHead c.head c.block.now × IsSumOf c.sum c.head c.block.now × (length c.block.now ≤ 64) × AreEnds c.done c.behind.now c.ends.now × (total_of (codes_left c.head (others_of c.block.now ++ c.behind.now)) < 2 ^ 26) };
+    ghost invariant = { λ c. IsHead c.head c.block.now × IsSumOf c.sum c.head c.block.now × (length c.block.now ≤ 64) × (total_of (codes_left c.head (others_of c.block.now ++ c.behind)) < 2 ^ 26) };
 }
 
-/// Codes that follow one another, of one block, the first of which may be what is left of that code; how much they retain, delete and insert; and what is left behind
-/// them.
+/// Codes that follow one another: `first`, which is the first one of `codes` or what is left of it, the others of `codes`, which lie in one block, and `more`, which lie in
+/// whole blocks behind it. How much all retain, delete and insert, and how much `more` does; and what is left behind them.
 #[derive(Drop)]
 pub struct Run<'a> {
     pub first: Code,
     pub codes: &'a [Packed],
+    pub more: Stretch<'a>,
     pub sum: Sum,
+    pub more_sum: Sum,
     pub behind: Cursor<'a>,
 }
 
@@ -59,7 +56,7 @@ pub enum Measure {
 
 impl Measure {
     // How much codes of this sum come to.
-    fn of(self, sum: Sum) -> u32
+    pub(crate) fn of(self, sum: Sum) -> u32
         requires { sum.kept + sum.deleted + sum.inserted < 2 ^ 26 }
         ensures { result ≡ measured self sum }
     {
@@ -89,75 +86,59 @@ fn fitting(codes: &[Packed], from: Sum, limit: u32, by: Measure) -> (usize, Sum)
     (codes.len(), sum)
 }
 
+/// The first code; none, where there is no code.
+#[inline(always)]
+pub(crate) fn head_of(codes: &[Packed]) -> Option<Code>
+    ensures { result ≡ first_of codes.now }
+{
+    match codes {
+        [first, ..] => Some(first.code()),
+        [] => None,
+    }
+}
+
 impl<'a> Cursor<'a> {
     /// A few codes, which lie in one block.
+    #[inline(always)]
     pub(crate) fn of_few(codes: &'a [Packed]) -> Cursor<'a>
         requires few { length codes.now ≤ 64 }
         requires small { total_of codes.now < 2 ^ 26 }
         ensures { result ≡ codes.now }
     {
-        Cursor::at(codes, &[], End::START)
-    }
-
-    /// Codes behind an end, in blocks with these ends.
-    pub(crate) fn at(codes: &'a [Packed], ends: &'a [End], done: End) -> Cursor<'a>
-        requires ends { AreEnds done codes.now ends.now }
-        requires small { total_of codes.now < 2 ^ 26 }
-        ensures { result ≡ codes.now }
-    {
-        match ends {
-            [end, ends @ ..] => {
-                let count = (end.count - done.count) as usize;
-                let block = &codes[..count];
-                Cursor {
-                    head: Some(block[0].code()),
-                    block,
-                    sum: Some(end.sum.minus(done.sum)),
-                    behind: &codes[count..],
-                    ends,
-                    done: *end,
-                }
-            }
-            [] => Cursor::last_block(codes),
+        Cursor {
+            head: head_of(codes),
+            block: codes,
+            sum: None,
+            behind: Stretch::none(),
         }
     }
 
-    // The codes of the last block.
-    fn last_block(codes: &'a [Packed]) -> Cursor<'a>
-        requires few { length codes.now ≤ 64 }
-        requires small { total_of codes.now < 2 ^ 26 }
+    /// Codes in blocks, from the first one on.
+    pub(crate) fn at(codes: &Stretch<'a>) -> Cursor<'a>
         ensures { result ≡ codes.now }
     {
-        let head = match codes {
-            [first, ..] => Some(first.code()),
-            [] => None,
-        };
+        let (block, sum, behind) = codes.split();
         Cursor {
-            head,
-            block: codes,
-            sum: None,
-            behind: &[],
-            ends: &[],
-            done: End::START,
+            head: head_of(block),
+            block,
+            sum,
+            behind,
         }
     }
 
     // What is left of a block, and the codes behind it.
-    fn within(block: &'a [Packed], behind: &'a [Packed], ends: &'a [End], done: End) -> Cursor<'a>
+    fn within(block: &'a [Packed], behind: &Stretch<'a>) -> Cursor<'a>
         requires few { length block.now ≤ 64 }
-        requires ends { AreEnds done behind.now ends.now }
         requires small { total_of (block.now ++ behind.now) < 2 ^ 26 }
         ensures { result ≡ block.now ++ behind.now }
     {
         match block {
-            [] => Cursor::at(behind, ends, done),
+            [] => Cursor::at(behind),
             [first, ..] => Cursor {
                 head: Some(first.code()),
                 block,
                 sum: None,
-                behind,
-                ends,
-                done,
+                behind: behind.copy(),
             },
         }
     }
@@ -199,47 +180,56 @@ impl<'a> Cursor<'a> {
         }
     }
 
-    /// Codes from the one at hand on, of one block and whole, that come to at most `limit` elements together; none, where the code at hand comes to more, or there is
-    /// none. Of a whole block that fits only the sum is read.
+    /// Codes from the one at hand on, whole ones, that come to at most `limit` elements together; none, where the code at hand comes to more, or there is none. They end
+    /// with a block, or in the one at hand. Of whole blocks only the sums are read.
     pub fn run(&self, limit: u32, by: Measure) -> Option<Run<'a>>
-        ensures is { MatchOption result (Unit {0}) (λ run. IsRun limit by self.now run.first (others_of run.codes.now) run.sum run.behind) }
-        ensures part { MatchOption result (Unit {0}) (λ run. IsPartOf run.first run.codes.now) }
+        ensures { MatchOption result (Unit {0}) (λ run. IsRun limit by self.now run.first run.codes.now run.more run.sum run.more_sum run.behind) }
     {
         let Some(first) = self.head else {
             return None;
         };
         if let Some(sum) = self.sum {
-            if by.of(sum) <= limit {
+            let taken = by.of(sum);
+            if taken <= limit {
+                let (more, more_sum, behind) = self.behind.run(limit - taken, by);
                 return Some(Run {
                     first,
                     codes: self.block,
-                    sum,
-                    behind: Cursor::at(self.behind, self.ends, self.done),
+                    more,
+                    sum: sum.plus(more_sum),
+                    more_sum,
+                    behind: Cursor::at(&behind),
                 });
             }
         }
         self.part(first, limit, by)
     }
 
-    // The same where the block is gone through.
+    // The same in the block at hand, which is gone through.
     fn part(&self, first: Code, limit: u32, by: Measure) -> Option<Run<'a>>
         requires { first_of self.now ≡ Some first }
-        ensures is { MatchOption result (Unit {0}) (λ run. IsRun limit by self.now run.first (others_of run.codes.now) run.sum run.behind) }
-        ensures part { MatchOption result (Unit {0}) (λ run. IsPartOf run.first run.codes.now) }
+        ensures { MatchOption result (Unit {0}) (λ run. IsRun limit by self.now run.first run.codes.now run.more run.sum run.more_sum run.behind) }
     {
         let _ = &self.block;
         let sum = Sum::ZERO.with(first);
         if by.of(sum) > limit {
             return None;
         }
-        let (more, sum) = fitting(&self.block[1..], sum, limit, by);
-        let count = more + 1;
+        let (others, sum) = fitting(&self.block[1..], sum, limit, by);
+        let count = others + 1;
         Some(Run {
             first,
             codes: &self.block[..count],
+            more: Stretch::none(),
             sum,
-            behind: Cursor::within(&self.block[count..], self.behind, self.ends, self.done),
+            more_sum: Sum::ZERO,
+            behind: Cursor::within(&self.block[count..], &self.behind),
         })
+    }
+
+    /// How many codes are left.
+    pub(crate) fn left(&self) -> usize {
+        self.block.len().saturating_add(self.behind.count())
     }
 
     /// Goes past the code at hand.
@@ -249,7 +239,11 @@ impl<'a> Cursor<'a> {
     {
         let rest = &self.block[1..];
         match rest {
-            [] => *self = Cursor::at(self.behind, self.ends, self.done),
+            [] if self.behind.count() == 0 => {
+                self.head = None;
+                self.sum = None;
+            }
+            [] => *self = Cursor::at(&self.behind),
             [first, ..] => {
                 self.head = Some(first.code());
                 self.block = rest;

@@ -1,7 +1,10 @@
 //! A few codes, which lie in the value itself.
 
-ghost use Rattle.std.specs.Prelude.{◌≡◌, ◌<◌, ◌≤◌, [], ◌∷◌, ◌++◌, length, set, false, IsTrue};
+ghost use Rattle.std.specs.Prelude.{◌≡◌, ◌<◌, ◌≤◌, ◌^◌, [], ◌∷◌, ◌++◌, length, set, false, IsTrue};
+ghost use Rattle.ot_codes.specs.Codes.{MayEndWith, length_of};
 
+use crate::build::may_end_with;
+use crate::code::Code;
 use crate::packed::Packed;
 use std::marker::Model;
 
@@ -57,6 +60,17 @@ impl Few {
         self.codes[count] = code;
         self.count += 1;
         true
+    }
+
+    /// One more code at the end, where it may stand directly behind the last one; no where it may not, or there is no room for it.
+    #[inline(always)]
+    pub(crate) fn push_behind(&mut self, code: Code) -> bool
+        requires { length_of code < 2 ^ 26 }
+        ensures yes { IsTrue result → self.new ≡ self.old ++ code ∷ [] }
+        ensures may { IsTrue result → MayEndWith self.old code }
+        ensures no { result ≡ false → self.new ≡ self.old }
+    {
+        may_end_with(self.as_slice(), code) && self.push(Packed::new(code))
     }
 
     /// More codes at the end; no where there is no room for all of them.

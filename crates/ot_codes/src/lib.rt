@@ -33,14 +33,16 @@
 //! ```
 //!
 //! They are read through a [`Cursor`] and written by a [`Pen`] alone, each of which a contract sees as a value: what is left, and what is written. [`Cursor::run`] reads
-//! codes of one block at once, as many as fit into a length; of a whole block with an end it looks at the sum alone. [`Pen::append`] writes them with that sum, as they lie,
-//! and joins only what has to be joined. `transform` does so where codes of an operation of more than eight lie in a retain of the other: they stay as they are, and the
-//! other retains what they make. Else `transform`, and always `compose`, go code by code: each iteration of a loop ends a code of one operation at least, so they cost the codes
-//! of both, whatever is inserted. A pen writes a retain with the next code of another kind: so what is retained piece by piece is written once.
+//! as many codes at once as fit into a length: some of a block, or it and whole blocks behind it, which are a [`Stretch`]; of whole blocks it searches the ends alone.
+//! [`Pen::append`] writes them as they lie, with those ends moved behind what is written, and joins only what has to be joined. `transform` does so where codes of an
+//! operation of more than eight lie in a retain of the other: they stay as they are, and the other retains what they make; `compose` does where such codes of the first make
+//! what the second retains. Else both go code by code: each iteration of a loop ends a code of one operation at least, so they cost the codes of both, whatever is inserted.
+//! `transform` reads two operations of eight codes or fewer as slices, without a cursor. A pen writes a retain with the next code of another kind: so what is retained piece
+//! by piece is written once.
 //!
 //! Contracts: `specs/Shape.antt` (shapes, and how they are filled), `specs/Codes.antt` (codes as runs of `ot_text` over the unit type), `specs/Cuts.antt` (the text of a
 //! composition, and what carrying out its cuts gives), `specs/Laws.antt` (the laws, each the contract of a function in [`laws`]). `specs/Splice.antt` serves the loop of `compose` alone, `specs/Runs.antt` says what is
-//! read at once. To read: `code.rt`, `packed.rt` (four bytes), `code_list.rt`, `few.rt` and `blocks.rt` (few or many), `build.rt` (normal form), `codes.rt`, `cursor.rt`, then `transformation.rt`, `cut.rt` and `composition.rt`.
+//! read at once. To read: `code.rt`, `packed.rt` (four bytes), `code_list.rt`, `few.rt`, `blocks.rt` and `stretch.rt` (few or many), `build.rt` (normal form), `codes.rt`, `cursor.rt`, `reader.rt`, then `transformation.rt`, `cut.rt` and `composition.rt`.
 #![tactic(auto)]
 
 mod blocks;
@@ -55,6 +57,8 @@ mod end;
 mod few;
 pub mod laws;
 mod packed;
+mod reader;
+mod stretch;
 mod transformation;
 
 pub use code::{Code, Sum};
@@ -63,4 +67,5 @@ pub use composition::{Composed, compose};
 pub use cursor::{Cursor, Measure, Run};
 pub use cut::{Cut, assemble};
 pub use packed::Packed;
+pub use stretch::Stretch;
 pub use transformation::{transform, transform_first};

@@ -1,7 +1,7 @@
 //! A code in four bytes.
 
-ghost use Rattle.std.specs.Prelude.{◌≡◌, ◌+◌, ◌<◌, ◌≤◌, ◌^◌};
-ghost use Rattle.ot_codes.specs.Codes.{counted, joined, length_of, stands_before};
+ghost use Rattle.std.specs.Prelude.{◌≡◌, ◌+◌, ◌-◌, ◌<◌, ◌≤◌, ◌^◌};
+ghost use Rattle.ot_codes.specs.Codes.{counted, joined, length_of, stands_before, with_length};
 
 use crate::code::{Code, Sum};
 use std::marker::Model;
@@ -80,6 +80,23 @@ impl Packed {
         Some(Packed {
             bits: self.bits + next.bits % INSERT,
         })
+    }
+
+    /// How many elements the code retains, inserts or deletes.
+    pub(crate) fn len(self) -> u32
+        ensures { result ≡ length_of self }
+    {
+        self.bits % INSERT
+    }
+
+    /// The code without its first `count` elements.
+    pub(crate) fn without(self, count: u32) -> Packed
+        requires { count ≤ length_of self }
+        ensures { result ≡ with_length self (length_of self - count) }
+    {
+        Packed {
+            bits: self.bits - count,
+        }
     }
 
     /// The code is an insertion, and the last one is a deletion: then it stands before it.

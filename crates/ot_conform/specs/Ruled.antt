@@ -2,8 +2,8 @@
 use Rattle.std.specs.Prelude.{◌≡◌, ℕ, List, [], ◌++◌, Option, Some, None, string_bytes}
 use Rattle.ot_isa.specs.Program.{Program}
 use Rattle.ot_report.specs.Printed.{stop_line}
-use Rattle.ot_rules.specs.Explained as explained
 use Rattle.ot_rules.specs.Explained.{Explains}
+use Rattle.ot_rules.specs.Notes as notes
 use Rattle.ot_conform.specs.Answers.{agreement_text, difference_text}
 use Rattle.ot_conform.specs.Points.{difference_points}
 use Rattle.ot_conform.specs.declared.answers.Difference.{Difference}
@@ -15,7 +15,7 @@ use Rattle.ot_conform.specs.declared.meeting.Field.{Field}
 use Rattle.ot_conform.specs.declared.meeting.Field.TheVariants as field
 
 -- what the rules are asked of a difference at the value of a key, or at the line itself
-abbrev pub asked : Difference → Option Key → explained.Difference
+abbrev pub asked : Difference → Option Key → notes.Difference
 asked d k = record { key = k; found = string_bytes d.found; wanted = string_bytes d.wanted; printed = d.tells_operation }
 
 -- no rule makes the message: one that differs was changed on its way

@@ -21,14 +21,6 @@ watched_there x session = subst (λ (n : ℕ). All (IsOfClients n) x.watches) (s
 
 -- ---- the numbers
 
-pub no_firsts : AreFirsts [] []
-no_firsts =
-    record {
-      there = λ j m at. let e : j < 0 = slice_get_within [] j m at in absurd (omega (arith, e));
-      apart = λ j k m n less at next. let e : j < 0 = slice_get_within [] j m at in absurd (omega (arith, e));
-      each = λ number watch at. let e : number < 0 = slice_get_within [] number watch at in absurd (omega (arith, e));
-    }
-
 longer : {X : Type 0} (xs : List X) (x : X) → length (xs ++ x ∷ []) ≡ suc (length xs)
 longer xs x = let e = length-append xs (x ∷ []) in omega (arith, e)
 
@@ -127,13 +119,6 @@ none_next ws ns w v i number none here at other j m less listed is =
           other (same_Some v w (sym at ∙ ap (slice_get ws) mine ∙ is))
       | inr differs ↦ none j m (omega (arith, less, differs)) listed is
     ]
-
-pub among_here : (ws : List Watched) (ns : List ℕ) (w v : Watched) (i number : ℕ) → AreFirsts ws ns → slice_get ns i ≡ Some number → slice_get ws number ≡ Some v → v ≡ w → IsAmong ws ns (length ws) w
-among_here ws ns w v i number are here at same =
-    record { place = i; number = number; listed = here; is = at ∙ ap (λ u. Some u) same; before = let e = are.there i number here in omega (arith, e) }
-
-pub among_none : (ws : List Watched) (ns : List ℕ) (w : Watched) (i last : ℕ) → length ns ≤ i → NoneUpTo ws ns w i → IsAmong ws ns last w → ⊥
-among_none ws ns w i last past none is = let e = slice_get_within ns is.place is.number is.listed in none is.place is.number (omega (arith, e, past)) is.listed is.is
 
 -- ---- what is known of them
 

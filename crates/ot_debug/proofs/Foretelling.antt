@@ -14,7 +14,7 @@ use Rattle.ot_model.proofs.States.{slice_get-set_other, slice_get-set_same}
 use Rattle.ot_machine.specs.declared.state.Phase as names
 use Rattle.ot_machine.specs.declared.state.Phase.TheVariants as name
 use Rattle.ot_machine.specs.Readers.{phase_name, ClientHas}
-use Rattle.ot_machine.specs.Delivery.{delivery_of}
+use Rattle.ot_machine.specs.Effects.{delivery_of}
 use Rattle.ot_debug.specs.declared.command.Watched.TheVariants as watched
 use Rattle.ot_debug.specs.Changes.{ChangesList, Foretells}
 
@@ -319,12 +319,3 @@ acknowledged_log s d x (AwaitingWithBuffer o b) = λ changed. changed refl
 
 longer : (log : List Entry) (h : Entry) → length log ≢ length (log ++ h ∷ [])
 longer log h e = let f = length-append log (h ∷ []) in absurd (omega (arith, e, f))
-
-pub log_told : (s : State) (i : Instr) → Foretells (step s i) s watched.ServerRevision (is_take i)
-log_told s (Edit d op) = by_edit (λ o. Foretells o s watched.ServerRevision false) (λ r. tt) s d op (λ x at below on base few changed. changed refl)
-log_told s (Take d) = by_take (λ o. Foretells o s watched.ServerRevision true) (λ r. tt) s d (λ x m at below on is. longer s.log _)
-log_told s (Deliver d) = by_deliver (λ o. Foretells o s watched.ServerRevision false) (λ r. tt) s d (λ x h at below on head other changed. changed refl)
-log_told s (Acknowledge d) = by_acknowledge (λ o. Foretells o s watched.ServerRevision false) (λ r. tt) s d (λ x h at below on head own. acknowledged_log s d x x.phase)
-log_told s (Join d) = by_join (λ o. Foretells o s watched.ServerRevision false) (λ r. tt) s d (λ x at below off changed. changed refl)
-log_told s (Read d) = by_read (λ o. Foretells o s watched.ServerRevision false) (λ r. tt) s d (λ x at below on changed. changed refl)
-log_told s ReadServer = by_read_server (λ o. Foretells o s watched.ServerRevision false) (λ r. tt) s (λ below changed. changed refl)

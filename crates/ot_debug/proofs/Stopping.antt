@@ -196,35 +196,14 @@ stop_halted x y z place r answer way same is memory other =
       | inr not_here ↦ subst (λ (a : Reply). MovesForth IsStop x a z) (sym (other not_here)) (stop_refused x y z place r way same (is not_here))
     ]
 
-pub stop_end : (x y : Session) (place : ℕ) → IsOnWay x y place → place ≡ length x.schedule.instrs → MovesForth IsStop x (reply.Stopped y.position why.End) y
-stop_end x y place way ended = (
-  way.keeps,
-  refl,
-  subst (λ (n : ℕ). IsRunStop x x.position n why.End) (sym way.at) (record { onward = way.onward; is = (ended, way.passed); least = way.least }),
-)
-
 -- so many steps
 pub record IsStepped (x y : Session) (count : ℕ) : Type 0 where
   pub keeps : Keeps x y
   pub at : y.position ≡ x.position + count
   pub reached : y.position ≤ done x.schedule
 
-pub stepped_next : (x y z : Session) (count : ℕ) → IsStepped x y count → Advances y z → IsStepped x z (count + 1)
-stepped_next x y z count stepped on =
-    record {
-      keeps = keeps_on x y z stepped.keeps on.keeps;
-      at = let at : y.position ≡ x.position + count = stepped.at in let next : z.position ≡ suc y.position = on.next in omega arith;
-      reached = subst (λ (s : Program). z.position ≤ done s) (on.keeps.schedule ∙ stepped.keeps.schedule) on.reached;
-    }
-
 abbrev pub IsStepsEnd : ℕ → Session → ℕ → Why → Type 0
 IsStepsEnd n s q reason = IsStepStop s s.position n q reason
-
-pub steps_counted : (x y : Session) (count n : ℕ) → IsStepped x y count → count ≡ n → MovesForth (IsStepsEnd n) x (reply.Stopped y.position why.Count) y
-steps_counted x y count n stepped all =
-    let at : y.position ≡ x.position + count = stepped.at in
-    let le : y.position ≤ done x.schedule = stepped.reached in
-    (stepped.keeps, refl, inl (omega arith, omega arith, refl))
 
 pub steps_ended :
     (x y : Session) (count n at : ℕ) → IsStepped x y count → count < n → at ≡ y.position → length x.schedule.instrs ≤ at → MovesForth (IsStepsEnd n) x (reply.Stopped at why.End) y

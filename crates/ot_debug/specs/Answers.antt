@@ -31,51 +31,32 @@ without_watches x = record x { watches = [] }
 abbrev pub MovesForth : (Session → ℕ → Why → Type 0) → Session → Reply → Session → Type 0
 MovesForth IsStop x (reply.Stopped at reason) y = Keeps x y × (y.position ≡ at) × IsStop x at reason
 MovesForth IsStop x reply.Memory y = Keeps x y × (x.position ≤ y.position) × ((q : ℕ) (reason : Why) → IsStop x q reason → y.position ≤ q)
-MovesForth IsStop x reply.Done y = ⊥
-MovesForth IsStop x (reply.Place at) y = ⊥
-MovesForth IsStop x (reply.Shown view) y = ⊥
-MovesForth IsStop x reply.NoSuchPlace y = ⊥
-MovesForth IsStop x reply.NoSuchClient y = ⊥
+MovesForth IsStop x other y = ⊥
 
 -- it has moved n instructions back, or to the opening; or if memory runs out, it stands between
 abbrev pub MovesBack : ℕ → Session → Reply → Session → Type 0
 MovesBack n x (reply.Stopped at reason) y = Keeps x y × (y.position ≡ at) × (at ≡ x.position - n) × (reason ≡ why.Count)
 MovesBack n x reply.Memory y = Keeps x y × (x.position - n ≤ y.position) × (y.position ≤ x.position)
-MovesBack n x reply.Done y = ⊥
-MovesBack n x (reply.Place at) y = ⊥
-MovesBack n x (reply.Shown view) y = ⊥
-MovesBack n x reply.NoSuchPlace y = ⊥
-MovesBack n x reply.NoSuchClient y = ⊥
+MovesBack n x other y = ⊥
 
 -- a break is set at any place of the schedule, its end too
 abbrev pub SetsBreak : ℕ → Session → Reply → Session → Type 0
 SetsBreak n x reply.Done y = (n ≤ length x.schedule.instrs) × (y ≡ with_break x n true)
 SetsBreak n x reply.NoSuchPlace y = (length x.schedule.instrs < n) × (y ≡ x)
-SetsBreak n x (reply.Stopped at reason) y = ⊥
-SetsBreak n x (reply.Place at) y = ⊥
-SetsBreak n x (reply.Shown view) y = ⊥
-SetsBreak n x reply.NoSuchClient y = ⊥
-SetsBreak n x reply.Memory y = ⊥
+SetsBreak n x other y = ⊥
 
 -- a break is removed where there is one
 abbrev pub ClearsBreak : ℕ → Session → Reply → Session → Type 0
 ClearsBreak n x reply.Done y = IsBreak x n × (y ≡ with_break x n false)
 ClearsBreak n x reply.NoSuchPlace y = (¬ IsBreak x n) × (y ≡ x)
-ClearsBreak n x (reply.Stopped at reason) y = ⊥
-ClearsBreak n x (reply.Place at) y = ⊥
-ClearsBreak n x (reply.Shown view) y = ⊥
-ClearsBreak n x reply.NoSuchClient y = ⊥
-ClearsBreak n x reply.Memory y = ⊥
+ClearsBreak n x other y = ⊥
 
 -- a watch is added whose client is there
 abbrev pub AddsWatch : Watched → Session → Reply → Session → Type 0
 AddsWatch watch x reply.Done y = IsOfClients x.schedule.clients watch × (y ≡ with_watch x watch)
 AddsWatch watch x reply.NoSuchClient y = (¬ IsOfClients x.schedule.clients watch) × (y ≡ x)
 AddsWatch watch x reply.Memory y = IsOfClients x.schedule.clients watch × (y ≡ x)
-AddsWatch watch x (reply.Stopped at reason) y = ⊥
-AddsWatch watch x (reply.Place at) y = ⊥
-AddsWatch watch x (reply.Shown view) y = ⊥
-AddsWatch watch x reply.NoSuchPlace y = ⊥
+AddsWatch watch x other y = ⊥
 
 -- the watches are gone
 abbrev pub RemovesWatches : Session → Reply → Session → Type 0
@@ -89,11 +70,7 @@ TellsPlace x answer y = (answer ≡ reply.Place x.position) × (y ≡ x)
 abbrev pub ShowsState : Session → Reply → Session → Type 0
 ShowsState x (reply.Shown view) y = IsShownState x.place.state view × (y ≡ x)
 ShowsState x reply.Memory y = y ≡ x
-ShowsState x (reply.Stopped at reason) y = ⊥
-ShowsState x reply.Done y = ⊥
-ShowsState x (reply.Place at) y = ⊥
-ShowsState x reply.NoSuchPlace y = ⊥
-ShowsState x reply.NoSuchClient y = ⊥
+ShowsState x other y = ⊥
 
 -- the command given to one session is answered so, and leaves the other session
 abbrev pub Answers : Session → Command → Reply → Session → Type 0

@@ -2,7 +2,7 @@
 use Rattle.std.specs.Prelude.{◌≡◌, ◌≢◌, ◌<◌, ◌≤◌, ℕ, length, List, Bool, true, false, slice_get, Some, MatchBool}
 use Rattle.ot_isa.specs.declared.elements.Tagged.{Tagged}
 use Rattle.ot_operation.specs.Operation.{Operation, apply}
-use Rattle.ot_model.specs.Table.{State, Outcome, Performed, Refused, NoRow}
+use Rattle.ot_model.specs.Table.{State, Outcome, Performed}
 use Rattle.ot_debug.specs.declared.command.Watched.{Watched}
 use Rattle.ot_debug.specs.Stops.{IsChanged}
 
@@ -13,8 +13,7 @@ ChangesList op list changed = MatchBool changed (apply op list ≢ list) (apply 
 -- whether what the watch looks at changes where the table performs the instruction
 abbrev pub Foretells : Outcome → State → Watched → Bool → Type 0
 Foretells (Performed t shown) s watch changed = MatchBool changed (IsChanged watch s t) (¬ IsChanged watch s t)
-Foretells (Refused r) s watch changed = Unit {0}
-Foretells NoRow s watch changed = Unit {0}
+Foretells other s watch changed = Unit {0}
 
 -- so of the watch with this number, if it is there
 abbrev pub ForetellsOf : Outcome → State → List Watched → ℕ → Bool → Type 0

@@ -3,7 +3,7 @@ use Rattle.std.specs.Prelude.{◌≡◌, ◌≢◌, ◌<◌, ◌≤◌, ℕ, suc
 use Rattle.std.specs.Option.{option_map}
 use Rattle.ot_isa.specs.Program.{Program}
 use Rattle.ot_isa.specs.declared.instruction.Instr.{Instr}
-use Rattle.ot_isa.specs.declared.instruction.Instr.TheVariants.{Edit, Take, Deliver, Acknowledge, Join, Read, ReadServer}
+use Rattle.ot_isa.specs.declared.instruction.Instr.TheVariants.{Read, ReadServer}
 use Rattle.ot_model.specs.declared.shown.Shown.{Shown}
 use Rattle.ot_model.specs.Table.{State, Place, Performed, step}
 use Rattle.ot_model.specs.Runs.{done, place_at}
@@ -26,6 +26,10 @@ shown_at s p = unwrap_or (option_map (λ (q : Place). q.shown) (place_at s p)) [
 -- these are all of them where lists are recorded, and else none
 abbrev pub AreLists : Bool → List Shown → List Shown → Type 0
 AreLists kept shown lists = MatchBool kept (lists ≡ shown) (lists ≡ [])
+
+-- the table performs the instruction, whatever it shows
+abbrev pub Leads : State → Instr → State → Type 0
+Leads s i t = (shown : Option Shown) × (step s i ≡ Performed t shown)
 
 -- the table performs the instruction; what it shows is given where lists are recorded, and else nothing
 abbrev pub Gives : Bool → State → Instr → State → Option Shown → Type 0
@@ -87,13 +91,9 @@ pub record Advances (x y : Session) : Type 0 where
 
 -- the instruction shows a list
 abbrev pub is_read : Instr → Bool
-is_read (Edit client op) = false
-is_read (Take client) = false
-is_read (Deliver client) = false
-is_read (Acknowledge client) = false
-is_read (Join client) = false
 is_read (Read client) = true
 is_read ReadServer = true
+is_read i = false
 
 -- the lists shown before an instruction: without the last one where it was a read
 abbrev pub AreShownBefore : Bool → List Shown → List Shown → Type 0

@@ -65,9 +65,7 @@ pub record IsRefusedAt (s : Program) (q : ℕ) (refusal : Refusal) : Type 0 wher
 abbrev pub IsEnding : Program → ℕ → Why → Type 0
 IsEnding s q why.End = q ≡ length s.instrs
 IsEnding s q (why.Refused refusal) = IsRefusedAt s q refusal
-IsEnding s q why.Break = ⊥
-IsEnding s q (why.Watch number) = ⊥
-IsEnding s q why.Count = ⊥
+IsEnding s q other = ⊥
 
 -- neither a watch nor a break stops a run from `from` at q; where it begins, nothing of the kind does
 pub record IsPassed (x : Session) (from q : ℕ) : Type 0 where

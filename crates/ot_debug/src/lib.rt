@@ -19,7 +19,7 @@
 //! - What watches see of an instruction is determined before it is performed (specs/Changes.antt): so no list is copied or compared for them.
 //!   Of equal watches the first alone is looked at.
 //! - [`laws`] says that stops are exact: a run has one stop at most, for one reason.
-//! - Going forth costs what a run costs: only the last 16 instructions before a place where a command stops leave undo records (`Machine::perform_kept`), where that place is the end
+//! - Going forth costs what a run costs: only the last 16 instructions before a place where a command stops leave undo records, where that place is the end
 //!   of the schedule, a break before a `Run`, or the last instruction of a `Step`, and the one that a watch stops at; what is performed behind that place without one lets them go. So
 //!   the first few steps back take no time.
 //!   Where `Back` is to go further and there are no records, another machine performs the schedule once more, from the opening up to the place where one goes, and leaves a

@@ -3,47 +3,24 @@
 ghost use Rattle.std.specs.Prelude.{◌≡◌, ◌≢◌, ◌≤◌, ◌==◌, IfErr, IfOk, OnErr, OnOk};
 ghost use Rattle.ot_model.specs.declared.shown.Refusal.TheVariants.{Memory};
 ghost use Rattle.ot_model.specs.Runs.{done, IsStateAt};
-ghost use Rattle.ot_model.specs.Table.{step, Refused};
-ghost use Rattle.ot_machine.specs.Undoing.{Undoes};
-ghost use Rattle.ot_debug.specs.Stepping.{undos_in, AreRecords, Gives, GoOn, IsAsBefore, OneMore};
+ghost use Rattle.ot_model.specs.Table.{step, Refused, State};
+ghost use Rattle.ot_debug.specs.Stepping.{undos_in, AreRecords, Gives, GoOn, IsAsBefore, Leads, OneMore};
 
 use crate::debugger::opening;
 use crate::recent::Recent;
 use ot_isa::{Instr, Schedule};
-use ot_machine::{Machine, Refusal, Shown, Undo};
+use ot_machine::{Machine, Refusal, Shown};
 use std::alloc::{AllocError, Global};
 
-// Performs the instruction, and gives the list that it shows where `LISTS` is 1. Else no list is copied.
-fn perform_plain<const LISTS: u8>(
-    machine: &mut Machine,
-    instr: &Instr,
-) -> Result<Option<Shown>, Refusal>
-    ensures done { IfOk result (λ list. Gives (LISTS == 1) machine.old instr.now machine.new list) }
-    ensures refused { IfErr result (λ r. r ≢ Memory → step machine.old instr.now ≡ Refused r) }
-    ensures unchanged { OnErr result (machine.new ≡ machine.old) }
+// A copy of the list that the instruction shows, where it is performed and `LISTS` is 1. Else none is made.
+fn shown<const LISTS: u8>(machine: &Machine, instr: &Instr) -> Result<Option<Shown>, Refusal>
+    ensures given { IfOk result (λ list. (t : State) → Leads machine.now instr.now t → Gives (LISTS == 1) machine.now instr.now t list) }
+    ensures refused { IfErr result (λ r. r ≢ Memory → step machine.now instr.now ≡ Refused r) }
 {
     if LISTS == 1 {
-        return machine.step(instr);
+        return machine.shown(instr);
     }
-    let _who = machine.perform(instr)?;
     Ok(None)
-}
-
-// So it does, and gives the undo record too.
-fn perform_kept<const LISTS: u8>(
-    machine: &mut Machine,
-    instr: &Instr,
-) -> Result<(Option<Shown>, Undo), Refusal>
-    ensures done { IfOk result (λ given. Gives (LISTS == 1) machine.old instr.now machine.new given.0) }
-    ensures undo { IfOk result (λ given. Undoes machine.old machine.new given.1) }
-    ensures refused { IfErr result (λ r. r ≢ Memory → step machine.old instr.now ≡ Refused r) }
-    ensures unchanged { OnErr result (machine.new ≡ machine.old) }
-{
-    if LISTS == 1 {
-        return machine.step_kept(instr);
-    }
-    let undo = machine.perform_kept(instr)?;
-    Ok((None, undo))
 }
 
 // Performs the instruction, and adds its record; the oldest may go.
@@ -61,7 +38,10 @@ fn perform_recorded<const LISTS: u8>(
     ensures records_stay { OnErr result (undos_in undos.new ≡ undos_in undos.old) }
 {
     undos.reserve_one()?;
-    let (list, undo) = perform_kept::<LISTS>(machine, instr)?;
+    let list = shown::<LISTS>(machine, instr)?;
+    let Some(undo) = machine.perform::<true>(instr)?.into_undo() else {
+        unreachable!()
+    };
     undos.push(undo);
     Ok(list)
 }
@@ -84,7 +64,8 @@ pub(crate) fn perform<const LISTS: u8>(
     if leaves {
         return perform_recorded::<LISTS>(machine, undos, instr);
     }
-    let list = perform_plain::<LISTS>(machine, instr)?;
+    let list = shown::<LISTS>(machine, instr)?;
+    machine.perform::<false>(instr)?;
     undos.forget();
     Ok(list)
 }

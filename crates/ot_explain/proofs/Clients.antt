@@ -10,7 +10,7 @@ use Rattle.ot_machine.specs.Readers.{ClientHas}
 use Rattle.ot_steps.specs.Steps.{client_in}
 use Rattle.ot_steps.proofs.Delivering.{client_of as one_that_has}
 use Rattle.ot_explain.specs.Words.{entry_text, list_text, of_client}
-use Rattle.ot_explain.specs.Told.{acknowledge_text, acknowledge_words, against_waiting, client_text, client_words, confirmed, deliver_start, start_text, waiting}
+use Rattle.ot_explain.specs.Told.{acknowledge_text, acknowledge_words, pending_words, client_text, client_words, confirmed, deliver_start, start_text, pending}
 
 -- of one of its values
 pub said : {A : Type 0} (s : State) (c : ℕ) (field : Client → A) (value : A) (words : A → List ℕ) (bytes : List ℕ)
@@ -44,19 +44,19 @@ pub told_of : (s : State) (c : ℕ) (words : Client → List ℕ) (old new : Lis
 told_of s c words old new inside made = made ∙ ap (λ (t : List ℕ). old ++ t) (sym (of_one s.clients c words inside))
 
 pub delivery_told : (s : State) (c revision : ℕ) (old new : List ℕ) → c < length s.clients → ClientHas s c (λ x. x.revision) revision
-    → new ≡ old ++ start_text c (entry_text (slice_get s.log revision)) (against_waiting (client_in s c).phase) → new ≡ old ++ of_client s c (deliver_start s c)
+    → new ≡ old ++ start_text c (entry_text (slice_get s.log revision)) (pending_words (client_in s c).phase) → new ≡ old ++ of_client s c (deliver_start s c)
 delivery_told s c revision old new inside has made =
     told_of s c (deliver_start s c) old new inside
-    (follows s c (λ x. x.revision) revision (λ (r : ℕ). start_text c (entry_text (slice_get s.log r)) (against_waiting (client_in s c).phase)) old new has made)
+    (follows s c (λ x. x.revision) revision (λ (r : ℕ). start_text c (entry_text (slice_get s.log r)) (pending_words (client_in s c).phase)) old new has made)
 
 pub acknowledgement_told : (s : State) (c : ℕ) (old new : List ℕ) → c < length s.clients → new ≡ old ++ acknowledge_text c (confirmed (client_in s c).phase)
     → new ≡ old ++ of_client s c (acknowledge_words c)
 acknowledgement_told s c old new inside made = told_of s c (acknowledge_words c) old new inside made
 
 pub client_told : (s : State) (c revision : ℕ) (list : List Tagged) (old new : List ℕ) → c < length s.clients → ClientHas s c (λ x. x.revision) revision → ClientHas s c (λ x. x.list) list
-    → new ≡ old ++ client_text c revision (waiting (client_in s c).phase) (list_text list) → new ≡ old ++ of_client s c (client_words c)
+    → new ≡ old ++ client_text c revision (pending (client_in s c).phase) (list_text list) → new ≡ old ++ of_client s c (client_words c)
 client_told s c revision list old new inside has_revision has_list made =
     let y = client_in s c in
     told_of s c (client_words c) old new inside
-    (follows s c (λ x. x.revision) revision (λ (r : ℕ). client_text c r (waiting y.phase) (list_text y.list)) old new has_revision
-    (follows s c (λ x. x.list) list (λ (l : List Tagged). client_text c revision (waiting y.phase) (list_text l)) old new has_list made))
+    (follows s c (λ x. x.revision) revision (λ (r : ℕ). client_text c r (pending y.phase) (list_text y.list)) old new has_revision
+    (follows s c (λ x. x.list) list (λ (l : List Tagged). client_text c revision (pending y.phase) (list_text l)) old new has_list made))

@@ -9,7 +9,7 @@ use Rattle.ot_model.specs.Table.{Client, State, Outcome, Performed, Refused, NoR
 use Rattle.ot_model.proofs.Outcomes.{by_deliver}
 use Rattle.ot_steps.specs.Steps.{LeadsTo}
 use Rattle.ot_steps.specs.Steps.{applies, delivers}
-use Rattle.ot_explain.specs.Told.{against_waiting, applied_words, before, begun, deliver_start, deliver_words}
+use Rattle.ot_explain.specs.Told.{pending_words, applied_words, before, begun, deliver_start, deliver_words}
 use Rattle.ot_explain.specs.Words.{entry_text, made_text, of_client}
 
 in_one : (a b c d e f g : List ℕ) → (a ++ (b ++ (c ++ (d ++ (e ++ f))))) ++ g ≡ a ++ (b ++ (c ++ (d ++ (e ++ (f ++ g)))))
@@ -22,7 +22,7 @@ in_one a b c d e f g =
 
 one_delivery : (s : State) (c : ℕ) (x : Client) → deliver_start s c x ++ (made_text (delivers s c) ++ codes "\n") ≡ deliver_words s c x
 one_delivery s c x =
-    in_one (codes "  client ") (decimal c) (codes " takes ") (entry_text (slice_get s.log x.revision)) (against_waiting x.phase) (codes " and applies ") (made_text (delivers s c) ++ codes "\n")
+    in_one (codes "  client ") (decimal c) (codes " takes ") (entry_text (slice_get s.log x.revision)) (pending_words x.phase) (codes " and applies ") (made_text (delivers s c) ++ codes "\n")
 
 abbrev IsWhole : State → ℕ → Outcome → Type 0
 IsWhole s c (Performed t shown) = of_client s c (deliver_start s c) ++ (made_text (delivers s c) ++ codes "\n") ≡ of_client s c (deliver_words s c)

@@ -45,11 +45,11 @@ take_words c entries None = codes "  the server takes nothing"
 take_words c entries (Some m) = message_words c entries m
 
 -- what a client transforms an operation of the server against
-abbrev pub against_waiting : Phase → List ℕ
-against_waiting NotJoined = []
-against_waiting Synchronized = []
-against_waiting (AwaitingConfirm o) = codes ", transforms it against its outstanding operation " ++ operation_text o
-against_waiting (AwaitingWithBuffer o b) =
+abbrev pub pending_words : Phase → List ℕ
+pending_words NotJoined = []
+pending_words Synchronized = []
+pending_words (AwaitingConfirm o) = codes ", transforms it against its outstanding operation " ++ operation_text o
+pending_words (AwaitingWithBuffer o b) =
     codes ", transforms it against its outstanding operation " ++ (operation_text o ++ (codes " and its buffer " ++ operation_text b))
 
 abbrev pub deliver_text : ℕ → List ℕ → List ℕ → List ℕ → List ℕ
@@ -57,7 +57,7 @@ deliver_text c entry against applied = codes "  client " ++ (decimal c ++ (codes
 
 -- the operation is the log's at the client's revision
 abbrev pub deliver_words : State → ℕ → Client → List ℕ
-deliver_words s c x = deliver_text c (entry_text (slice_get s.log x.revision)) (against_waiting x.phase) (made_text (delivers s c))
+deliver_words s c x = deliver_text c (entry_text (slice_get s.log x.revision)) (pending_words x.phase) (made_text (delivers s c))
 
 -- what is confirmed, and what then goes on
 abbrev pub confirmed : Phase → List ℕ
@@ -86,18 +86,18 @@ before ReadServer s = []
 
 -- ---- what the state after it says
 
-abbrev pub waiting : Phase → List ℕ
-waiting NotJoined = codes " has not joined"
-waiting Synchronized = codes " is synchronized"
-waiting (AwaitingConfirm o) = codes " awaits the confirmation of " ++ operation_text o
-waiting (AwaitingWithBuffer o b) = codes " awaits the confirmation of " ++ (operation_text o ++ (codes ", with the buffer " ++ operation_text b))
+abbrev pub pending : Phase → List ℕ
+pending NotJoined = codes " has not joined"
+pending Synchronized = codes " is synchronized"
+pending (AwaitingConfirm o) = codes " awaits the confirmation of " ++ operation_text o
+pending (AwaitingWithBuffer o b) = codes " awaits the confirmation of " ++ (operation_text o ++ (codes ", with the buffer " ++ operation_text b))
 
 abbrev pub client_text : ℕ → ℕ → List ℕ → List ℕ → List ℕ
 client_text c revision waits document =
     codes "  client " ++ (decimal c ++ (codes " at revision " ++ (decimal revision ++ (waits ++ (codes "; its document is " ++ (document ++ codes "\n"))))))
 
 abbrev pub client_words : ℕ → Client → List ℕ
-client_words c x = client_text c x.revision (waiting x.phase) (list_text x.list)
+client_words c x = client_text c x.revision (pending x.phase) (list_text x.list)
 
 -- the last operation of the log
 abbrev pub last_text : State → List ℕ
@@ -153,7 +153,7 @@ abbrev pub start_text : ℕ → List ℕ → List ℕ → List ℕ
 start_text c entry against = codes "  client " ++ (decimal c ++ (codes " takes " ++ (entry ++ (against ++ codes " and applies "))))
 
 abbrev pub deliver_start : State → ℕ → Client → List ℕ
-deliver_start s c x = start_text c (entry_text (slice_get s.log x.revision)) (against_waiting x.phase)
+deliver_start s c x = start_text c (entry_text (slice_get s.log x.revision)) (pending_words x.phase)
 
 -- so of each instruction, and then what a delivery applies
 abbrev pub begun : Instr → State → List ℕ

@@ -8,7 +8,7 @@ ghost use Rattle.ot_model.specs.Table.{phase_in};
 ghost use Rattle.ot_steps.specs.Steps.{client_in};
 ghost use Rattle.ot_explain.specs.Words.{of_client};
 ghost use Rattle.ot_explain.specs.Told as told;
-ghost use Rattle.ot_explain.specs.Told.{appended_words, client_words, read_words, server_words, waiting};
+ghost use Rattle.ot_explain.specs.Told.{appended_words, client_words, read_words, server_words, pending};
 
 use crate::values::{list_text, made_text, operation_text, push_operation};
 use ot_client::Client;
@@ -18,12 +18,12 @@ use ot_steps::push_decimal;
 use std::alloc::{AllocError, Global};
 
 // The pending operations of a client that has joined.
-fn push_waiting_state(
+fn push_pending_state(
     alloc: Global,
     text: &mut String,
     client: &Client<Tagged>,
 ) -> Result<(), AllocError>
-    ensures { OnOk result (string_bytes text.new ≡ string_bytes text.old ++ waiting (phase_in (state_of client.now).phase)) }
+    ensures { OnOk result (string_bytes text.new ≡ string_bytes text.old ++ pending (phase_in (state_of client.now).phase)) }
 {
     match client {
         Client::Synchronized(_) => text.push_str(" is synchronized"),
@@ -40,19 +40,19 @@ fn push_waiting_state(
     }
 }
 
-fn push_waiting(
+fn push_pending(
     alloc: Global,
     text: &mut String,
     machine: &Machine,
     client: u16,
 ) -> Result<(), AllocError>
     requires { client < length machine.now.clients }
-    ensures { OnOk result (string_bytes text.new ≡ string_bytes text.old ++ waiting (client_in machine.now client).phase) }
+    ensures { OnOk result (string_bytes text.new ≡ string_bytes text.old ++ pending (client_in machine.now client).phase) }
 {
     if !machine.joined(client) {
         return text.push_str(" has not joined");
     }
-    push_waiting_state(alloc, text, machine.client(client))
+    push_pending_state(alloc, text, machine.client(client))
 }
 
 fn push_client(
@@ -69,7 +69,7 @@ fn push_client(
     push_decimal(text, client as u64)?;
     text.push_str(" at revision ")?;
     push_decimal(text, machine.revision(client) as u64)?;
-    push_waiting(alloc, text, machine, client)?;
+    push_pending(alloc, text, machine, client)?;
     text.push_str("; its document is ")?;
     text.push_str(document.as_str())?;
     text.push_str("\n")?;

@@ -9,7 +9,7 @@ ghost use Rattle.ot_steps.specs.Lines.{plain_operation};
 ghost use Rattle.ot_steps.specs.Steps.{client_in};
 ghost use Rattle.ot_explain.specs.Told as told;
 ghost use Rattle.ot_explain.specs.Words.{of_client};
-ghost use Rattle.ot_explain.specs.Told.{acknowledge_words, against_log, against_waiting, confirmed, deliver_start, edit_goes, edit_text, edit_words, join_words, message_words, take_words};
+ghost use Rattle.ot_explain.specs.Told.{acknowledge_words, against_log, pending_words, confirmed, deliver_start, edit_goes, edit_text, edit_words, join_words, message_words, take_words};
 
 use crate::values::{operation_text, push_edit, push_entry, push_made, push_operation};
 use ot_client::{Client, Sent};
@@ -120,7 +120,7 @@ fn push_against_state(
     text: &mut String,
     client: &Client<Tagged>,
 ) -> Result<(), AllocError>
-    ensures { OnOk result (string_bytes text.new ≡ string_bytes text.old ++ against_waiting (phase_in (state_of client.now).phase)) }
+    ensures { OnOk result (string_bytes text.new ≡ string_bytes text.old ++ pending_words (phase_in (state_of client.now).phase)) }
 {
     match client {
         Client::Synchronized(_) => Ok(()),
@@ -144,7 +144,7 @@ fn push_against(
     client: u16,
 ) -> Result<(), AllocError>
     requires { client < length machine.now.clients }
-    ensures { OnOk result (string_bytes text.new ≡ string_bytes text.old ++ against_waiting (client_in machine.now client).phase) }
+    ensures { OnOk result (string_bytes text.new ≡ string_bytes text.old ++ pending_words (client_in machine.now client).phase) }
 {
     if !machine.joined(client) {
         return Ok(());

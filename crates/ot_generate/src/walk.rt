@@ -295,8 +295,8 @@ impl Walk {
         ensures { OnOk result (IsMade self.old instr self.new) }
     {
         self.recorded.reserve(1)?;
-        match self.machine.perform(&instr) {
-            Ok(_reader) => {}
+        match self.machine.perform::<false>(&instr) {
+            Ok(_effect) => {}
             Err(_) => return Err(AllocError),
         }
         // For the proof: the invariant of every machine.
@@ -434,7 +434,7 @@ impl Walk {
     {
         self.recorded.reserve(1)?;
         let copy = instr.copy()?;
-        let _reader = self.machine.perform(instr)?;
+        self.machine.perform::<false>(instr)?;
         // For the proof: the invariant of every machine.
         let _sound = self.machine.clients();
         append(&mut self.recorded, copy);

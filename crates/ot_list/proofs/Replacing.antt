@@ -122,9 +122,11 @@ module _ {T : Type 0} (vs : List (Vec T Global)) (now : List (List T)) (view : m
   pub put_back : w.items ≡ v.items → map (λ (u : Vec T Global). u.items) (set vs k w) ≡ map (λ (u : Vec T Global). u.items) vs
   put_back same = map-set_same (λ (u : Vec T Global). u.items) vs k w v (same ∙ ap (λ (u : Vec T Global). u.items) value)
 
+  pub put_other : (l : List T) → w.items ≡ l → map (λ (u : Vec T Global). u.items) (set vs k w) ≡ set now k l
+  put_other l is = map-set (λ (u : Vec T Global). u.items) vs k w ∙ rw view (ap (λ (l : List T). set now k l) is)
+
   pub put_replaced : (at gone : ℕ) (come : List T) → w.items ≡ with_run v.items at gone come → map (λ (u : Vec T Global). u.items) (set vs k w) ≡ replaced now k at gone come
-  put_replaced at gone come is =
-      map-set (λ (u : Vec T Global). u.items) vs k w ∙ rw (view, leaf_is) (ap (λ (l : List T). set now k l) is)
+  put_replaced at gone come is = put_other (with_run v.items at gone come) is ∙ rw leaf_is refl
 
   pub put_sums : {S : Type 0} (total : List T → S) (sums : List S) (s : S) → sums ≡ map total (map (λ (u : Vec T Global). u.items) vs) → s ≡ total w.items → set sums k s ≡ map total (map (λ (u : Vec T Global). u.items) (set vs k w))
   put_sums total sums s all is =

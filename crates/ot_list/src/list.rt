@@ -190,6 +190,28 @@ impl<E: Item> List<E> {
         self.sums[leaf] = E::sum(self.leaves[leaf].as_slice());
         Ok(true)
     }
+
+    /// Exchanges a leaf for other items: what was the leaf is handed back. Answers false, and changes nothing, exactly where the leaves would not be as they
+    /// have to be then. It takes no memory.
+    pub fn exchange_leaf(&mut self, place: usize, items: &mut Vec<E>) -> bool
+        requires { place < length self.old }
+        ensures made { IsTrue result → self.new ≡ set self.old place items.old.items }
+        ensures old { IsTrue result → items.new.items ≡ get_or self.old place [] }
+        ensures not { result ≡ false → self.new ≡ self.old }
+        ensures kept { result ≡ false → items.new.items ≡ items.old.items }
+        ensures only { result ≡ false → AreLeaves E.CAP (set self.old place items.old.items) → ⊥ }
+    {
+        let count = items.len();
+        if count > E::CAP {
+            return false;
+        }
+        if !self.may_have(place, count) {
+            return false;
+        }
+        self.sums[place] = E::sum(items.as_slice());
+        std::mem::swap(&mut self.leaves[place], items);
+        true
+    }
 }
 
 // Copies of leaves.

@@ -1,6 +1,6 @@
 //! Items of a list in the place of others, where the list lies.
 
-ghost use Rattle.std.specs.Prelude.{◌≡◌, ◌+◌, ◌-◌, ◌<◌, ◌≤◌, ◌++◌, ◌∷◌, length, take, drop, OnOk, OnErr, vec_capacity};
+ghost use Rattle.std.specs.Prelude.{◌≡◌, ◌+◌, ◌-◌, ◌<◌, ◌≤◌, ◌++◌, length, take, drop, OnOk, OnErr, vec_capacity};
 ghost use Rattle.ot_list.specs.Leaves.{with_run};
 
 use crate::blocks::{move_down, move_up};
@@ -21,17 +21,6 @@ fn remove<T: Copy>(items: &mut Vec<T>, at: usize, count: usize)
     items.truncate(length - count);
 }
 
-// Puts an item in, for which there is room: one is what a key stroke brings, and the items behind it move all at once.
-fn insert_one<T: Copy>(items: &mut Vec<T>, at: usize, item: T)
-    requires inside { at ≤ length items.old.items }
-    requires room { length items.old.items < vec_capacity items.old }
-    ensures { items.new.items ≡ take at items.old.items ++ item ∷ drop at items.old.items }
-{
-    if items.insert(at, item).is_err() {
-        unreachable!();
-    }
-}
-
 // Puts items in, for which there is room.
 fn insert<T: Copy>(items: &mut Vec<T>, at: usize, come: &[T])
     requires inside { at ≤ length items.old.items }
@@ -39,10 +28,6 @@ fn insert<T: Copy>(items: &mut Vec<T>, at: usize, come: &[T])
     ensures { items.new.items ≡ take at items.old.items ++ come.now ++ drop at items.old.items }
 {
     if come.is_empty() {
-        return;
-    }
-    if let [one] = come {
-        insert_one(items, at, *one);
         return;
     }
     let length = items.len();

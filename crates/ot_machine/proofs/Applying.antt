@@ -7,9 +7,9 @@ use Rattle.ot_client.specs.Client.{state_of}
 use Rattle.ot_client.specs.declared.client.Client as program
 use Rattle.ot_model.specs.Operation.{Operation}
 use Rattle.ot_model.specs.Table.{against_pending}
-use Rattle.ot_machine.specs.Delivery.{IsMadeOf}
+use Rattle.ot_machine.specs.Effects.{IsMadeOf}
 use Rattle.ot_machine.specs.Seats.{phase_of, revision_of}
-use Rattle.ot_machine.specs.declared.delivery.Applied as given
+use Rattle.ot_machine.specs.declared.effect.Applied as given
 use Rattle.ot_machine.specs.declared.seat.Seat.{Seat}
 use Rattle.ot_machine.proofs.Receiving.{against_pending_in}
 

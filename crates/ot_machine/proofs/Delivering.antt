@@ -1,6 +1,5 @@
 -- The row of a message to a client.
 use Rattle.std.proofs.Common.{◌≡◌, ◌≢◌, ℕ, zero, suc, ◌+◌, ◌-◌, ◌<◌, ◌≤◌, List, [], ◌∷◌, length, take, drop, set, refl, sym, ap, ◌∙◌, subst, arith, Option, Some, None, true, false, length-append}
-use Rattle.std.proofs.lemmas.Option.{slice_get_past, same_Some}
 use Rattle.std.specs.Prelude.{slice_get, ◌==◌, ◌++◌}
 use Rattle.ot_isa.specs.declared.elements.Tagged.{Tagged}
 use Rattle.ot_isa.specs.declared.instruction.Instr.TheVariants.{Deliver}
@@ -47,18 +46,6 @@ deliver_wrong s c x h at below on head own = rw (at, not_full s.steps below, on,
 length-numbers : (r k : ℕ) → length (numbers r k) ≡ k
 length-numbers r zero = refl
 length-numbers r (suc k) = ap suc (length-numbers (suc r) k)
-
--- an empty queue is at the log's end, and the first of another is the client's revision
-pub queue_empty : {X : Type 0} (log : List X) (r : ℕ) (queue : List ℕ) → queue ≡ numbers r (length log - r) → slice_get queue 0 ≡ None → None ≡ slice_get log r
-queue_empty log r queue is none = go (length log - r) refl (ap (λ q. slice_get q 0) (sym is) ∙ none)
-  where
-    go : (k : ℕ) → length log - r ≡ k → slice_get (numbers r k) 0 ≡ None → None ≡ slice_get log r
-    go zero many first = sym (slice_get_past log r (omega arith))
-    go (suc k) many first = absurd (cc)
-
-pub queue_head : (r k number : ℕ) (queue : List ℕ) → queue ≡ numbers r k → slice_get queue 0 ≡ Some number → number ≡ r
-queue_head r zero number queue is first = absurd (let e = ap (λ q. slice_get q 0) (sym is) ∙ first in cc)
-queue_head r (suc k) number queue is first = sym (same_Some r number (ap (λ q. slice_get q 0) (sym is) ∙ first))
 
 pub queue_rest : (r n : ℕ) (queue : List ℕ) → queue ≡ numbers r (n - r) → r < n → drop 1 queue ≡ numbers (suc r) (n - suc r)
 queue_rest r n queue is below =

@@ -16,7 +16,7 @@ use Rattle.ot_machine.specs.declared.seat.Seat.{Seat}
 use Rattle.ot_machine.specs.declared.kept.Before.{Before}
 use Rattle.ot_machine.specs.declared.undo.Record.TheVariants as kept
 use Rattle.ot_machine.specs.Seats.{view_of, client_of, phase_of, state_from, queued, emptied, outstanding_at, received_from, IsKept}
-use Rattle.ot_machine.specs.Undoing.{message_at, message_in, Restores, IsRecord, IsRead}
+use Rattle.ot_machine.specs.Undoing.{message_at, message_in, Restores, IsRecord, IsRead, Undoes}
 use Rattle.ot_machine.proofs.Joining.{absent_of}
 use Rattle.ot_machine.proofs.RowLaws.{client_at, joined_of, state_changed}
 use Rattle.ot_machine.proofs.Taking.{IsSender, sender_done, take_is, the_message}
@@ -120,7 +120,7 @@ pub kept_take :
     → IsSender server seats steps c seat → after ≡ received_from server c (outstanding_at (map view_of seats) c)
     → map view_of left ≡ emptied c (map (queued (length server.log)) (map view_of seats))
     → message_at (map view_of seats) c ≡ Some (message_of message) → IsSomeAnd inverse (λ undo. IsUndo server after undo) → state_from server seats steps ≡ s
-    → IsSomeAnd (option_map (kept.Taken c message) inverse) (IsRecord s (state_from after left (steps + 1)))
+    → IsSomeAnd (option_map (λ inverse. record { step = kept.Taken c message inverse }) inverse) (Undoes s (state_from after left (steps + 1)))
 kept_take server after seats left steps c seat message None s is is_received views is_message undo value = undo
 kept_take server after seats left steps c seat message (Some inverse) s is is_received views is_message undo value =
     take_record server after seats left steps c seat message inverse s is is_received views is_message undo value

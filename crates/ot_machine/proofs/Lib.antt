@@ -17,6 +17,7 @@ pub mod RunLaws
 pub mod Undoing
 pub mod Reverting
 pub mod Keeping
+pub mod Effects
 pub mod Retaking
 pub mod Determined
 pub mod Parting

@@ -1,5 +1,5 @@
 -- The opening.
-use Rattle.std.proofs.Common.{◌≡◌, ℕ, zero, suc, ◌+◌, ◌-◌, ◌≤◌, List, [], ◌∷◌, ◌++◌, length, map, replicate, refl, sym, ap, ◌∙◌, subst, arith, append_assoc}
+use Rattle.std.proofs.Common.{◌≡◌, ℕ, zero, suc, ◌-◌, ◌≤◌, List, [], ◌∷◌, ◌++◌, length, map, replicate, refl, sym, ap, ◌∙◌, subst}
 use Rattle.std.proofs.lemmas.List.{map-append}
 use Rattle.std.proofs.lemmas.Option.{same_Some}
 use Rattle.ot_isa.specs.declared.elements.Tagged.{Tagged}
@@ -14,18 +14,6 @@ use Rattle.ot_machine.proofs.Taking.{clients_of}
 replicate_push : {X : Type 0} (n : ℕ) (x : X) → replicate n x ++ x ∷ [] ≡ replicate (suc n) x
 replicate_push zero x = refl
 replicate_push (suc n) x = ap (λ xs. x ∷ xs) (replicate_push n x)
-
--- one seat more
-pub seated_next :
-    (seats before : List Seat) (seat : Seat) (v : View) (n : ℕ)
-    → map view_of seats ≡ map view_of before ++ replicate n v → view_of seat ≡ v → map view_of (seats ++ seat ∷ []) ≡ map view_of before ++ replicate (n + 1) v
-seated_next seats before seat v n so_far is =
-    let more : n + 1 ≡ suc n = omega arith in
-    map-append view_of seats (seat ∷ [])
-    ∙ ap (λ u. map view_of seats ++ u ∷ []) is
-    ∙ ap (λ vs. vs ++ v ∷ []) so_far
-    ∙ append_assoc (map view_of before) (replicate n v) (v ∷ [])
-    ∙ ap (λ vs. map view_of before ++ vs) (replicate_push n v ∙ ap (λ k. replicate k v) (sym more))
 
 map-replicate : {X Y : Type 0} (f : X → Y) (n : ℕ) (x : X) → map f (replicate n x) ≡ replicate n (f x)
 map-replicate f zero x = refl

@@ -1,6 +1,6 @@
 -- What the readers give.
 use Rattle.std.proofs.Common.{◌≡◌, ◌≢◌, ℕ, zero, suc, ◌+◌, ◌-◌, ◌<◌, ◌≤◌, List, [], ◌∷◌, ◌++◌, length, take, drop, map, get_or, refl, sym, ap, ◌∙◌, subst, arith, Option, Some, None, Bool, true, false, nat_eq, length-drop}
-use Rattle.std.proofs.lemmas.List.{length-map, drop_all, map-append, take_all}
+use Rattle.std.proofs.lemmas.List.{length-map, drop_all, map-append}
 use Rattle.std.proofs.lemmas.Option.{slice_get-map, slice_get_past, slice_get_within, same_Some, slice_get_read}
 use Rattle.std.specs.Prelude.{◌↔◌, IsTrue, slice_get, ◌==◌}
 use Rattle.std.specs.Option.{option_map}
@@ -176,6 +176,3 @@ views_next xs k views v so_far here = go (slice_get xs k) refl here
         ∙ sym (map-append client_view (take k xs) (x ∷ []))
         ∙ ap (map client_view) (sym (take_entry xs k x at))
         ∙ ap (λ n. map client_view (take n xs)) (sym more)
-
-pub views_end : (xs : List Client) (k : ℕ) (views : List ClientView) → views ≡ map client_view (take k xs) → length xs ≤ k → views ≡ map client_view xs
-views_end xs k views so_far le = so_far ∙ ap (map client_view) (take_all k xs le)

@@ -96,13 +96,6 @@ take_there server seats steps c message inverse earlier s value is =
     let many : length seats ≡ length earlier.clients = sym (length-map seats client_of) ∙ ap length clients ∙ length_set earlier.clients c _ in
     omega (arith, many, there)
 
-pub take_counted :
-    (server : History Tagged) (seats : List Seat) (steps c : ℕ) (message : Sent Tagged) (inverse : Operation Tagged) (earlier s : State)
-    → state_from server seats steps ≡ s → IsRecord earlier s (Taken c message inverse) → 0 < steps
-take_counted server seats steps c message inverse earlier s value is =
-    let counted : steps ≡ suc earlier.steps = ap (λ (s : State). s.steps) (value ∙ is.step.led) in
-    omega (arith, counted)
-
 pub unsent_there : (seats mid : List Seat) (c : ℕ) → map view_of mid ≡ map unsent (map view_of seats) → c < length seats → c < length mid
 unsent_there seats mid c views there =
     let many : length mid ≡ length seats = sym (length-map mid view_of) ∙ ap length views ∙ length-map (map view_of seats) unsent ∙ length-map seats view_of in

@@ -14,7 +14,7 @@ use Rattle.ot_machine.specs.declared.seat.Seat.{Seat}
 use Rattle.ot_machine.specs.declared.kept.Before.{Before}
 use Rattle.ot_machine.specs.Seats.{View, view_of, client_of, numbers, incoming, queued, swept, idle, AreQueues, state_from, IsKept}
 use Rattle.ot_machine.specs.Undoing.{message_at, message_in, queue_before, reverted, FitsBack, FitsState, Restores, IsRecord}
-use Rattle.ot_machine.specs.declared.undo.Record.TheVariants.{ClientStep, Joined, Read}
+use Rattle.ot_machine.specs.declared.undo.Record.TheVariants.{ClientStep, Joined}
 use Rattle.ot_machine.proofs.RowLaws.{client_at, queue_at}
 use Rattle.ot_machine.proofs.Undoing.{exchanged_joined, fits_joined}
 
@@ -130,12 +130,6 @@ step_client server seats steps c seat was is earlier here at led =
     set_here earlier.clients c is was (client_of seat) at
     (ap (λ (s : State). slice_get s.clients c) (sym led) ∙ client_at seats c seat here)
 
-pub step_counted :
-    (server : History Tagged) (seats : List Seat) (steps c : ℕ) (is : Client) (earlier : State) → state_from server seats steps ≡ with_client earlier c is → 0 < steps
-step_counted server seats steps c is earlier led =
-    let counted : steps ≡ suc earlier.steps = ap (λ (s : State). s.steps) led in
-    omega (arith, counted)
-
 revision_right :
     (before : Before) (was x : Client) (n : ℕ) (queue : List ℕ) (b : Bool) → before.received ≡ b → was.revision ≡ (reverted before x).revision → is_joined was.phase ≡ true
     → x.revision ≡ (if b then suc was.revision else was.revision) → x.revision ≤ n → queue ≡ numbers x.revision (n - x.revision)
@@ -172,11 +166,6 @@ pub client_there :
     → state_from server seats steps ≡ s → IsRecord earlier s (ClientStep c before) → c < length seats
 client_there server seats steps c before earlier s value is = step_seat server seats steps c is.step.was is.step.is earlier is.step.at (value ∙ is.step.led)
 
-pub client_counted :
-    (server : History Tagged) (seats : List Seat) (steps c : ℕ) (before : Before) (earlier s : State)
-    → state_from server seats steps ≡ s → IsRecord earlier s (ClientStep c before) → 0 < steps
-client_counted server seats steps c before earlier s value is = step_counted server seats steps c is.step.is earlier (value ∙ is.step.led)
-
 pub client_fits :
     (server : History Tagged) (seats : List Seat) (steps c : ℕ) (seat : Seat) (before : Before) (earlier s : State)
     → slice_get seats c ≡ Some seat → state_from server seats steps ≡ s → IsRecord earlier s (ClientStep c before) → FitsBack before.inverse seat.list
@@ -209,28 +198,6 @@ pub join_undone :
 join_undone server seats steps c new earlier s is_kept value is vacant =
     seat_undone server seats steps c new absent is.step.is earlier is_kept is.sound is.step.at (value ∙ is.step.led)
     (ap (λ (v : View). v.client) vacant) (ap (λ (v : View). v.queue) vacant)
-
-pub join_there : (server : History Tagged) (seats : List Seat) (steps c : ℕ) (earlier s : State) → state_from server seats steps ≡ s → IsRecord earlier s (Joined c) → c < length seats
-join_there server seats steps c earlier s value is = step_seat server seats steps c absent is.step.is earlier is.step.at (value ∙ is.step.led)
-
-pub join_counted : (server : History Tagged) (seats : List Seat) (steps c : ℕ) (earlier s : State) → state_from server seats steps ≡ s → IsRecord earlier s (Joined c) → 0 < steps
-join_counted server seats steps c earlier s value is = step_counted server seats steps c is.step.is earlier (value ∙ is.step.led)
-
--- a read undone
-pub read_undone :
-    (server : History Tagged) (seats : List Seat) (steps : ℕ) (earlier s : State)
-    → IsKept server seats steps → state_from server seats steps ≡ s → IsRecord earlier s Read → Undone server seats (steps - 1) earlier
-read_undone server seats steps earlier s is_kept value is =
-    let led = value ∙ is.step in
-    let counted : steps ≡ suc earlier.steps = ap (λ (s : State). s.steps) led in
-    let state : state_from server seats (steps - 1) ≡ earlier =
-    same_state _ earlier (ap (λ (s : State). s.log) led) (ap (λ (s : State). s.server) led) (ap (λ (s : State). s.clients) led) (omega (arith, counted)) in
-    record { state = state; kept = record { sound = subst IsSound (sym state) is.sound; queues = is_kept.queues } }
-
-pub read_counted : (server : History Tagged) (seats : List Seat) (steps : ℕ) (earlier s : State) → state_from server seats steps ≡ s → IsRecord earlier s Read → 0 < steps
-read_counted server seats steps earlier s value is =
-    let counted : steps ≡ suc earlier.steps = ap (λ (s : State). s.steps) (value ∙ is.step) in
-    omega (arith, counted)
 
 pub client_seat :
     (server : History Tagged) (seats : List Seat) (steps c : ℕ) (seat : Seat) (before : Before) (earlier s : State)

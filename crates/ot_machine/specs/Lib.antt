@@ -1,8 +1,7 @@
 pub mod Seats
 pub mod Answers
 pub mod Readers
-pub mod Reads
-pub mod Delivery
+pub mod Effects
 pub mod Common
 pub mod Ended
 pub mod Laws

@@ -56,10 +56,8 @@ Follows (AwaitingWithBuffer o b) base = base ≡ length b.image
 
 -- an edit sends its operation only where nothing is under way
 abbrev pub MaySend : Phase → Option (Sent Tagged) → Type 0
-MaySend NotJoined up = Unit {0}
 MaySend Synchronized up = up ≡ None
-MaySend (AwaitingConfirm o) up = Unit {0}
-MaySend (AwaitingWithBuffer o b) up = Unit {0}
+MaySend phase up = Unit {0}
 
 -- what is on the way to the server once this is sent, if anything is
 abbrev pub under_way : Option (Sent Tagged) → Option (Sent Tagged) → Option (Sent Tagged)
@@ -140,10 +138,9 @@ MaySeatDeliver seat op = MayDeliverTo seat.client op seat.list
 
 -- an acknowledgement comes only where something was sent, and nothing is under way any more
 abbrev pub IsAwaiting : Phase → Type 0
-IsAwaiting NotJoined = ⊥
-IsAwaiting Synchronized = ⊥
 IsAwaiting (AwaitingConfirm o) = Unit {0}
 IsAwaiting (AwaitingWithBuffer o b) = Unit {0}
+IsAwaiting phase = ⊥
 
 -- what an acknowledgement needs of the seat
 abbrev pub MaySeatAcknowledge : Seat → Type 0
@@ -159,10 +156,9 @@ IsWaiting server seat = seat.down.items ≡ numbers (revision_of seat.client) (l
 
 -- the operation under way from a client, transformed to its own revision
 abbrev pub outstanding_of : ℕ → Phase → Option Message
-outstanding_of revision NotJoined = None
-outstanding_of revision Synchronized = None
 outstanding_of revision (AwaitingConfirm o) = Some (record { revision = revision; op = o })
 outstanding_of revision (AwaitingWithBuffer o b) = Some (record { revision = revision; op = o })
+outstanding_of revision phase = None
 
 -- so of a seat, if it is there
 abbrev pub outstanding_in : Option View → Option Message
@@ -200,10 +196,7 @@ emptied (suc c) (v ∷ views) = v ∷ emptied c views
 -- the server's fault is out of memory
 abbrev pub IsMemory : ServerFault → Type 0
 IsMemory fault.Memory = Unit {0}
-IsMemory fault.NotInHistory = ⊥
-IsMemory fault.BadBase = ⊥
-IsMemory fault.LogFull = ⊥
-IsMemory fault.TooLong = ⊥
+IsMemory other = ⊥
 
 -- a client with nothing under way in either direction
 abbrev pub IsSettled : View → Type 0

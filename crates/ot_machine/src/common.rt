@@ -90,24 +90,8 @@ fn in_common_with_server(server: &mut Server<Tagged>) -> Option<Doc<Tagged>>
 }
 
 impl Machine {
-    // Whether the client is synchronized and its next entry has many components for each leaf of a long list. A look-up, for which each delivery pays.
-    pub(crate) fn takes_wide(&self, client: u16) -> bool {
-        let place = client as usize;
-        if place >= self.seats.len() {
-            return false;
-        }
-        let seat = &self.seats[place];
-        let Some(Client::Synchronized(here)) = &seat.client else {
-            return false;
-        };
-        match self.server.entries().get(here.revision() as usize) {
-            Some(entry) => is_wide(entry.operation(), &seat.list),
-            None => false,
-        }
-    }
-
-    // The list that the next delivery makes of the client's, in common with the server or with another client that has it, where the client is synchronized and many others
-    // stand where it does. The machine stays what it is.
+    // The list that the next delivery makes of the client's, in common with the server or with another client that has it, where the client is synchronized, its next entry has
+    // many components for each leaf of a long list, and many others stand where it does. A look-up, for which each delivery pays. The machine stays what it is.
     pub(crate) fn common_list(&mut self, client: u16) -> Option<Doc<Tagged>>
         ensures same { self.new ≡ self.old }
         ensures list { IfSome result (IsDelivered self.old client) }
@@ -121,10 +105,11 @@ impl Machine {
             return None;
         };
         let revision = here.revision();
-        let newest = self.server.revision();
-        if revision as usize >= newest {
+        let entry = self.server.entries().get(revision as usize)?;
+        if !is_wide(entry.operation(), &seat.list) {
             return None;
         }
+        let newest = self.server.revision();
         if count_at(self.seats.as_slice(), revision) <= OTHERS {
             return None;
         }

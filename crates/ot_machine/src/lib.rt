@@ -22,10 +22,9 @@
 //!   (its maker's) or another's operation. A client that has not joined has no client state at all.
 //! - [`Machine::clients`] and the calls beside it read the fields of the state
 //!   (specs/Readers.antt); [`Machine::state`] copies what a user looks at.
-//! - [`Machine::delivery`] is what a delivery would apply (specs/Delivery.antt), and changes nothing. [`Machine::perform_applied`]
-//!   performs an instruction and gives what a delivery applied ([`Applied`]): nobody who performs one need transform its operation twice.
-//! - [`Machine::perform`] performs an instruction too and says who is read by it; [`Machine::document_of`] shows that
-//!   list, where `step` copies it, [`end_of_run`] runs a schedule so, and [`run_on`] from a place on (specs/Ended.antt).
+//! - [`Machine::perform`] performs an instruction too, and gives an [`Effect`]: who is read by it, whether it sent a message, what a delivery applied, and where asked for its
+//!   undo record (specs/Effects.antt). It copies nothing for that: [`Machine::document_of`] shows the list that `step` copies. [`run_on`] runs a schedule so (specs/Ended.antt).
+//! - [`Machine::delivery`] is what a delivery would apply, and changes nothing.
 //! - A delivery may give a synchronized client the list of the server, or of another one that has taken the same entry: where an operation changes a very long
 //!   document all over, many clients have one list in common (common.rt, specs/Common.antt).
 //! - [`Machine::part`] copies a joined client with its downlink, and no element of its list after [`Machine::share`]; [`Machine::begins`] says whether such a
@@ -40,12 +39,12 @@
 //! The clients are those of ot.js' `Client` with its three states, the server is its `Server`, and the
 //! atomic step follows Attiya et al. (PODC 2016): one event is one performed instruction.
 //!
-//! Begin reading at `Machine::step` and the rows before it in machine.rt, then at seat.rt, where each
+//! Begin reading at `Machine::perform` and the rows before it in performing.rt, then at seat.rt, where each
 //! row changes one client; specs/Seats.antt says how the fields are the table's state.
 #![tactic(auto)]
 
 mod common;
-mod delivery;
+mod effect;
 mod kept;
 pub mod laws;
 mod machine;
@@ -59,12 +58,11 @@ mod seat;
 mod state;
 mod undo;
 
-pub use delivery::Applied;
+pub use effect::{Applied, Effect};
 pub use machine::{INSERTED_LIMIT, Machine, STEP_LIMIT};
 pub use ot_model::{Reader, Refusal, Shown};
 pub use outcome::{Ending, Run};
 pub use part::{Message, Part};
-pub use performing::{end_of_run, run_on};
-pub use running::run;
+pub use running::{run, run_on};
 pub use state::{ClientView, Head, Phase, State};
 pub use undo::Undo;

@@ -1,183 +1,263 @@
-//! Instructions and runs of which no list is recorded: it stands in the machine, and is looked at there.
+//! The rows of the table, and the instructions that they perform.
 
-ghost use Rattle.std.specs.Prelude.{◌≡◌, ◌≤◌, length, IfErr, IfOk, IfSome, None, OnErr, OnOk, Some};
-ghost use Rattle.std.specs.Option.{option_map};
-ghost use Rattle.ot_isa.specs.declared.instruction.Instr.TheVariants.{Read, ReadServer};
-ghost use Rattle.ot_model.specs.declared.shown.Reader.TheVariants.{Client, Server};
-ghost use Rattle.ot_model.specs.declared.shown.Refusal.TheVariants.{Memory};
-ghost use Rattle.ot_model.specs.Runs.{IsStateAt};
-ghost use Rattle.ot_model.specs.Table.{step, Performed, Refused};
-ghost use Rattle.ot_machine.specs.Answers.{IsRefusal};
-ghost use Rattle.ot_machine.specs.Delivery.{applied_by, applied_in};
-ghost use Rattle.ot_machine.specs.Ended.{IsEnding};
-ghost use Rattle.ot_machine.specs.Reads.{reader_of, shown_by, IsThere, Leads};
-ghost use Rattle.ot_machine.specs.Undoing.{IsRecord, Undoes};
+ghost use Rattle.std.specs.Prelude.{◌≡◌, ◌≢◌, ◌<◌, ◌≤◌, IfErr, IfOk, IfSome, IsSome, IsSomeAnd, IsTrue, None, OnErr, OnOk, Option};
+ghost use Rattle.ot_isa.specs.declared.instruction.Instr.TheVariants.{Acknowledge, Deliver, Edit, Join, Take};
+ghost use Rattle.ot_model.specs.declared.shown.Refusal.TheVariants.{Memory, StepsFull};
+ghost use Rattle.ot_model.specs.declared.shown.Shown.{Shown as Shows};
+ghost use Rattle.ot_model.specs.Table.{step, Performed, Refused, State};
+ghost use Rattle.ot_machine.specs.Answers.{IsPerformed, IsRefusal};
+ghost use Rattle.ot_machine.specs.Common.{IsDelivered};
+ghost use Rattle.ot_machine.specs.Effects.{is_join, read_by, reader_of, IsEffect, IsReady, IsThere};
+ghost use Rattle.ot_machine.specs.Undoing.{Undoes};
 
-use crate::delivery::Applied;
-use crate::machine::Machine;
-use crate::outcome::Ending;
-use crate::undo::{Record, Undo};
-use ot_isa::{Instr, Schedule};
-use ot_model::{Reader, Refusal};
-use std::alloc::{AllocError, Global};
+use crate::effect::{Applied, Effect};
+use crate::machine::{INSERTED_LIMIT, Machine, STEP_LIMIT};
+use crate::seat;
+use crate::undo::Undo;
+use ot_isa::{Instr, Tagged, tagged};
+use ot_model::{Reader, Refusal, Shown};
+use ot_text::{Doc, TextOp};
+
+// A client joins.
+fn is_join(instr: &Instr) -> bool
+    ensures { result ≡ is_join instr.now }
+{
+    matches!(instr, Instr::Join(_))
+}
 
 impl Machine {
-    // Performs a read that shows no list.
-    fn pass_read(&mut self, client: u16) -> Result<(), Refusal>
-        ensures done { OnOk result (step self.old (Read client) ≡ Performed self.new (Some (shown_by self.new (Client client)))) }
-        ensures there { OnOk result (IsThere self.new (Client client)) }
-        ensures refused { IfErr result (λ r. step self.old (Read client) ≡ Refused r) }
-        ensures memory { IfErr result (λ r. r ≡ Memory → ⊥) }
-        ensures unchanged { OnErr result (self.new ≡ self.old) }
-        ensures kept { OnOk result (IsRecord self.old self.new Record.Read) }
+    // A step is left.
+    fn check_steps(&self) -> Result<(), Refusal>
+        ensures left { OnOk result (self.now.steps < STEP_LIMIT) }
+        ensures full { IfErr result (λ r. (r ≡ StepsFull) × (STEP_LIMIT ≤ self.now.steps)) }
     {
-        let _list = self.shown_at(client)?;
-        self.steps += 1;
+        if self.steps >= STEP_LIMIT {
+            return Err(Refusal::StepsFull);
+        }
         Ok(())
     }
 
-    fn pass_read_server(&mut self) -> Result<(), Refusal>
-        ensures done { OnOk result (step self.old ReadServer ≡ Performed self.new (Some (shown_by self.new Server))) }
-        ensures refused { IfErr result (λ r. step self.old ReadServer ≡ Refused r) }
-        ensures memory { IfErr result (λ r. r ≡ Memory → ⊥) }
-        ensures unchanged { OnErr result (self.new ≡ self.old) }
-        ensures kept { OnOk result (IsRecord self.old self.new Record.Read) }
+    // What the table asks before any row, in order: that the client is there, that a step is left, and that the client has joined, or for a Join that it has not.
+    pub(crate) fn check(&self, instr: &Instr) -> Result<(), Refusal>
+        ensures ready { OnOk result (IsReady self.now instr.now) }
+        ensures refused { IfErr result (λ r. step self.now instr.now ≡ Refused r) }
+        ensures memory { IfErr result (λ r. r ≢ Memory) }
     {
-        let _list = self.shown_at_server()?;
+        let Some(client) = instr.client() else {
+            return self.check_steps();
+        };
+        let Some(seat) = self.seats.get(client as usize) else {
+            return Err(Refusal::NoSuchClient);
+        };
+        self.check_steps()?;
+        let joined = seat.client.is_some();
+        if joined != is_join(instr) {
+            return Ok(());
+        }
+        if joined {
+            return Err(Refusal::AlreadyJoined);
+        }
+        Err(Refusal::NotJoined)
+    }
+
+    // The rows. Where a step is `KEPT` its undo record is made before anything is changed.
+
+    // The client's own edit: tagged, applied to its list, and sent or kept in its buffer.
+    fn edit<const KEPT: bool>(&mut self, client: u16, op: &TextOp<char>) -> Result<Effect, Refusal>
+        requires { IsReady self.old (Edit client op.now) }
+        ensures effect { IfOk result (IsEffect self.old (Edit client op.now) self.new) }
+        ensures undo { IsTrue KEPT → IfOk result (λ effect. IsSomeAnd effect.undo (Undoes self.old self.new)) }
+        ensures refused { IfErr result (λ r. IsRefusal (step self.old (Edit client op.now)) r) }
+        ensures unchanged { OnErr result (self.new ≡ self.old) }
+    {
+        let seat = &mut self.seats[client as usize];
+        if op.base_len() != seat.list.len() {
+            return Err(Refusal::BadBase);
+        }
+        if seat.count as usize + op.inserted() > INSERTED_LIMIT {
+            return Err(Refusal::ClientFull);
+        }
+        let op = tagged(op.allocator(), op, client, seat.count)?;
+        let sent = seat::is_synchronized(seat);
+        let before = seat::edit::<KEPT>(seat, &op)?;
         self.steps += 1;
-        Ok(())
+        let effect = Effect::undone_by(Undo::of_client::<KEPT>(client, before));
+        Ok(Effect { sent, ..effect })
     }
 
-    /// Performs the instruction as [`Machine::step`] does, and gives who is read by it in place of the list: that list stands in the
-    /// machine, and [`Machine::document_of`] shows it without a copy. A read takes no memory.
+    // The server receives what is under way from the client, and notifies all joined clients.
+    fn take<const KEPT: bool>(&mut self, client: u16) -> Result<Effect, Refusal>
+        requires { IsReady self.old (Take client) }
+        ensures effect { IfOk result (IsEffect self.old (Take client) self.new) }
+        ensures undo { IsTrue KEPT → IfOk result (λ effect. IsSomeAnd effect.undo (Undoes self.old self.new)) }
+        ensures refused { IfErr result (λ r. IsRefusal (step self.old (Take client)) r) }
+        ensures unchanged { OnErr result (self.new ≡ self.old) }
+    {
+        if self.seats[client as usize].up.is_empty() {
+            return Err(Refusal::LinkEmpty);
+        }
+        let taken = seat::take_in::<KEPT>(&mut self.server, &mut self.seats, client)?;
+        self.steps += 1;
+        let (message, inverse) = taken;
+        Ok(Effect::undone_by(Undo::of_take(client, message, inverse)))
+    }
+
+    // The client takes another's operation from the front of its downlink. The list that this makes may be given: it takes the place of the client's own, which is not
+    // changed then.
+    fn deliver<const KEPT: bool>(
+        &mut self,
+        client: u16,
+        common: &mut Option<Doc<Tagged>>,
+    ) -> Result<Effect, Refusal>
+        requires ready { IsReady self.old (Deliver client) }
+        requires common { IfSome common.old (IsDelivered self.old client) }
+        ensures effect { IfOk result (IsEffect self.old (Deliver client) self.new) }
+        ensures undo { IsTrue KEPT → IfOk result (λ effect. IsSomeAnd effect.undo (Undoes self.old self.new)) }
+        ensures refused { IfErr result (λ r. IsRefusal (step self.old (Deliver client)) r) }
+        ensures unchanged { OnErr result (self.new ≡ self.old) }
+    {
+        let seat = &mut self.seats[client as usize];
+        let Some(entry) = seat::head(&self.server, seat) else {
+            return Err(Refusal::LinkEmpty);
+        };
+        if entry.maker() == client {
+            return Err(Refusal::WrongHead);
+        }
+        let (before, applied) = seat::deliver::<KEPT>(seat, entry.operation(), common)?;
+        self.steps += 1;
+        let effect = Effect::undone_by(Undo::of_client::<KEPT>(client, before));
+        Ok(Effect { applied, ..effect })
+    }
+
+    // The client takes the confirmation of its own operation from the front of its downlink.
+    fn acknowledge<const KEPT: bool>(&mut self, client: u16) -> Result<Effect, Refusal>
+        requires { IsReady self.old (Acknowledge client) }
+        ensures effect { IfOk result (IsEffect self.old (Acknowledge client) self.new) }
+        ensures undo { IsTrue KEPT → IfOk result (λ effect. IsSomeAnd effect.undo (Undoes self.old self.new)) }
+        ensures refused { IfErr result (λ r. IsRefusal (step self.old (Acknowledge client)) r) }
+        ensures unchanged { OnErr result (self.new ≡ self.old) }
+    {
+        let seat = &mut self.seats[client as usize];
+        let Some(entry) = seat::head(&self.server, seat) else {
+            return Err(Refusal::LinkEmpty);
+        };
+        if entry.maker() != client {
+            return Err(Refusal::WrongHead);
+        }
+        let sent = seat::has_buffer(seat);
+        let before = seat::acknowledge(seat)?;
+        self.steps += 1;
+        let effect = Effect::undone_by(Undo::of_client::<KEPT>(client, before));
+        Ok(Effect { sent, ..effect })
+    }
+
+    // The client gets the server's list and revision.
+    fn join(&mut self, client: u16) -> Result<Effect, Refusal>
+        requires { IsReady self.old (Join client) }
+        ensures effect { IfOk result (IsEffect self.old (Join client) self.new) }
+        ensures undo { IfOk result (λ effect. IsSomeAnd effect.undo (Undoes self.old self.new)) }
+        ensures refused { IfErr result (λ r. IsRefusal (step self.old (Join client)) r) }
+        ensures unchanged { OnErr result (self.new ≡ self.old) }
+    {
+        let revision = self.server.revision() as u32;
+        let seat = &mut self.seats[client as usize];
+        seat::join(seat, revision, self.server.document())?;
+        self.steps += 1;
+        Ok(Effect::undone_by(Some(Undo::of_join(client))))
+    }
+
+    // A list is shown: a read only counts.
+    fn read(&mut self, who: Reader) -> Effect
+        requires { IsReady self.old (read_by who) }
+        ensures effect { IsEffect self.old (read_by who) self.new result }
+        ensures undo { IsSomeAnd result.undo (Undoes self.old self.new) }
+        ensures there { IsThere self.new who }
+    {
+        self.steps += 1;
+        let effect = Effect::undone_by(Some(Undo::of_read()));
+        Effect {
+            shown: Some(who),
+            ..effect
+        }
+    }
+
+    /// Performs the instruction, or refuses it and changes nothing. It gives what the instruction did, and its undo record where it is `KEPT`: for [`Machine::undo`], on the
+    /// machine as it is then. A read takes no memory: its list stands in the machine, and [`Machine::document_of`] shows it without a copy.
     ///
-    /// The refusals are those of `step`; `Memory` is none of a read's. After an error nothing has changed.
-    pub fn perform(&mut self, instr: &Instr) -> Result<Option<Reader>, Refusal>
-        ensures done { IfOk result (λ who. step self.old instr.now ≡ Performed self.new (option_map (shown_by self.new) who)) }
-        ensures reader { IfOk result (λ who. who ≡ reader_of instr.now) }
-        ensures there { IfOk result (λ who. IfSome who (IsThere self.new)) }
+    /// The refusals are those of [`Machine::step`]; `Memory` is none of a read's.
+    pub fn perform<const KEPT: bool>(&mut self, instr: &Instr) -> Result<Effect, Refusal>
+        ensures effect { IfOk result (IsEffect self.old instr.now self.new) }
+        ensures there { IfOk result (λ effect. IfSome effect.shown (IsThere self.new)) }
+        ensures undo { IsTrue KEPT → IfOk result (λ effect. IsSomeAnd effect.undo (Undoes self.old self.new)) }
         ensures refused { IfErr result (λ r. IsRefusal (step self.old instr.now) r) }
         ensures memory { IfErr result (λ r. r ≡ Memory → reader_of instr.now ≡ None) }
         ensures unchanged { OnErr result (self.new ≡ self.old) }
     {
+        self.check(instr)?;
         match instr {
-            Instr::Edit(client, op) => {
-                self.edit::<false>(*client, op)?;
-                Ok(None)
-            }
-            Instr::Take(client) => {
-                self.take::<false>(*client)?;
-                Ok(None)
-            }
+            Instr::Edit(client, op) => self.edit::<KEPT>(*client, op),
+            Instr::Take(client) => self.take::<KEPT>(*client),
             Instr::Deliver(client) => {
-                self.deliver::<false>(*client)?;
-                Ok(None)
+                let mut common = self.common_list(*client);
+                self.deliver::<KEPT>(*client, &mut common)
             }
-            Instr::Acknowledge(client) => {
-                self.acknowledge::<false>(*client)?;
-                Ok(None)
-            }
-            Instr::Join(client) => {
-                self.join(*client)?;
-                Ok(None)
-            }
-            Instr::Read(client) => {
-                self.pass_read(*client)?;
-                Ok(Some(Reader::Client(*client)))
-            }
-            Instr::ReadServer => {
-                self.pass_read_server()?;
-                Ok(Some(Reader::Server))
-            }
+            Instr::Acknowledge(client) => self.acknowledge::<KEPT>(*client),
+            Instr::Join(client) => self.join(*client),
+            Instr::Read(client) => Ok(self.read(Reader::Client(*client))),
+            Instr::ReadServer => Ok(self.read(Reader::Server)),
         }
     }
 
-    /// Performs the instruction as [`Machine::perform`] does, and gives what a delivery applied to its client's list, which is made once:
-    /// [`Machine::delivery`] of the machine before it, and nothing where the instruction is no delivery. It costs no more than `perform`.
-    ///
-    /// The refusals are those of `step`; `Memory` is none of a read's. After an error nothing has changed.
-    pub fn perform_applied(&mut self, instr: &Instr) -> Result<Applied, Refusal>
-        ensures done { OnOk result (step self.old instr.now ≡ Performed self.new (option_map (shown_by self.new) (reader_of instr.now))) }
-        ensures there { OnOk result (IfSome (reader_of instr.now) (IsThere self.new)) }
-        ensures refused { IfErr result (λ r. IsRefusal (step self.old instr.now) r) }
-        ensures memory { IfErr result (λ r. r ≡ Memory → reader_of instr.now ≡ None) }
-        ensures unchanged { OnErr result (self.new ≡ self.old) }
-        ensures applied { IfOk result (λ applied. applied_in self.new applied ≡ applied_by self.old instr.now) }
+    /// A copy of the list that the instruction shows, where it is a read and the table performs it. The machine stays what it is; the refusals are those of `step`, of a read
+    /// alone.
+    pub fn shown(&self, instr: &Instr) -> Result<Option<Shown>, Refusal>
+        ensures shown { IfOk result (λ shown. (t : State) (list : Option Shows) → step self.now instr.now ≡ Performed t list → list ≡ shown) }
+        ensures performs { IfOk result (λ shown. IsSome shown → IsPerformed (step self.now instr.now)) }
+        ensures refused { IfErr result (λ r. IsRefusal (step self.now instr.now) r) }
     {
-        match instr {
-            Instr::Deliver(client) => {
-                let (_none, applied) = self.deliver::<false>(*client)?;
-                Ok(applied)
-            }
-            _ => {
-                self.perform(instr)?;
-                Ok(Applied::Nothing)
-            }
-        }
+        let who = match instr {
+            Instr::Read(client) => Reader::Client(*client),
+            Instr::ReadServer => Reader::Server,
+            _ => return Ok(None),
+        };
+        self.check(instr)?;
+        let list = self.document_of(who).copy()?;
+        Ok(Some(Shown { who, list }))
     }
 
-    /// Performs the instruction as [`Machine::perform`] does, and gives its undo record, as [`Machine::step_kept`] does: for `undo`, on
-    /// the machine as it is then. A read copies no list.
+    /// Performs the instruction, and gives the list that a read shows; or refuses it and changes nothing.
     ///
-    /// The refusals are those of `step`; `Memory` is none of a read's. After an error nothing has changed.
-    pub fn perform_kept(&mut self, instr: &Instr) -> Result<Undo, Refusal>
-        ensures done { OnOk result (Leads self.old instr.now self.new) }
+    /// The refusals, in the order in which they are looked for: `NoSuchClient`; `StepsFull` after
+    /// 1,000,000 performed instructions; `NotJoined`, for a Join `AlreadyJoined`; for an Edit `BadBase`
+    /// where its base is not the length of the client's list, and `ClientFull` where the client's
+    /// inserted characters would pass 15,000; for Take, Deliver and Acknowledge `LinkEmpty`; for Deliver
+    /// `WrongHead` where an acknowledgement is at the head, for Acknowledge where an operation is;
+    /// and `Memory`, where the instruction would be performed and a growth was refused.
+    ///
+    /// The rows are those of ot.js' `Client` (`applyClient`, `applyServer`, `serverAck`) and `Server` (`receiveOperation`).
+    pub fn step(&mut self, instr: &Instr) -> Result<Option<Shown>, Refusal>
+        ensures done { IfOk result (λ shown. step self.old instr.now ≡ Performed self.new shown) }
         ensures refused { IfErr result (λ r. IsRefusal (step self.old instr.now) r) }
-        ensures memory { IfErr result (λ r. r ≡ Memory → reader_of instr.now ≡ None) }
         ensures unchanged { OnErr result (self.new ≡ self.old) }
-        ensures undo { IfOk result (λ undo. Undoes self.old self.new undo) }
     {
-        match instr {
-            Instr::Read(client) => {
-                self.pass_read(*client)?;
-                Ok(Undo { step: Record::Read })
-            }
-            Instr::ReadServer => {
-                self.pass_read_server()?;
-                Ok(Undo { step: Record::Read })
-            }
-            _ => {
-                let (_none, undo) = self.step_kept(instr)?;
-                Ok(undo)
-            }
-        }
+        let shown = self.shown(instr)?;
+        self.perform::<false>(instr)?;
+        Ok(shown)
     }
-}
 
-/// Runs the schedule on from the place to which the machine has come, as [`end_of_run`] does from the opening: the machine is as the schedule's first `from`
-/// instructions leave it, which are no more than the schedule has.
-pub fn run_on(schedule: &Schedule, from: usize, machine: Machine) -> Ending
-    requires inside { from ≤ length schedule.now.instrs }
-    requires at { IsStateAt schedule.now from machine }
-    ensures { IsEnding schedule.now result }
-{
-    let mut machine = machine;
-    for place in from..schedule.len() {
-        let Some(instr) = schedule.get(place) else {
+    /// Performs the instruction as `step` does, and gives its undo record too: for `undo`, on the machine as it is then.
+    /// The refusals are those of `step`; the record is made before anything is changed, so that after `Memory` too nothing has changed.
+    pub fn step_kept(&mut self, instr: &Instr) -> Result<(Option<Shown>, Undo), Refusal>
+        ensures done { IfOk result (λ given. step self.old instr.now ≡ Performed self.new given.0) }
+        ensures refused { IfErr result (λ r. IsRefusal (step self.old instr.now) r) }
+        ensures unchanged { OnErr result (self.new ≡ self.old) }
+        ensures undo { IfOk result (λ given. Undoes self.old self.new given.1) }
+    {
+        let shown = self.shown(instr)?;
+        let effect = self.perform::<true>(instr)?;
+        let Some(undo) = effect.into_undo() else {
             unreachable!()
         };
-        match machine.perform(instr) {
-            Ok(_who) => {}
-            Err(refusal) => {
-                return Ending {
-                    machine,
-                    stopped: Some((place, refusal)),
-                };
-            }
-        }
+        Ok((shown, undo))
     }
-    Ending {
-        machine,
-        stopped: None,
-    }
-}
-
-/// Runs the schedule as [`run`] does, and records none of the lists that its reads show: it takes the memory of the machine alone, and a read
-/// none.
-pub fn end_of_run(alloc: Global, schedule: &Schedule) -> Result<Ending, AllocError>
-    ensures { IfOk result (λ ending. IsEnding schedule.now ending) }
-{
-    let clients = schedule.clients();
-    let machine = Machine::with_present(alloc, clients, schedule.present(), schedule.start())?;
-    Ok(run_on(schedule, 0, machine))
 }

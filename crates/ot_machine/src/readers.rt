@@ -6,7 +6,7 @@ ghost use Rattle.ot_client.specs.Client.{message_of, state_of};
 ghost use Rattle.ot_model.specs.Table.{downlink, is_joined, phase_in, IsQuiet};
 ghost use Rattle.ot_model.specs.Sound.{IsSound};
 ghost use Rattle.ot_machine.specs.Readers.{client_view, head_at, meant, phase_name, AreOne, ClientHas, IsShownState};
-ghost use Rattle.ot_machine.specs.Reads.{list_of, IsThere};
+ghost use Rattle.ot_machine.specs.Effects.{list_of, IsThere};
 ghost use Rattle.ot_machine.specs.Seats.{client_of, incoming};
 
 use crate::machine::Machine;

@@ -1,87 +1,31 @@
 //! Runs of schedules.
 
-ghost use Rattle.std.specs.Prelude.{◌≡◌, ◌∷◌, ◌<◌, [], IfErr, IfOk, OnErr, OnOk, Some};
-ghost use Rattle.ot_isa.specs.declared.instruction.Instr.TheVariants.{Read, ReadServer};
-ghost use Rattle.ot_model.specs.declared.shown.Reader.TheVariants.{Client, Server};
-ghost use Rattle.ot_model.specs.declared.shown.Refusal.TheVariants.{Memory};
+ghost use Rattle.std.specs.Prelude.{◌≡◌, ◌≤◌, ◌∷◌, [], length, vec_capacity, vec_len, ◌<◌, IfErr, IfOk, IsSome, OnErr, OnOk, Some};
+ghost use Rattle.ot_model.specs.Runs.{IsStateAt};
 ghost use Rattle.ot_model.specs.Table as table;
-ghost use Rattle.ot_model.specs.Table.{step, Refused};
+ghost use Rattle.ot_model.specs.Table.{step};
 ghost use Rattle.ot_machine.specs.Answers.{IsRefusal};
-ghost use Rattle.ot_machine.specs.Ended.{IsRun};
-ghost use Rattle.ot_machine.specs.Reads.{list_of, IsThere};
+ghost use Rattle.ot_machine.specs.Ended.{IsEnding, IsRun};
 
-use crate::machine::{Machine, STEP_LIMIT};
-use crate::outcome::Run;
-use ot_isa::{Instr, Schedule, Tagged};
+use crate::machine::Machine;
+use crate::outcome::{Ending, Run};
+use ot_isa::{Instr, Schedule};
 use ot_model::{Refusal, Shown};
-use ot_text::Doc;
 use std::alloc::{AllocError, Global};
 
+// Makes room for one more list, if there is one.
+fn reserve_for(shown: &mut Vec<Shown>, list: &Option<Shown>) -> Result<(), AllocError>
+    ensures same { shown.new.items ≡ shown.old.items }
+    ensures room { OnOk result (IsSome list.now → vec_len shown.new < vec_capacity shown.new) }
+    ensures some { OnErr result (IsSome list.now) }
+{
+    if list.is_some() {
+        shown.reserve(1)?;
+    }
+    Ok(())
+}
+
 impl Machine {
-    // The row of a read: the list that a read at the client shows, which then only counts, or why it is refused.
-    pub(crate) fn shown_at(&self, client: u16) -> Result<&Doc<Tagged>, Refusal>
-        ensures below { IfOk result (λ list. self.now.steps < STEP_LIMIT) }
-        ensures there { IfOk result (λ list. IsThere self.now (Client client)) }
-        ensures is { IfOk result (λ list. list.now ≡ list_of self.now (Client client)) }
-        ensures shows { IfOk result (λ list. step self.now (Read client) ≡ table.shows self.now (Client client) list.now) }
-        ensures refused { IfErr result (λ r. step self.now (Read client) ≡ Refused r) }
-        ensures memory { IfErr result (λ r. r ≡ Memory → ⊥) }
-    {
-        let place = client as usize;
-        if place >= self.seats.len() {
-            return Err(Refusal::NoSuchClient);
-        }
-        if self.steps >= STEP_LIMIT {
-            return Err(Refusal::StepsFull);
-        }
-        let seat = &self.seats[place];
-        if seat.client.is_none() {
-            return Err(Refusal::NotJoined);
-        }
-        Ok(&seat.list)
-    }
-
-    // The row of a read of the server.
-    pub(crate) fn shown_at_server(&self) -> Result<&Doc<Tagged>, Refusal>
-        ensures below { IfOk result (λ list. self.now.steps < STEP_LIMIT) }
-        ensures is { IfOk result (λ list. list.now ≡ self.now.server) }
-        ensures shows { IfOk result (λ list. step self.now ReadServer ≡ table.shows self.now Server list.now) }
-        ensures refused { IfErr result (λ r. step self.now ReadServer ≡ Refused r) }
-        ensures memory { IfErr result (λ r. r ≡ Memory → ⊥) }
-    {
-        if self.steps >= STEP_LIMIT {
-            return Err(Refusal::StepsFull);
-        }
-        Ok(self.server.document())
-    }
-
-    // Performs a read, for whose list there is room.
-    fn keep_read(&mut self, client: u16, shown: &mut Vec<Shown>) -> Result<(), Refusal>
-        ensures done { OnOk result (table.run (Read client ∷ []) (record { state = self.old; shown = shown.old.items }) ≡ Some (record { state = self.new; shown = shown.new.items })) }
-        ensures refused { IfErr result (λ r. IsRefusal (step self.old (Read client)) r) }
-        ensures unchanged { OnErr result (self.new ≡ self.old) }
-        ensures kept { OnErr result (shown.new.items ≡ shown.old.items) }
-    {
-        let _list = self.shown_at(client)?;
-        shown.reserve(1)?;
-        let list = self.read(client)?;
-        shown.push_reserved(list);
-        Ok(())
-    }
-
-    fn keep_read_server(&mut self, shown: &mut Vec<Shown>) -> Result<(), Refusal>
-        ensures done { OnOk result (table.run (ReadServer ∷ []) (record { state = self.old; shown = shown.old.items }) ≡ Some (record { state = self.new; shown = shown.new.items })) }
-        ensures refused { IfErr result (λ r. IsRefusal (step self.old ReadServer) r) }
-        ensures unchanged { OnErr result (self.new ≡ self.old) }
-        ensures kept { OnErr result (shown.new.items ≡ shown.old.items) }
-    {
-        let _list = self.shown_at_server()?;
-        shown.reserve(1)?;
-        let list = self.read_server()?;
-        shown.push_reserved(list);
-        Ok(())
-    }
-
     // Performs the instruction, if the table does and what it shows can be recorded.
     fn keep(&mut self, instr: &Instr, shown: &mut Vec<Shown>) -> Result<(), Refusal>
         ensures done { OnOk result (table.run (instr.now ∷ []) (record { state = self.old; shown = shown.old.items }) ≡ Some (record { state = self.new; shown = shown.new.items })) }
@@ -89,14 +33,13 @@ impl Machine {
         ensures unchanged { OnErr result (self.new ≡ self.old) }
         ensures kept { OnErr result (shown.new.items ≡ shown.old.items) }
     {
-        match instr {
-            Instr::Read(client) => self.keep_read(*client, shown),
-            Instr::ReadServer => self.keep_read_server(shown),
-            _ => {
-                self.perform(instr)?;
-                Ok(())
-            }
+        let list = self.shown(instr)?;
+        reserve_for(shown, &list)?;
+        self.perform::<false>(instr)?;
+        if let Some(list) = list {
+            shown.push_reserved(list);
         }
+        Ok(())
     }
 }
 
@@ -125,4 +68,32 @@ pub fn run(alloc: Global, schedule: &Schedule) -> Result<Run, AllocError>
         shown,
         stopped: None,
     })
+}
+
+/// Runs the schedule on from the place to which the machine has come, as [`run`] does, and records none of the lists that its reads show: it takes the memory of the
+/// machine alone, and a read none. The machine is as the schedule's first `from` instructions leave it, which are no more than the schedule has.
+pub fn run_on(schedule: &Schedule, from: usize, machine: Machine) -> Ending
+    requires inside { from ≤ length schedule.now.instrs }
+    requires at { IsStateAt schedule.now from machine }
+    ensures { IsEnding schedule.now result }
+{
+    let mut machine = machine;
+    for place in from..schedule.len() {
+        let Some(instr) = schedule.get(place) else {
+            unreachable!()
+        };
+        match machine.perform::<false>(instr) {
+            Ok(_effect) => {}
+            Err(refusal) => {
+                return Ending {
+                    machine,
+                    stopped: Some((place, refusal)),
+                };
+            }
+        }
+    }
+    Ending {
+        machine,
+        stopped: None,
+    }
 }

@@ -9,12 +9,12 @@ ghost use Rattle.ot_client.specs.State as state;
 ghost use Rattle.ot_client.specs.Client.{message_of, state_of};
 ghost use Rattle.ot_server.specs.History.{fault_of, received, IsUndo};
 ghost use Rattle.ot_model.specs.Table.{absent, acknowledged, against_pending, delivered, edited, present_with};
-ghost use Rattle.ot_machine.specs.Delivery.{IsMadeOf};
+ghost use Rattle.ot_machine.specs.Effects.{has_buffer, is_synchronized, IsMadeOf};
 ghost use Rattle.ot_machine.specs.Seats.{client_of, phase_of, revision_of, view_of, AreSettled, idle, queued, joined_at, under_way, Follows, MayPush, MaySend, HasRoom, HaveRoomFrom, MayDeliverState, MaySeatAcknowledge, MaySeatDeliver, IsMemory, IsReceivable, IsSettled, IsWaiting, emptied, outstanding_at, outstanding_of, received_from};
 ghost use Rattle.ot_machine.specs.Undoing.{message_at, Restores};
 ghost use Rattle.ot_isa.specs.declared.tagging.TheConstants.{INSERTED_LIMIT};
 
-use crate::delivery::Applied;
+use crate::effect::Applied;
 use crate::kept::{self, Before};
 use ot_client::{Client, Sent, Synchronized};
 use ot_isa::Tagged;
@@ -87,6 +87,20 @@ pub(crate) fn add_vacant(alloc: Global, seats: &mut Vec<Seat>, count: u16) -> Re
         seats.push(seat)?;
     }
     Ok(())
+}
+
+// The client has joined, and nothing is under way from it.
+pub(crate) fn is_synchronized(seat: &Seat) -> bool
+    ensures { result ≡ is_synchronized (phase_of seat.now.client) }
+{
+    matches!(&seat.client, Some(Client::Synchronized(_)))
+}
+
+// The client has later edits than the operation that is under way.
+pub(crate) fn has_buffer(seat: &Seat) -> bool
+    ensures { result ≡ has_buffer (phase_of seat.now.client) }
+{
+    matches!(&seat.client, Some(Client::AwaitingWithBuffer(_)))
 }
 
 // Puts what the client sends, if anything, on its link.

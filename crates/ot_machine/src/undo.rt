@@ -32,16 +32,18 @@ pub(crate) enum Record {
     Read,
 }
 
-impl Record {
+impl Undo {
     // Of a step at a client, where it is `KEPT`.
     #[inline(always)]
-    pub(crate) fn of_client<const KEPT: bool>(client: u16, before: Before) -> Option<Record>
-        ensures { IsTrue KEPT → result ≡ Some (ClientStep client before) }
+    pub(crate) fn of_client<const KEPT: bool>(client: u16, before: Before) -> Option<Undo>
+        ensures { IsTrue KEPT → result ≡ Some (record { step = ClientStep client before }) }
     {
         if !KEPT {
             return None;
         }
-        Some(Record::ClientStep(client, before))
+        Some(Undo {
+            step: Record::ClientStep(client, before),
+        })
     }
 
     // Of a Take, where the inverse of what was appended is recorded.
@@ -50,30 +52,27 @@ impl Record {
         client: u16,
         message: Sent<Tagged>,
         inverse: Option<TextOp<Tagged>>,
-    ) -> Option<Record>
-        ensures { result ≡ option_map (Taken client message) inverse }
+    ) -> Option<Undo>
+        ensures { result ≡ option_map (λ inverse. record { step = Taken client message inverse }) inverse }
     {
-        match inverse {
-            Some(inverse) => Some(Record::Taken(client, message, inverse)),
-            None => None,
+        let step = Record::Taken(client, message, inverse?);
+        Some(Undo { step })
+    }
+
+    // Of a Join.
+    pub(crate) fn of_join(client: u16) -> Undo
+        ensures { result.step ≡ Joined client }
+    {
+        Undo {
+            step: Record::Joined(client),
         }
     }
-}
 
-impl Undo {
-    // Of a step of which a record was kept.
-    pub(crate) fn kept(made: Option<Record>) -> Undo
-        requires { made ≡ None → ⊥ }
-        ensures { made ≡ Some result.step }
+    // Of a read.
+    pub(crate) fn of_read() -> Undo
+        ensures { result.step ≡ Read }
     {
-        let Some(step) = made else { unreachable!() };
-        Undo { step }
-    }
-
-    fn of(made: Record) -> Undo
-        ensures { result.step ≡ made }
-    {
-        Undo { step: made }
+        Undo { step: Record::Read }
     }
 
     /// About how much it stores, counted in components and elements, 1 at least: those of the inverse, of what it holds of the client's pending
@@ -102,39 +101,6 @@ fn size_of(op: &TextOp<Tagged>) -> usize {
 }
 
 impl Machine {
-    /// Performs the instruction as `step` does, and gives its undo record too: for `undo`, on the machine as it is then.
-    /// The refusals are those of `step`; the record is made before anything is changed, so that after `Memory` too nothing has changed.
-    pub fn step_kept(&mut self, instr: &Instr) -> Result<(Option<Shown>, Undo), Refusal>
-        ensures done { IfOk result (λ given. step self.old instr.now ≡ Performed self.new given.0) }
-        ensures refused { IfErr result (λ r. IsRefusal (step self.old instr.now) r) }
-        ensures unchanged { OnErr result (self.new ≡ self.old) }
-        ensures undo { IfOk result (λ given. Undoes self.old self.new given.1) }
-    {
-        match instr {
-            Instr::Edit(client, op) => Ok((None, Undo::kept(self.edit::<true>(*client, op)?))),
-            Instr::Take(client) => Ok((None, Undo::kept(self.take::<true>(*client)?))),
-            Instr::Deliver(client) => {
-                let (made, _applied) = self.deliver::<true>(*client)?;
-                Ok((None, Undo::kept(made)))
-            }
-            Instr::Acknowledge(client) => {
-                Ok((None, Undo::kept(self.acknowledge::<true>(*client)?)))
-            }
-            Instr::Join(client) => {
-                self.join(*client)?;
-                Ok((None, Undo::of(Record::Joined(*client))))
-            }
-            Instr::Read(client) => {
-                let shown = self.read(*client)?;
-                Ok((Some(shown), Undo::of(Record::Read)))
-            }
-            Instr::ReadServer => {
-                let shown = self.read_server()?;
-                Ok((Some(shown), Undo::of(Record::Read)))
-            }
-        }
-    }
-
     fn undo_client(&mut self, client: u16, before: Before) -> Result<(), (AllocError, Before)>
         requires { IsUndoableRecord self.old (ClientStep client before) }
         ensures ok { (earlier : State) → IsRecord earlier self.old (ClientStep client before) → OnOk result (self.new ≡ earlier) }
@@ -196,19 +162,29 @@ impl Machine {
         match undo.step {
             Record::ClientStep(client, before) => match self.undo_client(client, before) {
                 Ok(()) => Ok(()),
-                Err((e, before)) => Err((e, Undo::of(Record::ClientStep(client, before)))),
+                Err((e, before)) => Err((
+                    e,
+                    Undo {
+                        step: Record::ClientStep(client, before),
+                    },
+                )),
             },
             Record::Taken(client, message, inverse) => {
                 match self.undo_take(client, message, inverse) {
                     Ok(()) => Ok(()),
                     Err((e, message, inverse)) => {
-                        Err((e, Undo::of(Record::Taken(client, message, inverse))))
+                        Err((
+                            e,
+                            Undo {
+                                step: Record::Taken(client, message, inverse),
+                            },
+                        ))
                     }
                 }
             }
             Record::Joined(client) => match self.undo_join(client) {
                 Ok(()) => Ok(()),
-                Err(e) => Err((e, Undo::of(Record::Joined(client)))),
+                Err(e) => Err((e, Undo::of_join(client))),
             },
             Record::Read => {
                 self.undo_read();

@@ -4,7 +4,7 @@ ghost use Rattle.std.specs.Prelude.{◌≡◌, true, [], ◌++◌, IfErr, IfOk, 
 ghost use Rattle.std.specs.Option.{option_map};
 ghost use Rattle.streams.specs.Streams.{WritesPart};
 ghost use Rattle.ot_model.specs.Runs.{opening_of};
-ghost use Rattle.ot_machine.specs.Reads.{shown_by, IsThere};
+ghost use Rattle.ot_machine.specs.Effects.{shown_by, IsThere};
 ghost use Rattle.ot_report.specs.Written.{Flushes, Gathers, GathersReads, GathersUpTo, IsCaused, ReadsUpTo, WritesReport, WritesReportUpTo};
 
 use crate::ending::print_end;
@@ -101,8 +101,8 @@ fn write_reads<W: Sink>(
         let Some(instr) = schedule.get(place) else {
             unreachable!()
         };
-        match machine.perform(instr) {
-            Ok(who) => gather(alloc, machine, who, text, output)?,
+        match machine.perform::<false>(instr) {
+            Ok(effect) => gather(alloc, machine, effect.shown, text, output)?,
             Err(refusal) => return Ok(Some((place, refusal))),
         }
     }

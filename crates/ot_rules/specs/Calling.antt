@@ -6,33 +6,33 @@ use Rattle.ot_model.specs.Operation.{Operation}
 use Rattle.ot_model.specs.Table.{Phase, NotJoined, Synchronized, AwaitingConfirm, AwaitingWithBuffer, Entry, Message, State}
 use Rattle.ot_steps.specs.Lines.{plain_operation}
 use Rattle.ot_steps.specs.Steps.{client_in}
-use Rattle.ot_rules.specs.declared.call.Waiting.{Waiting}
-use Rattle.ot_rules.specs.declared.call.Waiting.TheVariants.{Nothing, Outstanding, Buffered}
+use Rattle.ot_rules.specs.declared.call.Pending.{Pending}
+use Rattle.ot_rules.specs.declared.call.Pending.TheVariants.{Nothing, Outstanding, Buffered}
 use Rattle.ot_rules.specs.Call.{Call, ApplyClient, ApplyServer, ServerAck, ReceiveOperation}
 
 -- the client's pending operations, without tags; none where it has not joined
-abbrev pub waiting_in : Phase → Option Waiting
-waiting_in NotJoined = None
-waiting_in Synchronized = Some Nothing
-waiting_in (AwaitingConfirm o) = Some (Outstanding (plain_operation o))
-waiting_in (AwaitingWithBuffer o b) = Some (Buffered (plain_operation o) (plain_operation b))
+abbrev pub pending_in : Phase → Option Pending
+pending_in NotJoined = None
+pending_in Synchronized = Some Nothing
+pending_in (AwaitingConfirm o) = Some (Outstanding (plain_operation o))
+pending_in (AwaitingWithBuffer o b) = Some (Buffered (plain_operation o) (plain_operation b))
 
 abbrev pub entry_operation : Entry → Operation ℕ
 entry_operation h = plain_operation h.op
 
 -- `applyClient` of the client's state
-abbrev pub edits : Option Waiting → Operation ℕ → Option Call
+abbrev pub edits : Option Pending → Operation ℕ → Option Call
 edits None op = None
 edits (Some w) op = Some (ApplyClient w op)
 
 -- `applyServer` of the client's state: the next entry of the log
-abbrev pub delivers : Option Waiting → Option Entry → Option Call
+abbrev pub delivers : Option Pending → Option Entry → Option Call
 delivers None h = None
 delivers (Some w) None = None
 delivers (Some w) (Some h) = Some (ApplyServer w (entry_operation h))
 
 -- `serverAck` of a state with an outstanding operation
-abbrev pub acknowledges : ℕ → Option Waiting → Option Call
+abbrev pub acknowledges : ℕ → Option Pending → Option Call
 acknowledges revision None = None
 acknowledges revision (Some Nothing) = None
 acknowledges revision (Some (Outstanding o)) = Some (ServerAck revision (Outstanding o))
@@ -45,10 +45,10 @@ takes log (Some m) = Some (ReceiveOperation m.revision (plain_operation m.op) (m
 
 -- the call that an instruction is in the state before it, where it is performed
 abbrev pub call_of : State → Instr → Option Call
-call_of s (Edit c op) = edits (waiting_in (client_in s c).phase) op
+call_of s (Edit c op) = edits (pending_in (client_in s c).phase) op
 call_of s (Take c) = takes s.log (client_in s c).message
-call_of s (Deliver c) = delivers (waiting_in (client_in s c).phase) (slice_get s.log (client_in s c).revision)
-call_of s (Acknowledge c) = acknowledges (client_in s c).revision (waiting_in (client_in s c).phase)
+call_of s (Deliver c) = delivers (pending_in (client_in s c).phase) (slice_get s.log (client_in s c).revision)
+call_of s (Acknowledge c) = acknowledges (client_in s c).revision (pending_in (client_in s c).phase)
 call_of s (Join c) = None
 call_of s (Read c) = None
 call_of s ReadServer = None

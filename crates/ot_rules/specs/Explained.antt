@@ -4,26 +4,14 @@ use Rattle.ot_isa.specs.Program.{Program}
 use Rattle.ot_isa.specs.declared.instruction.Instr.{Instr}
 use Rattle.ot_model.specs.Runs.{place_at}
 use Rattle.ot_model.specs.Table.{Outcome, Performed, Refused, NoRow, Place, State, step}
-use Rattle.ot_rules.specs.declared.explaining.Difference as program
 use Rattle.ot_steps.specs.declared.key.Key.{Key}
 use Rattle.ot_steps.specs.declared.key.Key.TheVariants as key
 use Rattle.ot_rules.specs.declared.note.Note.{Note}
 use Rattle.ot_rules.specs.Call.{Call}
 use Rattle.ot_rules.specs.Calling.{call_of}
-use Rattle.ot_rules.specs.Notes.{Asked, IsFirst, sentence}
+use Rattle.ot_rules.specs.Notes.{Asked, Difference, IsFirst, sentence}
 use Rattle.ot_rules.specs.Text.{call_lines}
 use Rattle.ot_rules.specs.Texts.{text_for}
-
--- what a port printed that ot.js has not: which value, both as JSON texts, and whether the port printed the operation that the instruction
--- applies, and it is ot.js'
-pub record Difference : Type 0 where
-  pub key : Option Key
-  pub found : List ℕ
-  pub wanted : List ℕ
-  pub printed : Bool
-
-abbrev pub difference_value : program.Difference → Difference
-difference_value d = record { key = d.key; found = d.found.now; wanted = d.wanted.now; printed = d.printed }
 
 -- a rule of ot.js makes the value; the place, the instruction and its client are the schedule's
 abbrev pub has_rule : Option Key → Bool
@@ -36,12 +24,9 @@ abbrev pub note_lines : Option Note → Option Key → List ℕ
 note_lines None f = []
 note_lines (Some note) f = codes "note " ++ (sentence note f ++ 10 ∷ [])
 
--- what notes are asked of, over the text that ot.js' operation applies to
-abbrev pub asked_over : Call → Option (List ℕ) → Difference → Asked
-asked_over call text d = record { call = call; key = d.key; found = d.found; wanted = d.wanted; text = text; printed = d.printed }
-
+-- what notes are asked of, at an instruction that is this call
 abbrev pub asked_of : Program → State → Instr → Call → Difference → Asked
-asked_of s state i call d = asked_over call (text_for s.start state i call d.key) d
+asked_of s state i call d = record { call = call; text = text_for s.start state i call d.key; difference = d }
 
 abbrev pub state_in : Place → State
 state_in q = q.state
@@ -50,7 +35,7 @@ state_in q = q.state
 pub record IsExplained (a : Asked) (text : List ℕ) : Type 0 where
   pub note : Option Note
   pub first : IsFirst note a
-  pub are : text ≡ call_lines a.call ++ note_lines note a.key
+  pub are : text ≡ call_lines a.call ++ note_lines note a.difference.key
 
 abbrev pub IsCallExplained : Program → State → Instr → Option Call → Difference → List ℕ → Type 0
 IsCallExplained s state i None d text = text ≡ []

@@ -1,6 +1,6 @@
 -- Sentences on what a port printed, and when they are true.
 use Rattle.std.specs.Prelude.{◌≡◌, ℕ, ◌<◌, List, codes, decimal, Bool, true, Option, Some, None, Result, Ok, Err}
-use Rattle.std.specs.Option.{option_copied}
+use Rattle.std.specs.Option.{option_map}
 use Rattle.ot_json.specs.Reading.{operation_of_text}
 use Rattle.ot_json.specs.Writing.{text_of_operation}
 use Rattle.ot_json.specs.declared.fault.OpFault.{OpFault}
@@ -9,31 +9,32 @@ use Rattle.ot_steps.specs.declared.key.Key.{Key}
 use Rattle.ot_steps.specs.declared.key.Key.TheVariants as key
 use Rattle.ot_rules.specs.declared.note.Note.{Note}
 use Rattle.ot_rules.specs.declared.note.Note.TheVariants.{SameEffect, InUnits, Turned, Untransformed, HalfTransformed, EditAlone, WithoutEdit, RevisionBefore, RevisionAtOpening, DocumentAlone}
+use Rattle.ot_rules.specs.declared.explaining.Difference as program_difference
 use Rattle.ot_rules.specs.declared.note.Asked as program
 use Rattle.ot_rules.specs.Call.{Call, ApplyClient, ApplyServer, ServerAck, ReceiveOperation, call_value}
+use Rattle.ot_rules.specs.Texts.{letters}
 use Rattle.ot_rules.specs.Units.{in_units}
 use Rattle.ot_rules.specs.Wrong.{at_key, made_by_edit_alone, made_by_half, made_other_tie, made_untransformed, made_without_edit}
 
--- what was found and what ot.js has, as JSON texts; the call that makes it, which value it is, the text that ot.js' operation applies to,
--- and whether the port printed the operation that the instruction applies, and it is ot.js'
-pub record Asked : Type 0 where
-  pub call : Call
+-- what a port printed that ot.js has not: which value, both as JSON texts, and whether the port printed the operation that the instruction
+-- applies, and it is ot.js'
+pub record Difference : Type 0 where
   pub key : Option Key
   pub found : List ℕ
   pub wanted : List ℕ
-  pub text : Option (List ℕ)
   pub printed : Bool
 
+abbrev pub difference_value : program_difference.Difference → Difference
+difference_value d = record { key = d.key; found = d.found.now; wanted = d.wanted.now; printed = d.printed }
+
+-- what notes are asked of: the call that makes the value, the text that ot.js' operation applies to, and the difference
+pub record Asked : Type 0 where
+  pub call : Call
+  pub text : Option (List ℕ)
+  pub difference : Difference
+
 abbrev pub asked_value : program.Asked → Asked
-asked_value a =
-    record {
-      call = call_value a.call.now;
-      key = a.key;
-      found = a.found.now;
-      wanted = a.wanted.now;
-      text = option_copied a.text;
-      printed = a.printed;
-    }
+asked_value a = record { call = call_value a.call.now; text = option_map letters a.text.now; difference = difference_value a.difference }
 
 -- ---- operations
 
@@ -57,12 +58,12 @@ counted (Some op) (Some text) = in_units op text
 -- the operation that a note says was found, if it says one
 abbrev pub said : Note → Asked → Option (Operation ℕ)
 said SameEffect a = None
-said InUnits a = counted (operation_in (operation_of_text a.wanted)) a.text
-said Turned a = at_key (made_other_tie a.call) a.key
-said Untransformed a = at_key (made_untransformed a.call) a.key
-said HalfTransformed a = at_key (made_by_half a.call) a.key
-said EditAlone a = at_key (made_by_edit_alone a.call) a.key
-said WithoutEdit a = at_key (made_without_edit a.call) a.key
+said InUnits a = counted (operation_in (operation_of_text a.difference.wanted)) a.text
+said Turned a = at_key (made_other_tie a.call) a.difference.key
+said Untransformed a = at_key (made_untransformed a.call) a.difference.key
+said HalfTransformed a = at_key (made_by_half a.call) a.difference.key
+said EditAlone a = at_key (made_by_edit_alone a.call) a.difference.key
+said WithoutEdit a = at_key (made_without_edit a.call) a.difference.key
 said RevisionBefore a = None
 said RevisionAtOpening a = None
 said DocumentAlone a = None
@@ -75,28 +76,26 @@ IsTextOf text (Some op) = text ≡ text_of_operation op
 -- ---- the revision within `sent`
 
 abbrev pub IsSentRevision : ℕ → Asked → Type 0
-IsSentRevision revision a = (a.key ≡ Some key.SentRevision) × (a.found ≡ decimal revision)
+IsSentRevision revision a = (a.difference.key ≡ Some key.SentRevision) × (a.difference.found ≡ decimal revision)
 
 -- the revision of the client before an acknowledgement
 abbrev pub IsRevisionBefore : Call → Asked → Type 0
-IsRevisionBefore (ApplyClient w op) a = ⊥
-IsRevisionBefore (ApplyServer w op) a = ⊥
 IsRevisionBefore (ServerAck revision w) a = IsSentRevision revision a
-IsRevisionBefore (ReceiveOperation revision op concurrent) a = ⊥
+IsRevisionBefore _ a = ⊥
 
 -- ---- what each note says
 
 abbrev pub IsTrueOf : Note → Asked → Type 0
-IsTrueOf SameEffect a = AreOne (operation_in (operation_of_text a.found)) (operation_in (operation_of_text a.wanted))
-IsTrueOf InUnits a = IsTextOf a.found (said InUnits a)
-IsTrueOf Turned a = IsTextOf a.found (said Turned a)
-IsTrueOf Untransformed a = IsTextOf a.found (said Untransformed a)
-IsTrueOf HalfTransformed a = IsTextOf a.found (said HalfTransformed a)
-IsTrueOf EditAlone a = IsTextOf a.found (said EditAlone a)
-IsTrueOf WithoutEdit a = IsTextOf a.found (said WithoutEdit a)
+IsTrueOf SameEffect a = AreOne (operation_in (operation_of_text a.difference.found)) (operation_in (operation_of_text a.difference.wanted))
+IsTrueOf InUnits a = IsTextOf a.difference.found (said InUnits a)
+IsTrueOf Turned a = IsTextOf a.difference.found (said Turned a)
+IsTrueOf Untransformed a = IsTextOf a.difference.found (said Untransformed a)
+IsTrueOf HalfTransformed a = IsTextOf a.difference.found (said HalfTransformed a)
+IsTrueOf EditAlone a = IsTextOf a.difference.found (said EditAlone a)
+IsTrueOf WithoutEdit a = IsTextOf a.difference.found (said WithoutEdit a)
 IsTrueOf RevisionBefore a = IsRevisionBefore a.call a
 IsTrueOf RevisionAtOpening a = IsSentRevision 0 a
-IsTrueOf DocumentAlone a = (a.key ≡ Some key.Document) × (a.printed ≡ true)
+IsTrueOf DocumentAlone a = (a.difference.key ≡ Some key.Document) × (a.difference.printed ≡ true)
 
 -- the order in which they are asked
 abbrev pub rank : Note → ℕ

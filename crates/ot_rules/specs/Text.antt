@@ -2,8 +2,8 @@
 use Rattle.std.specs.Prelude.{ℕ, List, [], ◌∷◌, ◌++◌, codes, decimal}
 use Rattle.ot_json.specs.Writing.{text_of_operation}
 use Rattle.ot_operation.specs.Operation.{Operation}
-use Rattle.ot_rules.specs.declared.call.Waiting.{Waiting}
-use Rattle.ot_rules.specs.declared.call.Waiting.TheVariants.{Nothing, Outstanding, Buffered}
+use Rattle.ot_rules.specs.declared.call.Pending.{Pending}
+use Rattle.ot_rules.specs.declared.call.Pending.TheVariants.{Nothing, Outstanding, Buffered}
 use Rattle.ot_rules.specs.Call.{Call, ApplyClient, ApplyServer, ServerAck, ReceiveOperation}
 
 -- the method's name, as ot.js has it
@@ -26,19 +26,19 @@ given name value = codes "given " ++ (name ++ 32 ∷ (value ++ 10 ∷ []))
 abbrev pub given_operation : List ℕ → Operation ℕ → List ℕ
 given_operation name op = given name (text_of_operation op)
 
-abbrev pub waiting_lines : Waiting → List ℕ
-waiting_lines Nothing = []
-waiting_lines (Outstanding o) = given_operation (codes "outstanding") o
-waiting_lines (Buffered o b) = given_operation (codes "outstanding") o ++ given_operation (codes "buffer") b
+abbrev pub pending_lines : Pending → List ℕ
+pending_lines Nothing = []
+pending_lines (Outstanding o) = given_operation (codes "outstanding") o
+pending_lines (Buffered o b) = given_operation (codes "outstanding") o ++ given_operation (codes "buffer") b
 
 abbrev pub concurrent_lines : List (Operation ℕ) → List ℕ
 concurrent_lines [] = []
 concurrent_lines (op ∷ ops) = given_operation (codes "concurrent") op ++ concurrent_lines ops
 
 abbrev pub given_lines : Call → List ℕ
-given_lines (ApplyClient w op) = waiting_lines w ++ given_operation (codes "operation") op
-given_lines (ApplyServer w op) = waiting_lines w ++ given_operation (codes "operation") op
-given_lines (ServerAck revision w) = given (codes "revision") (decimal revision) ++ waiting_lines w
+given_lines (ApplyClient w op) = pending_lines w ++ given_operation (codes "operation") op
+given_lines (ApplyServer w op) = pending_lines w ++ given_operation (codes "operation") op
+given_lines (ServerAck revision w) = given (codes "revision") (decimal revision) ++ pending_lines w
 given_lines (ReceiveOperation revision op concurrent) =
     given (codes "revision") (decimal revision) ++ (given_operation (codes "operation") op ++ concurrent_lines concurrent)
 

@@ -10,7 +10,7 @@ use Rattle.ot_isa.specs.declared.instruction.Instr.TheVariants.{Edit, Take, Deli
 use Rattle.ot_model.specs.Operation.{Operation, apply}
 use Rattle.ot_model.specs.Table.{Entry, State, start_list}
 use Rattle.ot_steps.specs.Steps.{client_in}
-use Rattle.ot_rules.specs.declared.call.Waiting.TheVariants.{Nothing, Outstanding, Buffered}
+use Rattle.ot_rules.specs.declared.call.Pending.TheVariants.{Nothing, Outstanding, Buffered}
 use Rattle.ot_steps.specs.declared.key.Key.{Key}
 use Rattle.ot_steps.specs.declared.key.Key.TheVariants as key
 use Rattle.ot_rules.specs.Call.{Call, ApplyClient, ApplyServer, ServerAck, ReceiveOperation}
@@ -30,13 +30,9 @@ text_at start log revision = option_map chars_of (replayed (start_list start) (t
 
 -- how many entries of the log its client has seen behind the instruction more than before it
 abbrev pub gained : Instr → ℕ
-gained (Edit c op) = 0
-gained (Take c) = 0
 gained (Deliver c) = 1
 gained (Acknowledge c) = 1
-gained (Join c) = 0
-gained (Read c) = 0
-gained ReadServer = 0
+gained _ = 0
 
 -- the server's text at the client's revision behind the instruction
 abbrev pub text_seen : List ℕ → State → ℕ → Option ℕ → Option (List ℕ)

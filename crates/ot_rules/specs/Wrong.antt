@@ -3,8 +3,8 @@ use Rattle.std.specs.Prelude.{ℕ, ◌+◌, List, [], ◌∷◌, length, ◌==�
 use Rattle.std.specs.Option.{option_map}
 use Rattle.ot_operation.specs.Operation.{Operation, news}
 use Rattle.ot_operation.specs.Merge.{transform}
-use Rattle.ot_rules.specs.declared.call.Waiting.{Waiting}
-use Rattle.ot_rules.specs.declared.call.Waiting.TheVariants.{Nothing, Outstanding, Buffered}
+use Rattle.ot_rules.specs.declared.call.Pending.{Pending}
+use Rattle.ot_rules.specs.declared.call.Pending.TheVariants.{Nothing, Outstanding, Buffered}
 use Rattle.ot_steps.specs.declared.key.Key.{Key}
 use Rattle.ot_steps.specs.declared.key.Key.TheVariants as key
 use Rattle.ot_rules.specs.declared.wrong.Made.{Made}
@@ -55,7 +55,7 @@ abbrev pub other_tie_past_buffer : Operation ℕ → Option Pair → Made
 other_tie_past_buffer buffer None = nothing
 other_tie_past_buffer buffer (Some first) = other_tie_past_both first.0 (other_tie buffer first.1)
 
-abbrev pub other_tie_delivery : Waiting → Operation ℕ → Made
+abbrev pub other_tie_delivery : Pending → Operation ℕ → Made
 other_tie_delivery Nothing op = nothing
 other_tie_delivery (Outstanding o) op = other_tie_past (other_tie o op)
 other_tie_delivery (Buffered o b) op = other_tie_past_buffer b (other_tie o op)
@@ -65,23 +65,21 @@ other_tie_over op [] = Some op
 other_tie_over op (other ∷ others) = elim (other_tie op other) [ None ↦ None | Some pair ↦ other_tie_over pair.0 others ]
 
 abbrev pub made_other_tie : Call → Made
-made_other_tie (ApplyClient w op) = nothing
 made_other_tie (ApplyServer w op) = other_tie_delivery w op
-made_other_tie (ServerAck revision w) = nothing
 made_other_tie (ReceiveOperation revision op concurrent) = record nothing { appended = other_tie_over op concurrent }
+made_other_tie _ = nothing
 
 -- ---- no transform: each operation as it was
 
-abbrev pub untransformed : Waiting → Operation ℕ → Made
+abbrev pub untransformed : Pending → Operation ℕ → Made
 untransformed Nothing op = nothing
 untransformed (Outstanding o) op = record nothing { outstanding = Some o; applied = Some op }
 untransformed (Buffered o b) op = record nothing { outstanding = Some o; buffer = Some b; applied = Some op }
 
 abbrev pub made_untransformed : Call → Made
-made_untransformed (ApplyClient w op) = nothing
 made_untransformed (ApplyServer w op) = untransformed w op
-made_untransformed (ServerAck revision w) = nothing
 made_untransformed (ReceiveOperation revision op concurrent) = record nothing { appended = Some op }
+made_untransformed _ = nothing
 
 -- ---- half of the transforms: the buffer over the delivered operation itself, and that over the outstanding operation alone
 
@@ -93,37 +91,16 @@ abbrev pub second_of : Option Pair → Option (Operation ℕ)
 second_of None = None
 second_of (Some pair) = Some pair.1
 
-abbrev pub by_half : Waiting → Operation ℕ → Made
-by_half Nothing op = nothing
-by_half (Outstanding o) op = nothing
-by_half (Buffered o b) op = record nothing { buffer = first_of (transformed b op); applied = second_of (transformed o op) }
-
 abbrev pub made_by_half : Call → Made
-made_by_half (ApplyClient w op) = nothing
-made_by_half (ApplyServer w op) = by_half w op
-made_by_half (ServerAck revision w) = nothing
-made_by_half (ReceiveOperation revision op concurrent) = nothing
+made_by_half (ApplyServer (Buffered o b) op) = record nothing { buffer = first_of (transformed b op); applied = second_of (transformed o op) }
+made_by_half _ = nothing
 
 -- ---- no compose: the edit in the buffer's place, or the buffer without it
 
-abbrev pub edit_alone : Waiting → Operation ℕ → Made
-edit_alone Nothing op = nothing
-edit_alone (Outstanding o) op = nothing
-edit_alone (Buffered o b) op = record nothing { buffer = Some op }
-
 abbrev pub made_by_edit_alone : Call → Made
-made_by_edit_alone (ApplyClient w op) = edit_alone w op
-made_by_edit_alone (ApplyServer w op) = nothing
-made_by_edit_alone (ServerAck revision w) = nothing
-made_by_edit_alone (ReceiveOperation revision op concurrent) = nothing
-
-abbrev pub without_edit : Waiting → Made
-without_edit Nothing = nothing
-without_edit (Outstanding o) = nothing
-without_edit (Buffered o b) = record nothing { buffer = Some b }
+made_by_edit_alone (ApplyClient (Buffered o b) op) = record nothing { buffer = Some op }
+made_by_edit_alone _ = nothing
 
 abbrev pub made_without_edit : Call → Made
-made_without_edit (ApplyClient w op) = without_edit w
-made_without_edit (ApplyServer w op) = nothing
-made_without_edit (ServerAck revision w) = nothing
-made_without_edit (ReceiveOperation revision op concurrent) = nothing
+made_without_edit (ApplyClient (Buffered o b) op) = record nothing { buffer = Some b }
+made_without_edit _ = nothing

@@ -4,7 +4,7 @@ use ot_text::TextOp;
 
 /// The state of a client, with its pending operations.
 #[derive(Drop)]
-pub enum Waiting {
+pub enum Pending {
     /// `Synchronized`: nothing is under way.
     Nothing,
     /// `AwaitingConfirm`, with the outstanding operation.
@@ -17,11 +17,11 @@ pub enum Waiting {
 #[derive(Drop)]
 pub enum Call {
     /// `applyClient` of the client's state: the user's edit.
-    ApplyClient(Waiting, TextOp<char>),
+    ApplyClient(Pending, TextOp<char>),
     /// `applyServer` of the client's state: another's operation, the next one of the log.
-    ApplyServer(Waiting, TextOp<char>),
+    ApplyServer(Pending, TextOp<char>),
     /// `serverAck` of the state of a client at this revision.
-    ServerAck(u32, Waiting),
+    ServerAck(u32, Pending),
     /// `Server.receiveOperation`: the message's revision and operation, and the operations of the log from that revision on, oldest first.
     ReceiveOperation(u32, TextOp<char>, Vec<TextOp<char>>),
 }

@@ -7,9 +7,9 @@ ghost use Rattle.ot_steps.specs.Lines.{plain_operation};
 ghost use Rattle.ot_steps.specs.Steps.{client_in};
 ghost use Rattle.ot_rules.specs.Call.{call_value};
 ghost use Rattle.ot_rules.specs.Calling as calling;
-ghost use Rattle.ot_rules.specs.Calling.{acknowledges, delivers, edits, entry_operation, takes, waiting_in};
+ghost use Rattle.ot_rules.specs.Calling.{acknowledges, delivers, edits, entry_operation, takes, pending_in};
 
-use crate::call::{Call, Waiting};
+use crate::call::{Call, Pending};
 use ot_client::Client;
 use ot_isa::Instr;
 use ot_machine::Machine;
@@ -18,21 +18,21 @@ use ot_text::TextOp;
 use std::alloc::{AllocError, Global};
 
 // The pending operations of the client, who is there; none where it has not joined.
-fn waiting(alloc: Global, machine: &Machine, client: u16) -> Result<Option<Waiting>, AllocError>
+fn pending(alloc: Global, machine: &Machine, client: u16) -> Result<Option<Pending>, AllocError>
     requires { client < length machine.now.clients }
-    ensures { IfOk result (λ w. w ≡ waiting_in (client_in machine.now client).phase) }
+    ensures { IfOk result (λ w. w ≡ pending_in (client_in machine.now client).phase) }
 {
     if !machine.joined(client) {
         return Ok(None);
     }
     Ok(Some(match machine.client(client) {
-        Client::Synchronized(_) => Waiting::Nothing,
+        Client::Synchronized(_) => Pending::Nothing,
         Client::AwaitingConfirm(client) => {
-            Waiting::Outstanding(plain_operation(alloc, client.outstanding())?)
+            Pending::Outstanding(plain_operation(alloc, client.outstanding())?)
         }
         Client::AwaitingWithBuffer(client) => {
             let outstanding = plain_operation(alloc, client.outstanding())?;
-            Waiting::Buffered(outstanding, plain_operation(alloc, client.buffer())?)
+            Pending::Buffered(outstanding, plain_operation(alloc, client.buffer())?)
         }
     }))
 }
@@ -63,27 +63,27 @@ fn edit(
     op: &TextOp<char>,
 ) -> Result<Option<Call>, AllocError>
     requires { client < length machine.now.clients }
-    ensures { IfOk result (λ call. option_map call_value call ≡ edits (waiting_in (client_in machine.now client).phase) op.now) }
+    ensures { IfOk result (λ call. option_map call_value call ≡ edits (pending_in (client_in machine.now client).phase) op.now) }
 {
-    let Some(waiting) = waiting(alloc, machine, client)? else {
+    let Some(pending) = pending(alloc, machine, client)? else {
         return Ok(None);
     };
-    Ok(Some(Call::ApplyClient(waiting, op.copy()?)))
+    Ok(Some(Call::ApplyClient(pending, op.copy()?)))
 }
 
 // A delivery to the client, who is there.
 fn delivery(alloc: Global, machine: &Machine, client: u16) -> Result<Option<Call>, AllocError>
     requires { client < length machine.now.clients }
-    ensures { IfOk result (λ call. option_map call_value call ≡ delivers (waiting_in (client_in machine.now client).phase) (slice_get machine.now.log (client_in machine.now client).revision)) }
+    ensures { IfOk result (λ call. option_map call_value call ≡ delivers (pending_in (client_in machine.now client).phase) (slice_get machine.now.log (client_in machine.now client).revision)) }
 {
-    let Some(waiting) = waiting(alloc, machine, client)? else {
+    let Some(pending) = pending(alloc, machine, client)? else {
         return Ok(None);
     };
     let Some(entry) = machine.entry(machine.revision(client) as usize) else {
         return Ok(None);
     };
     let operation = plain_operation(alloc, entry.operation())?;
-    Ok(Some(Call::ApplyServer(waiting, operation)))
+    Ok(Some(Call::ApplyServer(pending, operation)))
 }
 
 // An acknowledgement to the client, who is there.
@@ -93,12 +93,12 @@ fn acknowledgement(
     client: u16,
 ) -> Result<Option<Call>, AllocError>
     requires { client < length machine.now.clients }
-    ensures { IfOk result (λ call. option_map call_value call ≡ acknowledges (client_in machine.now client).revision (waiting_in (client_in machine.now client).phase)) }
+    ensures { IfOk result (λ call. option_map call_value call ≡ acknowledges (client_in machine.now client).revision (pending_in (client_in machine.now client).phase)) }
 {
     let revision = machine.revision(client);
-    match waiting(alloc, machine, client)? {
-        None | Some(Waiting::Nothing) => Ok(None),
-        Some(waiting) => Ok(Some(Call::ServerAck(revision, waiting))),
+    match pending(alloc, machine, client)? {
+        None | Some(Pending::Nothing) => Ok(None),
+        Some(pending) => Ok(Some(Call::ServerAck(revision, pending))),
     }
 }
 

@@ -1,11 +1,11 @@
 //! What is said of a port's first difference.
 
 ghost use Rattle.std.specs.Prelude.{◌≡◌, ◌++◌, ◌≤◌, ◌≢◌, length, IfOk, OnOk, string_bytes};
-ghost use Rattle.std.specs.Option.{option_copied, option_map};
+ghost use Rattle.std.specs.Option.{option_map};
 ghost use Rattle.ot_model.specs.Runs.{opening_of, place_at};
 ghost use Rattle.ot_rules.specs.Call.{call_value};
 ghost use Rattle.ot_rules.specs.Explained as explained;
-ghost use Rattle.ot_rules.specs.Texts as texts;
+ghost use Rattle.ot_rules.specs.Notes as notes;
 
 use crate::call::Call;
 use crate::calling::call_of;
@@ -62,7 +62,7 @@ fn machine_at(
         let Some(instr) = schedule.get(number) else {
             unreachable!()
         };
-        match machine.perform(instr) {
+        match machine.perform::<false>(instr) {
             Ok(_) => {}
             Err(refusal) => {
                 only_refused(refusal)?;
@@ -87,41 +87,8 @@ fn push_note(text: &mut String, note: Option<Note>, key: Option<Key>) -> Result<
     }
 }
 
-// The lines of the call, and of the first note that is true.
+// The lines of the call that the instruction is, before which the machine is, and of the first note that is true.
 fn explain_call(
-    alloc: Global,
-    call: &Call,
-    text: Option<&[char]>,
-    difference: Difference<'_>,
-) -> Result<String, AllocError>
-    ensures { IfOk result (λ lines. explained.IsExplained (explained.asked_over (call_value call.now) (option_copied text.entry) (explained.difference_value difference.entry)) (string_bytes lines)) }
-{
-    let asked = Asked {
-        call,
-        key: difference.key,
-        found: difference.found,
-        wanted: difference.wanted,
-        text,
-        printed: difference.printed,
-    };
-    let note = first_note(alloc, &asked)?;
-    let mut lines = print_call(alloc, call)?;
-    push_note(&mut lines, note, difference.key)?;
-    Ok(lines)
-}
-
-// The letters of a text, if there is one.
-fn letters(text: &Option<Vec<char>>) -> Option<&[char]>
-    ensures { option_copied result ≡ option_map texts.letters text.now }
-{
-    match text {
-        Some(text) => Some(text.as_slice()),
-        None => None,
-    }
-}
-
-// The same of the instruction that is this call, before which the machine is.
-fn explain_instr(
     alloc: Global,
     schedule: &Schedule,
     machine: &Machine,
@@ -129,10 +96,18 @@ fn explain_instr(
     call: &Call,
     difference: Difference<'_>,
 ) -> Result<String, AllocError>
-    ensures { IfOk result (λ lines. explained.IsExplained (explained.asked_of schedule.now machine.now instr.now (call_value call.now) (explained.difference_value difference.entry)) (string_bytes lines)) }
+    ensures { IfOk result (λ lines. explained.IsExplained (explained.asked_of schedule.now machine.now instr.now (call_value call.now) (notes.difference_value difference.entry)) (string_bytes lines)) }
 {
     let text = text_for(alloc, schedule, machine, instr, call, difference.key)?;
-    explain_call(alloc, call, letters(&text), difference)
+    let asked = Asked {
+        call,
+        text: &text,
+        difference,
+    };
+    let note = first_note(alloc, &asked)?;
+    let mut lines = print_call(alloc, call)?;
+    push_note(&mut lines, note, difference.key)?;
+    Ok(lines)
 }
 
 // What is said of the instruction, which the machine is before, if it is performed.
@@ -143,13 +118,13 @@ fn explain_step(
     instr: &Instr,
     difference: Difference<'_>,
 ) -> Result<String, AllocError>
-    ensures { IfOk result (λ lines. explained.IsStepExplained schedule.now machine.old instr.now (explained.difference_value difference.entry) (string_bytes lines)) }
+    ensures { IfOk result (λ lines. explained.IsStepExplained schedule.now machine.old instr.now (notes.difference_value difference.entry) (string_bytes lines)) }
 {
     let Some(call) = call_of(alloc, machine, instr)? else {
         return Ok(String::new(alloc));
     };
-    let lines = explain_instr(alloc, schedule, machine, instr, &call, difference)?;
-    match machine.perform(instr) {
+    let lines = explain_call(alloc, schedule, machine, instr, &call, difference)?;
+    match machine.perform::<false>(instr) {
         Ok(_) => Ok(lines),
         Err(refusal) => {
             only_refused(refusal)?;
@@ -176,7 +151,7 @@ pub fn explain(
     place: usize,
     difference: Difference<'_>,
 ) -> Result<String, AllocError>
-    ensures { IfOk result (λ lines. explained.Explains schedule.now place (explained.difference_value difference.entry) (string_bytes lines)) }
+    ensures { IfOk result (λ lines. explained.Explains schedule.now place (notes.difference_value difference.entry) (string_bytes lines)) }
 {
     if !has_rule(difference.key) {
         return Ok(String::new(alloc));

@@ -31,7 +31,7 @@ mod text;
 mod units;
 mod wrong;
 
-pub use call::{Call, Waiting};
+pub use call::{Call, Pending};
 pub use calling::call_of;
 pub use explaining::{Difference, explain};
 pub use note::{Asked, NOTES, Note, first_note, sentence};

@@ -1,14 +1,16 @@
 //! Sentences that are true of what a port printed.
 
 ghost use Rattle.std.specs.Prelude.{◌≡◌, ◌↔◌, ◌≤◌, length, IfOk, IsTrue, None, false};
-ghost use Rattle.std.specs.Option.{option_copied};
+ghost use Rattle.std.specs.Option.{option_copied, option_map};
 ghost use Rattle.ot_json.specs.Reading.{operation_of_text};
 ghost use Rattle.ot_rules.specs.Call.{call_value};
 ghost use Rattle.ot_rules.specs.Notes as notes;
+ghost use Rattle.ot_rules.specs.Texts.{letters};
 ghost use Rattle.ot_rules.specs.Wrong.{at_key};
 ghost use Rattle.ot_rules.specs.declared.wrong.Made.{Made};
 
 use crate::call::Call;
+use crate::explaining::Difference;
 use crate::printing::number;
 use crate::units::in_units;
 use crate::wrong::{
@@ -63,15 +65,9 @@ pub const NOTES: [Note; 10] = [
 pub struct Asked<'a> {
     /// What the instruction calls.
     pub call: &'a Call,
-    /// The key of the value; none where it is the line itself.
-    pub key: Option<Key>,
-    /// The port's value and ot.js', as compact JSON.
-    pub found: &'a str,
-    pub wanted: &'a str,
     /// The text that ot.js' operation applies to, where the value is an operation.
-    pub text: Option<&'a [char]>,
-    /// The port printed the operation that the instruction applies to a document, and it is ot.js'.
-    pub printed: bool,
+    pub text: &'a Option<Vec<char>>,
+    pub difference: Difference<'a>,
 }
 
 // The operation that a text is, if it is one.
@@ -102,15 +98,15 @@ fn are_one(alloc: Global, found: &str, wanted: &str) -> Result<bool, AllocError>
 fn wanted_in_units(
     alloc: Global,
     wanted: &str,
-    text: Option<&[char]>,
+    text: &Option<Vec<char>>,
 ) -> Result<Option<TextOp<char>>, AllocError>
-    ensures { IfOk result (λ op. op ≡ notes.counted (notes.operation_in (operation_of_text wanted.now)) (option_copied text.entry)) }
+    ensures { IfOk result (λ op. op ≡ notes.counted (notes.operation_in (operation_of_text wanted.now)) (option_map letters text.now)) }
 {
     let Some(text) = text else {
         return Ok(None);
     };
     match read(alloc, wanted)? {
-        Some(op) => in_units(&op, text),
+        Some(op) => in_units(&op, text.as_slice()),
         None => Ok(None),
     }
 }
@@ -130,9 +126,9 @@ fn said(alloc: Global, note: Note, asked: &Asked<'_>) -> Result<Option<TextOp<ch
     ensures { IfOk result (λ op. op ≡ notes.said note (notes.asked_value asked.now)) }
 {
     if note == Note::InUnits {
-        return wanted_in_units(alloc, asked.wanted, asked.text);
+        return wanted_in_units(alloc, asked.difference.wanted, asked.text);
     }
-    if !is_made(asked.key) {
+    if !is_made(asked.difference.key) {
         return Ok(None);
     }
     let mut made = match note {
@@ -143,7 +139,7 @@ fn said(alloc: Global, note: Note, asked: &Asked<'_>) -> Result<Option<TextOp<ch
         Note::WithoutEdit => made_without_edit(asked.call)?,
         _ => return Ok(None),
     };
-    Ok(at_key(&mut made, asked.key))
+    Ok(at_key(&mut made, asked.difference.key))
 }
 
 // The text is the operation's.
@@ -160,10 +156,10 @@ fn is_text_of(alloc: Global, text: &str, op: Option<&TextOp<char>>) -> Result<bo
 fn is_sent_revision(alloc: Global, asked: &Asked<'_>, revision: u32) -> Result<bool, AllocError>
     ensures { IfOk result (λ same. IsTrue same ↔ notes.IsSentRevision revision (notes.asked_value asked.now)) }
 {
-    if !matches!(asked.key, Some(Key::SentRevision)) {
+    if !matches!(asked.difference.key, Some(Key::SentRevision)) {
         return Ok(false);
     }
-    Ok(number(alloc, revision)?.as_str() == asked.found)
+    Ok(number(alloc, revision)?.as_str() == asked.difference.found)
 }
 
 // It is the revision of the client before an acknowledgement.
@@ -181,7 +177,7 @@ fn is_true(alloc: Global, note: Note, asked: &Asked<'_>) -> Result<bool, AllocEr
     ensures { IfOk result (λ so. IsTrue so ↔ notes.IsTrueOf note (notes.asked_value asked.now)) }
 {
     match note {
-        Note::SameEffect => are_one(alloc, asked.found, asked.wanted),
+        Note::SameEffect => are_one(alloc, asked.difference.found, asked.difference.wanted),
         Note::InUnits
         | Note::Turned
         | Note::Untransformed
@@ -189,11 +185,13 @@ fn is_true(alloc: Global, note: Note, asked: &Asked<'_>) -> Result<bool, AllocEr
         | Note::EditAlone
         | Note::WithoutEdit => {
             let op = said(alloc, note, asked)?;
-            is_text_of(alloc, asked.found, op.as_ref())
+            is_text_of(alloc, asked.difference.found, op.as_ref())
         }
         Note::RevisionBefore => is_revision_before(alloc, asked),
         Note::RevisionAtOpening => is_sent_revision(alloc, asked, 0),
-        Note::DocumentAlone => Ok(matches!(asked.key, Some(Key::Document)) && asked.printed),
+        Note::DocumentAlone => Ok(
+            matches!(asked.difference.key, Some(Key::Document)) && asked.difference.printed,
+        ),
     }
 }
 

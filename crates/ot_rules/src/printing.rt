@@ -2,9 +2,9 @@
 
 ghost use Rattle.std.specs.Prelude.{◌≡◌, ◌++◌, codes, decimal, IfOk, OnOk, string_bytes};
 ghost use Rattle.ot_rules.specs.Call.{call_value};
-ghost use Rattle.ot_rules.specs.Text.{call_lines, concurrent_lines, given, given_lines, given_operation, rule_text, waiting_lines};
+ghost use Rattle.ot_rules.specs.Text.{call_lines, concurrent_lines, given, given_lines, given_operation, rule_text, pending_lines};
 
-use crate::call::{Call, Waiting};
+use crate::call::{Call, Pending};
 use ot_json::write_op;
 use ot_text::TextOp;
 use std::alloc::{AllocError, Global};
@@ -14,15 +14,15 @@ pub fn rule(call: &Call) -> &'static str
     ensures { result.now ≡ rule_text (call_value call.now) }
 {
     match call {
-        Call::ApplyClient(Waiting::Nothing, _) => "Synchronized.applyClient",
-        Call::ApplyClient(Waiting::Outstanding(_), _) => "AwaitingConfirm.applyClient",
-        Call::ApplyClient(Waiting::Buffered(..), _) => "AwaitingWithBuffer.applyClient",
-        Call::ApplyServer(Waiting::Nothing, _) => "Synchronized.applyServer",
-        Call::ApplyServer(Waiting::Outstanding(_), _) => "AwaitingConfirm.applyServer",
-        Call::ApplyServer(Waiting::Buffered(..), _) => "AwaitingWithBuffer.applyServer",
-        Call::ServerAck(_, Waiting::Nothing) => "Synchronized.serverAck",
-        Call::ServerAck(_, Waiting::Outstanding(_)) => "AwaitingConfirm.serverAck",
-        Call::ServerAck(_, Waiting::Buffered(..)) => "AwaitingWithBuffer.serverAck",
+        Call::ApplyClient(Pending::Nothing, _) => "Synchronized.applyClient",
+        Call::ApplyClient(Pending::Outstanding(_), _) => "AwaitingConfirm.applyClient",
+        Call::ApplyClient(Pending::Buffered(..), _) => "AwaitingWithBuffer.applyClient",
+        Call::ApplyServer(Pending::Nothing, _) => "Synchronized.applyServer",
+        Call::ApplyServer(Pending::Outstanding(_), _) => "AwaitingConfirm.applyServer",
+        Call::ApplyServer(Pending::Buffered(..), _) => "AwaitingWithBuffer.applyServer",
+        Call::ServerAck(_, Pending::Nothing) => "Synchronized.serverAck",
+        Call::ServerAck(_, Pending::Outstanding(_)) => "AwaitingConfirm.serverAck",
+        Call::ServerAck(_, Pending::Buffered(..)) => "AwaitingWithBuffer.serverAck",
         Call::ReceiveOperation(..) => "Server.receiveOperation",
     }
 }
@@ -64,13 +64,13 @@ fn push_revision(alloc: Global, text: &mut String, revision: u32) -> Result<(), 
     push_given(text, "revision", value.as_str())
 }
 
-fn push_waiting(alloc: Global, text: &mut String, waiting: &Waiting) -> Result<(), AllocError>
-    ensures { OnOk result (string_bytes text.new ≡ string_bytes text.old ++ waiting_lines waiting.now) }
+fn push_pending(alloc: Global, text: &mut String, pending: &Pending) -> Result<(), AllocError>
+    ensures { OnOk result (string_bytes text.new ≡ string_bytes text.old ++ pending_lines pending.now) }
 {
-    match waiting {
-        Waiting::Nothing => Ok(()),
-        Waiting::Outstanding(op) => push_operation(alloc, text, "outstanding", op),
-        Waiting::Buffered(op, buffer) => {
+    match pending {
+        Pending::Nothing => Ok(()),
+        Pending::Outstanding(op) => push_operation(alloc, text, "outstanding", op),
+        Pending::Buffered(op, buffer) => {
             push_operation(alloc, text, "outstanding", op)?;
             push_operation(alloc, text, "buffer", buffer)
         }
@@ -93,25 +93,13 @@ fn push_concurrent(
 fn push_operands(
     alloc: Global,
     text: &mut String,
-    waiting: &Waiting,
+    pending: &Pending,
     op: &TextOp<char>,
 ) -> Result<(), AllocError>
-    ensures { OnOk result (string_bytes text.new ≡ string_bytes text.old ++ (waiting_lines waiting.now ++ given_operation (codes "operation") op.now)) }
+    ensures { OnOk result (string_bytes text.new ≡ string_bytes text.old ++ (pending_lines pending.now ++ given_operation (codes "operation") op.now)) }
 {
-    push_waiting(alloc, text, waiting)?;
+    push_pending(alloc, text, pending)?;
     push_operation(alloc, text, "operation", op)
-}
-
-fn push_acknowledged(
-    alloc: Global,
-    text: &mut String,
-    revision: u32,
-    waiting: &Waiting,
-) -> Result<(), AllocError>
-    ensures { OnOk result (string_bytes text.new ≡ string_bytes text.old ++ (given (codes "revision") (decimal revision) ++ waiting_lines waiting.now)) }
-{
-    push_revision(alloc, text, revision)?;
-    push_waiting(alloc, text, waiting)
 }
 
 fn push_received(
@@ -133,9 +121,12 @@ fn push_given_lines(alloc: Global, text: &mut String, call: &Call) -> Result<(),
     ensures { OnOk result (string_bytes text.new ≡ string_bytes text.old ++ given_lines (call_value call.now)) }
 {
     match call {
-        Call::ApplyClient(waiting, op) => push_operands(alloc, text, waiting, op),
-        Call::ApplyServer(waiting, op) => push_operands(alloc, text, waiting, op),
-        Call::ServerAck(revision, waiting) => push_acknowledged(alloc, text, *revision, waiting),
+        Call::ApplyClient(pending, op) => push_operands(alloc, text, pending, op),
+        Call::ApplyServer(pending, op) => push_operands(alloc, text, pending, op),
+        Call::ServerAck(revision, pending) => {
+            push_revision(alloc, text, *revision)?;
+            push_pending(alloc, text, pending)
+        }
         Call::ReceiveOperation(revision, op, concurrent) => {
             push_received(alloc, text, *revision, op, concurrent.as_slice())
         }

@@ -9,7 +9,7 @@ ghost use Rattle.ot_steps.specs.Steps.{client_in};
 ghost use Rattle.ot_rules.specs.Call.{call_value};
 ghost use Rattle.ot_rules.specs.Texts as texts;
 
-use crate::call::{Call, Waiting};
+use crate::call::{Call, Pending};
 use crate::wrong::first_transformed;
 use ot_isa::{Instr, Schedule, Tagged, start_doc};
 use ot_machine::Machine;
@@ -114,16 +114,16 @@ fn outstanding_behind(alloc: Global, call: &Call) -> Result<Option<TextOp<char>>
     ensures { IfOk result (λ op. op ≡ texts.outstanding_behind (call_value call.now)) }
 {
     match call {
-        Call::ApplyClient(Waiting::Nothing, op) => Ok(Some(op.copy()?)),
-        Call::ApplyClient(Waiting::Outstanding(outstanding), _)
-        | Call::ApplyClient(Waiting::Buffered(outstanding, _), _) => {
+        Call::ApplyClient(Pending::Nothing, op) => Ok(Some(op.copy()?)),
+        Call::ApplyClient(Pending::Outstanding(outstanding), _)
+        | Call::ApplyClient(Pending::Buffered(outstanding, _), _) => {
             Ok(Some(outstanding.copy()?))
         }
-        Call::ApplyServer(Waiting::Outstanding(outstanding), op)
-        | Call::ApplyServer(Waiting::Buffered(outstanding, _), op) => {
+        Call::ApplyServer(Pending::Outstanding(outstanding), op)
+        | Call::ApplyServer(Pending::Buffered(outstanding, _), op) => {
             first_transformed(alloc, outstanding, op)
         }
-        Call::ServerAck(_, Waiting::Buffered(_, buffer)) => Ok(Some(buffer.copy()?)),
+        Call::ServerAck(_, Pending::Buffered(_, buffer)) => Ok(Some(buffer.copy()?)),
         _ => Ok(None),
     }
 }

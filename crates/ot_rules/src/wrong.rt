@@ -4,7 +4,7 @@ ghost use Rattle.std.specs.Prelude.{◌≡◌, IfOk, Some};
 ghost use Rattle.ot_rules.specs.Call.{call_value};
 ghost use Rattle.ot_rules.specs.Wrong as wrong;
 
-use crate::call::{Call, Waiting};
+use crate::call::{Call, Pending};
 use ot_algebra::{transform, transform_second};
 use ot_steps::Key;
 use ot_text::{LIMIT, TextOp};
@@ -27,30 +27,6 @@ fn nothing() -> Made
         buffer: None,
         applied: None,
         appended: None,
-    }
-}
-
-// An operation in the buffer's place, and nothing else.
-fn in_buffer(op: &TextOp<char>) -> Result<Made, AllocError>
-    ensures { IfOk result (λ made. made ≡ record wrong.nothing { buffer = Some op.now }) }
-{
-    Ok(Made {
-        outstanding: None,
-        buffer: Some(op.copy()?),
-        applied: None,
-        appended: None,
-    })
-}
-
-// What is appended, and nothing else.
-fn in_log(appended: Option<TextOp<char>>) -> Made
-    ensures { result ≡ record wrong.nothing { appended = appended } }
-{
-    Made {
-        outstanding: None,
-        buffer: None,
-        applied: None,
-        appended,
     }
 }
 
@@ -148,29 +124,28 @@ fn other_tie_past_buffer(
         outstanding: Some(outstanding),
         buffer: Some(buffer),
         applied: Some(applied),
-        appended: None,
+        ..nothing()
     })
 }
 
 fn other_tie_delivery(
     alloc: Global,
-    waiting: &Waiting,
+    pending: &Pending,
     op: &TextOp<char>,
 ) -> Result<Made, AllocError>
-    ensures { IfOk result (λ made. made ≡ wrong.other_tie_delivery waiting.now op.now) }
+    ensures { IfOk result (λ made. made ≡ wrong.other_tie_delivery pending.now op.now) }
 {
-    match waiting {
-        Waiting::Nothing => Ok(nothing()),
-        Waiting::Outstanding(outstanding) => match other_tie(alloc, outstanding, op)? {
+    match pending {
+        Pending::Nothing => Ok(nothing()),
+        Pending::Outstanding(outstanding) => match other_tie(alloc, outstanding, op)? {
             None => Ok(nothing()),
             Some((outstanding, applied)) => Ok(Made {
                 outstanding: Some(outstanding),
-                buffer: None,
                 applied: Some(applied),
-                appended: None,
+                ..nothing()
             }),
         },
-        Waiting::Buffered(outstanding, buffer) => {
+        Pending::Buffered(outstanding, buffer) => {
             other_tie_past_buffer(alloc, outstanding, buffer, op)
         }
     }
@@ -199,22 +174,23 @@ pub fn made_other_tie(alloc: Global, call: &Call) -> Result<Made, AllocError>
     ensures { IfOk result (λ made. made ≡ wrong.made_other_tie (call_value call.now)) }
 {
     match call {
-        Call::ApplyServer(waiting, op) => other_tie_delivery(alloc, waiting, op),
-        Call::ReceiveOperation(_, op, concurrent) => {
-            Ok(in_log(other_tie_over(op, concurrent.as_slice())?))
-        }
+        Call::ApplyServer(pending, op) => other_tie_delivery(alloc, pending, op),
+        Call::ReceiveOperation(_, op, concurrent) => Ok(Made {
+            appended: other_tie_over(op, concurrent.as_slice())?,
+            ..nothing()
+        }),
         Call::ApplyClient(..) | Call::ServerAck(..) => Ok(nothing()),
     }
 }
 
 // The pending operations, if any, and the delivered operation.
-fn untransformed(waiting: &Waiting, op: &TextOp<char>) -> Result<Made, AllocError>
-    ensures { IfOk result (λ made. made ≡ wrong.untransformed waiting.now op.now) }
+fn untransformed(pending: &Pending, op: &TextOp<char>) -> Result<Made, AllocError>
+    ensures { IfOk result (λ made. made ≡ wrong.untransformed pending.now op.now) }
 {
-    let (outstanding, buffer) = match waiting {
-        Waiting::Nothing => return Ok(nothing()),
-        Waiting::Outstanding(outstanding) => (outstanding.copy()?, None),
-        Waiting::Buffered(outstanding, buffer) => {
+    let (outstanding, buffer) = match pending {
+        Pending::Nothing => return Ok(nothing()),
+        Pending::Outstanding(outstanding) => (outstanding.copy()?, None),
+        Pending::Buffered(outstanding, buffer) => {
             let outstanding = outstanding.copy()?;
             (outstanding, Some(buffer.copy()?))
         }
@@ -223,7 +199,7 @@ fn untransformed(waiting: &Waiting, op: &TextOp<char>) -> Result<Made, AllocErro
         outstanding: Some(outstanding),
         buffer,
         applied: Some(op.copy()?),
-        appended: None,
+        ..nothing()
     })
 }
 
@@ -232,25 +208,13 @@ pub fn made_untransformed(call: &Call) -> Result<Made, AllocError>
     ensures { IfOk result (λ made. made ≡ wrong.made_untransformed (call_value call.now)) }
 {
     match call {
-        Call::ApplyServer(waiting, op) => untransformed(waiting, op),
-        Call::ReceiveOperation(_, op, _) => Ok(in_log(Some(op.copy()?))),
+        Call::ApplyServer(pending, op) => untransformed(pending, op),
+        Call::ReceiveOperation(_, op, _) => Ok(Made {
+            appended: Some(op.copy()?),
+            ..nothing()
+        }),
         Call::ApplyClient(..) | Call::ServerAck(..) => Ok(nothing()),
     }
-}
-
-fn by_half(alloc: Global, waiting: &Waiting, op: &TextOp<char>) -> Result<Made, AllocError>
-    ensures { IfOk result (λ made. made ≡ wrong.by_half waiting.now op.now) }
-{
-    let Waiting::Buffered(outstanding, buffer) = waiting else {
-        return Ok(nothing());
-    };
-    let buffer = first_transformed(alloc, buffer, op)?;
-    Ok(Made {
-        outstanding: None,
-        buffer,
-        applied: second_transformed(outstanding, op)?,
-        appended: None,
-    })
 }
 
 /// A delivery of which half is done: the buffer over the delivered operation itself, and that over the outstanding operation alone.
@@ -258,7 +222,11 @@ pub fn made_by_half(alloc: Global, call: &Call) -> Result<Made, AllocError>
     ensures { IfOk result (λ made. made ≡ wrong.made_by_half (call_value call.now)) }
 {
     match call {
-        Call::ApplyServer(waiting, op) => by_half(alloc, waiting, op),
+        Call::ApplyServer(Pending::Buffered(outstanding, buffer), op) => Ok(Made {
+            buffer: first_transformed(alloc, buffer, op)?,
+            applied: second_transformed(outstanding, op)?,
+            ..nothing()
+        }),
         _ => Ok(nothing()),
     }
 }
@@ -268,7 +236,10 @@ pub fn made_by_edit_alone(call: &Call) -> Result<Made, AllocError>
     ensures { IfOk result (λ made. made ≡ wrong.made_by_edit_alone (call_value call.now)) }
 {
     match call {
-        Call::ApplyClient(Waiting::Buffered(..), op) => in_buffer(op),
+        Call::ApplyClient(Pending::Buffered(..), op) => Ok(Made {
+            buffer: Some(op.copy()?),
+            ..nothing()
+        }),
         _ => Ok(nothing()),
     }
 }
@@ -278,7 +249,10 @@ pub fn made_without_edit(call: &Call) -> Result<Made, AllocError>
     ensures { IfOk result (λ made. made ≡ wrong.made_without_edit (call_value call.now)) }
 {
     match call {
-        Call::ApplyClient(Waiting::Buffered(_, buffer), _) => in_buffer(buffer),
+        Call::ApplyClient(Pending::Buffered(_, buffer), _) => Ok(Made {
+            buffer: Some(buffer.copy()?),
+            ..nothing()
+        }),
         _ => Ok(nothing()),
     }
 }

@@ -8,7 +8,7 @@ use Rattle.ot_isa.specs.declared.instruction.Instr.{Instr}
 use Rattle.ot_isa.specs.declared.instruction.Instr.TheVariants.{Edit, Take, Deliver, Acknowledge, Join, Read, ReadServer}
 use Rattle.ot_model.specs.Operation.{Operation}
 use Rattle.ot_model.specs.Table.{Phase, Client, State, Entry, Ack, Op, absent, against_pending, downlink, head_for, is_joined}
-use Rattle.ot_machine.specs.Delivery as machine
+use Rattle.ot_machine.specs.Effects as machine
 use Rattle.ot_machine.specs.Readers.{ClientHas}
 use Rattle.ot_steps.specs.Lines.{plain_operation}
 use Rattle.ot_steps.specs.Steps.{applies, against_pending_head, client_in, delivers}

@@ -6,7 +6,7 @@ use Rattle.ot_model.specs.declared.shown.Refusal.{Refusal}
 use Rattle.ot_model.specs.Operation.{Operation, apply}
 use Rattle.ot_model.specs.Table as table
 use Rattle.ot_machine.specs.declared.state.Phase.{Phase}
-use Rattle.ot_machine.specs.declared.state.Phase.TheVariants.{NotJoined, Synchronized, AwaitingConfirm, AwaitingWithBuffer}
+use Rattle.ot_machine.specs.declared.state.Phase.TheVariants.{NotJoined, Synchronized}
 use Rattle.ot_machine.specs.Readers.{phase_name}
 use Rattle.ot_steps.specs.Lines.{Line, Message, Word, Edit, Take, Deliver, Ack, Join, Read, ReadServer, plain_message, plain_operation}
 use Rattle.ot_steps.specs.Steps.{buffer_of, outstanding_of}
@@ -128,9 +128,7 @@ head_for c entry = if entry.maker == c then Own else Another entry.operation
 -- what stands on the way to a client needs no line: the log from its revision on
 abbrev pub is_joined : Phase → Bool
 is_joined NotJoined = false
-is_joined Synchronized = true
-is_joined AwaitingConfirm = true
-is_joined AwaitingWithBuffer = true
+is_joined _ = true
 
 abbrev pub downlink : Session → ℕ → ClientText → List HeadText
 downlink v c x = if is_joined x.state then map (head_for c) (drop x.revision v.log) else []

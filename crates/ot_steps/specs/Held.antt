@@ -6,7 +6,7 @@ use Rattle.ot_client.specs.Client.{message_of}
 use Rattle.ot_client.specs.declared.sent.Sent.{Sent}
 use Rattle.ot_isa.specs.declared.elements.Tagged.{Tagged}
 use Rattle.ot_isa.specs.declared.instruction.Instr.{Instr}
-use Rattle.ot_isa.specs.declared.instruction.Instr.TheVariants.{Edit, Take, Deliver, Acknowledge, Join, Read, ReadServer}
+use Rattle.ot_isa.specs.declared.instruction.Instr.TheVariants.{Read, ReadServer}
 use Rattle.ot_isa.specs.Program.{IsForClients}
 use Rattle.ot_isa.specs.Tagging.{chars_of}
 use Rattle.ot_model.specs.Operation.{Operation}
@@ -59,19 +59,13 @@ printed_of documents (line.End at quiet) = end_line at quiet
 
 -- an instruction that was performed is of a client that is there
 abbrev pub IsHeld : held.Line → Type 0
-IsHeld (line.Opening schedule) = Unit {0}
 IsHeld (line.Step step) = IsForClients (length step.machine.now.clients) step.instr.now
-IsHeld (line.Stop stop) = Unit {0}
-IsHeld (line.End at quiet) = Unit {0}
+IsHeld _ = Unit {0}
 
 -- ---- for private clauses
 
 -- a read moves nobody
 abbrev pub is_read : Instr → Bool
-is_read (Edit c op) = false
-is_read (Take c) = false
-is_read (Deliver c) = false
-is_read (Acknowledge c) = false
-is_read (Join c) = false
 is_read (Read c) = true
 is_read ReadServer = true
+is_read _ = false

@@ -8,7 +8,7 @@ use Rattle.ot_isa.specs.declared.instruction.Instr.TheVariants.{Edit, Take, Deli
 use Rattle.ot_model.specs.declared.shown.Refusal.{Refusal}
 use Rattle.ot_model.specs.declared.shown.Shown.{Shown}
 use Rattle.ot_model.specs.Operation.{Operation}
-use Rattle.ot_model.specs.Table.{Phase, NotJoined, Synchronized, AwaitingConfirm, AwaitingWithBuffer, Client, absent, State, Entry, Head, Ack, Op, Performed, Refused, NoRow, against_pending, downlink, is_joined, step}
+use Rattle.ot_model.specs.Table.{Phase, Synchronized, AwaitingConfirm, AwaitingWithBuffer, Client, absent, State, Entry, Head, Ack, Op, Performed, Refused, NoRow, against_pending, downlink, is_joined, step}
 use Rattle.ot_model.specs.Runs.{opening_of}
 use Rattle.ot_machine.specs.Readers.{phase_name}
 use Rattle.ot_machine.specs.declared.state.Phase as shown
@@ -25,38 +25,27 @@ abbrev pub client_in : State → ℕ → Client
 client_in s c = get_or s.clients c absent
 
 abbrev pub outstanding_of : Phase → Option (Operation ℕ)
-outstanding_of NotJoined = None
-outstanding_of Synchronized = None
 outstanding_of (AwaitingConfirm o) = Some (plain_operation o)
 outstanding_of (AwaitingWithBuffer o b) = Some (plain_operation o)
+outstanding_of _ = None
 
 abbrev pub buffer_of : Phase → Option (Operation ℕ)
-buffer_of NotJoined = None
-buffer_of Synchronized = None
-buffer_of (AwaitingConfirm o) = None
 buffer_of (AwaitingWithBuffer o b) = Some (plain_operation b)
+buffer_of _ = None
 
 abbrev pub is_synchronized : Phase → Bool
-is_synchronized NotJoined = false
 is_synchronized Synchronized = true
-is_synchronized (AwaitingConfirm o) = false
-is_synchronized (AwaitingWithBuffer o b) = false
+is_synchronized _ = false
 
 abbrev pub has_buffer : Phase → Bool
-has_buffer NotJoined = false
-has_buffer Synchronized = false
-has_buffer (AwaitingConfirm o) = false
 has_buffer (AwaitingWithBuffer o b) = true
+has_buffer _ = false
 
 -- whether an instruction puts a message on a client's link to the server: an edit in Synchronized, and an acknowledgement that sends the buffer
 abbrev pub sends : Instr → State → Bool
 sends (Edit c op) s = is_synchronized (client_in s c).phase
-sends (Take c) s = false
-sends (Deliver c) s = false
 sends (Acknowledge c) s = has_buffer (client_in s c).phase
-sends (Join c) s = false
-sends (Read c) s = false
-sends ReadServer s = false
+sends _ s = false
 
 -- what a client makes of the message at the head of its downlink, if that is another's operation
 abbrev pub against_pending_head : Phase → Option Head → Option (Operation ℕ)
@@ -69,13 +58,8 @@ delivers s c = against_pending_head (client_in s c).phase (slice_get (downlink s
 
 -- the operation that an instruction applies to the client's document by a delivery
 abbrev pub applies : Instr → State → Option (Operation ℕ)
-applies (Edit c op) s = None
-applies (Take c) s = None
 applies (Deliver c) s = delivers s c
-applies (Acknowledge c) s = None
-applies (Join c) s = None
-applies (Read c) s = None
-applies ReadServer s = None
+applies _ s = None
 
 -- the last operation of a log
 abbrev pub last_of : List Entry → Option (Operation ℕ)
@@ -85,12 +69,7 @@ last_of log = option_map (λ (h : Entry). plain_operation h.op) (slice_get log (
 
 abbrev pub edit_of : Instr → Option (Operation ℕ)
 edit_of (Edit c op) = Some op
-edit_of (Take c) = None
-edit_of (Deliver c) = None
-edit_of (Acknowledge c) = None
-edit_of (Join c) = None
-edit_of (Read c) = None
-edit_of ReadServer = None
+edit_of _ = None
 
 -- which instruction it is
 abbrev pub named : ℕ → Instr → Line
@@ -113,13 +92,8 @@ placed ReadServer t line = line
 
 -- the operation that an instruction appended to the log
 abbrev pub appended_by : Instr → State → Option (Operation ℕ)
-appended_by (Edit c op) t = None
 appended_by (Take c) t = last_of t.log
-appended_by (Deliver c) t = None
-appended_by (Acknowledge c) t = None
-appended_by (Join c) t = None
-appended_by (Read c) t = None
-appended_by ReadServer t = None
+appended_by _ t = None
 
 -- the message on the link to the server of the client that an instruction names
 abbrev pub message_in : State → Option ℕ → Option Message
@@ -138,13 +112,10 @@ document_in t ReadServer = chars_of t.server
 
 -- a read and a join have a document always
 abbrev pub has_document : Instr → Bool
-has_document (Edit c op) = false
-has_document (Take c) = false
-has_document (Deliver c) = false
-has_document (Acknowledge c) = false
 has_document (Join c) = true
 has_document (Read c) = true
 has_document ReadServer = true
+has_document _ = false
 
 -- the document that a line has
 abbrev pub document_after : Bool → Instr → State → Option (List ℕ)
@@ -196,12 +167,7 @@ buffer_at t (Some c) = buffer_of (client_in t c).phase
 -- what is applied to the client's document: by an edit the edit
 abbrev pub applied_by : Instr → Option (Operation ℕ) → Option (Operation ℕ)
 applied_by (Edit c op) delivered = Some op
-applied_by (Take c) delivered = delivered
-applied_by (Deliver c) delivered = delivered
-applied_by (Acknowledge c) delivered = delivered
-applied_by (Join c) delivered = delivered
-applied_by (Read c) delivered = delivered
-applied_by ReadServer delivered = delivered
+applied_by _ delivered = delivered
 
 abbrev pub message_if : Bool → State → Instr → Option Message
 message_if sent t i = if sent then message_in t (client_of i) else None

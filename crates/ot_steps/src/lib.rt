@@ -31,7 +31,7 @@ mod writing;
 
 pub use key::{KEYS, Key, key_text};
 pub use laws::{downlinks_follow, fold_is_run, lines_fold};
-pub use line::{Line, Step, Stop, placed_client, word};
+pub use line::{Line, Step, Stop, buffer, last_operation, outstanding, placed_client, word};
 pub use moving::{applies, perform, sends};
 pub use operations::push_decimal;
 pub use plain::plain_operation;

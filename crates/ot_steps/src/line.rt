@@ -7,7 +7,7 @@ ghost use Rattle.ot_isa.specs.Tagging.{chars_of};
 ghost use Rattle.ot_steps.specs.Held.{IsHeld, is_read, messages, operations, printed_of, step_printed, step_whole, value_of, whole_of};
 ghost use Rattle.ot_steps.specs.Lines.{word_of};
 ghost use Rattle.ot_steps.specs.Steps as steps;
-ghost use Rattle.ot_steps.specs.Steps.{appended_by, buffer_of, client_in, document_in, edit_of, message_if, named, outstanding_of, revision_at};
+ghost use Rattle.ot_steps.specs.Steps.{buffer_of, client_in, document_in, edit_of, last_of, message_if, named, outstanding_of, revision_at};
 ghost use Rattle.ot_steps.specs.Text.{Op, end_text, fields_of, fields_text, line_text, value_at, word_text};
 
 use crate::key::{KEYS, Key, key_head};
@@ -91,6 +91,47 @@ pub fn placed_client(instr: &Instr) -> Option<u16>
     }
 }
 
+/// The client's outstanding operation, if there is one.
+pub fn outstanding(machine: &Machine, client: u16) -> Option<&TextOp<Tagged>>
+    requires { client < length machine.now.clients }
+    ensures { operations result ≡ outstanding_of (client_in machine.now client).phase }
+{
+    if !machine.joined(client) {
+        return None;
+    }
+    match machine.client(client) {
+        Client::Synchronized(_) => None,
+        Client::AwaitingConfirm(client) => Some(client.outstanding()),
+        Client::AwaitingWithBuffer(client) => Some(client.outstanding()),
+    }
+}
+
+/// The client's buffer, if it has one.
+pub fn buffer(machine: &Machine, client: u16) -> Option<&TextOp<Tagged>>
+    requires { client < length machine.now.clients }
+    ensures { operations result ≡ buffer_of (client_in machine.now client).phase }
+{
+    if !machine.joined(client) {
+        return None;
+    }
+    match machine.client(client) {
+        Client::Synchronized(_) => None,
+        Client::AwaitingConfirm(_) => None,
+        Client::AwaitingWithBuffer(client) => Some(client.buffer()),
+    }
+}
+
+/// The last operation of the log, if there is one.
+pub fn last_operation(machine: &Machine) -> Option<&TextOp<Tagged>>
+    ensures { operations result ≡ last_of machine.now.log }
+{
+    let revision = machine.server_revision();
+    if revision == 0 {
+        return None;
+    }
+    Some(machine.entry(revision - 1)?.operation())
+}
+
 // Whether it is a read, which moves nobody.
 fn is_read(instr: &Instr) -> bool
     ensures { result ≡ is_read instr.now }
@@ -139,36 +180,6 @@ impl<'a> Step<'a> {
         }
     }
 
-    // The pending operations of the client.
-    fn outstanding(&self, client: u16) -> Option<&'a TextOp<Tagged>>
-        requires { client < length self.now.machine.now.clients }
-        ensures { operations result ≡ outstanding_of (client_in self.now.machine.now client).phase }
-    {
-        if !self.machine.joined(client) {
-            return None;
-        }
-        match self.machine.client(client) {
-            Client::Synchronized(_) => None,
-            Client::AwaitingConfirm(client) => Some(client.outstanding()),
-            Client::AwaitingWithBuffer(client) => Some(client.outstanding()),
-        }
-    }
-
-    // What it has done since.
-    fn buffer(&self, client: u16) -> Option<&'a TextOp<Tagged>>
-        requires { client < length self.now.machine.now.clients }
-        ensures { operations result ≡ buffer_of (client_in self.now.machine.now client).phase }
-    {
-        if !self.machine.joined(client) {
-            return None;
-        }
-        match self.machine.client(client) {
-            Client::Synchronized(_) => None,
-            Client::AwaitingConfirm(_) => None,
-            Client::AwaitingWithBuffer(client) => Some(client.buffer()),
-        }
-    }
-
     // The message that it put on its client's link to the server.
     fn message(&self) -> Option<&'a Sent<Tagged>>
         requires { IsForClients (length self.now.machine.now.clients) self.now.instr.now }
@@ -179,21 +190,6 @@ impl<'a> Step<'a> {
         }
         let client = self.instr.client()?;
         self.machine.up(client)
-    }
-
-    // What it appended to the log.
-    fn appended(&self) -> Option<&'a TextOp<Tagged>>
-        ensures { operations result ≡ appended_by self.now.instr.now self.now.machine.now }
-    {
-        let Instr::Take(_) = self.instr else {
-            return None;
-        };
-        let revision = self.machine.server_revision();
-        if revision == 0 {
-            return None;
-        }
-        let entry = self.machine.entry(revision - 1)?;
-        Some(entry.operation())
     }
 
     // The document of the one that moved or was read.
@@ -220,11 +216,11 @@ impl<'a> Step<'a> {
             }
             Key::Outstanding => {
                 let client = placed_client(self.instr)?;
-                Some(Value::Operation(self.outstanding(client)?))
+                Some(Value::Operation(outstanding(self.machine, client)?))
             }
             Key::Buffer => {
                 let client = placed_client(self.instr)?;
-                Some(Value::Operation(self.buffer(client)?))
+                Some(Value::Operation(buffer(self.machine, client)?))
             }
             Key::Sent => Some(Value::Message(self.message()?)),
             Key::SentRevision => Some(Value::Number(self.message()?.revision as u64)),
@@ -233,7 +229,10 @@ impl<'a> Step<'a> {
                 Instr::Edit(_, op) => Some(Value::Edit(op)),
                 _ => Some(Value::Operation(self.delivered?)),
             },
-            Key::Appended => Some(Value::Operation(self.appended()?)),
+            Key::Appended => match self.instr {
+                Instr::Take(_) => Some(Value::Operation(last_operation(self.machine)?)),
+                _ => None,
+            },
             Key::Document => Some(Value::Document(self.document())),
             _ => named_value(self.at, self.instr, key),
         }

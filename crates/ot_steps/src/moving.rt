@@ -4,7 +4,7 @@ ghost use Rattle.std.specs.Prelude.{◌≡◌, IfErr, IfOk, OnErr, OnOk};
 ghost use Rattle.std.specs.Option.{option_map};
 ghost use Rattle.ot_model.specs.Table as table;
 ghost use Rattle.ot_machine.specs.Answers.{IsRefusal};
-ghost use Rattle.ot_machine.specs.Delivery.{applied_in};
+ghost use Rattle.ot_machine.specs.Effects.{applied_in};
 ghost use Rattle.ot_steps.specs.Lines.{plain_operation};
 ghost use Rattle.ot_steps.specs.Steps as steps;
 ghost use Rattle.ot_steps.specs.Steps.{LeadsTo};
@@ -41,7 +41,7 @@ pub fn applies(machine: &Machine, instr: &Instr) -> Result<Option<TextOp<Tagged>
     }
 }
 
-/// Performs the instruction as `Machine::perform_applied` does, and gives what it applies to its client's document by a delivery, as [`applies`] says of
+/// Performs the instruction as `Machine::perform` does, and gives what it applies to its client's document by a delivery, as [`applies`] says of
 /// the machine before it. The refusals are the machine's; after an error nothing has changed.
 pub fn perform(machine: &mut Machine, instr: &Instr) -> Result<Applied, Refusal>
     ensures done { OnOk result (LeadsTo instr.now machine.old machine.new) }
@@ -49,5 +49,5 @@ pub fn perform(machine: &mut Machine, instr: &Instr) -> Result<Applied, Refusal>
     ensures unchanged { OnErr result (machine.new ≡ machine.old) }
     ensures applied { IfOk result (λ given. option_map plain_operation (applied_in machine.new given) ≡ steps.applies instr.now machine.old) }
 {
-    machine.perform_applied(instr)
+    Ok(machine.perform::<false>(instr)?.applied)
 }

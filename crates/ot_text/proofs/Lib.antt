@@ -7,5 +7,6 @@ pub mod Reading
 pub mod Changed
 pub mod Writing
 pub mod Splicing
+pub mod Exchanged
 pub mod Examples
 pub mod Counted

@@ -104,7 +104,7 @@ pub fn perform(machine: &mut Machine, instr: &Instr) -> Result<bool, AllocError>
     ensures performed { IfOk result (λ b. IsTrue b → (shown : Option Shown) × (step machine.old instr.now ≡ Performed machine.new shown)) }
     ensures refused { IfOk result (λ b. b ≡ false → (r : Refusal) × (step machine.old instr.now ≡ Refused r)) }
 {
-    match machine.perform(instr) {
+    match machine.perform::<false>(instr) {
         Ok(_) => Ok(true),
         Err(Refusal::Memory) => Err(AllocError),
         Err(_) => Ok(false),

@@ -1,5 +1,5 @@
 use Rattle.std.proofs.Common.{◌∙◌, subst, sym}
-use Rattle.ot_machine.specs.Delivery.{delivery_of}
+use Rattle.ot_machine.specs.Effects.{delivery_of}
 use Rattle.ot_machine.specs.Readers.{ClientHas}
 use Rattle.ot_debug.proofs.Foretelling.{delivery_changes}
 use Rattle.ot_debug.proofs.watching.delivery_changes.Goals as goal

@@ -7,7 +7,7 @@ use Rattle.ot_client.specs.declared.client.Client as program
 use Rattle.ot_model.specs.Operation.{Operation}
 use Rattle.ot_model.specs.Table.{phase_in}
 use Rattle.ot_explain.specs.Words.{operation_text}
-use Rattle.ot_explain.specs.Told.{against_waiting}
+use Rattle.ot_explain.specs.Told.{pending_words}
 use Rattle.ot_explain.proofs.Texts.{more, one}
 use Rattle.ot_explain.proofs.before.push_against_state.Goals as goal
 
@@ -20,7 +20,7 @@ returns-in_ok-push_str-in-AwaitingConfirm c =
     on_ok_weaker c.push_operation.result
     (λ (e : new ≡ a ++ operation_text c.outstanding.result.now).
     (more (one old a (codes ", transforms it against its outstanding operation ") c.in_ok-push_str-in-AwaitingConfirm.ensures.bytes) (one a new o (e ∙ ap (λ (o : Operation Tagged). a ++ operation_text o) c.outstanding.ensures))).is
-    ∙ ap (λ (z : program.Client Tagged). old ++ against_waiting (phase_in (state_of z).phase)) (sym c.in-AwaitingConfirm.is))
+    ∙ ap (λ (z : program.Client Tagged). old ++ pending_words (phase_in (state_of z).phase)) (sym c.in-AwaitingConfirm.is))
     c.push_operation.ensures
 
 pub returns-in_ok-push_str-in-AwaitingWithBuffer-2 : goal.returns-in_ok-push_str-in-AwaitingWithBuffer-2
@@ -36,5 +36,5 @@ returns-in_ok-push_str-in-AwaitingWithBuffer-2 c =
     (more (one old b (codes ", transforms it against its outstanding operation ") c.in_ok-push_str-in-AwaitingWithBuffer.ensures.bytes)
     (more (one b d (operation_text inner.outstanding) (c.in_ok-push_operation-in-AwaitingWithBuffer.ensures ∙ ap (λ (o : Operation Tagged). b ++ operation_text o) c.outstanding-in-AwaitingWithBuffer.ensures))
     (more (one d f (codes " and its buffer ") c.in_ok-push_str-in-AwaitingWithBuffer-2.ensures.bytes) (one f new (operation_text inner.buffer) (e ∙ ap (λ (o : Operation Tagged). f ++ operation_text o) c.buffer.ensures.value))))).is
-    ∙ ap (λ (z : program.Client Tagged). old ++ against_waiting (phase_in (state_of z).phase)) (sym c.in-AwaitingWithBuffer.is))
+    ∙ ap (λ (z : program.Client Tagged). old ++ pending_words (phase_in (state_of z).phase)) (sym c.in-AwaitingWithBuffer.is))
     c.push_operation-in-AwaitingWithBuffer-2.ensures

@@ -1,6 +1,8 @@
-use Rattle.std.proofs.Common.{arith, string_bytes}
+use Rattle.std.proofs.Common.{◌∙◌, ap, arith, string_bytes, sym, Option}
 use Rattle.std.specs.Option.{option_map}
-use Rattle.ot_machine.specs.Reads.{shown_by}
+use Rattle.ot_model.specs.declared.shown.Reader.{Reader}
+use Rattle.ot_model.specs.Table.{Performed}
+use Rattle.ot_machine.specs.Effects.{shown_by}
 use Rattle.ot_report.specs.Written.{ReadsUpTo}
 use Rattle.ot_report.specs.declared.writing.ReportFault.{ReportFault}
 use Rattle.ot_report.proofs.Progress.{err_is, is_begun, is_next, is_stopped, is_whole, reads_cut}
@@ -29,10 +31,10 @@ returns-in_err-gather-in-Ok-clause-err g c =
     let f = c.in_err-gather-in-Ok.field-0.0 in
     err_is c.from_residual.result f (λ (e : ReportFault). ReadsUpTo e s old new) c.from_residual.ensures.1
     (reads_cut s c.loop-place.place c.in-Some.instr.now c.loop-place.machine c.perform.new.self (string_bytes c.loop-place.text) old mid c.loop-place.invariant c.in-Some.ensures.some
-    (option_map (shown_by c.perform.new.self) c.in-Ok.who) f new c.in-Ok.ensures.done c.in_err-gather-in-Ok.ensures.err)
+    (option_map (shown_by c.perform.new.self) c.in-Ok.effect.shown) f new (c.in-Ok.ensures.effect.led ∙ ap (λ (who : Option Reader). Performed c.perform.new.self (option_map (shown_by c.perform.new.self) who)) (sym c.in-Ok.ensures.effect.shown)) c.in_err-gather-in-Ok.ensures.err)
 
 pub loop-place-preserved : goal.loop-place-preserved
 loop-place-preserved g c =
     is_next c.args.schedule.now c.loop-place.place c.in-Some.instr.now c.loop-place.machine c.perform.new.self (string_bytes c.loop-place.text)
     (g.W.Write.contents c.args.output.now) (g.W.Write.contents c.loop-place.output) c.loop-place.invariant c.in-Some.ensures.some
-    (option_map (shown_by c.perform.new.self) c.in-Ok.who) (string_bytes c.gather.new.text) (g.W.Write.contents c.gather.new.output) c.in-Ok.ensures.done c.in_ok-gather-in-Ok.ensures.ok
+    (option_map (shown_by c.perform.new.self) c.in-Ok.effect.shown) (string_bytes c.gather.new.text) (g.W.Write.contents c.gather.new.output) (c.in-Ok.ensures.effect.led ∙ ap (λ (who : Option Reader). Performed c.perform.new.self (option_map (shown_by c.perform.new.self) who)) (sym c.in-Ok.ensures.effect.shown)) c.in_ok-gather-in-Ok.ensures.ok

@@ -1,6 +1,6 @@
 use Rattle.std.proofs.Common.{arith}
 use Rattle.std.specs.Option.{option_map}
-use Rattle.ot_machine.specs.Reads.{shown_by}
+use Rattle.ot_machine.specs.Effects.{reader_of, shown_by}
 use Rattle.ot_model.proofs.Runs.{state_begun, state_next}
 use Rattle.ot_rules.proofs.Reached.{is_nowhere, is_there}
 use Rattle.ot_rules.proofs.explaining.machine_at.Goals as goal
@@ -11,7 +11,7 @@ loop-number-init c = state_begun c.args.schedule.now c.in_ok-machine.machine c.i
 pub loop-number-preserved : goal.loop-number-preserved
 loop-number-preserved c =
     let t = c.perform.new.self in
-    state_next c.args.schedule.now c.loop-number.number c.in-Some.instr.now c.loop-number.machine t (option_map (shown_by t) c.in-Ok.field-0) c.loop-number.invariant c.in-Some.ensures.some c.in-Ok.ensures.done
+    state_next c.args.schedule.now c.loop-number.number c.in-Some.instr.now c.loop-number.machine t (option_map (shown_by t) (reader_of c.in-Some.instr.now)) c.loop-number.invariant c.in-Some.ensures.some c.in-Ok.ensures.effect.led
 
 pub returns-in-Err : goal.returns-in-Err
 returns-in-Err c =

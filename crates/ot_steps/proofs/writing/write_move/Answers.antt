@@ -1,6 +1,6 @@
 use Rattle.std.proofs.Common.{subst, sym}
 use Rattle.std.specs.Prelude.{Result, OnOk}
-use Rattle.ot_machine.specs.declared.delivery.Applied.{Applied}
+use Rattle.ot_machine.specs.declared.effect.Applied.{Applied}
 use Rattle.ot_model.specs.declared.shown.Refusal.{Refusal}
 use Rattle.ot_steps.specs.Held.{IsHeld}
 use Rattle.ot_steps.specs.Steps.{LeadsTo}

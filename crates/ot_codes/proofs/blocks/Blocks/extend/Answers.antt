@@ -4,7 +4,7 @@ use Rattle.ot_codes.specs.declared.code.Code.{Code}
 use Rattle.ot_codes.specs.declared.end.End.{End}
 use Rattle.ot_codes.specs.Codes.{sum_of}
 use Rattle.ot_codes.specs.Ends.{start, last_end, AreEnds}
-use Rattle.ot_codes.proofs.Ends.{before_few, more_codes, more_ends}
+use Rattle.ot_codes.proofs.Ends.{before_few, before_two, more_codes, more_ends}
 use Rattle.ot_codes.proofs.blocks.Blocks.extend.Goals as goal
 
 pub overflow_sub-count : goal.overflow_sub-count
@@ -29,6 +29,7 @@ invariant_of-self-2 c =
     let some = before_few codes c.self.inside.ends.items c.ended.result before c.self.invariant in
     subst (λ (cs : List Code). AreEnds start cs c.add.new.ends.items) (sym c.in_ok-add.ensures.codes)
     (subst (λ (es : List End). AreEnds start (codes ++ c.args.codes.now) es) (sym c.in_ok-add.ensures.ends)
-    (more_ends codes c.self.inside.ends.items c.ended.result before c.self.invariant c.args.codes.now end (omega (arith, full, all, some, c.requires.few)) (omega (arith, all))
+    (more_ends codes c.self.inside.ends.items c.ended.result before c.self.invariant c.args.codes.now end (omega (arith, full, all, some, c.requires.few))
+    (λ more. omega (arith, before_two codes c.self.inside.ends.items c.ended.result before c.self.invariant more, all)) (omega (arith, all))
     (c.requires.total ∙ ap sum_of (sym c.self.view_is) ∙ ap sum_of (sym (take-length codes)) ∙ ap (λ k. sum_of (take k codes)) (sym all))
     (omega (arith, all, c.requires.few)) (omega (arith, all, c.if-codes-eq1.false, c.requires.some))))

@@ -35,6 +35,6 @@ invariant_of-self-2 c =
     let last : c.code.result ≡ get_or codes (c.len-count.result - 1) c.code.result = subst (λ (x : Code). x ≡ get_or codes (c.len-count.result - 1) x) (sym c.code.ensures.is) c.index-last.ensures in
     subst (λ (cs : List Code). AreEnds start cs c.add.new.ends.items) (sym c.in_ok-add.ensures.codes)
     (subst (λ (es : List End). AreEnds start (codes ++ c.from_ref.result.now) es) (sym c.in_ok-add.ensures.ends)
-    (more_ends codes c.self.inside.ends.items c.ended.result before c.self.invariant c.from_ref.result.now end (omega (arith, full)) (omega (arith, all))
+    (more_ends codes c.self.inside.ends.items c.ended.result before c.self.invariant c.from_ref.result.now end (omega (arith, full)) (λ _. omega (arith, full)) (omega (arith, all))
     (end_before_last codes (c.len-count.result - 1) c.args.total c.less.result c.code.result (omega (arith, full, all)) (c.requires.total ∙ ap sum_of (sym c.self.view_is)) last c.less.ensures)
     (omega (arith, full, all, one)) (omega (arith, full, all, one))))

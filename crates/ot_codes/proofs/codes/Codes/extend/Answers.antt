@@ -1,4 +1,4 @@
-use Rattle.std.proofs.Common.{drop, refl, ap, sym, subst, ◌∙◌, arith}
+use Rattle.std.proofs.Common.{List, drop, refl, ap, sym, subst, ◌∙◌, arith}
 use Rattle.ot_operation.specs.Operation.{IsTooLong}
 use Rattle.ot_operation.specs.Steps.{with_runs}
 use Rattle.ot_codes.specs.declared.code.Code.{Code}
@@ -38,7 +38,7 @@ invariant_of-self-2 c =
     let first = c.index-codes-0.result in
     sound_extended old c.extend.new.self c.args.codes.now c.self.inside.sum c.plus-self-inside.result first (drop 1 c.args.codes.now) c.self.invariant
     c.in_ok-extend.ensures.ok (first_part c.args.codes.now first c.requires.some c.index-codes-0.is)
-    (subst (λ (x : Code). MayEndWith c.self.inside.list x) c.code.ensures.is (c.if-not-may_end_with.ensures refl)) c.requires.normal
+    (subst (λ (x : Code). MayEndWith c.self.inside.list x) c.code.ensures.is (subst (λ (xs : List Code). MayEndWith xs c.code.result) c.as_slice.ensures (c.if-not-may_end_with.ensures refl))) c.requires.normal
     (subst (λ op. IsTooLong (with_runs op (runs_of c.args.codes.now)) → ⊥) (sym c.self.view_is) c.requires.short)
     (c.plus-self-inside.ensures ∙ ap (λ (s : Sum). added c.self.inside.sum s) c.requires.sum)
 

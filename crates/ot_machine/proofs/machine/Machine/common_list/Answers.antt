@@ -7,14 +7,14 @@ use Rattle.ot_machine.proofs.RowLaws.{seat_at}
 use Rattle.ot_machine.proofs.Sharing.{at_rest, common_server, common_other}
 use Rattle.ot_machine.proofs.machine.Machine.common_list.Goals as goal
 
-pub returns-then-revision-newest-2-clause-list : goal.returns-then-revision-newest-2-clause-list
-returns-then-revision-newest-2-clause-list c =
+pub returns-then-revision-newest-clause-list : goal.returns-then-revision-newest-clause-list
+returns-then-revision-newest-clause-list c =
     let seats = c.self.inside.seats.items in
     let seat = c.index-seat.result.now in
     common_server c.self.inside.server seats c.self.inside.steps c.args.client c.revision-revision.result seat c.args.self.now c.in_common_with_server.result
     c.self.invariant (seat_at seats c.args.client c.len.result seat (search rules) (search rules) c.index-seat.ensures)
     (at_rest seat c.revision-revision.result c.in-Some-Synchronized.here (search rules) (search rules)) c.self.view_is
-    (c.if-revision-newest-2.true ∙ c.revision-newest.ensures.value) c.in_common_with_server.ensures.copy
+    (c.if-revision-newest.true ∙ c.revision-newest.ensures.value) c.in_common_with_server.ensures.copy
 
 pub index_mut-requires : goal.index_mut-requires
 index_mut-requires c =
