@@ -12,10 +12,8 @@ use crate::code::Code;
 use crate::codes::{Codes, Pen};
 use crate::cursor::Measure;
 use crate::cut::{Cut, Splice};
+use crate::transformation::SHORT;
 use std::alloc::{AllocError, Global};
-
-// How many codes the first operation has at most where none are read at once.
-const SHORT: usize = 8;
 
 /// A composition: its codes, and the cuts that make its text of the first operation's and the second's.
 #[derive(Drop)]

@@ -35,9 +35,9 @@
 //! They are read through a [`Cursor`] and written by a [`Pen`] alone, each of which a contract sees as a value: what is left, and what is written. [`Cursor::run`] reads
 //! as many codes at once as fit into a length: some of a block, or it and whole blocks behind it, which are a [`Stretch`]; of whole blocks it searches the ends alone.
 //! [`Pen::append`] writes them as they lie, with those ends moved behind what is written, and joins only what has to be joined. `transform` does so where codes of an
-//! operation of more than eight lie in a retain of the other: they stay as they are, and the other retains what they make; `compose` does where such codes of the first make
+//! operation of more than sixteen lie in a retain of the other: they stay as they are, and the other retains what they make; `compose` does where such codes of the first make
 //! what the second retains. Else both go code by code: each iteration of a loop ends a code of one operation at least, so they cost the codes of both, whatever is inserted.
-//! `transform` reads two operations of eight codes or fewer as slices, without a cursor. A pen writes a retain with the next code of another kind: so what is retained piece
+//! `transform` reads two operations of sixteen codes or fewer as slices, without a cursor. A pen writes a retain with the next code of another kind: so what is retained piece
 //! by piece is written once.
 //!
 //! Contracts: `specs/Shape.antt` (shapes, and how they are filled), `specs/Codes.antt` (codes as runs of `ot_text` over the unit type), `specs/Cuts.antt` (the text of a

@@ -18,7 +18,7 @@ use crate::reader::Reader;
 use std::alloc::{AllocError, Global};
 
 // How many codes an operation has at most of which none are read at once.
-const SHORT: usize = 8;
+pub(crate) const SHORT: usize = 16;
 
 /// What `a` becomes after `b`, and what `b` becomes after `a` (`transform` of ot.js' `TextOperation`), in codes: what the first inserts is what `a` inserts, and
 /// what the second inserts is what `b` does (`laws::transform_fills`).

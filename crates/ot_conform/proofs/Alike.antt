@@ -1,5 +1,5 @@
 -- A port's line that is a line of `steps`, byte for byte, agrees with the one that is due, and has the values that it has.
-use Rattle.std.proofs.Common.{◌≡◌, ℕ, suc, ◌+◌, Bool, true, Option, Some, None, refl, sym, ap, ◌∙◌, subst, add-one}
+use Rattle.std.proofs.Common.{◌≡◌, ℕ, suc, ◌+◌, List, [], ◌∷◌, Bool, true, Option, Some, None, refl, sym, ap, ◌∙◌, subst, add-one}
 use Rattle.std.specs.Prelude.{slice_get, is_some, option_map}
 use Rattle.serde_json.specs.Data.{Data}
 use Rattle.ot_isa.specs.Program.{Program, IsProgram}
@@ -8,10 +8,11 @@ use Rattle.ot_model.specs.declared.shown.Shown.{Shown}
 use Rattle.ot_model.specs.Operation.{Operation}
 use Rattle.ot_model.specs.Table.{Performed, State, step}
 use Rattle.ot_steps.specs.Lines.{Line}
-use Rattle.ot_steps.specs.Steps.{applies, line_after, sends, step_line}
+use Rattle.ot_machine.specs.Effects.{sends}
+use Rattle.ot_steps.specs.Steps.{applies, line_after, step_line}
 use Rattle.ot_steps.specs.Text.{Value, Number, Name, Text, Op, Sent}
 use Rattle.ot_conform.specs.Alike.{StandsFor}
-use Rattle.ot_conform.specs.Counted.{has, tells, with_port_line, with_values}
+use Rattle.ot_conform.specs.Counted.{count_each, counted_keys, has, tells, with_port_line, with_values}
 use Rattle.ot_conform.specs.Differences.{field_of}
 use Rattle.ot_conform.specs.Due.{DueLine, step_due}
 use Rattle.ot_conform.specs.Keys.{is_told}
@@ -46,25 +47,13 @@ told_some (Some v) = value_told v
 tells_has : (line : Line) (d : Data) → Says line d → (k : Key) → tells k d ≡ has k line
 tells_has line d saying k = ap is_told (saying.under k) ∙ told_some (value_at k line)
 
+same_each : (told had : Key → Bool) (ks : List Key) (ns : List ℕ) → ((k : Key) → told k ≡ had k) → count_each told ks ns ≡ count_each had ks ns
+same_each told had [] ns same = refl
+same_each told had (k ∷ ks) [] same = refl
+same_each told had (k ∷ ks) (n ∷ ns) same = rw (same k, same_each told had ks ns same) refl
+
 same_counts : (told had : Key → Bool) (c : Counts) → ((k : Key) → told k ≡ had k) → with_values told c ≡ with_values had c
-same_counts told had c same =
-    rw (
-      same key.Clients,
-      same key.Present,
-      same key.Start,
-      same key.Do,
-      same key.Client,
-      same key.Edit,
-      same key.Revision,
-      same key.State,
-      same key.Outstanding,
-      same key.Buffer,
-      same key.SentOperation,
-      same key.Applied,
-      same key.Appended,
-      same key.Document,
-      same key.End,
-    ) refl
+same_counts told had c same = rw (same_each told had counted_keys c.values same) refl
 
 stands : (due : DueLine) (printed : Line) → Shows printed due.line → IsLineFormed printed → StandsFor due printed
 stands due printed shows formed =

@@ -23,8 +23,9 @@ use Rattle.ot_model.specs.Runs.{opening_of, place_at}
 use Rattle.ot_machine.specs.Ended.{reached, IsRefusedIn, IsStop, IsStopAt}
 use Rattle.ot_steps.specs.Lines.{Line}
 use Rattle.ot_steps.specs.Lines as lines
-use Rattle.ot_steps.specs.Steps.{applies, end_line, has_document, is_quiet, last_lines, lines_from, opening_line, run_lines, sends, step_line, stop_at, stop_line, whole_line}
-use Rattle.ot_steps.specs.Text.{Name, Number, Op, Sent, Text, Value, end_text, text_at, value_at, value_text, word_text}
+use Rattle.ot_machine.specs.Effects.{sends}
+use Rattle.ot_steps.specs.Steps.{applies, end_line, has_document, is_quiet, last_lines, lines_from, opening_line, run_lines, step_line, stop_at, stop_line, whole_line}
+use Rattle.ot_steps.specs.Text.{Name, Number, Op, Sent, Text, Value, end_text, value_at, value_text, word_text}
 use Rattle.ot_steps.proofs.Running.{reached_within}
 use Rattle.ot_values.specs.Values.{phase_word, refusal_text}
 use Rattle.ot_machine.specs.declared.state.Phase.{Phase}
@@ -32,7 +33,7 @@ use Rattle.ot_machine.specs.declared.state.Phase.TheVariants as phase
 use Rattle.ot_conform.specs.Differences.{Ahead, Wanted, Outcome, Conforms, Stopped, ahead_from, ending, field_of, first_key, from_opening, is_limit, is_same, outcome, over, stopping}
 use Rattle.ot_conform.specs.Received.{message_agrees, receives}
 use Rattle.ot_conform.specs.Due.{DueLine, end_due, opening_due, step_due, stop_due}
-use Rattle.ot_conform.specs.Keys.{agrees, agrees_at, are_plain, first_keys, found_at, is_told, is_written, other_keys}
+use Rattle.ot_conform.specs.Keys.{agrees, are_plain, first_keys, found_at, is_told, is_written, other_keys}
 use Rattle.ot_conform.specs.Laws as laws
 use Rattle.ot_conform.specs.Laws.{IsOfTable, Say, Says, SaysLine, StepsConform, operation_data, outcome_at}
 use Rattle.ot_conform.specs.Ports.{PortLine, Told, OtherForm, NoText, Nothing, is_opening_line}
@@ -107,37 +108,34 @@ refusal_plain refusal.Memory = refl
 abbrev said : Option Value → Option Data
 said v = option_map laws.data_of v
 
-abbrev worded : Option Value → Option (List ℕ)
-worded v = option_map value_text v
-
 abbrev Agrees : Key → Line → Type 0
-Agrees k line = agrees_at k (text_at k line) (said (value_at k line)) ≡ true
+Agrees k line = agrees (value_at k line) (said (value_at k line)) ≡ true
 
-optional : {A : Type 0} (k : Key) (value : A → Value) (o : Option A) → ((x : A) → agrees k (Some (value_text (value x))) (laws.data_of (value x)) ≡ true)
-    → agrees_at k (worded (option_map value o)) (said (option_map value o)) ≡ true
-optional k value None each = refl
-optional k value (Some x) each = each x
+optional : {A : Type 0} (value : A → Value) (o : Option A) → ((x : A) → agrees (Some (value x)) (Some (laws.data_of (value x))) ≡ true)
+    → agrees (option_map value o) (said (option_map value o)) ≡ true
+optional value None each = refl
+optional value (Some x) each = each x
 
 agrees_with_itself : (k : Key) (line : Line) → Agrees k line
 agrees_with_itself key.At line = number_written line.at
-agrees_with_itself key.Clients line = optional key.Clients Number line.clients number_written
-agrees_with_itself key.Present line = optional key.Present Number line.present number_written
-agrees_with_itself key.Start line = optional key.Start Text line.start (λ text. text_written (encode_utf8_all text))
-agrees_with_itself key.Do line = optional key.Do (λ w. Name (word_text w)) line.word (λ w. name_written (word_text w) (word_plain w))
-agrees_with_itself key.Client line = optional key.Client Number line.client number_written
-agrees_with_itself key.Edit line = optional key.Edit Op line.edit operation_written
-agrees_with_itself key.Stopped line = optional key.Stopped (λ r. Name (refusal_text r)) line.stopped (λ r. name_written (refusal_text r) (refusal_plain r))
-agrees_with_itself key.Revision line = optional key.Revision Number line.revision number_written
-agrees_with_itself key.State line = optional key.State (λ p. Name (phase_word p)) line.state (λ p. name_written (phase_word p) (phase_plain p))
-agrees_with_itself key.Outstanding line = optional key.Outstanding Op line.outstanding operation_written
-agrees_with_itself key.Buffer line = optional key.Buffer Op line.buffer operation_written
-agrees_with_itself key.Sent line = optional key.Sent Sent line.sent (λ m. refl)
-agrees_with_itself key.SentRevision line = optional key.SentRevision (λ m. Number m.revision) line.sent (λ m. number_written m.revision)
-agrees_with_itself key.SentOperation line = optional key.SentOperation (λ m. Op m.operation) line.sent (λ m. operation_written m.operation)
-agrees_with_itself key.Applied line = optional key.Applied Op line.applied operation_written
-agrees_with_itself key.Appended line = optional key.Appended Op line.appended operation_written
-agrees_with_itself key.Document line = optional key.Document Text line.document (λ text. text_written (encode_utf8_all text))
-agrees_with_itself key.End line = optional key.End (λ q. Name (end_text q)) line.quiet (λ q. name_written (end_text q) (end_plain q))
+agrees_with_itself key.Clients line = optional Number line.clients number_written
+agrees_with_itself key.Present line = optional Number line.present number_written
+agrees_with_itself key.Start line = optional Text line.start (λ text. text_written (encode_utf8_all text))
+agrees_with_itself key.Do line = optional (λ w. Name (word_text w)) line.word (λ w. name_written (word_text w) (word_plain w))
+agrees_with_itself key.Client line = optional Number line.client number_written
+agrees_with_itself key.Edit line = optional Op line.edit operation_written
+agrees_with_itself key.Stopped line = optional (λ r. Name (refusal_text r)) line.stopped (λ r. name_written (refusal_text r) (refusal_plain r))
+agrees_with_itself key.Revision line = optional Number line.revision number_written
+agrees_with_itself key.State line = optional (λ p. Name (phase_word p)) line.state (λ p. name_written (phase_word p) (phase_plain p))
+agrees_with_itself key.Outstanding line = optional Op line.outstanding operation_written
+agrees_with_itself key.Buffer line = optional Op line.buffer operation_written
+agrees_with_itself key.Sent line = optional Sent line.sent (λ m. refl)
+agrees_with_itself key.SentRevision line = optional (λ m. Number m.revision) line.sent (λ m. number_written m.revision)
+agrees_with_itself key.SentOperation line = optional (λ m. Op m.operation) line.sent (λ m. operation_written m.operation)
+agrees_with_itself key.Applied line = optional Op line.applied operation_written
+agrees_with_itself key.Appended line = optional Op line.appended operation_written
+agrees_with_itself key.Document line = optional Text line.document (λ text. text_written (encode_utf8_all text))
+agrees_with_itself key.End line = optional (λ q. Name (end_text q)) line.quiet (λ q. name_written (end_text q) (end_plain q))
 
 -- ---- a line that shows less than the run has
 
@@ -149,12 +147,12 @@ pub record Shows (shown line : Line) : Type 0 where
 pub all_shown : (line : Line) → Shows line line
 all_shown line = record { values = λ k. inr refl; stopped = refl }
 
-value_agrees : (k : Key) (shown line : Line) → (value_at k shown ≡ None) ⊎ (value_at k shown ≡ value_at k line) → agrees_at k (text_at k line) (said (value_at k shown)) ≡ true
-value_agrees k shown line (inl none) = ap (λ (v : Option Value). agrees_at k (text_at k line) (said v)) none
-value_agrees k shown line (inr same) = ap (λ (v : Option Value). agrees_at k (text_at k line) (said v)) same ∙ agrees_with_itself k line
+value_agrees : (k : Key) (shown line : Line) → (value_at k shown ≡ None) ⊎ (value_at k shown ≡ value_at k line) → agrees (value_at k line) (said (value_at k shown)) ≡ true
+value_agrees k shown line (inl none) = ap (λ (v : Option Value). agrees (value_at k line) (said v)) none
+value_agrees k shown line (inr same) = ap (λ (v : Option Value). agrees (value_at k line) (said v)) same ∙ agrees_with_itself k line
 
-key_agrees : (line shown : Line) (d : Data) → Shows shown line → Says shown d → (k : Key) → agrees_at k (text_at k line) (found_at k d) ≡ true
-key_agrees line shown d shows says k = ap (agrees_at k (text_at k line)) (says.under k) ∙ value_agrees k shown line (shows.values k)
+key_agrees : (line shown : Line) (d : Data) → Shows shown line → Says shown d → (k : Key) → agrees (value_at k line) (found_at k d) ≡ true
+key_agrees line shown d shows says k = ap (agrees (value_at k line)) (says.under k) ∙ value_agrees k shown line (shows.values k)
 
 pub stop_agrees : (stopped : Option Refusal) → is_told (said (option_map (λ r. Name (refusal_text r)) stopped)) ≡ is_some stopped
 stop_agrees None = refl

@@ -17,7 +17,7 @@ use Rattle.ot_conform.specs.Due.{DueLine, Instruction, end_due}
 use Rattle.ot_conform.specs.Laws.{place_alone}
 use Rattle.ot_conform.specs.Points.{points_rows}
 use Rattle.ot_conform.specs.Ports.{PortLine, Told}
-use Rattle.ot_conform.specs.Received.{Received, Taken, Delivered, received_agrees}
+use Rattle.ot_conform.specs.Received.{Received, Taken, Delivered, message_agrees}
 use Rattle.ot_steps.specs.declared.key.Key.TheVariants.{At, Document}
 use Rattle.ot_conform.specs.declared.meeting.Field.TheVariants.{Key, Message, Stopped}
 
@@ -99,24 +99,24 @@ operation letters = array (item (number (unsigned 1)) (item (string letters) no_
 abbrev message : ℕ → Data → Data
 message revision op = object (member (codes "operation") op (member (codes "revision") (number (unsigned revision)) no_members))
 
-right : received_agrees (Some sent) (message 1 (operation (97 ∷ []))) ≡ true
+right : message_agrees (Some sent) (Some (message 1 (operation (97 ∷ [])))) ≡ true
 unfolding digits encode escape_byte
 right = refl
 
-earlier : received_agrees (Some sent) (message 0 (operation (97 ∷ []))) ≡ false
+earlier : message_agrees (Some sent) (Some (message 0 (operation (97 ∷ [])))) ≡ false
 unfolding digits encode escape_byte
 earlier = refl
 
-changed : received_agrees (Some sent) (message 1 (operation (98 ∷ []))) ≡ false
+changed : message_agrees (Some sent) (Some (message 1 (operation (98 ∷ [])))) ≡ false
 unfolding digits encode escape_byte
 changed = refl
 
 -- a deliver receives an array
-array_alone : received_agrees (Some (Delivered (operation_of (Keep 1 ∷ Add (97 ∷ []) ∷ [])))) (operation (97 ∷ [])) ≡ true
+array_alone : message_agrees (Some (Delivered (operation_of (Keep 1 ∷ Add (97 ∷ []) ∷ [])))) (Some (operation (97 ∷ []))) ≡ true
 unfolding digits encode escape_byte
 array_alone = refl
 
-none_received : received_agrees None null ≡ true
+none_received : message_agrees None (Some null) ≡ true
 none_received = refl
 
 -- a wrong message is told, and not the document that comes of it

@@ -14,18 +14,19 @@ use Rattle.ot_json.specs.Writing.{HasForm}
 use Rattle.ot_asm.proofs.Formed.{op_formed}
 use Rattle.ot_isa.specs.Tagging.{chars_of}
 use Rattle.ot_isa.specs.declared.elements.Tagged.{Tagged}
+use Rattle.ot_isa.specs.declared.instruction.Instr.TheVariants.{Deliver}
 use Rattle.ot_model.specs.Laws.{MayDeliver}
 use Rattle.ot_model.specs.Limits.{IsPhaseShort, IsShort}
 use Rattle.ot_model.specs.Operation.{Operation, apply, inserted, second_after}
 use Rattle.ot_model.specs.Sound.{Fits, FitAll, IsPhaseSound, IsSound, apply_entries}
-use Rattle.ot_model.specs.Table.{Phase, NotJoined, Synchronized, AwaitingConfirm, AwaitingWithBuffer, Client, Entry, Message, State, absent, against_pending, downlink, head_for, is_joined}
-use Rattle.ot_model.specs.Table as table
+use Rattle.ot_model.specs.Table.{Phase, NotJoined, Synchronized, AwaitingConfirm, AwaitingWithBuffer, Client, Entry, Message, State, absent, against_pending, is_joined}
 use Rattle.ot_model.proofs.Algebra.{laws}
 use Rattle.ot_model.proofs.Fitting.{deliverable, lengths_fit}
 use Rattle.ot_model.proofs.Lengths.{apply-le}
 use Rattle.ot_steps.specs.Lines as lines
 use Rattle.ot_steps.specs.Lines.{plain_item, plain_message, plain_operation}
-use Rattle.ot_steps.specs.Steps.{buffer_of, against_pending_head, client_in, delivers, last_of, outstanding_of}
+use Rattle.ot_machine.specs.Effects.{against_pending_head, client_in, delivery_of}
+use Rattle.ot_steps.specs.Steps.{applies, buffer_of, last_of, outstanding_of}
 use Rattle.ot_conform.proofs.Scalars.{AreScalars, InsertsScalars, PhaseScalars, StateScalars, delivery_scalars, entry_here, entry_scalars, message_at, message_in}
 
 -- ---- operations
@@ -160,28 +161,22 @@ against_pending_form s c x h (start, chars, sound) all at on head other =
     let fact = against_pending_fits c x.phase start (take x.revision s.log) (drop x.revision s.log) x.list x.message h (entry_here start chars s x h sound head) (sound.clients c x at) short may.operations in
     op_form (against_pending x.phase h.op) fact.0 fact.1 (delivery_scalars start chars s c x h sound all at head).applies
 
-first_of : (c r : ℕ) (log : List Entry) → slice_get (map (head_for c) (drop r log)) 0 ≡ option_map (head_for c) (slice_get log r)
-first_of c zero [] = refl
-first_of c zero (h ∷ log) = refl
-first_of c (suc r) [] = refl
-first_of c (suc r) (h ∷ log) = first_of c r log
-
-pub delivers_form : (s : State) (c : ℕ) → IsSound s → StateScalars s → IfSome (delivers s c) OpForm
-delivers_form s c sound all = client_cases (λ x. IfSome (against_pending_head x.phase (slice_get (downlink s c x) 0)) OpForm) s c (λ x at. by_joined x at (is_joined x.phase) refl) tt
+pub delivers_form : (s : State) (c : ℕ) → IsSound s → StateScalars s → IfSome (applies (Deliver c) s) OpForm
+delivers_form s c sound all = client_cases (λ x. IfSome (option_map plain_operation (delivery_of s c x)) OpForm) s c (λ x at. by_joined x at (is_joined x.phase) refl) tt
   where
     by_maker : (x : Client) → slice_get s.clients c ≡ Some x → is_joined x.phase ≡ true → (h : Entry) → slice_get s.log x.revision ≡ Some h → (own : Bool) → (h.maker == c) ≡ own
-        → IfSome (against_pending_head x.phase (Some (if own then table.Ack else table.Op h.op))) OpForm
+        → IfSome (option_map plain_operation (if own then None else Some (against_pending x.phase h.op))) OpForm
     by_maker x at on h head true own = tt
     by_maker x at on h head false own = against_pending_form s c x h sound all at on head (eqb-false h.maker c own)
 
-    by_entry : (x : Client) → slice_get s.clients c ≡ Some x → is_joined x.phase ≡ true → (o : Option Entry) → slice_get s.log x.revision ≡ o → IfSome (against_pending_head x.phase (option_map (head_for c) o)) OpForm
+    by_entry : (x : Client) → slice_get s.clients c ≡ Some x → is_joined x.phase ≡ true → (o : Option Entry) → slice_get s.log x.revision ≡ o → IfSome (option_map plain_operation (against_pending_head c x.phase o)) OpForm
     by_entry x at on None head = tt
     by_entry x at on (Some h) head = by_maker x at on h head (h.maker == c) refl
 
     by_joined : (x : Client) → slice_get s.clients c ≡ Some x → (on : Bool) → is_joined x.phase ≡ on
-        → IfSome (against_pending_head x.phase (slice_get (if on then map (head_for c) (drop x.revision s.log) else []) 0)) OpForm
+        → IfSome (option_map plain_operation (if on then against_pending_head c x.phase (slice_get s.log x.revision) else None)) OpForm
     by_joined x at false off = tt
-    by_joined x at true on = rw (first_of c x.revision s.log) (by_entry x at on (slice_get s.log x.revision) refl)
+    by_joined x at true on = by_entry x at on (slice_get s.log x.revision) refl
 
 -- ---- the log's last
 

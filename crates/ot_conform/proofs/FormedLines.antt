@@ -27,7 +27,8 @@ use Rattle.ot_machine.specs.declared.state.Phase.TheVariants as phase
 use Rattle.ot_values.specs.Values.{phase_word, refusal_text}
 use Rattle.ot_steps.specs.Lines.{Line, Message, Word, bare}
 use Rattle.ot_steps.specs.Lines as lines
-use Rattle.ot_steps.specs.Steps.{applies, appended_by, client_in, document_after, document_in, edit_of, end_line, first_lines, has_document, is_quiet, last_lines, lines_from, message_in, named, opening_line, placed, sends, step_line, stop_at, stop_line, stop_lines, with_client}
+use Rattle.ot_machine.specs.Effects.{client_in, sends}
+use Rattle.ot_steps.specs.Steps.{applies, appended_by, document_after, document_in, edit_of, end_line, first_lines, has_document, is_quiet, last_lines, lines_from, message_in, named, opening_line, placed, step_line, stop_at, stop_line, stop_lines, with_client}
 use Rattle.ot_steps.specs.Text.{Field, Value, Number, Name, Text, Op, Sent, end_text, field, word_text}
 use Rattle.ot_steps.specs.Written.{AreRunLines}
 use Rattle.ot_steps.proofs.Running.{reached_within}
@@ -147,41 +148,13 @@ client_below clients ReadServer few h = tt
 
 named_form : (clients at : ℕ) (i : Instr) → clients ≤ 64 → at < 2 ^ 64 → InstrForm clients i → LineForm (named at i)
 named_form clients at i few small h =
-    record {
-      at = small;
-      clients = tt;
-      present = tt;
-      start = tt;
-      client = client_below clients i few h;
-      edit = edit_form clients i h;
-      revision = tt;
-      outstanding = tt;
-      buffer = tt;
-      sent = tt;
-      applied = tt;
-      appended = tt;
-      document = tt;
-    }
+    record { at = small; clients = tt; present = tt; start = tt; client = client_below clients i few h; edit = edit_form clients i h; revision = tt; outstanding = tt; buffer = tt; sent = tt; applied = tt; appended = tt; document = tt }
 
 -- ---- the line of one instruction, from the state s to the state t
 
 with_client_form : (y : Client) (line : Line) → ClientForm y → LineForm line → LineForm (with_client y line)
 with_client_form y line is h =
-    record {
-      at = h.at;
-      clients = h.clients;
-      present = h.present;
-      start = h.start;
-      client = h.client;
-      edit = h.edit;
-      revision = is.revision;
-      outstanding = is.outstanding;
-      buffer = is.buffer;
-      sent = h.sent;
-      applied = h.applied;
-      appended = h.appended;
-      document = h.document;
-    }
+    record { at = h.at; clients = h.clients; present = h.present; start = h.start; client = h.client; edit = h.edit; revision = is.revision; outstanding = is.outstanding; buffer = is.buffer; sent = h.sent; applied = h.applied; appended = h.appended; document = h.document }
 
 module _ (t : State) (sound_t : IsSound t) (scalars_t : StateScalars t) where
   sent_form : (sent : Bool) (o : Option ℕ) → IfSome (if sent then message_in t o else None) MessageForm
@@ -215,40 +188,12 @@ module _ (t : State) (sound_t : IsSound t) (scalars_t : StateScalars t) where
   rest_form : (documents : Bool) (i : Instr) (sent : Bool) (applied : Option (Operation ℕ)) (line : Line) → IfSome applied OpForm → LineForm line
       → LineForm (record line { sent = if sent then message_in t (client_of i) else None; applied = applied; appended = appended_by i t; document = document_after documents i t })
   rest_form documents i sent applied line moved h =
-      record {
-        at = h.at;
-        clients = h.clients;
-        present = h.present;
-        start = h.start;
-        client = h.client;
-        edit = h.edit;
-        revision = h.revision;
-        outstanding = h.outstanding;
-        buffer = h.buffer;
-        sent = sent_form sent (client_of i);
-        applied = moved;
-        appended = appended_form i;
-        document = document_form (has_document i || documents) i;
-      }
+      record { at = h.at; clients = h.clients; present = h.present; start = h.start; client = h.client; edit = h.edit; revision = h.revision; outstanding = h.outstanding; buffer = h.buffer; sent = sent_form sent (client_of i); applied = moved; appended = appended_form i; document = document_form (has_document i || documents) i }
 
   placed_form : (i : Instr) (line : Line) → LineForm line → LineForm (placed i t line)
   placed_form (Edit c op) line h = with_client_form (client_in t c) line (client_form t c sound_t scalars_t) h
   placed_form (Take c) line h =
-      record {
-        at = h.at;
-        clients = h.clients;
-        present = h.present;
-        start = h.start;
-        client = h.client;
-        edit = h.edit;
-        revision = log_fits t sound_t;
-        outstanding = h.outstanding;
-        buffer = h.buffer;
-        sent = h.sent;
-        applied = h.applied;
-        appended = h.appended;
-        document = h.document;
-      }
+      record { at = h.at; clients = h.clients; present = h.present; start = h.start; client = h.client; edit = h.edit; revision = log_fits t sound_t; outstanding = h.outstanding; buffer = h.buffer; sent = h.sent; applied = h.applied; appended = h.appended; document = h.document }
   placed_form (Deliver c) line h = with_client_form (client_in t c) line (client_form t c sound_t scalars_t) h
   placed_form (Acknowledge c) line h = with_client_form (client_in t c) line (client_form t c sound_t scalars_t) h
   placed_form (Join c) line h = with_client_form (client_in t c) line (client_form t c sound_t scalars_t) h
@@ -298,60 +243,18 @@ opening_line_formed s is =
     let few = is.clients_to in
     let within = is.present_to in
     line_formed (opening_line s)
-    (record {
-      at = omega arith;
-      clients = omega arith;
-      present = omega arith;
-      start = is.start_scalars;
-      client = tt;
-      edit = tt;
-      revision = tt;
-      outstanding = tt;
-      buffer = tt;
-      sent = tt;
-      applied = tt;
-      appended = tt;
-      document = tt;
-    })
+    (record { at = omega arith; clients = omega arith; present = omega arith; start = is.start_scalars; client = tt; edit = tt; revision = tt; outstanding = tt; buffer = tt; sent = tt; applied = tt; appended = tt; document = tt })
 
 stop_line_formed : (clients at : ℕ) (i : Instr) (r : Refusal) → clients ≤ 64 → at < 2 ^ 64 → InstrForm clients i → IsLineFormed (stop_line at i r)
 stop_line_formed clients at i r few small h =
     let named_is = named_form clients at i few small h in
     line_formed (stop_line at i r)
-    (record {
-      at = named_is.at;
-      clients = tt;
-      present = tt;
-      start = tt;
-      client = named_is.client;
-      edit = named_is.edit;
-      revision = tt;
-      outstanding = tt;
-      buffer = tt;
-      sent = tt;
-      applied = tt;
-      appended = tt;
-      document = tt;
-    })
+    (record { at = named_is.at; clients = tt; present = tt; start = tt; client = named_is.client; edit = named_is.edit; revision = tt; outstanding = tt; buffer = tt; sent = tt; applied = tt; appended = tt; document = tt })
 
 end_line_formed : (at : ℕ) (quiet : Bool) → at < 2 ^ 64 → IsLineFormed (end_line at quiet)
 end_line_formed at quiet small =
     line_formed (end_line at quiet)
-    (record {
-      at = small;
-      clients = tt;
-      present = tt;
-      start = tt;
-      client = tt;
-      edit = tt;
-      revision = tt;
-      outstanding = tt;
-      buffer = tt;
-      sent = tt;
-      applied = tt;
-      appended = tt;
-      document = tt;
-    })
+    (record { at = small; clients = tt; present = tt; start = tt; client = tt; edit = tt; revision = tt; outstanding = tt; buffer = tt; sent = tt; applied = tt; appended = tt; document = tt })
 
 pub instr_at : (clients : ℕ) (is : List Instr) (place : ℕ) (i : Instr) → InstrsForm clients is → slice_get is place ≡ Some i → InstrForm clients i
 instr_at clients is place i h e =

@@ -9,7 +9,8 @@ use Rattle.ot_model.specs.Operation.{Operation}
 use Rattle.ot_model.specs.Runs.{place_at}
 use Rattle.ot_model.specs.Table.{Performed, Refused, State, step, with_shown}
 use Rattle.ot_model.proofs.Runs.{place_at-next}
-use Rattle.ot_steps.specs.Steps.{applies, is_quiet, sends}
+use Rattle.ot_machine.specs.Effects.{sends}
+use Rattle.ot_steps.specs.Steps.{applies, is_quiet}
 use Rattle.ot_conform.specs.Counted.{with_port_line}
 use Rattle.ot_conform.specs.Differences as differences
 use Rattle.ot_conform.specs.Differences.{Ahead, Wanted, ahead_from, ending, field_of, from_opening, is_limit, over}

@@ -1,4 +1,5 @@
 pub mod Plain
+pub mod Places
 pub mod FirstKey
 pub mod Outcomes
 pub mod Fronts

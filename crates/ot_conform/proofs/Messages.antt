@@ -9,7 +9,7 @@ use Rattle.ot_conform.specs.Due.{DueLine, opening_due}
 use Rattle.ot_conform.specs.Keys.{first_keys, found_at, is_told, other_keys}
 use Rattle.ot_conform.specs.Laws.{MessagesConform, received_data, with_message, with_messages}
 use Rattle.ot_conform.specs.Ports.{PortLine, Told, OtherForm, NoText, Nothing, is_opening_line}
-use Rattle.ot_conform.specs.Received.{Received, Taken, Delivered, is_received, message_agrees}
+use Rattle.ot_conform.specs.Received.{Received, Taken, Delivered, message_agrees}
 use Rattle.ot_steps.specs.declared.key.Key.{Key}
 use Rattle.ot_steps.specs.declared.key.Key.TheVariants as key
 use Rattle.ot_conform.specs.declared.meeting.Field.{Field}
@@ -24,9 +24,9 @@ abbrev with_it : Received → Members → Data
 with_it received ms = object (put (codes "message") (received_data received) ms)
 
 -- the message agrees with what is received
-own_message : (received : Received) → is_received received (received_data received) ≡ true
+own_message : (received : Received) → message_agrees (Some received) (Some (received_data received)) ≡ true
 own_message (Taken m) = rw (number_written m.revision, operation_written m.operation) refl
-own_message (Delivered op) = operation_written op
+own_message (Delivered op) = rw (operation_written op) refl
 
 message_there : (received : Received) (ms : Members) → get (codes "message") (with_it received ms) ≡ Some (received_data received)
 message_there received ms = got_put (codes "message") (codes "message") (received_data received) ms

@@ -9,7 +9,8 @@ use Rattle.ot_model.specs.declared.shown.Refusal.TheVariants.{NoSuchClient, Step
 use Rattle.ot_model.specs.declared.shown.Shown.{Shown}
 use Rattle.ot_model.specs.Table.{Performed, Refused, State, step}
 use Rattle.ot_machine.specs.Answers.{IsRefusal}
-use Rattle.ot_steps.specs.Steps.{applies, sends}
+use Rattle.ot_machine.specs.Effects.{sends}
+use Rattle.ot_steps.specs.Steps.{applies}
 use Rattle.ot_conform.specs.Answers.{IsCompared, IsDifferenceOf}
 use Rattle.ot_conform.specs.Differences as differences
 use Rattle.ot_conform.specs.Differences.{Ahead, Wanted, Limit, Outcome, ahead_from, ending, field_of, is_limit, over, stopping}
@@ -88,7 +89,7 @@ front_differs sparse last due ahead Nothing lines f which there kept some = go w
 
 -- so the verdict is that difference
 pub is_difference : (c : Comparison) (last : ℕ) (due : DueLine) (ahead : List Ahead) (line : PortLine) (lines : List PortLine) (d : Difference) (v : Verdict)
-    → IsNeeded due.what ⊎ IsThere line → (line ≡ Nothing → c.sparse ≡ false) → passes c.sparse due line ≡ false → IsCompared due line (Some d) → v ≡ Differs d
+    → IsNeeded due.what ⊎ IsThere line → (line ≡ Nothing → c.sparse ≡ false) → passes c.sparse due line ≡ false → IsCompared due line d → v ≡ Differs d
     → IsVerdict c line (over c.sparse last (Wanted due ∷ ahead) (front line lines)) v
 is_difference c last due ahead line lines d v which there kept found is =
     let e = front_differs c.sparse last due ahead line lines found.0 which there kept found.1 in

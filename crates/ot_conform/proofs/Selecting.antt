@@ -16,7 +16,8 @@ use Rattle.ot_model.specs.Table.{Outcome as Stepped, Performed, Refused, NoRow, 
 use Rattle.ot_model.specs.Runs.{opening_of, place_at}
 use Rattle.ot_machine.specs.Ended.{reached, IsStop}
 use Rattle.ot_steps.specs.Lines.{Line}
-use Rattle.ot_steps.specs.Steps.{applies, end_line, is_quiet, last_lines, lines_from, opening_line, run_lines, sends, step_line, stop_at, stop_line}
+use Rattle.ot_machine.specs.Effects.{sends}
+use Rattle.ot_steps.specs.Steps.{applies, end_line, is_quiet, last_lines, lines_from, opening_line, run_lines, step_line, stop_at, stop_line}
 use Rattle.ot_steps.specs.Text.{Name, end_text}
 use Rattle.ot_steps.proofs.Running.{reached_within}
 use Rattle.ot_conform.specs.Differences.{Ahead, Wanted, Limit, Outcome, Conforms, Stopped, ahead_from, ending, from_opening, is_limit, outcome, over, stopping}

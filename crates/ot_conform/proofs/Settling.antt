@@ -1,5 +1,5 @@
 -- What comes of a line once it is compared.
-use Rattle.std.proofs.Common.{◌≡◌, ℕ, suc, List, [], ◌∷◌, drop, Bool, true, false, Option, Some, None, refl, sym, ap, ◌∙◌, subst, inl, inr, arith}
+use Rattle.std.proofs.Common.{◌≡◌, ℕ, suc, List, [], ◌∷◌, length, drop, Bool, true, false, Option, Some, None, refl, sym, ap, ◌∙◌, subst, inl, inr, arith}
 use Rattle.std.specs.Prelude.{slice_get, ◌⊎◌, ◌≤◌, ◌<◌, ◌+◌, ◌&&◌, IfOk, IfSome, IsSome, Result, Ok, Err}
 use Rattle.ot_isa.specs.Program.{Program}
 use Rattle.ot_isa.specs.declared.instruction.Instr.{Instr}
@@ -8,25 +8,24 @@ use Rattle.ot_model.specs.declared.shown.Refusal.TheVariants.{Memory}
 use Rattle.ot_model.specs.declared.shown.Shown.{Shown}
 use Rattle.ot_model.specs.Table.{Performed, Refused, State, step}
 use Rattle.ot_machine.specs.Answers.{IsRefusal}
-use Rattle.ot_steps.specs.Steps.{applies, is_quiet, sends}
+use Rattle.ot_machine.specs.Effects.{sends}
+use Rattle.ot_steps.specs.Steps.{applies, is_quiet}
 use Rattle.ot_conform.specs.Alike.{IsJudged}
-use Rattle.ot_conform.specs.Counted.{with_port_line}
 use Rattle.ot_conform.specs.Differences.{Ahead, Wanted, Outcome, ahead_from, ending, field_of, is_limit, over}
-use Rattle.ot_conform.specs.Due.{DueLine, end_due, step_due, stop_due}
+use Rattle.ot_conform.specs.Due.{DueLine, end_due, opening_due, step_due, stop_due}
 use Rattle.ot_conform.specs.Passed.{passes, passes_step, passes_stop}
-use Rattle.ot_conform.specs.Ports.{PortLine, Told, OtherForm, NoText, Nothing, front, is_nothing}
+use Rattle.ot_conform.specs.Ports.{PortLine, Told, OtherForm, NoText, Nothing, front, is_nothing, is_opening_line}
 use Rattle.ot_conform.specs.Read.{read_as}
 use Rattle.ot_conform.specs.Received.{receives}
 use Rattle.ot_conform.specs.Standing.{AgreesAt, EndsAt, Goes, IsStanding, IsVerdict, rest, rest_at}
-use Rattle.ot_conform.proofs.Outcomes.{IsNeeded, IsThere, ahead_performed, ahead_refused, goes_on, is_difference, never, over_passes, stops, table_or_memory}
-use Rattle.ot_conform.proofs.Going.{ahead_of, front_there, goes_last, passed_next, rest_passed, running}
-use Rattle.ot_conform.specs.declared.answers.Difference.{Difference}
+use Rattle.ot_conform.proofs.Outcomes.{IsNeeded, IsThere, ahead_past, ahead_performed, ahead_refused, goes_on, is_difference, never, over_passes, stops, table_or_memory}
+use Rattle.ot_conform.proofs.Going.{ahead_of, front_there, goes_last, goes_step, is_opening_there, passed_next, rest_opened, rest_passed, running}
 use Rattle.ot_conform.specs.declared.counts.Counts.{Counts}
 use Rattle.ot_conform.specs.declared.comparison.Comparison.{Comparison}
 use Rattle.ot_conform.specs.declared.comparison.Stage.{Stage}
-use Rattle.ot_conform.specs.declared.comparison.Stage.TheVariants.{Ending, Over}
+use Rattle.ot_conform.specs.declared.comparison.Stage.TheVariants.{Opening, Running, Over}
 use Rattle.ot_conform.specs.declared.comparison.Verdict.{Verdict}
-use Rattle.ot_conform.specs.declared.comparison.Verdict.TheVariants.{Conforms, Differs, Stopped}
+use Rattle.ot_conform.specs.declared.comparison.Verdict.TheVariants.{Conforms, Stopped}
 use Rattle.ot_conform.specs.declared.lines.PortLine as read
 use Rattle.ot_conform.specs.declared.lines.PortLine.TheVariants as port
 
@@ -72,54 +71,38 @@ passed_all s c line e lines = go c.sparse refl line e
 
 -- ---- one line
 
-pub settled : (c : Comparison) (last : ℕ) (due : DueLine) (ahead : List Ahead) (line : PortLine) (judged : Result Counts Difference) (result : Option Verdict)
-    → IsNeeded due.what ⊎ IsThere line → (line ≡ Nothing → c.sparse ≡ false) → passes c.sparse due line ≡ false → IsJudged c.counts due line judged
-    → IfSome result (λ v. (d : Difference) × (judged ≡ Err d) × (v ≡ Differs d))
+pub settled : (c : Comparison) (counts : Counts) (last : ℕ) (due : DueLine) (ahead : List Ahead) (line : PortLine) (result : Option Verdict)
+    → IsNeeded due.what ⊎ IsThere line → (line ≡ Nothing → c.sparse ≡ false) → passes c.sparse due line ≡ false → IsJudged c.counts counts due line result
     → IfSome result (λ v. (lines : List PortLine) → IsVerdict c line (over c.sparse last (Wanted due ∷ ahead) (front line lines)) v)
-settled c last due ahead line judged None which there kept compared found = tt
-settled c last due ahead line judged (Some v) which there kept compared found =
-    λ (lines : List PortLine). is_difference c last due ahead line lines found.0 v which there kept (subst (IsJudged c.counts due line) found.1 compared) found.2
+settled c counts last due ahead line None which there kept judged = tt
+settled c counts last due ahead line (Some v) which there kept judged =
+    λ (lines : List PortLine). is_difference c last due ahead line lines judged.0 v which there kept judged.1 judged.2
 
--- these are the counts, and so a comparison is this one
-abbrev pub Keeps : Result Counts Difference → (Counts → Comparison) → Comparison → Type 0
-Keeps judged at c' = (counts : Counts) × (judged ≡ Ok counts) × (c' ≡ at counts)
+pub agreed : (c : Comparison) (counts : Counts) (due : DueLine) (stage : Stage) (line : PortLine) (result : Option Verdict) → IsJudged c.counts counts due line result → result ≡ None
+    → AgreesAt due stage c line (record c { stage = stage; counts = counts })
+agreed c counts due stage line result judged none =
+    let both = subst (IsJudged c.counts counts due line) none judged in
+    record { agrees = both.0; is = ap (λ (counts : Counts). record c { stage = stage; counts = counts }) both.1 }
 
-pub agreed : (due : DueLine) (line : PortLine) (counts : Counts) (judged : Result Counts Difference) (at : Counts → Comparison) (c' : Comparison) → IsJudged counts due line judged → Keeps judged at c'
-    → (field_of due line ≡ None) × (c' ≡ at (with_port_line counts line))
-agreed due line counts judged at c' compared kept = let is = subst (IsJudged counts due line) kept.1 compared in (is.0, kept.2 ∙ ap at is.1)
+-- ---- the opening's line
+
+pub opening_decides : (s : Program) (c : Comparison) (counts : Counts) (line : PortLine) (result : Option Verdict) → c.stage ≡ Opening → is_opening_line line ≡ true → IsJudged c.counts counts (opening_due s) line result
+    → IfSome result (λ v. (lines : List PortLine) → IsVerdict c line (rest s c (front line lines)) v)
+opening_decides s c counts line result is on judged =
+    let there = is_opening_there line on in
+    if_some result _ _ (λ v given lines. subst (λ (o : Outcome). IsVerdict c line o v) (sym (rest_opened s c line lines is on)) (given lines))
+    (settled c counts 0 (opening_due s) (ahead_of s c) line result (inl tt) (there_not line there) (never c.sparse) judged)
 
 -- ---- the end's line
 
-pub end_agrees : (c c' : Comparison) (line : PortLine) (quiet : Bool) (judged : Result Counts Difference) → quiet ≡ is_quiet c.machine → IsJudged c.counts (end_due c.place quiet) line judged
-    → Keeps judged (λ counts. record c { stage = Over; counts = counts }) c' → AgreesAt (end_due c.place (is_quiet c.machine)) Over c line c'
-end_agrees c c' line quiet judged is compared kept =
-    let both = agreed (end_due c.place quiet) line c.counts judged (λ counts. record c { stage = Over; counts = counts }) c' compared kept in
-    record { agrees = subst (λ (q : Bool). field_of (end_due c.place q) line ≡ None) is both.0; is = both.1 }
-
-pub end_decides : (c : Comparison) (line : PortLine) (quiet : Bool) (judged : Result Counts Difference) (result : Option Verdict) → IsThere line → quiet ≡ is_quiet c.machine → IsJudged c.counts (end_due c.place quiet) line judged
-    → IfSome result (λ v. (d : Difference) × (judged ≡ Err d) × (v ≡ Differs d))
-    → IfSome result (λ v. (lines : List PortLine) → IsVerdict c line (over c.sparse c.place (ending c.place c.machine) (front line lines)) v)
-end_decides c line quiet judged result there is compared found =
-    settled c c.place (end_due c.place (is_quiet c.machine)) [] line judged result (inr there) (there_not line there) (never c.sparse)
-    (subst (λ (q : Bool). IsJudged c.counts (end_due c.place q) line judged) is compared) found
+pub end_judged : (c : Comparison) (counts : Counts) (line : PortLine) (quiet : Bool) (result : Option Verdict) → quiet ≡ is_quiet c.machine → IsJudged c.counts counts (end_due c.place quiet) line result
+    → IsJudged c.counts counts (end_due c.place (is_quiet c.machine)) line result
+end_judged c counts line quiet result is judged = subst (λ (q : Bool). IsJudged c.counts counts (end_due c.place q) line result) is judged
 
 pub not_nothing : (line : PortLine) (result : Option Verdict) → IsThere line → line ≡ Nothing → IsSome result
 not_nothing line result there none = absurd (subst IsThere none there)
 
 -- ---- the line of an instruction that is refused
-
-pub stop_agrees : (c c' : Comparison) (i : Instr) (r : Refusal) (line : PortLine) (judged : Result Counts Difference) → IsJudged c.counts (stop_due c.place i r) line judged
-    → Keeps judged (λ counts. record c { stage = Ending; counts = counts }) c' → AgreesAt (stop_due c.place i r) Ending c line c'
-stop_agrees c c' i r line judged compared kept =
-    let both = agreed (stop_due c.place i r) line c.counts judged (λ counts. record c { stage = Ending; counts = counts }) c' compared kept in
-    record { agrees = both.0; is = both.1 }
-
-pub stop_decides : (c : Comparison) (i : Instr) (r : Refusal) (line : PortLine) (judged : Result Counts Difference) (result : Option Verdict) → (line ≡ Nothing → c.sparse ≡ false)
-    → passes c.sparse (stop_due c.place i r) line ≡ false → IsJudged c.counts (stop_due c.place i r) line judged
-    → IfSome result (λ v. (d : Difference) × (judged ≡ Err d) × (v ≡ Differs d))
-    → IfSome result (λ v. (lines : List PortLine) → IsVerdict c line (over c.sparse c.place (Wanted (stop_due c.place i r) ∷ ending c.place c.machine) (front line lines)) v)
-stop_decides c i r line judged result there kept compared found =
-    settled c c.place (stop_due c.place i r) (ending c.place c.machine) line judged result (inl tt) there kept compared found
 
 -- the line passes over it
 stop_there : (at : ℕ) (line : PortLine) (sparse : Bool) → (sparse && passes_stop at line) ≡ true → IsThere line
@@ -184,16 +167,15 @@ same_verdict s c mid line v same given = subst (λ (x : Comparison). (lines : Li
 
 -- ---- the line of an instruction that is performed
 
-pub step_decides : (s : Program) (c : Comparison) (line : PortLine) (i : Instr) (t : State) (shown : Option Shown) (due : DueLine) (judged : Result Counts Difference) (result : Option Verdict)
+pub step_decides : (s : Program) (c : Comparison) (counts : Counts) (line : PortLine) (i : Instr) (t : State) (shown : Option Shown) (due : DueLine) (result : Option Verdict)
     → slice_get s.instrs c.place ≡ Some i → step c.machine i ≡ Performed t shown → due ≡ step_due (suc c.place) i (sends i c.machine) (applies i c.machine) (receives i c.machine) t → (line ≡ Nothing → c.sparse ≡ false)
-    → (c.sparse && passes_step (c.place + 1) line) ≡ false → IsJudged c.counts due line judged
-    → IfSome result (λ v. (d : Difference) × (judged ≡ Err d) × (v ≡ Differs d))
+    → (c.sparse && passes_step (c.place + 1) line) ≡ false → IsJudged c.counts counts due line result
     → IfSome result (λ v. (lines : List PortLine) → IsVerdict c line (over c.sparse c.place (ahead_of s c) (front line lines)) v)
-step_decides s c line i t shown due judged result here performed is there kept compared found =
+step_decides s c counts line i t shown due result here performed is there kept judged =
     let P : List Ahead → Type 0 = λ ahead. IfSome result (λ v. (lines : List PortLine) → IsVerdict c line (over c.sparse c.place ahead (front line lines)) v) in
     subst P (sym (ahead_performed c.place c.machine t i s.instrs shown here performed))
-    (settled c c.place (step_due (suc c.place) i (sends i c.machine) (applies i c.machine) (receives i c.machine) t) (ahead_from (suc c.place) t (drop (suc c.place) s.instrs)) line judged result (inl tt) there
-    (passed_next c line false kept) (subst (λ (d : DueLine). IsJudged c.counts d line judged) is compared) found)
+    (settled c counts c.place (step_due (suc c.place) i (sends i c.machine) (applies i c.machine) (receives i c.machine) t) (ahead_from (suc c.place) t (drop (suc c.place) s.instrs)) line result (inl tt) there
+    (passed_next c line false kept) (subst (λ (d : DueLine). IsJudged c.counts counts d line result) is judged))
 
 -- where an instruction stands at the place, the line does not pass over it
 pub not_passed : (b : Bool) (count place : ℕ) → (b ≡ true → count ≤ place) → place < count → b ≡ false
@@ -204,3 +186,23 @@ not_passed false count place kept less = refl
 
 pub rest_over : (s : Program) (c : Comparison) (line : PortLine) (lines : List PortLine) (v : Verdict) → c.stage ≡ Over → IsVerdict c line (over c.sparse c.place [] lines) v → IsVerdict c line (rest s c lines) v
 rest_over s c line lines v is given = subst (λ (o : Outcome). IsVerdict c line o v) (sym (ap (λ (x : Stage). rest_at s c x lines) is)) given
+
+-- no line agrees where none is left
+pub nothing_judged : (c c' : Counts) (due : DueLine) (line : PortLine) (result : Option Verdict) → IsJudged c c' due line result → line ≡ Nothing → IsSome result
+nothing_judged c c' due line None judged none = absurd (let e : field_of due Nothing ≡ None = subst (λ (l : PortLine). field_of due l ≡ None) none judged.0 in cc)
+nothing_judged c c' due line (Some v) judged none = refl
+
+-- ---- where a line is judged
+
+pub step_goes : (s : Program) (c : Comparison) (counts : Counts) (line : PortLine) (i : Instr) (t : State) (shown : Option Shown) (due : DueLine) (result : Option Verdict) → IsStanding s (running c)
+    → slice_get s.instrs c.place ≡ Some i → step c.machine i ≡ Performed t shown → due ≡ step_due (suc c.place) i (sends i c.machine) (applies i c.machine) (receives i c.machine) t
+    → (c.sparse && passes_step (c.place + 1) line) ≡ false → IsJudged c.counts counts due line result → result ≡ None
+    → Goes s (running c) line (record c { machine = t; place = c.place + 1; stage = Running; counts = counts })
+step_goes s c counts line i t shown due result standing here performed is kept judged none =
+    let both = subst (IsJudged c.counts counts due line) none judged in
+    goes_step s c _ line i t shown due standing here performed is kept both.0 (ap (λ (n : Counts). record c { machine = t; place = c.place + 1; stage = Running; counts = n }) both.1)
+
+-- the end's line, where no instruction is left
+pub end_verdict : (s : Program) (c : Comparison) (line : PortLine) (v : Verdict) → length s.instrs ≤ c.place → ((lines : List PortLine) → IsVerdict c line (over c.sparse c.place (ending c.place c.machine) (front line lines)) v)
+    → (lines : List PortLine) → IsVerdict c line (rest s (running c) (front line lines)) v
+end_verdict s c line v past given lines = subst (λ (ahead : List Ahead). IsVerdict c line (over c.sparse c.place ahead (front line lines)) v) (sym (ahead_past c.place c.machine s.instrs past)) (given lines)

@@ -1,5 +1,5 @@
 -- A port's line that is a line of `steps`, byte for byte.
-use Rattle.std.specs.Prelude.{◌≡◌, ℕ, List, [], ◌∷◌, ◌++◌, None, Some, Result, Ok, Err}
+use Rattle.std.specs.Prelude.{◌≡◌, ℕ, List, [], ◌∷◌, ◌++◌, Option, None, Some}
 use Rattle.ot_steps.specs.Lines.{Line}
 use Rattle.ot_steps.specs.Text.{line_text}
 use Rattle.ot_conform.specs.Answers.{IsCompared}
@@ -8,6 +8,8 @@ use Rattle.ot_conform.specs.Differences.{field_of}
 use Rattle.ot_conform.specs.Due.{DueLine}
 use Rattle.ot_conform.specs.Ports.{PortLine, port_line}
 use Rattle.ot_conform.specs.declared.answers.Difference.{Difference}
+use Rattle.ot_conform.specs.declared.comparison.Verdict.{Verdict}
+use Rattle.ot_conform.specs.declared.comparison.Verdict.TheVariants.{Differs}
 use Rattle.ot_conform.specs.declared.counts.Counts.{Counts}
 
 -- the bytes are the line without its LF
@@ -19,7 +21,7 @@ pub record StandsFor (due : DueLine) (printed : Line) : Type 0 where
   pub agrees : (bytes : List ℕ) → IsPrinted printed bytes → field_of due (port_line bytes) ≡ None
   pub counts : (bytes : List ℕ) (c : Counts) → IsPrinted printed bytes → with_port_line c (port_line bytes) ≡ with_printed c printed
 
--- a line agrees with the one that is due, and these are the counts with what it says; or this is the difference
-abbrev pub IsJudged : Counts → DueLine → PortLine → Result Counts Difference → Type 0
-IsJudged counts due line (Ok counts') = IsCompared due line None × (counts' ≡ with_port_line counts line)
-IsJudged counts due line (Err d) = IsCompared due line (Some d)
+-- a line agrees with the one that is due, and these are the counts with what it says; or the verdict is that it differs
+abbrev pub IsJudged : Counts → Counts → DueLine → PortLine → Option Verdict → Type 0
+IsJudged c c' due line None = (field_of due line ≡ None) × (c' ≡ with_port_line c line)
+IsJudged c c' due line (Some verdict) = (d : Difference) × IsCompared due line d × (verdict ≡ Differs d)

@@ -12,13 +12,13 @@ use Rattle.ot_report.specs.Printed.{line}
 use Rattle.ot_values.specs.Values.{refusal_text}
 use Rattle.ot_steps.specs.Lines.{Line, word_of}
 use Rattle.ot_steps.specs.Steps.{placed_client}
-use Rattle.ot_steps.specs.Text.{Value, Text, key_text, line_text, text_at, value_at, word_text}
+use Rattle.ot_steps.specs.Text.{Value, Text, key_text, line_text, text_at, value_at, value_text, word_text}
 use Rattle.ot_conform.specs.Due.{DueLine, What, Opening, Instruction, End}
 use Rattle.ot_conform.specs.Differences.{Outcome, Conforms, Differs, LeftOver, Stopped, field_of}
-use Rattle.ot_conform.specs.Keys.{found_at, is_null, is_part}
+use Rattle.ot_conform.specs.Keys.{found_at, is_null}
 use Rattle.ot_conform.specs.Ports.{PortLine, Told, OtherForm, NoText, Nothing}
-use Rattle.ot_conform.specs.Counted.{is_nothing, tells}
-use Rattle.ot_conform.specs.Received.{received_text}
+use Rattle.ot_conform.specs.Counted.{counted_keys, is_nothing, tells}
+use Rattle.ot_conform.specs.Received.{received_value}
 use Rattle.ot_conform.specs.declared.answers.Difference.{Difference}
 use Rattle.ot_conform.specs.declared.counts.Counts.{Counts}
 use Rattle.ot_steps.specs.declared.key.Key.{Key}
@@ -40,42 +40,37 @@ what_text Opening = codes "opening"
 what_text (Instruction i) = instr_text i
 what_text End = codes "end"
 
--- whether it is a value of the one that moved or was read
-abbrev pub is_theirs : Key → Bool
-is_theirs key.Revision = true
-is_theirs key.State = true
-is_theirs key.Outstanding = true
-is_theirs key.Buffer = true
-is_theirs key.Sent = true
-is_theirs key.SentRevision = true
-is_theirs key.SentOperation = true
-is_theirs key.Document = true
+-- whether it is the message, or a value of the one that moved or was read
+abbrev pub is_theirs : Field → Bool
+is_theirs field.Message = true
+is_theirs (field.Key key.Revision) = true
+is_theirs (field.Key key.State) = true
+is_theirs (field.Key key.Outstanding) = true
+is_theirs (field.Key key.Buffer) = true
+is_theirs (field.Key key.Sent) = true
+is_theirs (field.Key key.SentRevision) = true
+is_theirs (field.Key key.SentOperation) = true
+is_theirs (field.Key key.Document) = true
 is_theirs _ = false
+
+-- a message's part has two words
+abbrev pub field_name : Field → List ℕ
+field_name field.Line = codes "line"
+field_name field.Stopped = codes "stopped"
+field_name field.Message = codes "message"
+field_name (field.Key key.SentRevision) = codes "sent revision"
+field_name (field.Key key.SentOperation) = codes "sent operation"
+field_name (field.Key k) = key_text k
 
 abbrev pub with_owner : Option ℕ → List ℕ → List ℕ
 with_owner None name = codes "server " ++ name
 with_owner (Some c) name = codes "client " ++ (decimal c ++ 32 ∷ name)
 
--- a message's part has two words
-abbrev pub key_name : Key → List ℕ
-key_name k = if is_part k then codes "sent " ++ key_text k else key_text k
-
-abbrev pub owned : What → Key → List ℕ
-owned Opening k = key_name k
-owned (Instruction i) k = if is_theirs k then with_owner (placed_client i) (key_name k) else key_name k
-owned End k = key_name k
-
--- the message, with whose instruction it is
-abbrev pub message_name : What → List ℕ
-message_name Opening = codes "message"
-message_name (Instruction i) = with_owner (placed_client i) (codes "message")
-message_name End = codes "message"
-
+-- at an instruction with whose value it is
 abbrev pub field_text : What → Field → List ℕ
-field_text what field.Line = codes "line"
-field_text what field.Stopped = codes "stopped"
-field_text what field.Message = message_name what
-field_text what (field.Key k) = owned what k
+field_text (Instruction i) f = if is_theirs f then with_owner (placed_client i) (field_name f) else field_name f
+field_text Opening f = field_name f
+field_text End f = field_name f
 
 -- differs at P: WHAT: FIELD
 abbrev pub head_row : ℕ → List ℕ → List ℕ → List ℕ
@@ -90,12 +85,6 @@ IsJson d text = IsInOrder text d × (has_float d ≡ false → text ≡ compact_
 abbrev pub IsValueText : List ℕ → Option Data → List ℕ → Type 0
 IsValueText none None text = text ≡ none
 IsValueText none (Some d) text = MatchBool (is_null d) (text ≡ none) (IsJson d text)
-
-abbrev pub IsLineText : PortLine → List ℕ → Type 0
-IsLineText (Told d) text = IsJson d text
-IsLineText (OtherForm bytes) text = text ≡ quoted bytes
-IsLineText NoText text = text ≡ codes "no UTF-8"
-IsLineText Nothing text = text ≡ codes "nothing"
 
 abbrev pub IsToldText : Field → Data → List ℕ → Type 0
 IsToldText field.Line d text = IsJson d text
@@ -117,7 +106,7 @@ stopped_text (Some refusal) = refusal_text refusal
 abbrev pub wanted_text : Field → DueLine → List ℕ
 wanted_text field.Line due = line_text due.shown
 wanted_text field.Stopped due = stopped_text due.line.stopped
-wanted_text field.Message due = unwrap_or (option_map received_text due.received) (codes "none")
+wanted_text field.Message due = unwrap_or (option_map value_text (option_map received_value due.received)) (codes "none")
 wanted_text (field.Key k) due = unwrap_or (text_at k due.line) (codes "none")
 
 -- ---- for two texts, how many scalars at the front are equal
@@ -141,23 +130,17 @@ front_of (Some found) None = None
 front_of (Some found) (Some wanted) = Some (same_front found wanted)
 
 abbrev pub told_front : Field → Line → Data → Option ℕ
-told_front field.Line line d = None
-told_front field.Stopped line d = None
-told_front field.Message line d = None
 told_front (field.Key k) line d = front_of (option_map chars (option_and_then as_str (found_at k d))) (letters_at k line)
+told_front _ line d = None
 
 abbrev pub front_at : Field → Line → PortLine → Option ℕ
 front_at f line (Told d) = told_front f line d
-front_at f line (OtherForm bytes) = None
-front_at f line NoText = None
-front_at f line Nothing = None
+front_at f line _ = None
 
 -- whether a line has the operation that an instruction applied
 abbrev pub tells_operation : PortLine → Bool
 tells_operation (Told d) = tells key.Edit d || (tells key.Applied d || tells key.Appended d)
-tells_operation (OtherForm bytes) = false
-tells_operation NoText = false
-tells_operation Nothing = false
+tells_operation _ = false
 
 -- ---- a difference
 
@@ -183,18 +166,17 @@ pub record IsDifference (due : DueLine) (f : Field) (line : PortLine) (d : Diffe
   pub operation : d.tells_operation ≡ tells_operation line
   pub number : d.number ≡ number_of due.what due.line.stopped due.line.at
 
--- a line agrees with the one that is due, or this is the difference
-abbrev pub IsCompared : DueLine → PortLine → Option Difference → Type 0
-IsCompared due line None = field_of due line ≡ None
-IsCompared due line (Some d) = (f : Field) × (field_of due line ≡ Some f) × IsDifference due f line d
+-- a line differs from the one that is due, and this is the difference
+abbrev pub IsCompared : DueLine → PortLine → Difference → Type 0
+IsCompared due line d = (f : Field) × (field_of due line ≡ Some f) × IsDifference due f line d
 
 -- a line behind the end
 pub record IsLeftOver (last : ℕ) (left : PortLine) (d : Difference) : Type 0 where
   pub place : d.place ≡ last
   pub what : string_bytes d.what ≡ codes "after the end"
   pub name : string_bytes d.name ≡ codes "line"
+  pub found : IsFoundText field.Line left (string_bytes d.found)
   pub field : d.field ≡ field.Line
-  pub found : IsLineText left (string_bytes d.found)
   pub wanted : string_bytes d.wanted ≡ line (codes "nothing")
   pub front : d.front ≡ None
   pub operation : d.tells_operation ≡ false
@@ -208,9 +190,7 @@ IsDifferenceOf (Stopped at refusal) d = ⊥
 
 abbrev pub wanted_row : Field → List ℕ → List ℕ
 wanted_row field.Line text = codes "ot.js " ++ text
-wanted_row field.Stopped text = codes "ot.js " ++ line text
-wanted_row field.Message text = codes "ot.js " ++ line text
-wanted_row (field.Key k) text = codes "ot.js " ++ line text
+wanted_row f text = codes "ot.js " ++ line text
 
 abbrev pub front_rows : Option ℕ → List ℕ
 front_rows None = []
@@ -228,29 +208,15 @@ difference_text d =
 abbrev pub count_text : List ℕ → ℕ → List ℕ
 count_text name n = 32 ∷ (name ++ 32 ∷ decimal n)
 
--- behind a text, in two halves
-abbrev pub first_counts : List ℕ → Counts → List ℕ
-first_counts text c =
-    text
-    ++ count_text (codes "clients") c.clients
-    ++ count_text (codes "present") c.present
-    ++ count_text (codes "start") c.start
-    ++ count_text (codes "do") c.word
-    ++ count_text (codes "client") c.client
-    ++ count_text (codes "edit") c.edit
-    ++ count_text (codes "revision") c.revision
-    ++ count_text (codes "state") c.state
+-- the word of a key that is counted
+abbrev pub count_name : Key → List ℕ
+count_name key.SentOperation = codes "sent"
+count_name k = key_text k
 
-abbrev pub other_counts : List ℕ → Counts → List ℕ
-other_counts text c =
-    text
-    ++ count_text (codes "outstanding") c.outstanding
-    ++ count_text (codes "buffer") c.buffer
-    ++ count_text (codes "sent") c.sent
-    ++ count_text (codes "applied") c.applied
-    ++ count_text (codes "appended") c.appended
-    ++ count_text (codes "document") c.document
-    ++ count_text (codes "end") c.end
+abbrev pub counts_text : List Key → List ℕ → List ℕ
+counts_text [] ns = []
+counts_text (k ∷ ks) [] = []
+counts_text (k ∷ ks) (n ∷ ns) = count_text (count_name k) n ++ counts_text ks ns
 
 -- where no value is counted, the port does not conform
 abbrev pub agreement_head : Bool → List ℕ
@@ -258,4 +224,4 @@ agreement_head true = codes "nothing counted\ncompared"
 agreement_head false = codes "conforms\ncompared"
 
 abbrev pub agreement_text : Counts → List ℕ
-agreement_text c = other_counts (first_counts (agreement_head (is_nothing c)) c) c ++ codes "\n"
+agreement_text c = agreement_head (is_nothing c) ++ (counts_text counted_keys c.values ++ codes "\n")

@@ -9,13 +9,14 @@ use Rattle.ot_model.specs.declared.shown.Refusal.TheVariants.{NoSuchClient, Step
 use Rattle.ot_model.specs.Table.{State, Performed, Refused, NoRow, step}
 use Rattle.ot_model.specs.Runs.{opening_of}
 use Rattle.ot_steps.specs.Lines.{Line}
-use Rattle.ot_steps.specs.Steps.{applies, is_quiet, sends}
+use Rattle.ot_machine.specs.Effects.{sends}
+use Rattle.ot_steps.specs.Steps.{applies, is_quiet}
 use Rattle.ot_conform.specs.Due.{DueLine, What, Opening, Instruction, End, end_due, opening_due, step_due, stop_due}
-use Rattle.ot_conform.specs.Keys.{agrees_at, first_keys, found_at, is_told, other_keys}
+use Rattle.ot_conform.specs.Keys.{agrees, first_keys, found_at, is_told, other_keys}
 use Rattle.ot_conform.specs.Passed.{passes}
-use Rattle.ot_conform.specs.Ports.{PortLine, Told, OtherForm, NoText, Nothing, is_opening_line}
+use Rattle.ot_conform.specs.Ports.{PortLine, Told, Nothing, is_opening_line}
 use Rattle.ot_conform.specs.Received.{Received, message_agrees, receives}
-use Rattle.ot_steps.specs.Text.{text_at}
+use Rattle.ot_steps.specs.Text.{value_at}
 use Rattle.ot_steps.specs.declared.key.Key.{Key}
 use Rattle.ot_conform.specs.declared.meeting.Field.{Field}
 use Rattle.ot_conform.specs.declared.meeting.Field.TheVariants as field
@@ -25,7 +26,7 @@ use Rattle.ot_conform.specs.declared.meeting.Field.TheVariants as field
 -- of these keys the first whose printed value does not agree
 unfoldable pub first_key : List Key → Line → Data → Option Key
 first_key [] line d = None
-first_key (k ∷ ks) line d = if agrees_at k (text_at k line) (found_at k d) then first_key ks line d else Some k
+first_key (k ∷ ks) line d = if agrees (value_at k line) (found_at k d) then first_key ks line d else Some k
 
 abbrev pub field_of_key : Option Key → Option Field
 field_of_key None = None
@@ -67,9 +68,7 @@ told_field due d =
 -- where a port's line differs from the one that is due, if it does
 abbrev pub field_of : DueLine → PortLine → Option Field
 field_of due (Told d) = told_field due d
-field_of due (OtherForm bytes) = Some field.Line
-field_of due NoText = Some field.Line
-field_of due Nothing = Some field.Line
+field_of due line = Some field.Line
 
 -- ---- all lines
 

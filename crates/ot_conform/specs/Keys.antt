@@ -1,10 +1,10 @@
--- What a port's line says under a key, and when that agrees with a text.
+-- What a port's line says under a key, and when that agrees with what the run has.
 use Rattle.std.specs.Prelude.{ℕ, List, [], ◌∷◌, Bool, true, false, not, ◌&&◌, Option, Some, None, codes, is_some, option_and_then, if◌then◌else◌}
 use Rattle.std.specs.Str.{bytes_eq}
 use Rattle.serde_json.specs.Data.{Data, null, boolean, number, string, array, object, Items, no_items, item}
 use Rattle.serde_json.specs.Find.{as_null, as_object, get, is_float}
 use Rattle.serde_json.specs.Written.{compact_text}
-use Rattle.ot_steps.specs.Text.{key_text}
+use Rattle.ot_steps.specs.Text.{Value, Sent, key_text, value_text}
 use Rattle.ot_steps.specs.declared.key.Key.{Key}
 use Rattle.ot_steps.specs.declared.key.Key.TheVariants as key
 
@@ -72,17 +72,13 @@ is_plain (object ms) = false
 abbrev pub is_written : List ℕ → Data → Bool
 is_written text d = is_plain d && bytes_eq (compact_text d) text
 
--- a message is compared by its parts
-abbrev pub is_message : Key → Bool
-is_message key.Sent = true
+abbrev pub is_message : Value → Bool
+is_message (Sent m) = true
 is_message _ = false
 
--- a printed value against the text of what the run has there, if it has something
-abbrev pub agrees : Key → Option (List ℕ) → Data → Bool
-agrees k None d = is_null d
-agrees k (Some text) d = if is_message k then is_some (as_object d) else is_written text d
-
--- what is not printed is not compared
-abbrev pub agrees_at : Key → Option (List ℕ) → Option Data → Bool
-agrees_at k wanted None = true
-agrees_at k wanted (Some d) = agrees k wanted d
+-- what a port prints against what the run has, if it has something. What is not printed is not compared; `null` says that there is nothing; a
+-- message is an object, and its parts are compared by themselves
+abbrev pub agrees : Option Value → Option Data → Bool
+agrees wanted None = true
+agrees None (Some d) = is_null d
+agrees (Some v) (Some d) = if is_message v then is_some (as_object d) else is_written (value_text v) d

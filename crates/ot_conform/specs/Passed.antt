@@ -6,7 +6,7 @@ use Rattle.ot_json.specs.Fields.{number_at}
 use Rattle.ot_model.specs.declared.shown.Refusal.{Refusal}
 use Rattle.ot_conform.specs.Due.{DueLine, What, Opening, Instruction, End}
 use Rattle.ot_conform.specs.Keys.{is_told}
-use Rattle.ot_conform.specs.Ports.{PortLine, Told, OtherForm, NoText, Nothing}
+use Rattle.ot_conform.specs.Ports.{PortLine, Told}
 
 -- whether a place that is given lies behind one, or is that one and something else holds too
 abbrev pub is_past : ℕ → Option ℕ → Bool → Bool
@@ -28,16 +28,12 @@ is_end d = is_told (get (codes "end") d)
 -- or `end`
 abbrev pub passes_step : ℕ → PortLine → Bool
 passes_step at (Told d) = is_past at (number_at (codes "at") d) (is_stop d || is_end d)
-passes_step at (OtherForm bytes) = false
-passes_step at NoText = false
-passes_step at Nothing = false
+passes_step at _ = false
 
 -- that of an instruction that is refused at a place, by a line of this place that says `end`
 abbrev pub passes_stop : ℕ → PortLine → Bool
 passes_stop at (Told d) = is_at at (number_at (codes "at") d) && is_end d
-passes_stop at (OtherForm bytes) = false
-passes_stop at NoText = false
-passes_stop at Nothing = false
+passes_stop at _ = false
 
 -- the opening's line and the end's are not passed over
 abbrev pub passes_what : What → Option Refusal → ℕ → PortLine → Bool

@@ -24,17 +24,16 @@ begins_plain (c ∷ cs) = nat_le 32 c && nat_le c 126
 abbrev pub points_row : List ℕ → List ℕ → List ℕ
 points_row found wanted = codes "points" ++ (points_text found ++ (codes " |" ++ (points_text wanted ++ codes "\n")))
 
--- where one of them begins with another character
-abbrev pub points_unless_plain : List ℕ → List ℕ → List ℕ
-points_unless_plain found wanted = if begins_plain found && begins_plain wanted then [] else points_row found wanted
-
 -- from a place on, four at most
 abbrev pub four_from : ℕ → List ℕ → List ℕ
 four_from place text = take 4 (drop place text)
 
--- of both texts from where they first differ
+-- of both texts from where they first differ, where one of them has another character there
+abbrev pub points_from : List ℕ → List ℕ → List ℕ
+points_from found wanted = if begins_plain found && begins_plain wanted then [] else points_row found wanted
+
 abbrev pub points_rows : List ℕ → List ℕ → List ℕ
-points_rows found wanted = points_unless_plain (four_from (same_front found wanted) found) (four_from (same_front found wanted) wanted)
+points_rows found wanted = points_from (four_from (same_front found wanted) found) (four_from (same_front found wanted) wanted)
 
 -- of both values as they are printed
 abbrev pub difference_points : Difference → List ℕ

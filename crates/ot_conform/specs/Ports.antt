@@ -44,15 +44,11 @@ is_opening d =
 
 abbrev pub is_opening_line : PortLine → Bool
 is_opening_line (Told d) = is_opening d
-is_opening_line (OtherForm bytes) = false
-is_opening_line NoText = false
-is_opening_line Nothing = false
+is_opening_line _ = false
 
 abbrev pub is_nothing : PortLine → Bool
-is_nothing (Told d) = false
-is_nothing (OtherForm bytes) = false
-is_nothing NoText = false
 is_nothing Nothing = true
+is_nothing _ = false
 
 -- a line, and those behind it; where there is none, nothing
 abbrev pub front : PortLine → List PortLine → List PortLine

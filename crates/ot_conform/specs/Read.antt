@@ -15,4 +15,4 @@ read_as Nothing = ports.Nothing
 -- a line to compare
 abbrev pub given_as : Given → ports.PortLine
 given_as (Bytes bytes) = ports.port_line bytes.now
-given_as (Read line) = read_as line.now
+given_as (Read line) = read_as line

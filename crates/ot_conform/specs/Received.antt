@@ -1,17 +1,18 @@
 -- The message that an instruction receives, and when what a port prints of it agrees.
-use Rattle.std.specs.Prelude.{◌≡◌, ℕ, List, Bool, true, ◌&&◌, Option, Some, None, codes, decimal, is_some, option_map, slice_get}
+use Rattle.std.specs.Prelude.{◌≡◌, ℕ, Bool, true, ◌&&◌, Option, Some, None, codes, option_map, slice_get}
 use Rattle.serde_json.specs.Data.{Data}
-use Rattle.serde_json.specs.Find.{as_object, get}
+use Rattle.serde_json.specs.Find.{get}
 use Rattle.ot_client.specs.Client.{message_of}
 use Rattle.ot_isa.specs.declared.instruction.Instr.{Instr}
 use Rattle.ot_isa.specs.declared.instruction.Instr.TheVariants.{Edit, Take, Deliver, Acknowledge, Join, Read, ReadServer}
-use Rattle.ot_json.specs.Writing.{text_of_operation}
 use Rattle.ot_model.specs.Operation.{Operation}
-use Rattle.ot_model.specs.Table.{Entry, Head, Ack, Op, State, downlink}
+use Rattle.ot_model.specs.Table as table
+use Rattle.ot_model.specs.Table.{Entry, Head, Ack, State, downlink}
 use Rattle.ot_steps.specs.Lines.{Message, plain_message, plain_operation}
-use Rattle.ot_steps.specs.Steps.{client_in, message_in}
-use Rattle.ot_steps.specs.Text.{message_text}
-use Rattle.ot_conform.specs.Keys.{is_null, is_written}
+use Rattle.ot_machine.specs.Effects.{client_in}
+use Rattle.ot_steps.specs.Steps.{message_in}
+use Rattle.ot_steps.specs.Text.{Value, Number, Op, Sent}
+use Rattle.ot_conform.specs.Keys.{agrees}
 use Rattle.ot_conform.specs.declared.received.Received as held
 use Rattle.ot_conform.specs.declared.received.Received.TheVariants as holds
 
@@ -24,7 +25,7 @@ pub data Received : Type 0 where
 abbrev pub delivered_head : Option Head → Option Received
 delivered_head None = None
 delivered_head (Some Ack) = None
-delivered_head (Some (Op op)) = Some (Delivered (plain_operation op))
+delivered_head (Some (table.Op op)) = Some (Delivered (plain_operation op))
 
 -- what an instruction receives in the state s, before it is performed: a take the message on the client's link to the server, a deliver
 -- the operation at the head of the client's downlink. With an acknowledgement ot.js hands nothing over
@@ -49,30 +50,21 @@ IsHeld i s holds.Nothing = receives i s ≡ None
 IsHeld i s (holds.Taken message) = receives i s ≡ Some (Taken (plain_message (message_of message)))
 IsHeld i s (holds.Delivered number) = (c : ℕ) × (i ≡ Deliver c) × (receives i s ≡ received_in s (holds.Delivered number))
 
-abbrev pub received_text : Received → List ℕ
-received_text (Taken m) = message_text m
-received_text (Delivered op) = text_of_operation op
+-- as a value of a line
+abbrev pub received_value : Received → Value
+received_value (Taken m) = Sent m
+received_value (Delivered op) = Op op
 
 -- ---- what a port prints under `message`
 
--- a part that is printed is written so
-abbrev pub written_if : List ℕ → Option Data → Bool
-written_if text None = true
-written_if text (Some d) = is_written text d
+-- of what a client sent its revision and its operation are compared, where they are printed
+abbrev pub parts_agree : Option Value → Option Data → Bool
+parts_agree wanted None = true
+parts_agree (Some (Sent m)) (Some d) = agrees (Some (Number m.revision)) (get (codes "revision") d) && agrees (Some (Op m.operation)) (get (codes "operation") d)
+parts_agree wanted (Some d) = true
 
--- of what a client sent its revision and its operation are compared
-abbrev pub is_received : Received → Data → Bool
-is_received (Taken m) d =
-    is_some (as_object d)
-    && (written_if (decimal m.revision) (get (codes "revision") d) && written_if (text_of_operation m.operation) (get (codes "operation") d))
-is_received (Delivered op) d = is_written (text_of_operation op) d
+abbrev pub value_agrees : Option Value → Option Data → Bool
+value_agrees wanted found = agrees wanted found && parts_agree wanted found
 
--- `null` says that nothing is received
-abbrev pub received_agrees : Option Received → Data → Bool
-received_agrees None d = is_null d
-received_agrees (Some received) d = is_received received d
-
--- what is not printed is not compared
 abbrev pub message_agrees : Option Received → Option Data → Bool
-message_agrees received None = true
-message_agrees received (Some d) = received_agrees received d
+message_agrees received found = value_agrees (option_map received_value received) found

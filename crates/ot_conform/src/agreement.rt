@@ -2,10 +2,10 @@
 
 ghost use Rattle.std.specs.Prelude.{◌≡◌, IfOk, option_map, string_bytes};
 ghost use Rattle.serde_json.specs.View.{items_view, view};
-ghost use Rattle.ot_conform.specs.Keys.{agrees, agrees_at, are_plain, is_plain, is_plain_item, is_written};
+ghost use Rattle.ot_steps.specs.Held.{value_of};
+ghost use Rattle.ot_conform.specs.Keys.{agrees, are_plain, is_message, is_plain, is_plain_item, is_written};
 
-use crate::keys::is_message;
-use ot_steps::Key;
+use ot_steps::Value as LineValue;
 use serde_json::Value;
 use std::alloc::{AllocError, Global};
 
@@ -28,7 +28,7 @@ fn are_plain(values: &[Value]) -> bool
     true
 }
 
-/// A text, a number without point and exponent, or an array of such.
+// A text, a number without point and exponent, or an array of such.
 fn is_plain(value: &Value) -> bool
     ensures { result ≡ is_plain (view value.now) }
 {
@@ -38,8 +38,8 @@ fn is_plain(value: &Value) -> bool
     }
 }
 
-/// Whether the value is written so, without blanks; out of memory for writing it down.
-pub(crate) fn is_written(alloc: Global, value: &Value, text: &str) -> Result<bool, AllocError>
+// Whether the value is written so, without blanks; out of memory for writing it down.
+fn is_written(alloc: Global, value: &Value, text: &str) -> Result<bool, AllocError>
     ensures { IfOk result (λ is. is ≡ is_written text.now (view value.now)) }
 {
     if !is_plain(value) {
@@ -49,18 +49,31 @@ pub(crate) fn is_written(alloc: Global, value: &Value, text: &str) -> Result<boo
     Ok(written.as_str() == text)
 }
 
-/// Whether a printed value agrees with the text of what the run has there, if it has something; out of memory for writing it down.
+// Whether it is a message.
+fn is_message(value: LineValue<'_>) -> bool
+    ensures { result ≡ is_message (value_of value.entry) }
+{
+    matches!(value, LineValue::Message(_))
+}
+
+/// Whether what is printed, if it is, agrees with what the run has there, if it has something; `null` says that there is nothing, and a
+/// message is an object. Out of memory for writing both down.
 pub(crate) fn agrees(
     alloc: Global,
-    value: &Value,
-    key: Key,
-    wanted: Option<&str>,
+    found: Option<&Value>,
+    wanted: Option<LineValue<'_>>,
 ) -> Result<bool, AllocError>
-    ensures { IfOk result (λ does. does ≡ agrees key (option_map (λ t. t.now) wanted.entry) (view value.now)) }
+    ensures { IfOk result (λ does. does ≡ agrees (option_map value_of wanted.entry) (option_map (λ v. view v.now) found.entry)) }
 {
+    let Some(found) = found else {
+        return Ok(true);
+    };
     match wanted {
-        None => Ok(value.is_null()),
-        Some(_) if is_message(key) => Ok(value.is_object()),
-        Some(text) => is_written(alloc, value, text),
+        None => Ok(found.is_null()),
+        Some(value) if is_message(value) => Ok(found.is_object()),
+        Some(value) => {
+            let text = value.text(alloc)?;
+            is_written(alloc, found, text.as_str())
+        }
     }
 }

@@ -1,22 +1,23 @@
 //! The first difference, in words.
 
-ghost use Rattle.std.specs.Prelude.{◌≡◌, IfOk, option_and_then, option_map, string_bytes};
+ghost use Rattle.std.specs.Prelude.{◌≡◌, IfOk, codes, option_and_then, option_map, string_bytes, unwrap_or};
 ghost use Rattle.std.specs.Str.{chars};
 ghost use Rattle.serde_json.specs.Find.{as_str};
 ghost use Rattle.serde_json.specs.View.{view};
-ghost use Rattle.ot_conform.specs.Answers.{IsDifference, IsFoundText, IsJson, IsLeftOver, IsLineText, IsToldText, IsValueText, field_text, front_at, instr_text, is_theirs, key_name, message_name, owned, same_front, tells_operation, told_front, wanted_text, what_text, with_owner};
+ghost use Rattle.ot_conform.specs.Answers.{IsDifference, IsFoundText, IsLeftOver, IsToldText, IsValueText, field_name, field_text, front_at, instr_text, is_theirs, same_front, tells_operation, told_front, wanted_text, what_text, with_owner};
 ghost use Rattle.json.specs.Print.{quoted};
-ghost use Rattle.ot_steps.specs.Held.{IsHeld};
-ghost use Rattle.ot_conform.specs.Due.{Instruction, due_of};
+ghost use Rattle.ot_steps.specs.Held.{IsHeld, value_of};
+ghost use Rattle.ot_steps.specs.Text.{value_text};
+ghost use Rattle.ot_conform.specs.Due.{due_of, what_of};
 ghost use Rattle.ot_conform.specs.Keys.{found_at};
 ghost use Rattle.ot_conform.specs.Read.{read_as};
 
 use crate::due::Due;
-use crate::keys::{found, is_part, tells};
+use crate::keys::{found, tells};
 use crate::lines::PortLine;
 use crate::meeting::Field;
 use ot_isa::Instr;
-use ot_steps::{Key, Line, key_text, placed_client, word};
+use ot_steps::{Key, Line, Value as LineValue, key_text, placed_client, word};
 use ot_values::refusal_name;
 use serde_json::Value;
 use std::alloc::{AllocError, Global};
@@ -55,10 +56,10 @@ fn instr_text(alloc: Global, instr: &Instr) -> Result<String, AllocError>
 }
 
 // Whose line was due.
-fn what_text(alloc: Global, due: &Due<'_>) -> Result<String, AllocError>
-    ensures { IfOk result (λ s. string_bytes s ≡ what_text (due_of due.now).what) }
+fn what_text(alloc: Global, line: &Line<'_>) -> Result<String, AllocError>
+    ensures { IfOk result (λ s. string_bytes s ≡ what_text (what_of line.now)) }
 {
-    match due.line {
+    match line {
         Line::Opening(_) => String::from_str(alloc, "opening"),
         Line::Step(step) => instr_text(alloc, step.instr),
         Line::Stop(stop) => instr_text(alloc, stop.instr),
@@ -66,26 +67,31 @@ fn what_text(alloc: Global, due: &Due<'_>) -> Result<String, AllocError>
     }
 }
 
-// Whether it is a value of the one that moved or was read.
-fn is_theirs(key: Key) -> bool
-    ensures { result ≡ is_theirs key }
+// Whether it is the message, or a value of the one that moved or was read.
+fn is_theirs(field: Field) -> bool
+    ensures { result ≡ is_theirs field }
 {
-    match key {
-        Key::Revision | Key::State | Key::Outstanding | Key::Buffer | Key::Document => true,
-        Key::Sent | Key::SentRevision | Key::SentOperation => true,
+    match field {
+        Field::Message => true,
+        Field::Key(Key::Revision | Key::State | Key::Outstanding | Key::Buffer) => true,
+        Field::Key(Key::Sent | Key::SentRevision | Key::SentOperation) => true,
+        Field::Key(Key::Document) => true,
         _ => false,
     }
 }
 
-// A key by its name; a message's part has two words.
-fn key_name(alloc: Global, key: Key) -> Result<String, AllocError>
-    ensures { IfOk result (λ s. string_bytes s ≡ key_name key) }
+// The field's name; a message's part has two words.
+fn field_name(field: Field) -> &'static str
+    ensures { result.now ≡ field_name field }
 {
-    let name = key_text(key);
-    if is_part(key) {
-        return format!(in alloc; "sent {name}");
+    match field {
+        Field::Line => "line",
+        Field::Stopped => "stopped",
+        Field::Message => "message",
+        Field::Key(Key::SentRevision) => "sent revision",
+        Field::Key(Key::SentOperation) => "sent operation",
+        Field::Key(key) => key_text(key),
     }
-    String::from_str(alloc, name)
 }
 
 // A name, with whose value it is.
@@ -98,60 +104,24 @@ fn with_owner(alloc: Global, owner: Option<u16>, name: &str) -> Result<String, A
     }
 }
 
-// A key of an instruction's line, with whose value it is.
-fn owned(alloc: Global, instr: &Instr, key: Key) -> Result<String, AllocError>
-    ensures { IfOk result (λ s. string_bytes s ≡ owned (Instruction instr.now) key) }
+// The field's name, at an instruction with whose value it is.
+fn field_text(alloc: Global, line: &Line<'_>, field: Field) -> Result<String, AllocError>
+    ensures { IfOk result (λ s. string_bytes s ≡ field_text (what_of line.now) field) }
 {
-    let name = key_name(alloc, key)?;
-    if !is_theirs(key) {
-        return Ok(name);
-    }
-    with_owner(alloc, placed_client(instr), name.as_str())
-}
-
-// The message, with whose instruction it is.
-fn message_name(alloc: Global, due: &Due<'_>) -> Result<String, AllocError>
-    ensures { IfOk result (λ s. string_bytes s ≡ message_name (due_of due.now).what) }
-{
-    match due.line {
-        Line::Step(step) => with_owner(alloc, placed_client(step.instr), "message"),
-        Line::Stop(stop) => with_owner(alloc, placed_client(stop.instr), "message"),
-        Line::Opening(_) => String::from_str(alloc, "message"),
-        Line::End { .. } => String::from_str(alloc, "message"),
+    let name = field_name(field);
+    match line {
+        Line::Step(step) if is_theirs(field) => with_owner(alloc, placed_client(step.instr), name),
+        Line::Stop(stop) if is_theirs(field) => with_owner(alloc, placed_client(stop.instr), name),
+        _ => String::from_str(alloc, name),
     }
 }
 
-// The field's name.
-fn field_text(alloc: Global, due: &Due<'_>, field: Field) -> Result<String, AllocError>
-    ensures { IfOk result (λ s. string_bytes s ≡ field_text (due_of due.now).what field) }
-{
-    let key = match field {
-        Field::Line => return String::from_str(alloc, "line"),
-        Field::Stopped => return String::from_str(alloc, "stopped"),
-        Field::Message => return message_name(alloc, due),
-        Field::Key(key) => key,
-    };
-    match due.line {
-        Line::Opening(_) => key_name(alloc, key),
-        Line::Step(step) => owned(alloc, step.instr, key),
-        Line::Stop(stop) => owned(alloc, stop.instr, key),
-        Line::End { .. } => key_name(alloc, key),
-    }
-}
-
-// A value as compact JSON.
-fn json_text(alloc: Global, value: &Value) -> Result<String, AllocError>
-    ensures { IfOk result (λ s. IsJson (view value.now) (string_bytes s)) }
-{
-    value.to_string(alloc)
-}
-
-// A value, or the word for none.
-fn value_text(alloc: Global, none: &str, value: Option<&Value>) -> Result<String, AllocError>
+// A printed value as compact JSON, or the word for none.
+fn found_value(alloc: Global, none: &str, value: Option<&Value>) -> Result<String, AllocError>
     ensures { IfOk result (λ s. IsValueText none.now (option_map (λ v. view v.now) value.entry) (string_bytes s)) }
 {
     match value {
-        Some(value) if !value.is_null() => json_text(alloc, value),
+        Some(value) if !value.is_null() => value.to_string(alloc),
         _ => String::from_str(alloc, none),
     }
 }
@@ -161,10 +131,10 @@ fn told_text(alloc: Global, line: &Value, field: Field) -> Result<String, AllocE
     ensures { IfOk result (λ s. IsToldText field (view line.now) (string_bytes s)) }
 {
     match field {
-        Field::Line => json_text(alloc, line),
-        Field::Stopped => value_text(alloc, "performed", line.get("stopped")),
-        Field::Message => value_text(alloc, "none", line.get("message")),
-        Field::Key(key) => value_text(alloc, "none", found(line, key)),
+        Field::Line => line.to_string(alloc),
+        Field::Stopped => found_value(alloc, "performed", line.get("stopped")),
+        Field::Message => found_value(alloc, "none", line.get("message")),
+        Field::Key(key) => found_value(alloc, "none", found(line, key)),
     }
 }
 
@@ -188,15 +158,13 @@ fn found_text(alloc: Global, line: &PortLine<'_>, field: Field) -> Result<String
     }
 }
 
-// A port's line as a whole.
-fn line_text(alloc: Global, line: &PortLine<'_>) -> Result<String, AllocError>
-    ensures { IfOk result (λ s. IsLineText (read_as line.now) (string_bytes s)) }
+// What the run has, or the word for none.
+fn wanted_value(alloc: Global, value: Option<LineValue<'_>>) -> Result<String, AllocError>
+    ensures { IfOk result (λ s. string_bytes s ≡ unwrap_or (option_map value_text (option_map value_of value.entry)) (codes "none")) }
 {
-    match line {
-        PortLine::Told(value) => json_text(alloc, value),
-        PortLine::OtherForm(text) => quoted(alloc, text),
-        PortLine::NoText => String::from_str(alloc, "no UTF-8"),
-        PortLine::Nothing => String::from_str(alloc, "nothing"),
+    match value {
+        Some(value) => value.text(alloc),
+        None => String::from_str(alloc, "none"),
     }
 }
 
@@ -211,14 +179,8 @@ fn wanted_text(alloc: Global, due: &Due<'_>, field: Field) -> Result<String, All
             Some(refusal) => String::from_str(alloc, refusal_name(refusal)),
             None => String::from_str(alloc, "performed"),
         },
-        Field::Message => match due.message(alloc)? {
-            Some(text) => Ok(text),
-            None => String::from_str(alloc, "none"),
-        },
-        Field::Key(key) => match due.text(alloc, key)? {
-            Some(text) => Ok(text),
-            None => String::from_str(alloc, "none"),
-        },
+        Field::Message => wanted_value(alloc, due.message()),
+        Field::Key(key) => wanted_value(alloc, due.line.value(key)),
     }
 }
 
@@ -309,19 +271,14 @@ pub fn differs(
     requires { IsHeld due.now.line }
     ensures { IfOk result (λ d. IsDifference (due_of due.now) field (read_as line.now) d) }
 {
-    let what = what_text(alloc, due)?;
-    let name = field_text(alloc, due, field)?;
-    let found = found_text(alloc, line, field)?;
-    let wanted = wanted_text(alloc, due, field)?;
-    let front = front(alloc, line, due, field)?;
     Ok(Difference {
         place: due.line.place(),
-        what,
-        name,
+        what: what_text(alloc, &due.line)?,
+        name: field_text(alloc, &due.line, field)?,
         field,
-        found,
-        wanted,
-        front,
+        found: found_text(alloc, line, field)?,
+        wanted: wanted_text(alloc, due, field)?,
+        front: front(alloc, line, due, field)?,
         tells_operation: tells_operation(line),
         number: due.number(),
     })
@@ -331,17 +288,13 @@ pub fn differs(
 pub fn left_over(alloc: Global, place: usize, line: &PortLine<'_>) -> Result<Difference, AllocError>
     ensures { IfOk result (λ d. IsLeftOver place (read_as line.now) d) }
 {
-    let what = String::from_str(alloc, "after the end")?;
-    let name = String::from_str(alloc, "line")?;
-    let found = line_text(alloc, line)?;
-    let wanted = String::from_str(alloc, "nothing\n")?;
     Ok(Difference {
         place,
-        what,
-        name,
+        what: String::from_str(alloc, "after the end")?,
+        name: String::from_str(alloc, "line")?,
         field: Field::Line,
-        found,
-        wanted,
+        found: found_text(alloc, line, Field::Line)?,
+        wanted: String::from_str(alloc, "nothing\n")?,
         front: None,
         tells_operation: false,
         number: None,

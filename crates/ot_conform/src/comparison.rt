@@ -6,7 +6,6 @@ ghost use Rattle.ot_conform.specs.Alike.{IsJudged, StandsFor};
 ghost use Rattle.ot_conform.specs.Counted.{with_port_line};
 ghost use Rattle.ot_conform.specs.Differences.{is_limit};
 ghost use Rattle.ot_conform.specs.Due.{due_of};
-ghost use Rattle.ot_conform.specs.Ports.{is_nothing};
 ghost use Rattle.ot_conform.specs.Read.{given_as, read_as};
 
 use crate::answers::{Difference, differs, left_over};
@@ -19,7 +18,7 @@ use crate::received::Received;
 use crate::same_bytes::printed_form;
 use ot_isa::{Instr, Schedule};
 use ot_machine::{Machine, Refusal};
-use ot_steps::{Line, Stop, perform, sends};
+use ot_steps::{Line, Stop};
 use std::alloc::{AllocError, Global};
 
 /// Which line is due.
@@ -67,80 +66,54 @@ fn counted(counts: Counts, line: &PortLine<'_>) -> Counts
     }
 }
 
-// The counts with what a line says, where it agrees with the one that is due; else where it differs, in words.
-fn compare(
+// Compares a line with the one that is due, and counts what it says where it agrees; else this is where it differs, in words.
+fn judge(
     alloc: Global,
-    counts: Counts,
+    counts: &mut Counts,
     line: &PortLine<'_>,
     due: &Due<'_>,
-) -> Result<Result<Counts, Difference>, AllocError>
+) -> Result<Option<Verdict>, AllocError>
     requires { IsHeld due.now.line }
-    ensures { IfOk result (λ judged. IsJudged counts (due_of due.now) (read_as line.now) judged) }
+    ensures { IfOk result (IsJudged counts.old counts.new (due_of due.now) (read_as line.now)) }
 {
     match meet(alloc, line, due)? {
-        Some(field) => Ok(Err(differs(alloc, line, due, field)?)),
-        None => Ok(Ok(counted(counts, line))),
-    }
-}
-
-// The same of a line that may not have been read yet.
-fn compare_given(
-    alloc: Global,
-    counts: Counts,
-    line: Given<'_, '_>,
-    due: &Due<'_>,
-) -> Result<Result<Counts, Difference>, AllocError>
-    requires { IsHeld due.now.line }
-    ensures { IfOk result (λ judged. IsJudged counts (due_of due.now) (given_as line.entry) judged) }
-{
-    match line {
-        Given::Bytes(bytes) => {
-            let line = read_line(alloc, bytes)?;
-            compare(alloc, counts, &line, due)
+        Some(field) => Ok(Some(Verdict::Differs(differs(alloc, line, due, field)?))),
+        None => {
+            *counts = counted(*counts, line);
+            Ok(None)
         }
-        Given::Read(line) => compare(alloc, counts, line, due),
     }
 }
 
 // The same against the line of an instruction that was performed. Bytes that `steps` prints are not read.
-fn compare_step(
+fn judge_given(
     alloc: Global,
-    counts: Counts,
-    line: Given<'_, '_>,
+    counts: &mut Counts,
+    line: Given<'_>,
     due: &Due<'_>,
-) -> Result<Result<Counts, Difference>, AllocError>
+) -> Result<Option<Verdict>, AllocError>
     requires there { IsHeld due.now.line }
     requires printed { (documents : Bool) → StandsFor (due_of due.now) (printed_of documents due.now.line) }
-    ensures { IfOk result (λ judged. IsJudged counts (due_of due.now) (given_as line.entry) judged) }
+    ensures { IfOk result (IsJudged counts.old counts.new (due_of due.now) (given_as line.entry)) }
 {
-    if let Given::Bytes(bytes) = line {
+    if let Given::Bytes(bytes) = &line {
         if let Some(documents) = printed_form(alloc, &due.line, bytes) {
-            return Ok(Ok(counts.with_printed(&due.line, documents)));
+            *counts = counts.with_printed(&due.line, documents);
+            return Ok(None);
         }
     }
-    compare_given(alloc, counts, line, due)
-}
-
-// Whether the port has no line.
-fn is_nothing(line: &PortLine<'_>) -> bool
-    ensures { result ≡ is_nothing (read_as line.now) }
-{
-    match line {
-        PortLine::Nothing => true,
-        _ => false,
-    }
+    let line = line.read(alloc)?;
+    judge(alloc, counts, &line, due)
 }
 
 // Whether the bench alone has the limit.
 fn is_limit(refusal: Refusal) -> bool
     ensures { result ≡ is_limit refusal }
 {
-    match refusal {
-        Refusal::StepsFull => true,
-        Refusal::ClientFull => true,
-        Refusal::Memory => true,
-        _ => false,
-    }
+    matches!(
+        refusal,
+        Refusal::StepsFull | Refusal::ClientFull | Refusal::Memory
+    )
 }
 
 impl Comparison {
@@ -190,21 +163,7 @@ impl Comparison {
     fn needs_none(&self, line: &PortLine<'_>) -> bool
         ensures { result ≡ (self.now.sparse && is_nothing (read_as line.now)) }
     {
-        self.sparse && is_nothing(line)
-    }
-
-    // Keeps the counts of a line that agrees.
-    fn settle(&mut self, judged: Result<Counts, Difference>) -> Option<Verdict>
-        ensures none { result ≡ None → (counts : Counts) × (judged ≡ Ok counts) × (self.new ≡ record self.old { counts = counts }) }
-        ensures some { IfSome result (λ v. (d : Difference) × (judged ≡ Err d) × (v ≡ Verdict.Differs d)) }
-    {
-        match judged {
-            Err(difference) => Some(Verdict::Differs(difference)),
-            Ok(counts) => {
-                self.counts = counts;
-                None
-            }
-        }
+        self.sparse && matches!(line, PortLine::Nothing)
     }
 
     // The line against the opening's.
@@ -221,12 +180,11 @@ impl Comparison {
         ensures decided { IfOk result (λ v. IfSome v (λ verdict. (lines : List Printed) → IsVerdict self.old (read_as line.now) (rest schedule.now self.old (front (read_as line.now) lines)) verdict)) }
     {
         self.stage = Stage::Running;
-        let opening = Due {
+        let due = Due {
             line: Line::Opening(schedule),
             received: &Received::Nothing,
         };
-        let judged = compare(alloc, self.counts, line, &opening)?;
-        Ok(self.settle(judged))
+        judge(alloc, &mut self.counts, line, &due)
     }
 
     // The line against the end's.
@@ -243,72 +201,23 @@ impl Comparison {
             return Ok(Some(Verdict::Conforms(self.counts)));
         }
         self.stage = Stage::Over;
-        let end = Due {
-            line: Line::End {
-                at: self.place,
-                quiet: self.machine.is_quiet(),
-            },
-            received: &Received::Nothing,
-        };
-        let judged = compare(alloc, self.counts, line, &end)?;
-        Ok(self.settle(judged))
-    }
-
-    // The line against that of an instruction that was not performed, which it does not pass over.
-    fn take_stop(
-        &mut self,
-        alloc: Global,
-        instr: &Instr,
-        refusal: Refusal,
-        line: &PortLine<'_>,
-    ) -> Result<Option<Verdict>, AllocError>
-        requires there { read_as line.now ≡ Nothing → self.old.sparse ≡ false }
-        requires kept { passes self.old.sparse (stop_due self.old.place instr.now refusal) (read_as line.now) ≡ false }
-        ensures goes { IfOk result (λ v. v ≡ None → AgreesAt (stop_due self.old.place instr.now refusal) Stage.Ending self.old (read_as line.now) self.new) }
-        ensures decided { IfOk result (λ v. IfSome v (λ verdict. (lines : List Printed) → IsVerdict self.old (read_as line.now) (over self.old.sparse self.old.place (Wanted (stop_due self.old.place instr.now refusal) ∷ ending self.old.place self.old.machine) (front (read_as line.now) lines)) verdict)) }
-        ensures nothing { IfOk result (λ v. read_as line.now ≡ Nothing → IsSome v) }
-    {
-        self.stage = Stage::Ending;
-        let stop = Stop {
-            at: self.place,
-            instr,
-            refusal,
-        };
+        let at = self.place;
+        let quiet = self.machine.is_quiet();
         let due = Due {
-            line: Line::Stop(stop),
+            line: Line::End { at, quiet },
             received: &Received::Nothing,
         };
-        let judged = compare(alloc, self.counts, line, &due)?;
-        Ok(self.settle(judged))
+        judge(alloc, &mut self.counts, line, &due)
     }
 
-    // The line against that of an instruction that was not performed, or the end's where it passes over that.
-    fn take_last(
-        &mut self,
-        alloc: Global,
-        instr: &Instr,
-        refusal: Refusal,
-        line: &PortLine<'_>,
-    ) -> Result<Option<Verdict>, AllocError>
-        requires there { read_as line.now ≡ Nothing → self.old.sparse ≡ false }
-        ensures goes { IfOk result (λ v. v ≡ None → EndsAt self.old instr.now refusal (read_as line.now) self.new) }
-        ensures decided { IfOk result (λ v. IfSome v (λ verdict. (lines : List Printed) → IsVerdict self.old (read_as line.now) (over self.old.sparse self.old.place (Wanted (stop_due self.old.place instr.now refusal) ∷ ending self.old.place self.old.machine) (front (read_as line.now) lines)) verdict)) }
-        ensures nothing { IfOk result (λ v. read_as line.now ≡ Nothing → IsSome v) }
-    {
-        if self.passes_refused(line) {
-            return self.take_end(alloc, line);
-        }
-        self.take_stop(alloc, instr, refusal, line)
-    }
-
-    // The line where the instruction at the place was not performed.
+    // The line against that of the instruction at the place, which was not performed, or the end's where it passes over that.
     fn take_refused(
         &mut self,
         alloc: Global,
         schedule: &Schedule,
         instr: &Instr,
         refusal: Refusal,
-        line: Given<'_, '_>,
+        line: Given<'_>,
     ) -> Result<Option<Verdict>, AllocError>
         requires standing { IsStanding schedule.now (record self.old { stage = Stage.Running }) }
         requires here { slice_get schedule.now.instrs self.old.place ≡ Some instr.now }
@@ -324,13 +233,17 @@ impl Comparison {
                 refusal,
             }));
         }
-        match line {
-            Given::Bytes(bytes) => {
-                let line = read_line(alloc, bytes)?;
-                self.take_last(alloc, instr, refusal, &line)
-            }
-            Given::Read(line) => self.take_last(alloc, instr, refusal, line),
+        let line = line.read(alloc)?;
+        if self.passes_refused(&line) {
+            return self.take_end(alloc, &line);
         }
+        self.stage = Stage::Ending;
+        let at = self.place;
+        let due = Due {
+            line: Line::Stop(Stop { at, instr, refusal }),
+            received: &Received::Nothing,
+        };
+        judge(alloc, &mut self.counts, &line, &due)
     }
 
     // The line against that of the instruction at the place, which it does not pass over.
@@ -339,7 +252,7 @@ impl Comparison {
         alloc: Global,
         schedule: &Schedule,
         instr: &Instr,
-        line: Given<'_, '_>,
+        line: Given<'_>,
     ) -> Result<Option<Verdict>, AllocError>
         requires standing { IsStanding schedule.now (record self.old { stage = Stage.Running }) }
         requires here { slice_get schedule.now.instrs self.old.place ≡ Some instr.now }
@@ -351,22 +264,20 @@ impl Comparison {
     {
         // For the proof: the invariant of every schedule.
         let _clients = schedule.clients();
-        let sent = sends(&self.machine, instr);
         let received = Received::of(&self.machine, instr)?;
-        let applied = match perform(&mut self.machine, instr) {
-            Ok(applied) => applied,
+        let effect = match self.machine.perform::<false>(instr) {
+            Ok(effect) => effect,
             Err(refusal) => return self.take_refused(alloc, schedule, instr, refusal, line),
         };
         self.stage = Stage::Running;
         self.place += 1;
-        let delivered = applied.operation(&self.machine);
-        let step = Line::step(&self.machine, self.place, instr, sent, delivered);
+        let delivered = effect.applied.operation(&self.machine);
+        let step = Line::step(&self.machine, self.place, instr, effect.sent, delivered);
         let due = Due {
             line: step,
             received: &received,
         };
-        let judged = compare_step(alloc, self.counts, line, &due)?;
-        Ok(self.settle(judged))
+        judge_given(alloc, &mut self.counts, line, &due)
     }
 
     // Performs the instructions at the place that the line passes over, up to one that is refused, and says why.
@@ -382,7 +293,7 @@ impl Comparison {
             if !self.passes_next(line) {
                 return None;
             }
-            if let Err(refusal) = perform(&mut self.machine, instr) {
+            if let Err(refusal) = self.machine.perform::<false>(instr) {
                 return Some(refusal);
             }
             self.place += 1;
@@ -390,49 +301,28 @@ impl Comparison {
         None
     }
 
-    // The line against that of the instruction at the place, which it does not pass over, or the end's.
-    fn take_next(
-        &mut self,
-        alloc: Global,
-        schedule: &Schedule,
-        line: &PortLine<'_>,
-    ) -> Result<Option<Verdict>, AllocError>
-        requires standing { IsStanding schedule.now (record self.old { stage = Stage.Running }) }
-        requires there { read_as line.now ≡ Nothing → self.old.sparse ≡ false }
-        requires kept { (self.old.sparse && passes_step (self.old.place + 1) (read_as line.now)) ≡ true → length schedule.now.instrs ≤ self.old.place }
-        ensures goes { IfOk result (λ v. v ≡ None → Goes schedule.now (record self.old { stage = Stage.Running }) (read_as line.now) self.new) }
-        ensures decided { IfOk result (λ v. IfSome v (λ verdict. (lines : List Printed) → IsVerdict self.old (read_as line.now) (rest schedule.now (record self.old { stage = Stage.Running }) (front (read_as line.now) lines)) verdict)) }
-        ensures nothing { IfOk result (λ v. read_as line.now ≡ Nothing → IsSome v) }
-    {
-        if self.place >= schedule.len() {
-            return self.take_end(alloc, line);
-        }
-        let Some(instr) = schedule.get(self.place) else {
-            unreachable!()
-        };
-        self.take_step(alloc, schedule, instr, Given::Read(line))
-    }
-
     // The line against that of the first instruction from the place on which it does not pass over, or the end's.
     fn take_running(
         &mut self,
         alloc: Global,
         schedule: &Schedule,
-        line: &PortLine<'_>,
+        line: PortLine<'_>,
     ) -> Result<Option<Verdict>, AllocError>
         requires standing { IsStanding schedule.now (record self.old { stage = Stage.Running }) }
-        requires there { read_as line.now ≡ Nothing → self.old.sparse ≡ false }
-        ensures goes { IfOk result (λ v. v ≡ None → Goes schedule.now (record self.old { stage = Stage.Running }) (read_as line.now) self.new) }
-        ensures decided { IfOk result (λ v. IfSome v (λ verdict. (lines : List Printed) → IsVerdict self.old (read_as line.now) (rest schedule.now (record self.old { stage = Stage.Running }) (front (read_as line.now) lines)) verdict)) }
-        ensures nothing { IfOk result (λ v. read_as line.now ≡ Nothing → IsSome v) }
+        requires there { read_as line ≡ Nothing → self.old.sparse ≡ false }
+        ensures goes { IfOk result (λ v. v ≡ None → Goes schedule.now (record self.old { stage = Stage.Running }) (read_as line.entry) self.new) }
+        ensures decided { IfOk result (λ v. IfSome v (λ verdict. (lines : List Printed) → IsVerdict self.old (read_as line.entry) (rest schedule.now (record self.old { stage = Stage.Running }) (front (read_as line.entry) lines)) verdict)) }
+        ensures nothing { IfOk result (λ v. read_as line.entry ≡ Nothing → IsSome v) }
     {
-        let Some(refusal) = self.pass_over(schedule, line) else {
-            return self.take_next(alloc, schedule, line);
-        };
+        let refusal = self.pass_over(schedule, &line);
         let Some(instr) = schedule.get(self.place) else {
-            unreachable!()
+            return self.take_end(alloc, &line);
         };
-        self.take_refused(alloc, schedule, instr, refusal, Given::Read(line))
+        let line = Given::Read(line);
+        match refusal {
+            Some(refusal) => self.take_refused(alloc, schedule, instr, refusal, line),
+            None => self.take_step(alloc, schedule, instr, line),
+        }
     }
 
     // Behind the end no line is due.
@@ -445,49 +335,28 @@ impl Comparison {
         Ok(Verdict::Differs(left_over(alloc, self.place, line)?))
     }
 
-    // The line against the one that is due.
-    fn take_due(
-        &mut self,
-        alloc: Global,
-        schedule: &Schedule,
-        line: &PortLine<'_>,
-    ) -> Result<Option<Verdict>, AllocError>
-        requires standing { IsStanding schedule.now self.old }
-        requires there { read_as line.now ≡ Nothing → self.old.sparse ≡ false }
-        ensures goes { IfOk result (λ v. v ≡ None → Goes schedule.now self.old (read_as line.now) self.new) }
-        ensures decided { IfOk result (λ v. IfSome v (λ verdict. (lines : List Printed) → IsVerdict self.old (read_as line.now) (rest schedule.now self.old (front (read_as line.now) lines)) verdict)) }
-        ensures nothing { IfOk result (λ v. read_as line.now ≡ Nothing → IsSome v) }
-    {
-        match self.stage {
-            Stage::Opening => {
-                if is_opening_line(line) {
-                    return self.take_opening(alloc, schedule, line);
-                }
-                self.take_running(alloc, schedule, line)
-            }
-            Stage::Running => self.take_running(alloc, schedule, line),
-            Stage::Ending => self.take_end(alloc, line),
-            Stage::Over => Ok(Some(self.take_behind(alloc, line)?)),
-        }
-    }
-
     /// Compares the next line of the port, or that it has none left, and says what comes of it, where that is decided. After running out
     /// of memory the comparison is of no use.
     pub fn take(
         &mut self,
         alloc: Global,
         schedule: &Schedule,
-        line: &PortLine<'_>,
+        line: PortLine<'_>,
     ) -> Result<Option<Verdict>, AllocError>
         requires { IsStanding schedule.now self.old }
-        ensures goes { IfOk result (λ v. v ≡ None → Goes schedule.now self.old (read_as line.now) self.new) }
-        ensures decided { IfOk result (λ v. IfSome v (λ verdict. (lines : List Printed) → IsVerdict self.old (read_as line.now) (rest schedule.now self.old (front (read_as line.now) lines)) verdict)) }
-        ensures nothing { IfOk result (λ v. read_as line.now ≡ Nothing → IsSome v) }
+        ensures goes { IfOk result (λ v. v ≡ None → Goes schedule.now self.old (read_as line.entry) self.new) }
+        ensures decided { IfOk result (λ v. IfSome v (λ verdict. (lines : List Printed) → IsVerdict self.old (read_as line.entry) (rest schedule.now self.old (front (read_as line.entry) lines)) verdict)) }
+        ensures nothing { IfOk result (λ v. read_as line.entry ≡ Nothing → IsSome v) }
     {
-        if self.needs_none(line) {
+        if self.needs_none(&line) {
             return Ok(Some(Verdict::Conforms(self.counts)));
         }
-        self.take_due(alloc, schedule, line)
+        match self.stage {
+            Stage::Opening if is_opening_line(&line) => self.take_opening(alloc, schedule, &line),
+            Stage::Opening | Stage::Running => self.take_running(alloc, schedule, line),
+            Stage::Ending => self.take_end(alloc, &line),
+            Stage::Over => Ok(Some(self.take_behind(alloc, &line)?)),
+        }
     }
 
     /// The same of the bytes of the port's next counted line, which are read only where they are not those of the line that `steps` prints
@@ -508,7 +377,7 @@ impl Comparison {
             }
             _ => {
                 let line = read_line(alloc, bytes)?;
-                self.take(alloc, schedule, &line)
+                self.take(alloc, schedule, line)
             }
         }
     }
@@ -518,7 +387,7 @@ impl Comparison {
         requires { IsStanding schedule.now self.old }
         ensures { IfOk result (λ verdict. IsVerdict self.old Nothing (rest schedule.now self.old []) verdict) }
     {
-        match self.take(alloc, schedule, &PortLine::Nothing)? {
+        match self.take(alloc, schedule, PortLine::Nothing)? {
             Some(verdict) => Ok(verdict),
             None => unreachable!(),
         }

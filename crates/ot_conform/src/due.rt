@@ -1,20 +1,17 @@
 //! The lines that are due.
 
-ghost use Rattle.std.specs.Prelude.{◌≡◌, IfOk, option_map, string_bytes};
-ghost use Rattle.serde_json.specs.View.{view};
+ghost use Rattle.std.specs.Prelude.{◌≡◌, IfOk, option_map};
 ghost use Rattle.ot_isa.specs.Tagging.{chars_of};
-ghost use Rattle.ot_steps.specs.Held.{IsHeld};
-ghost use Rattle.ot_steps.specs.Text.{text_at};
+ghost use Rattle.ot_steps.specs.Held.{IsHeld, value_of};
 ghost use Rattle.ot_conform.specs.Answers.{letters_at, number_before, number_of};
 ghost use Rattle.ot_conform.specs.Due.{due_of};
-ghost use Rattle.ot_conform.specs.Received.{received_agrees, received_text};
+ghost use Rattle.ot_conform.specs.Received.{received_value};
 
 use crate::received::Received;
 use ot_isa::Tagged;
 use ot_machine::Refusal;
 use ot_steps::{Key, Line, Value as LineValue};
 use ot_text::Doc;
-use serde_json::Value;
 use std::alloc::{AllocError, Global};
 
 /// A line that is due.
@@ -40,35 +37,14 @@ fn number_before(at: usize) -> Option<usize>
     if at == 0 { None } else { Some(at - 1) }
 }
 
-impl Due<'_> {
-    /// The text of what the run has under a key, if it has something; or out of memory.
-    pub fn text(&self, alloc: Global, key: Key) -> Result<Option<String>, AllocError>
-        requires { IsHeld self.now.line }
-        ensures { IfOk result (λ o. option_map string_bytes o ≡ text_at key (due_of self.now).line) }
-    {
-        match self.line.value(key) {
-            Some(value) => Ok(Some(value.text(alloc)?)),
-            None => Ok(None),
-        }
-    }
-
-    /// The text of the message that the instruction receives, if it receives one; or out of memory.
-    pub fn message(&self, alloc: Global) -> Result<Option<String>, AllocError>
-        ensures { IfOk result (λ o. option_map string_bytes o ≡ option_map received_text (due_of self.now).received) }
+impl<'a> Due<'a> {
+    /// The message that the instruction receives, if it receives one.
+    pub fn message(&self) -> Option<LineValue<'a>>
+        ensures { option_map value_of result ≡ option_map received_value (due_of self.now).received }
     {
         match self.line {
-            Line::Step(step) => self.received.text(alloc, step.machine),
-            _ => Ok(None),
-        }
-    }
-
-    /// Whether that is what a port printed for it; `null` says that nothing is received. Out of memory for writing it down.
-    pub(crate) fn receives(&self, alloc: Global, found: &Value) -> Result<bool, AllocError>
-        ensures { IfOk result (λ does. does ≡ received_agrees (due_of self.now).received (view found.now)) }
-    {
-        match self.line {
-            Line::Step(step) => self.received.agrees(alloc, step.machine, found),
-            _ => Ok(found.is_null()),
+            Line::Step(step) => self.received.value(step.machine),
+            _ => None,
         }
     }
 

@@ -1,9 +1,8 @@
 //! What a port says under the keys of a line.
 
 ghost use Rattle.std.specs.Prelude.{◌≡◌, option_map};
-ghost use Rattle.serde_json.specs.Find.{get};
 ghost use Rattle.serde_json.specs.View.{view};
-ghost use Rattle.ot_conform.specs.Keys.{found_at, is_message, is_null, is_part, is_told};
+ghost use Rattle.ot_conform.specs.Keys.{found_at, is_part, is_told};
 
 use ot_steps::{Key, key_text};
 use serde_json::Value;
@@ -34,18 +33,11 @@ pub const OTHER_KEYS: [Key; 12] = [
     Key::End,
 ];
 
-/// Whether it is a part of the message under `sent`.
-pub(crate) fn is_part(key: Key) -> bool
+// Whether it is a part of the message under `sent`.
+fn is_part(key: Key) -> bool
     ensures { result ≡ is_part key }
 {
     matches!(key, Key::SentRevision | Key::SentOperation)
-}
-
-/// Whether it is the message, which is compared by its parts.
-pub(crate) fn is_message(key: Key) -> bool
-    ensures { result ≡ is_message key }
-{
-    matches!(key, Key::Sent)
 }
 
 /// What a port's line says under a key, where it is printed.
@@ -58,26 +50,12 @@ pub fn found(line: &Value, key: Key) -> Option<&Value>
     line.get(key_text(key))
 }
 
-// Whether a printed value is there; `null` says that there is none.
-fn is_told(value: Option<&Value>) -> bool
-    ensures { result ≡ is_told (option_map (λ v. view v.now) value.entry) }
-{
-    match value {
-        Some(value) => !value.is_null(),
-        None => false,
-    }
-}
-
-/// Whether a line says something under a key.
+/// Whether a line says something under a key; `null` says that there is none.
 pub(crate) fn tells(line: &Value, key: Key) -> bool
     ensures { result ≡ is_told (found_at key (view line.now)) }
 {
-    is_told(found(line, key))
-}
-
-/// Whether a line says something under a name.
-pub(crate) fn says(line: &Value, name: &str) -> bool
-    ensures { result ≡ is_told (get name.now (view line.now)) }
-{
-    is_told(line.get(name))
+    match found(line, key) {
+        Some(value) => !value.is_null(),
+        None => false,
+    }
 }

@@ -5,7 +5,7 @@
 //!                          │ no
 //!                          └── read_line ──▶ PortLine ─┐
 //!                                                      ├── meet ──▶ it agrees, or the Field where it differs ──▶ Difference
-//!    ot_steps::perform ────────────────────▶ Due ──────┘
+//!    Machine::perform ─────────────────────▶ Due ──────┘
 //! ```
 //!
 //! - *The port's lines* (`specs/Ports.antt`): an object with a place, a text of another form, bytes that are no text, or none. What is not
@@ -52,7 +52,7 @@ mod same_bytes;
 
 pub use answers::{Difference, differs, left_over};
 pub use comparison::{Comparison, Stage, Verdict};
-pub use counts::Counts;
+pub use counts::{COUNTED, Counts};
 pub use due::Due;
 pub use keys::{FIRST_KEYS, OTHER_KEYS, found};
 pub use laws::{

@@ -2,12 +2,13 @@
 
 ghost use Rattle.std.specs.Prelude.{◌≡◌, IfOk};
 ghost use Rattle.serde_json.specs.View.{view};
-ghost use Rattle.ot_conform.specs.Ports.{is_opening, is_opening_line, port_line};
-ghost use Rattle.ot_conform.specs.Read.{read_as};
+ghost use Rattle.ot_conform.specs.Ports.{is_opening_line, port_line};
+ghost use Rattle.ot_conform.specs.Read.{given_as, read_as};
 
-use crate::keys::says;
+use crate::keys::tells;
 use ot_asm::read_text;
 use ot_json::number_at;
+use ot_steps::Key;
 use serde_json::Value;
 use std::alloc::{AllocError, Global};
 
@@ -25,10 +26,10 @@ pub enum PortLine<'a> {
 }
 
 /// A port's line to compare: its bytes, which are read only where they are not those that `steps` prints, or a line that was read.
-#[derive(Clone, Copy)]
-pub(crate) enum Given<'a, 'b> {
+#[derive(Drop)]
+pub(crate) enum Given<'a> {
     Bytes(&'a [u8]),
-    Read(&'a PortLine<'b>),
+    Read(PortLine<'a>),
 }
 
 /// The line that the bytes of a counted line are; out of memory only for its JSON value.
@@ -49,14 +50,16 @@ pub fn read_line<'a>(alloc: Global, bytes: &'a [u8]) -> Result<PortLine<'a>, All
     Ok(PortLine::Told(value))
 }
 
-// Whether it is the opening's line.
-fn is_opening(line: &Value) -> bool
-    ensures { result ≡ is_opening (view line.now) }
-{
-    number_at(line, "at") == Some(0)
-        && !says(line, "do")
-        && !says(line, "stopped")
-        && !says(line, "end")
+impl<'a> Given<'a> {
+    /// The line; out of memory only for its JSON value.
+    pub(crate) fn read(self, alloc: Global) -> Result<PortLine<'a>, AllocError>
+        ensures { IfOk result (λ line. read_as line ≡ given_as self.entry) }
+    {
+        match self {
+            Given::Bytes(bytes) => read_line(alloc, bytes),
+            Given::Read(line) => Ok(line),
+        }
+    }
 }
 
 /// Whether a port's line is the opening's: its place is 0, and it has none of `do`, `stopped` and `end`.
@@ -64,7 +67,12 @@ pub fn is_opening_line(line: &PortLine<'_>) -> bool
     ensures { result ≡ is_opening_line (read_as line.now) }
 {
     match line {
-        PortLine::Told(value) => is_opening(value),
+        PortLine::Told(line) => {
+            number_at(line, "at") == Some(0)
+                && !tells(line, Key::Do)
+                && !tells(line, Key::Stopped)
+                && !tells(line, Key::End)
+        }
         _ => false,
     }
 }

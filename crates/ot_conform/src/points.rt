@@ -2,7 +2,7 @@
 
 ghost use Rattle.std.specs.Prelude.{◌≡◌, ◌++◌, IfOk, OnOk, string_bytes};
 ghost use Rattle.std.specs.Str.{chars};
-ghost use Rattle.ot_conform.specs.Points.{begins_plain, four_from, point_text, points_row, points_rows, points_text, points_unless_plain, zeros};
+ghost use Rattle.ot_conform.specs.Points.{begins_plain, four_from, point_text, points_row, points_rows, points_text, zeros};
 
 use crate::answers::{letters, same_front};
 use std::alloc::{AllocError, Global};
@@ -70,16 +70,6 @@ fn points_row(alloc: Global, found: &[char], wanted: &[char]) -> Result<String, 
     Ok(row)
 }
 
-// The row where one of them begins with a character that is not of ASCII or not seen, else none.
-fn points_unless_plain(alloc: Global, found: &[char], wanted: &[char]) -> Result<String, AllocError>
-    ensures { IfOk result (λ s. string_bytes s ≡ points_unless_plain found.now wanted.now) }
-{
-    if begins_plain(found) && begins_plain(wanted) {
-        return Ok(String::new(alloc));
-    }
-    points_row(alloc, found, wanted)
-}
-
 /// The row of the code points of both texts from where they first differ, four at most of each; none where what differs are characters of
 /// ASCII that are seen.
 pub(crate) fn points_rows(alloc: Global, found: &str, wanted: &str) -> Result<String, AllocError>
@@ -88,9 +78,10 @@ pub(crate) fn points_rows(alloc: Global, found: &str, wanted: &str) -> Result<St
     let found = letters(alloc, found)?;
     let wanted = letters(alloc, wanted)?;
     let same = same_front(found.as_slice(), wanted.as_slice());
-    points_unless_plain(
-        alloc,
-        four_from(found.as_slice(), same),
-        four_from(wanted.as_slice(), same),
-    )
+    let found = four_from(found.as_slice(), same);
+    let wanted = four_from(wanted.as_slice(), same);
+    if begins_plain(found) && begins_plain(wanted) {
+        return Ok(String::new(alloc));
+    }
+    points_row(alloc, found, wanted)
 }

@@ -1,18 +1,19 @@
 //! The answer, as lines.
 
 ghost use Rattle.std.specs.Prelude.{◌≡◌, ◌++◌, IfOk, OnOk, string_bytes};
-ghost use Rattle.ot_conform.specs.Points.{difference_points};
+ghost use Rattle.ot_conform.specs.Counted.{counted_keys};
 ghost use Rattle.ot_conform.specs.Ruled.{IsAnswer, IsDifferenceText};
-ghost use Rattle.ot_conform.specs.Answers.{agreement_head, agreement_text, count_text, difference_text, first_counts, found_row, front_rows, head_row, other_counts, wanted_row};
+ghost use Rattle.ot_conform.specs.Answers.{agreement_head, agreement_text, count_name, count_text, counts_text, difference_text, found_row, front_rows, head_row, wanted_row};
 
 use crate::answers::Difference;
 use crate::comparison::Verdict;
-use crate::counts::Counts;
+use crate::counts::{COUNTED, Counts};
 use crate::meeting::Field;
 use crate::points::points_rows;
 use crate::ruling::rules_of;
 use ot_isa::Schedule;
 use ot_report::print_stop;
+use ot_steps::{Key, key_text};
 use std::alloc::{AllocError, Global};
 
 // The row of what the run has; a line has its LF.
@@ -21,9 +22,7 @@ fn wanted_row(alloc: Global, field: Field, wanted: &str) -> Result<String, Alloc
 {
     match field {
         Field::Line => format!(in alloc; "ot.js {wanted}"),
-        Field::Stopped => format!(in alloc; "ot.js {wanted}\n"),
-        Field::Message => format!(in alloc; "ot.js {wanted}\n"),
-        Field::Key(_) => format!(in alloc; "ot.js {wanted}\n"),
+        _ => format!(in alloc; "ot.js {wanted}\n"),
     }
 }
 
@@ -67,41 +66,6 @@ fn print_difference(alloc: Global, difference: &Difference) -> Result<String, Al
     Ok(text)
 }
 
-// How often a key was compared.
-fn push_count(alloc: Global, text: &mut String, name: &str, count: u64) -> Result<(), AllocError>
-    ensures { OnOk result (string_bytes text.new ≡ string_bytes text.old ++ count_text name.now count) }
-{
-    let row = format!(in alloc; " {name} {count}")?;
-    text.push_str(row.as_str())
-}
-
-// The keys up to the state.
-fn push_first_counts(alloc: Global, text: &mut String, counts: &Counts) -> Result<(), AllocError>
-    ensures { OnOk result (string_bytes text.new ≡ first_counts (string_bytes text.old) counts.now) }
-{
-    push_count(alloc, text, "clients", counts.clients)?;
-    push_count(alloc, text, "present", counts.present)?;
-    push_count(alloc, text, "start", counts.start)?;
-    push_count(alloc, text, "do", counts.word)?;
-    push_count(alloc, text, "client", counts.client)?;
-    push_count(alloc, text, "edit", counts.edit)?;
-    push_count(alloc, text, "revision", counts.revision)?;
-    push_count(alloc, text, "state", counts.state)
-}
-
-// And those behind it.
-fn push_other_counts(alloc: Global, text: &mut String, counts: &Counts) -> Result<(), AllocError>
-    ensures { OnOk result (string_bytes text.new ≡ other_counts (string_bytes text.old) counts.now) }
-{
-    push_count(alloc, text, "outstanding", counts.outstanding)?;
-    push_count(alloc, text, "buffer", counts.buffer)?;
-    push_count(alloc, text, "sent", counts.sent)?;
-    push_count(alloc, text, "applied", counts.applied)?;
-    push_count(alloc, text, "appended", counts.appended)?;
-    push_count(alloc, text, "document", counts.document)?;
-    push_count(alloc, text, "end", counts.end)
-}
-
 // The first line, and the word before the counts.
 fn agreement_head(is_nothing: bool) -> &'static str
     ensures { result.now ≡ agreement_head is_nothing }
@@ -113,22 +77,43 @@ fn agreement_head(is_nothing: bool) -> &'static str
     }
 }
 
+// The word of a key that is counted.
+fn count_name(key: Key) -> &'static str
+    ensures { result.now ≡ count_name key }
+{
+    match key {
+        Key::SentOperation => "sent",
+        _ => key_text(key),
+    }
+}
+
+// How often a key was compared.
+fn push_count(alloc: Global, text: &mut String, key: Key, count: u64) -> Result<(), AllocError>
+    ensures { OnOk result (string_bytes text.new ≡ string_bytes text.old ++ count_text (count_name key) count) }
+{
+    let name = count_name(key);
+    let row = format!(in alloc; " {name} {count}")?;
+    text.push_str(row.as_str())
+}
+
+// The same of all keys.
+fn push_counts(alloc: Global, text: &mut String, counts: &Counts) -> Result<(), AllocError>
+    ensures { OnOk result (string_bytes text.new ≡ string_bytes text.old ++ counts_text counted_keys counts.now.values) }
+{
+    for (place, key) in COUNTED.iter().enumerate() {
+        push_count(alloc, text, *key, counts.values[place])?;
+    }
+    Ok(())
+}
+
 // The lines of a port without a difference: whether it conforms, and how much was compared.
 fn print_agreement(alloc: Global, counts: &Counts) -> Result<String, AllocError>
     ensures { IfOk result (λ s. string_bytes s ≡ agreement_text counts.now) }
 {
     let mut text = String::from_str(alloc, agreement_head(counts.is_nothing()))?;
-    push_first_counts(alloc, &mut text, counts)?;
-    push_other_counts(alloc, &mut text, counts)?;
+    push_counts(alloc, &mut text, counts)?;
     text.push_str("\n")?;
     Ok(text)
-}
-
-// The code points of the two values of a difference, where they may look alike.
-fn print_points(alloc: Global, difference: &Difference) -> Result<String, AllocError>
-    ensures { IfOk result (λ s. string_bytes s ≡ difference_points difference.now) }
-{
-    points_rows(alloc, difference.found.as_str(), difference.wanted.as_str())
 }
 
 // The lines of a difference, the code points of what may look alike, and behind them what the rules of ot.js say of it.
@@ -140,7 +125,7 @@ fn print_explained(
     ensures { IfOk result (λ s. IsDifferenceText schedule.now difference.now (string_bytes s)) }
 {
     let mut text = print_difference(alloc, difference)?;
-    let points = print_points(alloc, difference)?;
+    let points = points_rows(alloc, difference.found.as_str(), difference.wanted.as_str())?;
     let rules = rules_of(alloc, schedule, difference)?;
     text.push_str(points.as_str())?;
     text.push_str(rules.as_str())?;

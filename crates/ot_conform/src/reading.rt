@@ -81,23 +81,17 @@ pub fn compare_lines<R: Read>(
     let mut line = Vec::new(alloc);
     let mut taken = 0u64;
     'taking: loop {
+        let number = earlier.saturating_add(taken + 1);
         match ahead.next_line(reader, &mut line) {
             Ok(true) => {}
-            Ok(false) => {
-                let number = earlier.saturating_add(taken + 1);
-                return finish(alloc, schedule, &mut comparison, number);
-            }
-            Err(LineFault::ReadFault) => {
-                return Err(CompareStop::ReadFault(earlier.saturating_add(taken + 1)));
-            }
-            Err(LineFault::Memory) => {
-                return Err(CompareStop::Memory(earlier.saturating_add(taken + 1)));
-            }
+            Ok(false) => return finish(alloc, schedule, &mut comparison, number),
+            Err(LineFault::ReadFault) => return Err(CompareStop::ReadFault(number)),
+            Err(LineFault::Memory) => return Err(CompareStop::Memory(number)),
         }
         match take_bytes(alloc, schedule, &mut comparison, line.as_slice()) {
             Ok(None) => taken += 1,
             Ok(Some(verdict)) => return Ok(verdict),
-            Err(_) => return Err(CompareStop::Memory(earlier.saturating_add(taken + 1))),
+            Err(_) => return Err(CompareStop::Memory(number)),
         }
     }
 }

@@ -1,9 +1,10 @@
 -- What an instruction changes, row by row of the table.
-use Rattle.std.proofs.Common.{◌≡◌, ◌≢◌, ℕ, ◌+◌, ◌≤◌, List, [], ◌∷◌, ◌++◌, length, set, refl, ap, sym, ◌∙◌, subst, arith, Option, Some, None, Bool, true, false, inl, inr, length-append}
-use Rattle.std.proofs.lemmas.Bool.{cases_eq, eqb-false, eqb-true}
-use Rattle.std.specs.Prelude.{slice_get, unwrap_or, ◌==◌, if◌then◌else◌, not, IsTrue, MatchBool}
+use Rattle.std.proofs.Common.{◌≡◌, ◌≢◌, ℕ, ◌+◌, ◌≤◌, List, [], length, set, refl, ap, sym, ◌∙◌, subst, Option, Some, None, Bool, true, false, inl, inr}
+use Rattle.std.proofs.lemmas.Bool.{cases_eq, eqb-false, eqb-true, ne_eqb}
+use Rattle.std.specs.Prelude.{slice_get, unwrap_or, ◌==◌, if◌then◌else◌, not, IfSome, IsTrue, MatchBool}
 use Rattle.std.proofs.lemmas.Option.{same_Some}
 use Rattle.std.specs.Option.{option_map}
+use Rattle.ot_isa.specs.Program.{client_of}
 use Rattle.ot_isa.specs.declared.elements.Tagged.{Tagged}
 use Rattle.ot_isa.specs.declared.instruction.Instr.{Instr}
 use Rattle.ot_isa.specs.declared.instruction.Instr.TheVariants.{Edit, Take, Deliver, Acknowledge, Join, Read, ReadServer}
@@ -88,11 +89,10 @@ edit_of_client s c first op tagged list changed x at has_list has_count is told 
     (subst (λ (o : Operation Tagged). ChangesList o list changed) is told))
 
 pub edit_changes :
-    (s : State) (own client first : ℕ) (op : Operation ℕ) (tagged : Operation Tagged) (list : List Tagged) (changed : Bool) → own ≡ client
-    → ClientHas s own (λ y. y.list) list → ClientHas s own (λ y. y.count) first → tagged ≡ tag_operation own first op → ChangesList tagged list changed → Foretells (step s (Edit own op)) s (watched.Doc client) changed
-edit_changes s own client first op tagged list changed same has_list has_count is told =
-    subst (λ (n : ℕ). Foretells (step s (Edit own op)) s (watched.Doc n) changed) same
-    (edit_told s own op changed (λ x at base few. edit_of_client s own first op tagged list changed x at has_list has_count is told))
+    (s : State) (own first : ℕ) (op : Operation ℕ) (tagged : Operation Tagged) (list : List Tagged) (changed : Bool)
+    → ClientHas s own (λ y. y.list) list → ClientHas s own (λ y. y.count) first → tagged ≡ tag_operation own first op → ChangesList tagged list changed → Foretells (step s (Edit own op)) s (watched.Doc own) changed
+edit_changes s own first op tagged list changed has_list has_count is told =
+    edit_told s own op changed (λ x at base few. edit_of_client s own first op tagged list changed x at has_list has_count is told)
 
 delivery_is : (s : State) (c : ℕ) (x : Client) (h : Entry) → is_joined x.phase ≡ true → slice_get s.log x.revision ≡ Some h → h.maker ≢ c → delivery_of s c x ≡ Some (against_pending x.phase h.op)
 delivery_is s c x h on head other = rw (on, head) (by_maker (h.maker == c) refl)
@@ -102,44 +102,38 @@ delivery_is s c x h on head other = rw (on, head) (by_maker (h.maker == c) refl)
     by_maker false is = refl
 
 pub delivery_changes :
-    (s : State) (own client : ℕ) (op : Operation Tagged) (list : List Tagged) (changed : Bool) → own ≡ client
-    → ClientHas s own (λ y. y.list) list → ClientHas s own (delivery_of s own) (Some op) → ChangesList op list changed → Foretells (step s (Deliver own)) s (watched.Doc client) changed
-delivery_changes s own client op list changed same has_list has_delivery changes =
-    subst (λ (n : ℕ). Foretells (step s (Deliver own)) s (watched.Doc n) changed) same
-    (delivery_told s own changed
+    (s : State) (own : ℕ) (op : Operation Tagged) (list : List Tagged) (changed : Bool)
+    → ClientHas s own (λ y. y.list) list → ClientHas s own (delivery_of s own) (Some op) → ChangesList op list changed → Foretells (step s (Deliver own)) s (watched.Doc own) changed
+delivery_changes s own op list changed has_list has_delivery changes =
+    delivery_told s own changed
     (λ x h at on head other.
     let applied : op ≡ against_pending x.phase h.op = same_Some op (against_pending x.phase h.op) (sym (has_value s own x (delivery_of s own) (Some op) at has_delivery) ∙ delivery_is s own x h on head other) in
     subst (λ (d : List Tagged). ChangesList (against_pending x.phase h.op) d changed) (sym (has_value s own x (λ y. y.list) list at has_list))
-    (subst (λ (o : Operation Tagged). ChangesList o list changed) applied changes)))
+    (subst (λ (o : Operation Tagged). ChangesList o list changed) applied changes))
 
 -- where nothing would be applied, no delivery is performed
-pub no_delivery : (s : State) (own client : ℕ) → own ≡ client → ClientHas s own (delivery_of s own) None → Foretells (step s (Deliver own)) s (watched.Doc client) false
-no_delivery s own client same has =
-    subst (λ (n : ℕ). Foretells (step s (Deliver own)) s (watched.Doc n) false) same
-    (delivery_told s own false
+pub no_delivery : (s : State) (own : ℕ) → ClientHas s own (delivery_of s own) None → Foretells (step s (Deliver own)) s (watched.Doc own) false
+no_delivery s own has =
+    delivery_told s own false
     (λ x h at on head other.
-    let none : None ≡ Some (against_pending x.phase h.op) = sym (has_value s own x (delivery_of s own) None at has) ∙ delivery_is s own x h on head other in absurd (cc)))
+    let none : None ≡ Some (against_pending x.phase h.op) = sym (has_value s own x (delivery_of s own) None at has) ∙ delivery_is s own x h on head other in absurd (cc))
 
 differ_by : {A : Type 0} (same : Bool) (a b x y : A) → (IsTrue same → a ≡ b) → (a ≡ b → IsTrue same) → a ≡ x → b ≡ y → Differ (not same) x y
 differ_by true a b x y is back e f = sym e ∙ is refl ∙ f
 differ_by false a b x y is back e f = λ g. let t : IsTrue false = back (e ∙ g ∙ sym f) in absurd (cc)
 
 pub join_changes :
-    (s : State) (own client : ℕ) (server list : List Tagged) (same : Bool) → own ≡ client → server ≡ s.server → ClientHas s own (λ y. y.list) list → (IsTrue same → server ≡ list) → (server ≡ list → IsTrue same)
-    → Foretells (step s (Join own)) s (watched.Doc client) (not same)
-join_changes s own client server list same own_is server_is has_list is back =
-    subst (λ (n : ℕ). Foretells (step s (Join own)) s (watched.Doc n) (not same)) own_is
-    (join_told s own (not same) (λ x at. differ_by same server list s.server x.list is back server_is (sym (has_value s own x (λ y. y.list) list at has_list))))
+    (s : State) (own : ℕ) (server list : List Tagged) (same : Bool) → server ≡ s.server → ClientHas s own (λ y. y.list) list → (IsTrue same → server ≡ list) → (server ≡ list → IsTrue same)
+    → Foretells (step s (Join own)) s (watched.Doc own) (not same)
+join_changes s own server list same server_is has_list is back =
+    join_told s own (not same) (λ x at. differ_by same server list s.server x.list is back server_is (sym (has_value s own x (λ y. y.list) list at has_list)))
 
--- an instruction leaves each list that it may not touch
-abbrev pub may_touch : Instr → ℕ → Bool
-may_touch (Edit d op) c = d == c
-may_touch (Take d) c = false
-may_touch (Deliver d) c = d == c
-may_touch (Acknowledge d) c = false
-may_touch (Join d) c = d == c
-may_touch (Read d) c = false
-may_touch ReadServer c = false
+-- these may change the list of the client that they name, and no other one
+abbrev pub touches : Instr → Bool
+touches (Edit d op) = true
+touches (Deliver d) = true
+touches (Join d) = true
+touches i = false
 
 list_other : (s : State) (d c : ℕ) (y : Client) → (d == c) ≡ false → Foretells (Performed (with_client s d y) None) s (watched.Doc c) false
 list_other s d c y off changed = changed (read_other (λ (z : Client). z.list) [] s.clients d c y off)
@@ -153,26 +147,28 @@ acknowledged_list s d c x Synchronized at = tt
 acknowledged_list s d c x (AwaitingConfirm o) at = list_same s d c x _ at refl
 acknowledged_list s d c x (AwaitingWithBuffer o b) at = list_same s d c x _ at refl
 
-pub list_stays : (s : State) (i : Instr) (c : ℕ) → may_touch i c ≡ false → Foretells (step s i) s (watched.Doc c) false
-list_stays s (Edit d op) c off = by_edit (λ o. Foretells o s (watched.Doc c) false) (λ r. tt) s d op (λ x at below on base few. list_other s d c _ off)
+pub list_stays : (s : State) (i : Instr) (c : ℕ) → (touches i ≡ true → client_of i ≡ Some c → ⊥) → Foretells (step s i) s (watched.Doc c) false
+list_stays s (Edit d op) c off =
+    by_edit (λ o. Foretells o s (watched.Doc c) false) (λ r. tt) s d op (λ x at below on base few. list_other s d c _ (ne_eqb d c (λ e. off refl (ap Some e))))
 list_stays s (Take d) c off =
     by_take (λ o. Foretells o s (watched.Doc c) false) (λ r. tt) s d (λ x m at below on is changed. changed (read_same (λ (z : Client). z.list) [] s.clients d c x _ at refl))
-list_stays s (Deliver d) c off = by_deliver (λ o. Foretells o s (watched.Doc c) false) (λ r. tt) s d (λ x h at below on head other. list_other s d c _ off)
+list_stays s (Deliver d) c off =
+    by_deliver (λ o. Foretells o s (watched.Doc c) false) (λ r. tt) s d (λ x h at below on head other. list_other s d c _ (ne_eqb d c (λ e. off refl (ap Some e))))
 list_stays s (Acknowledge d) c off = by_acknowledge (λ o. Foretells o s (watched.Doc c) false) (λ r. tt) s d (λ x h at below on head own. acknowledged_list s d c x x.phase at)
-list_stays s (Join d) c off = by_join (λ o. Foretells o s (watched.Doc c) false) (λ r. tt) s d (λ x at below apart. list_other s d c _ off)
+list_stays s (Join d) c off = by_join (λ o. Foretells o s (watched.Doc c) false) (λ r. tt) s d (λ x at below apart. list_other s d c _ (ne_eqb d c (λ e. off refl (ap Some e))))
 list_stays s (Read d) c off = by_read (λ o. Foretells o s (watched.Doc c) false) (λ r. tt) s d (λ x at below on changed. changed refl)
 list_stays s ReadServer c off = by_read_server (λ o. Foretells o s (watched.Doc c) false) (λ r. tt) s (λ below changed. changed refl)
 
--- so of the others
+-- so of the one that it names, where it is none of these
 pub list_rest :
-    (s : State) (i : Instr) (c : ℕ) → ((d : ℕ) (op : Operation ℕ) → i ≡ Edit d op → ⊥) → ((d : ℕ) → i ≡ Deliver d → ⊥) → ((d : ℕ) → i ≡ Join d → ⊥) → Foretells (step s i) s (watched.Doc c) false
-list_rest s (Edit d op) c no_edit no_delivery no_join = absurd (no_edit d op refl)
-list_rest s (Take d) c no_edit no_delivery no_join = list_stays s (Take d) c refl
-list_rest s (Deliver d) c no_edit no_delivery no_join = absurd (no_delivery d refl)
-list_rest s (Acknowledge d) c no_edit no_delivery no_join = list_stays s (Acknowledge d) c refl
-list_rest s (Join d) c no_edit no_delivery no_join = absurd (no_join d refl)
-list_rest s (Read d) c no_edit no_delivery no_join = list_stays s (Read d) c refl
-list_rest s ReadServer c no_edit no_delivery no_join = list_stays s ReadServer c refl
+    (s : State) (i : Instr) → ((d : ℕ) (op : Operation ℕ) → i ≡ Edit d op → ⊥) → ((d : ℕ) → i ≡ Deliver d → ⊥) → ((d : ℕ) → i ≡ Join d → ⊥) → IfSome (client_of i) (λ c. Foretells (step s i) s (watched.Doc c) false)
+list_rest s (Edit d op) no_edit no_delivery no_join = absurd (no_edit d op refl)
+list_rest s (Take d) no_edit no_delivery no_join = list_stays s (Take d) d (λ e. absurd (cc))
+list_rest s (Deliver d) no_edit no_delivery no_join = absurd (no_delivery d refl)
+list_rest s (Acknowledge d) no_edit no_delivery no_join = list_stays s (Acknowledge d) d (λ e. absurd (cc))
+list_rest s (Join d) no_edit no_delivery no_join = absurd (no_join d refl)
+list_rest s (Read d) no_edit no_delivery no_join = list_stays s (Read d) d (λ e. absurd (cc))
+list_rest s ReadServer no_edit no_delivery no_join = tt
 
 -- ---- states
 
@@ -205,15 +201,11 @@ moves_true name.AwaitingConfirm other = refl
 moves_true name.AwaitingWithBuffer other = absurd (other refl)
 
 -- an edit by the name of the state
-pub edit_waits : (s : State) (own client : ℕ) (p : names.Phase) (op : Operation ℕ) → own ≡ client → ClientHas s own (λ y. phase_name y.phase) p → p ≡ name.AwaitingWithBuffer → Foretells (step s (Edit own op)) s (watched.State client) false
-edit_waits s own client p op same has is =
-    subst (λ (n : ℕ). Foretells (step s (Edit own op)) s (watched.State n) false) same
-    (edit_moves s own op false (λ x at. ap moves_on (sym (has_value s own x (λ y. phase_name y.phase) p at has ∙ is))))
+pub edit_waits : (s : State) (own : ℕ) (p : names.Phase) (op : Operation ℕ) → ClientHas s own (λ y. phase_name y.phase) p → p ≡ name.AwaitingWithBuffer → Foretells (step s (Edit own op)) s (watched.State own) false
+edit_waits s own p op has is = edit_moves s own op false (λ x at. ap moves_on (sym (has_value s own x (λ y. phase_name y.phase) p at has ∙ is)))
 
-pub edit_goes_on : (s : State) (own client : ℕ) (p : names.Phase) (op : Operation ℕ) → own ≡ client → ClientHas s own (λ y. phase_name y.phase) p → (p ≡ name.AwaitingWithBuffer → ⊥) → Foretells (step s (Edit own op)) s (watched.State client) true
-edit_goes_on s own client p op same has other =
-    subst (λ (n : ℕ). Foretells (step s (Edit own op)) s (watched.State n) true) same
-    (edit_moves s own op true (λ x at. sym (moves_true p other) ∙ ap moves_on (sym (has_value s own x (λ y. phase_name y.phase) p at has))))
+pub edit_goes_on : (s : State) (own : ℕ) (p : names.Phase) (op : Operation ℕ) → ClientHas s own (λ y. phase_name y.phase) p → (p ≡ name.AwaitingWithBuffer → ⊥) → Foretells (step s (Edit own op)) s (watched.State own) true
+edit_goes_on s own p op has other = edit_moves s own op true (λ x at. sym (moves_true p other) ∙ ap moves_on (sym (has_value s own x (λ y. phase_name y.phase) p at has)))
 
 acknowledged_name : (s : State) (c : ℕ) (x : Client) (phase : Phase) → x.phase ≡ phase → slice_get s.clients c ≡ Some x → Foretells (with_row s c (acknowledged x phase)) s (watched.State c) true
 acknowledged_name s c x NotJoined is at = tt
@@ -233,15 +225,12 @@ joined_name (AwaitingWithBuffer o b) off = absurd (cc)
 pub join_moves : (s : State) (c : ℕ) → Foretells (step s (Join c)) s (watched.State c) true
 join_moves s c = by_join (λ o. Foretells o s (watched.State c) true) (λ r. tt) s c (λ x at below off. phase_told true s c x (joined s x) at (joined_name x.phase off))
 
--- the others lead no client to another state, and these none but their own
-abbrev pub may_move : Instr → ℕ → Bool
-may_move (Edit d op) c = d == c
-may_move (Take d) c = false
-may_move (Deliver d) c = false
-may_move (Acknowledge d) c = d == c
-may_move (Join d) c = d == c
-may_move (Read d) c = false
-may_move ReadServer c = false
+-- these may lead the client that they name to another state, and no other one
+abbrev pub moves : Instr → Bool
+moves (Edit d op) = true
+moves (Acknowledge d) = true
+moves (Join d) = true
+moves i = false
 
 phase_other : (s : State) (d c : ℕ) (y : Client) → (d == c) ≡ false → Foretells (Performed (with_client s d y) None) s (watched.State c) false
 phase_other s d c y off changed = changed (read_other (λ (z : Client). phase_name z.phase) name.NotJoined s.clients d c y off)
@@ -258,64 +247,26 @@ delivered_name Synchronized h = refl
 delivered_name (AwaitingConfirm o) h = refl
 delivered_name (AwaitingWithBuffer o b) h = refl
 
-pub phase_stays : (s : State) (i : Instr) (c : ℕ) → may_move i c ≡ false → Foretells (step s i) s (watched.State c) false
-phase_stays s (Edit d op) c off = by_edit (λ o. Foretells o s (watched.State c) false) (λ r. tt) s d op (λ x at below on base few. phase_other s d c _ off)
+pub phase_stays : (s : State) (i : Instr) (c : ℕ) → (moves i ≡ true → client_of i ≡ Some c → ⊥) → Foretells (step s i) s (watched.State c) false
+phase_stays s (Edit d op) c off =
+    by_edit (λ o. Foretells o s (watched.State c) false) (λ r. tt) s d op (λ x at below on base few. phase_other s d c _ (ne_eqb d c (λ e. off refl (ap Some e))))
 phase_stays s (Take d) c off =
     by_take (λ o. Foretells o s (watched.State c) false) (λ r. tt) s d (λ x m at below on is changed. changed (read_same (λ (z : Client). phase_name z.phase) name.NotJoined s.clients d c x _ at refl))
 phase_stays s (Deliver d) c off =
     by_deliver (λ o. Foretells o s (watched.State c) false) (λ r. tt) s d
     (λ x h at below on head other changed. changed (read_same (λ (z : Client). phase_name z.phase) name.NotJoined s.clients d c x _ at (delivered_name x.phase h.op)))
-phase_stays s (Acknowledge d) c off = by_acknowledge (λ o. Foretells o s (watched.State c) false) (λ r. tt) s d (λ x h at below on head own. acknowledged_other s d c x x.phase off)
-phase_stays s (Join d) c off = by_join (λ o. Foretells o s (watched.State c) false) (λ r. tt) s d (λ x at below apart. phase_other s d c _ off)
+phase_stays s (Acknowledge d) c off =
+    by_acknowledge (λ o. Foretells o s (watched.State c) false) (λ r. tt) s d (λ x h at below on head own. acknowledged_other s d c x x.phase (ne_eqb d c (λ e. off refl (ap Some e))))
+phase_stays s (Join d) c off = by_join (λ o. Foretells o s (watched.State c) false) (λ r. tt) s d (λ x at below apart. phase_other s d c _ (ne_eqb d c (λ e. off refl (ap Some e))))
 phase_stays s (Read d) c off = by_read (λ o. Foretells o s (watched.State c) false) (λ r. tt) s d (λ x at below on changed. changed refl)
 phase_stays s ReadServer c off = by_read_server (λ o. Foretells o s (watched.State c) false) (λ r. tt) s (λ below changed. changed refl)
 
 pub phase_rest :
-    (s : State) (i : Instr) (c : ℕ) → ((d : ℕ) (op : Operation ℕ) → i ≡ Edit d op → ⊥) → ((d : ℕ) → i ≡ Acknowledge d → ⊥) → ((d : ℕ) → i ≡ Join d → ⊥) → Foretells (step s i) s (watched.State c) false
-phase_rest s (Edit d op) c no_edit no_answer no_join = absurd (no_edit d op refl)
-phase_rest s (Take d) c no_edit no_answer no_join = phase_stays s (Take d) c refl
-phase_rest s (Deliver d) c no_edit no_answer no_join = phase_stays s (Deliver d) c refl
-phase_rest s (Acknowledge d) c no_edit no_answer no_join = absurd (no_answer d refl)
-phase_rest s (Join d) c no_edit no_answer no_join = absurd (no_join d refl)
-phase_rest s (Read d) c no_edit no_answer no_join = phase_stays s (Read d) c refl
-phase_rest s ReadServer c no_edit no_answer no_join = phase_stays s ReadServer c refl
-
--- by whether it is the client's own
-acknowledge_told : (s : State) (d c : ℕ) (own : Bool) → (d == c) ≡ own → Foretells (step s (Acknowledge d)) s (watched.State c) own
-acknowledge_told s d c false off = phase_stays s (Acknowledge d) c off
-acknowledge_told s d c true on = subst (λ n. Foretells (step s (Acknowledge d)) s (watched.State n) true) (eqb-true d c on) (acknowledge_moves s d)
-
-pub acknowledge_phase : (s : State) (i : Instr) (own client number : ℕ) → i ≡ Acknowledge own → number ≡ own → Foretells (step s i) s (watched.State client) (number == client)
-acknowledge_phase s i own client number is same =
-    subst (λ j. Foretells (step s j) s (watched.State client) (number == client)) (sym is)
-    (subst (λ (n : ℕ). Foretells (step s (Acknowledge own)) s (watched.State client) (n == client)) (sym same) (acknowledge_told s own client (own == client) refl))
-
-join_phase_told : (s : State) (d c : ℕ) (own : Bool) → (d == c) ≡ own → Foretells (step s (Join d)) s (watched.State c) own
-join_phase_told s d c false off = phase_stays s (Join d) c off
-join_phase_told s d c true on = subst (λ n. Foretells (step s (Join d)) s (watched.State n) true) (eqb-true d c on) (join_moves s d)
-
-pub join_phase : (s : State) (i : Instr) (own client number : ℕ) → i ≡ Join own → number ≡ own → Foretells (step s i) s (watched.State client) (number == client)
-join_phase s i own client number is same =
-    subst (λ j. Foretells (step s j) s (watched.State client) (number == client)) (sym is)
-    (subst (λ (n : ℕ). Foretells (step s (Join own)) s (watched.State client) (n == client)) (sym same) (join_phase_told s own client (own == client) refl))
-
--- ---- the server
-
--- a Take alone changes the log
-abbrev pub is_take : Instr → Bool
-is_take (Edit d op) = false
-is_take (Take d) = true
-is_take (Deliver d) = false
-is_take (Acknowledge d) = false
-is_take (Join d) = false
-is_take (Read d) = false
-is_take ReadServer = false
-
-acknowledged_log : (s : State) (d : ℕ) (x : Client) (phase : Phase) → Foretells (with_row s d (acknowledged x phase)) s watched.ServerRevision false
-acknowledged_log s d x NotJoined = tt
-acknowledged_log s d x Synchronized = tt
-acknowledged_log s d x (AwaitingConfirm o) = λ changed. changed refl
-acknowledged_log s d x (AwaitingWithBuffer o b) = λ changed. changed refl
-
-longer : (log : List Entry) (h : Entry) → length log ≢ length (log ++ h ∷ [])
-longer log h e = let f = length-append log (h ∷ []) in absurd (omega (arith, e, f))
+    (s : State) (i : Instr) → ((d : ℕ) (op : Operation ℕ) → i ≡ Edit d op → ⊥) → ((d : ℕ) → i ≡ Acknowledge d → ⊥) → ((d : ℕ) → i ≡ Join d → ⊥) → IfSome (client_of i) (λ c. Foretells (step s i) s (watched.State c) false)
+phase_rest s (Edit d op) no_edit no_answer no_join = absurd (no_edit d op refl)
+phase_rest s (Take d) no_edit no_answer no_join = phase_stays s (Take d) d (λ e. absurd (cc))
+phase_rest s (Deliver d) no_edit no_answer no_join = phase_stays s (Deliver d) d (λ e. absurd (cc))
+phase_rest s (Acknowledge d) no_edit no_answer no_join = absurd (no_answer d refl)
+phase_rest s (Join d) no_edit no_answer no_join = absurd (no_join d refl)
+phase_rest s (Read d) no_edit no_answer no_join = phase_stays s (Read d) d (λ e. absurd (cc))
+phase_rest s ReadServer no_edit no_answer no_join = tt

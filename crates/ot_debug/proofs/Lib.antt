@@ -1,6 +1,5 @@
 pub mod Rows
 pub mod Places
-pub mod Stack
 pub mod Compared
 pub mod Foretelling
 pub mod Firsts

@@ -37,7 +37,7 @@ Gives kept s i t given = (shown : Option Shown) × (step s i ≡ Performed t sho
 
 -- the records that are kept, in the order of their instructions
 abbrev pub undos_in : Recent → List Undo
-undos_in recent = recent.older.undos.items ++ recent.newer.undos.items
+undos_in recent = recent.records.items
 
 -- the k-th of the records leads from the place after the instruction `first + k` back to the place before it
 abbrev pub AreUndos : Program → ℕ → List Undo → Type 0
@@ -59,6 +59,11 @@ pub record IsKept (schedule : Program) (position : ℕ) (state : State) (shown :
 -- the same records are kept, and what is performed leaves some as before
 abbrev pub IsAsBefore : Recent → Recent → Type 0
 IsAsBefore undos records = (undos_in records ≡ undos_in undos) × (records.kept ≡ undos.kept)
+
+-- the newest of these records
+pub record AreNewest (undos rest : List Undo) : Type 0 where
+  pub gone : List Undo
+  pub were : undos ≡ gone ++ rest
 
 -- one record more, behind the others, of which the oldest may have gone
 pub record IsPushed (undo : Undo) (undos records : List Undo) : Type 0 where

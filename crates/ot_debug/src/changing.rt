@@ -10,11 +10,7 @@ use ot_text::{ComponentRef, Doc, TextOp};
 fn is_same(a: Option<Tagged>, b: Option<Tagged>) -> bool
     ensures { IsTrue result ↔ (a ≡ b) }
 {
-    match (a, b) {
-        (Some(a), Some(b)) => a == b,
-        (None, None) => true,
-        _ => false,
-    }
+    a == b
 }
 
 // So many elements from one place on are those from the other place on.

@@ -21,7 +21,7 @@ pub enum Command {
     Run,
     /// Performs this many instructions, or those before the first refused one, or all that are left; breaks and watches do not count.
     Step(u32),
-    /// Undoes this many instructions, or all, by the undo records that they left: the last 16 before a stop, all of them from the first `Back` on until the
+    /// Undoes this many instructions, or all, by the undo records that they left: the last 32 before a stop, all of them from the first `Back` on until the
     /// opening is reached. That costs what it undoes. Where it goes beyond them it performs the schedule once more, up to the place where it goes, which leaves the
     /// records of the instructions before it. Where these would be too large together, those of the last ones alone are kept. To the opening that is nothing.
     Back(u32),

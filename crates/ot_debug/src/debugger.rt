@@ -84,7 +84,7 @@ impl<const LISTS: u8> Debugging<LISTS> {
             position: 0,
             machine,
             shown: Vec::new(alloc),
-            undos: Recent::new(alloc, budget / 2),
+            undos: Recent::new(alloc, budget),
             breaks,
             watches: Vec::new(alloc),
             firsts: Vec::new(alloc),

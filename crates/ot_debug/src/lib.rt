@@ -19,13 +19,13 @@
 //! - What watches see of an instruction is determined before it is performed (specs/Changes.antt): so no list is copied or compared for them.
 //!   Of equal watches the first alone is looked at.
 //! - [`laws`] says that stops are exact: a run has one stop at most, for one reason.
-//! - Going forth costs what a run costs: only the last 16 instructions before a place where a command stops leave undo records, where that place is the end
+//! - Going forth costs what a run costs: only the last 32 instructions before a place where a command stops leave undo records, where that place is the end
 //!   of the schedule, a break before a `Run`, or the last instruction of a `Step`, and the one that a watch stops at; what is performed behind that place without one lets them go. So
 //!   the first few steps back take no time.
 //!   Where `Back` is to go further and there are no records, another machine performs the schedule once more, from the opening up to the place where one goes, and leaves a
 //!   record of each instruction; then it takes the place of the first one. To the opening that is nothing.
 //!   The records are a stack: `Back` takes them off one by one, and once somebody has gone back all that is performed adds its own, until the opening is reached.
-//! - The records together have a budget. Beyond it the oldest go, so they are those of the last performed instructions, of half a budget's worth at least where they were more.
+//! - The records together have a budget. Beyond it the oldest go, so they are those of the last performed instructions.
 //!   So the memory that they take is bounded, and a `Back` performs once more at most, however far it goes.
 //! - What grows does so before anything is changed. After `Memory` the debugger stands after a whole number of instructions,
 //!   between its old place and the one to which the command would have gone.

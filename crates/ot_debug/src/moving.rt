@@ -13,7 +13,7 @@ use crate::watching::first_changed;
 use ot_machine::Refusal;
 
 /// So many instructions before a place where a command stops leave records, so that the first steps back from there take no time.
-const NEAR: usize = 16;
+const NEAR: usize = 32;
 
 // The answer where the next instruction is not performed.
 fn halted(at: usize, refusal: Refusal) -> Reply
@@ -64,13 +64,13 @@ impl<const LISTS: u8> Debugging<LISTS> {
 
     // Whether the next break, or the end of the schedule, is near.
     fn is_stop_near(&self, place: usize) -> bool {
-        if self.schedule.len().saturating_sub(place) <= NEAR {
-            return true;
-        }
-        let next = place.saturating_add(1);
-        match self.breaks.get(next..next.saturating_add(NEAR)) {
-            Some(ahead) => ahead.contains(&true),
-            None => false,
+        let end = place.saturating_add(NEAR);
+        match self
+            .breaks
+            .get(place.saturating_add(1)..end.saturating_add(1))
+        {
+            Some(ahead) if end < self.schedule.len() => ahead.contains(&true),
+            _ => true,
         }
     }
 
@@ -82,24 +82,18 @@ impl<const LISTS: u8> Debugging<LISTS> {
             match self.forward_watched() {
                 Ok(None) => {}
                 Ok(Some(number)) => {
-                    return Reply::Stopped {
-                        at: place + 1,
-                        why: Why::Watch(number),
-                    };
+                    let (at, why) = (place + 1, Why::Watch(number));
+                    return Reply::Stopped { at, why };
                 }
                 Err(refusal) => return halted(place, refusal),
             }
             if self.is_break(place + 1) {
-                return Reply::Stopped {
-                    at: place + 1,
-                    why: Why::Break,
-                };
+                let (at, why) = (place + 1, Why::Break);
+                return Reply::Stopped { at, why };
             }
         }
-        Reply::Stopped {
-            at: self.position(),
-            why: Why::End,
-        }
+        let (at, why) = (self.position(), Why::End);
+        Reply::Stopped { at, why }
     }
 
     /// Performs so many instructions, or as many as can be.
@@ -117,10 +111,8 @@ impl<const LISTS: u8> Debugging<LISTS> {
                 return halted(at, refusal);
             }
         }
-        Reply::Stopped {
-            at: self.position(),
-            why: Why::Count,
-        }
+        let (at, why) = (self.position(), Why::Count);
+        Reply::Stopped { at, why }
     }
 
     /// Undoes so many instructions, or all.
@@ -133,9 +125,7 @@ impl<const LISTS: u8> Debugging<LISTS> {
                 return Reply::Memory;
             }
         }
-        Reply::Stopped {
-            at: target,
-            why: Why::Count,
-        }
+        let (at, why) = (target, Why::Count);
+        Reply::Stopped { at, why }
     }
 }

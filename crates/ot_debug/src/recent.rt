@@ -1,52 +1,35 @@
 //! The undo records of the last instructions: a stack that forgets its oldest records where it grows too large.
 //!
 //! ```text
-//!     older           newer
-//!     u4  u5  u6      u7  u8      the last performed instruction is number 8
+//!     oldest              newest
+//!     u4   u5   u6   u7   u8      the last performed instruction is number 8
 //! ```
 //!
-//! What is pushed comes to the newer half. When this one is full, the older half goes, and the newer one is the older one from then on. So after a
-//! push there are records of half the budget's size at least, or all that were pushed since they were forgotten and not popped, and never more than two halves and what each
-//! has beyond its size, which is a part of one record.
+//! A record is pushed behind the newest. Where all would be too large together then, the oldest go first. So after a push there are as many records of the last instructions as the
+//! budget has room for, of one instruction at least, or all that were pushed since they were forgotten and not popped.
 
-ghost use Rattle.std.specs.Prelude.{◌≡◌, ◌≢◌, ◌<◌, ◌↔◌, ◌++◌, ◌∷◌, ◌⊎◌, ◌||◌, [], true, false, vec_capacity, vec_len, IfOk, IfSome, IsTrue, None, OnOk};
-ghost use Rattle.ot_debug.specs.Stepping.{undos_in, IsAsBefore, IsPushed};
+ghost use Rattle.std.specs.Prelude.{◌≡◌, ◌<◌, ◌≤◌, ◌+◌, ◌↔◌, ◌++◌, ◌∷◌, ◌||◌, [], true, false, IfOk, IfSome, IsTrue, None, OnOk};
+ghost use Rattle.std.specs.VecDeque.{deque_capacity, deque_len};
+ghost use Rattle.ot_debug.specs.Stepping.{undos_in, AreNewest, IsAsBefore, IsPushed};
 
 use ot_machine::Undo;
 use std::alloc::{AllocError, Global};
-use std::mem;
+use std::collections::VecDeque;
 
 /// How large the records of a debugger may be in all, counted as `Undo::size` counts: a unit takes 24 bytes, and up to 230 where many clients have much pending, so
 /// they stay below 1 GB. 100,000 instructions of thirty components each are within it.
 pub(crate) const BUDGET: usize = 4_000_000;
 
-// Records of instructions that follow one another, and their size in all.
-#[derive(Drop)]
-pub(crate) struct Half {
-    undos: Vec<Undo>,
-    size: usize,
-}
-
-impl Half {
-    fn new(alloc: Global) -> Half
-        ensures { result.undos.items ≡ [] }
-    {
-        Half {
-            undos: Vec::new(alloc),
-            size: 0,
-        }
-    }
-}
-
-/// The records of the last instructions, in two halves of which the older one is forgotten where the newer one is full.
+/// The records of the last instructions, oldest first.
 #[derive(Drop)]
 pub(crate) struct Recent {
-    // where the newer half is as large, or larger, it is full
+    // how large they may be in all
     limit: usize,
     // whether all that is performed leaves records: from where somebody goes back, until the opening is reached
     pub kept: bool,
-    older: Half,
-    newer: Half,
+    pub records: VecDeque<Undo>,
+    // how large they are in all
+    size: usize,
 }
 
 impl Recent {
@@ -59,48 +42,28 @@ impl Recent {
         Recent {
             limit,
             kept: false,
-            older: Half::new(alloc),
-            newer: Half::new(alloc),
+            records: VecDeque::new(alloc),
+            size: 0,
         }
     }
 
-    /// No records yet, with room for so many; what is performed leaves some.
-    pub(crate) fn with_capacity(
-        alloc: Global,
-        limit: usize,
-        count: usize,
-    ) -> Result<Recent, AllocError>
+    /// No records yet, with room for so many, which may be as large as these; what is performed leaves some.
+    pub(crate) fn again(&self, count: usize) -> Result<Recent, AllocError>
         ensures none { IfOk result (λ recent. undos_in recent ≡ []) }
-        ensures limit { IfOk result (λ recent. recent.limit ≡ limit) }
+        ensures limit { IfOk result (λ recent. recent.limit ≡ self.now.limit) }
         ensures kept { IfOk result (λ recent. recent.kept ≡ true) }
     {
-        let undos = Vec::with_capacity(alloc, count)?;
         Ok(Recent {
-            limit,
+            limit: self.limit,
             kept: true,
-            older: Half::new(alloc),
-            newer: Half { undos, size: 0 },
+            records: VecDeque::with_capacity(self.allocator(), count)?,
+            size: 0,
         })
     }
 
     /// Where they are.
     pub(crate) fn allocator(&self) -> Global {
-        *self.newer.undos.allocator()
-    }
-
-    /// From which size on a half is full.
-    pub(crate) fn limit(&self) -> usize
-        ensures { result ≡ self.now.limit }
-    {
-        self.limit
-    }
-
-    /// Whether there are none.
-    pub(crate) fn is_empty(&self) -> bool
-        ensures none { IsTrue result → undos_in self.now ≡ [] }
-        ensures some { result ≡ false → undos_in self.now ≢ [] }
-    {
-        self.older.undos.as_slice().is_empty() && self.newer.undos.as_slice().is_empty()
+        *self.records.allocator()
     }
 
     /// All of them go.
@@ -109,12 +72,8 @@ impl Recent {
         ensures limit { self.new.limit ≡ self.old.limit }
         ensures kept { self.new.kept ≡ self.old.kept }
     {
-        if self.is_empty() {
-            return;
-        }
-        let alloc = self.allocator();
-        self.older = Half::new(alloc);
-        self.newer = Half::new(alloc);
+        self.records.clear();
+        self.size = 0;
     }
 
     /// Notes that somebody has gone back: from then on all that is performed leaves records; at the opening no more are needed, until somebody goes back again.
@@ -137,55 +96,64 @@ impl Recent {
     pub(crate) fn reserve_one(&mut self) -> Result<(), AllocError>
         ensures same { IsAsBefore self.old self.new }
         ensures limit { self.new.limit ≡ self.old.limit }
-        ensures room { OnOk result (vec_len self.new.newer.undos < vec_capacity self.new.newer.undos) }
+        ensures room { OnOk result (deque_len self.new.records < deque_capacity self.new.records) }
     {
-        self.newer.undos.reserve(1)?;
-        Ok(())
+        self.records.reserve(1)
     }
 
-    /// Adds a record behind all others, for which there is room. None goes.
-    pub(crate) fn put_back(&mut self, undo: Undo)
-        requires { vec_len self.old.newer.undos < vec_capacity self.old.newer.undos }
-        ensures older { self.new.older ≡ self.old.older }
-        ensures newer { self.new.newer.undos.items ≡ self.old.newer.undos.items ++ undo ∷ [] }
+    /// Adds a record of this size behind all others, for which there is room. None goes.
+    pub(crate) fn put_back(&mut self, undo: Undo, size: usize)
+        requires { deque_len self.old.records < deque_capacity self.old.records }
+        ensures more { undos_in self.new ≡ undos_in self.old ++ undo ∷ [] }
+        ensures size { size ≤ self.new.size }
         ensures limit { self.new.limit ≡ self.old.limit }
         ensures kept { self.new.kept ≡ self.old.kept }
     {
-        self.newer.size = self.newer.size.saturating_add(undo.size());
-        self.newer.undos.push_reserved(undo);
+        self.size = self.size.saturating_add(size);
+        self.records.push_back_reserved(undo);
     }
 
-    /// Adds a record behind all others, for which there is room. Where the newer half is full then, the older half goes.
-    pub(crate) fn push(&mut self, undo: Undo)
-        requires { vec_len self.old.newer.undos < vec_capacity self.old.newer.undos }
-        ensures more { IsPushed undo (undos_in self.old) (undos_in self.new) }
-        ensures stay { self.new.older.size < self.old.limit → undos_in self.new ≡ undos_in self.old ++ undo ∷ [] }
-        ensures few { (self.new.newer.size < self.old.limit) ⊎ (self.new.newer.undos.items ≡ []) }
+    // The oldest go, as long as all would be too large together with one of this size more.
+    fn make_room(&mut self, size: usize)
+        requires { deque_len self.old.records < deque_capacity self.old.records }
+        ensures rest { AreNewest (undos_in self.old) (undos_in self.new) }
+        ensures stay { self.old.size + size ≤ self.old.limit → undos_in self.new ≡ undos_in self.old }
+        ensures room { deque_len self.new.records < deque_capacity self.new.records }
         ensures limit { self.new.limit ≡ self.old.limit }
         ensures kept { self.new.kept ≡ self.old.kept }
     {
-        self.put_back(undo);
-        if self.newer.size < self.limit {
-            return;
+        while self.size.saturating_add(size) > self.limit {
+            let Some(oldest) = self.records.pop_front() else {
+                return;
+            };
+            self.size = self.size.saturating_sub(oldest.size());
+            drop(oldest);
         }
-        let none = Half::new(self.allocator());
-        self.older = mem::replace(&mut self.newer, none);
+    }
+
+    /// Adds a record behind all others, for which there is room. Where all would be too large together, the oldest go first.
+    pub(crate) fn push(&mut self, undo: Undo)
+        requires { deque_len self.old.records < deque_capacity self.old.records }
+        ensures more { IsPushed undo (undos_in self.old) (undos_in self.new) }
+        ensures stay { self.old.size + self.new.size ≤ self.old.limit → undos_in self.new ≡ undos_in self.old ++ undo ∷ [] }
+        ensures limit { self.new.limit ≡ self.old.limit }
+        ensures kept { self.new.kept ≡ self.old.kept }
+    {
+        let size = undo.size();
+        self.make_room(size);
+        self.put_back(undo, size);
     }
 
     /// Takes the last record off. There is room for it then.
     pub(crate) fn pop(&mut self) -> Option<Undo>
-        ensures none { result ≡ None → undos_in self.old ≡ [] }
+        ensures none { result ≡ None → undos_in self.new ≡ [] }
         ensures some { IfSome result (λ undo. undos_in self.old ≡ undos_in self.new ++ undo ∷ []) }
-        ensures room { IfSome result (λ undo. vec_len self.new.newer.undos < vec_capacity self.new.newer.undos) }
+        ensures room { IfSome result (λ undo. deque_len self.new.records < deque_capacity self.new.records) }
         ensures limit { self.new.limit ≡ self.old.limit }
         ensures kept { self.new.kept ≡ self.old.kept }
     {
-        if self.newer.undos.is_empty() {
-            let none = Half::new(self.allocator());
-            self.newer = mem::replace(&mut self.older, none);
-        }
-        let undo = self.newer.undos.pop()?;
-        self.newer.size = self.newer.size.saturating_sub(undo.size());
+        let undo = self.records.pop_back()?;
+        self.size = self.size.saturating_sub(undo.size());
         Some(undo)
     }
 }

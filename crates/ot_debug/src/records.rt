@@ -1,6 +1,6 @@
 //! Instructions performed with and without undo records, and once more where somebody goes back beyond these.
 
-ghost use Rattle.std.specs.Prelude.{◌≡◌, ◌≢◌, ◌≤◌, ◌==◌, IfErr, IfOk, OnErr, OnOk};
+ghost use Rattle.std.specs.Prelude.{◌≡◌, ◌≢◌, ◌≤◌, ◌==◌, [], true, IfErr, IfOk, OnErr, OnOk};
 ghost use Rattle.ot_model.specs.declared.shown.Refusal.TheVariants.{Memory};
 ghost use Rattle.ot_model.specs.Runs.{done, IsStateAt};
 ghost use Rattle.ot_model.specs.Table.{step, Refused, State};
@@ -10,7 +10,7 @@ use crate::debugger::opening;
 use crate::recent::Recent;
 use ot_isa::{Instr, Schedule};
 use ot_machine::{Machine, Refusal, Shown};
-use std::alloc::{AllocError, Global};
+use std::alloc::AllocError;
 
 // A copy of the list that the instruction shows, where it is performed and `LISTS` is 1. Else none is made.
 fn shown<const LISTS: u8>(machine: &Machine, instr: &Instr) -> Result<Option<Shown>, Refusal>
@@ -71,20 +71,20 @@ pub(crate) fn perform<const LISTS: u8>(
 }
 
 /// Performs so many of the schedule's instructions once more, from the opening on. Gives another machine, which stands after them, and the records of
-/// the last ones, of one at least where there is one.
+/// the last ones, of one at least where there is one: `undos`, which has none yet, is to take them.
 pub(crate) fn perform_again(
-    alloc: Global,
     schedule: &Schedule,
     count: usize,
-    limit: usize,
+    mut undos: Recent,
 ) -> Result<(Machine, Recent), AllocError>
-    requires { count ≤ done schedule.now }
+    requires count { count ≤ done schedule.now }
+    requires none { undos_in undos ≡ [] }
+    requires kept { undos.kept ≡ true }
     ensures state { IfOk result (λ given. IsStateAt schedule.now count given.0) }
     ensures records { IfOk result (λ given. AreRecords schedule.now count given.1) }
-    ensures limit { IfOk result (λ given. given.1.limit ≡ limit) }
+    ensures limit { IfOk result (λ given. given.1.limit ≡ undos.limit) }
 {
-    let mut machine = opening(alloc, schedule)?;
-    let mut undos = Recent::with_capacity(alloc, limit, count)?;
+    let mut machine = opening(undos.allocator(), schedule)?;
     for place in 0..count {
         let Some(instr) = schedule.get(place) else {
             unreachable!()

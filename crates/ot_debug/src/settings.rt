@@ -55,10 +55,7 @@ impl<const LISTS: u8> Debugging<LISTS> {
         ensures { ClearsBreak place self.old result self.new }
     {
         let place = place as usize;
-        if place >= self.breaks.len() {
-            return Reply::NoSuchPlace;
-        }
-        if !self.breaks[place] {
+        if place >= self.breaks.len() || !self.breaks[place] {
             return Reply::NoSuchPlace;
         }
         self.breaks[place] = false;

@@ -85,8 +85,8 @@ impl<const LISTS: u8> Debugging<LISTS> {
         ensures there { OnOk result (self.new.position ≡ place) }
         ensures unchanged { OnErr result (self.new ≡ self.old) }
     {
-        let (alloc, limit) = (self.undos.allocator(), self.undos.limit());
-        let (machine, undos) = perform_again(alloc, &self.schedule, place, limit)?;
+        let undos = self.undos.again(place)?;
+        let (machine, undos) = perform_again(&self.schedule, place, undos)?;
         drop_shown(&mut self.shown, &self.schedule, place, self.position);
         self.position = place;
         self.machine = machine;
@@ -103,14 +103,12 @@ impl<const LISTS: u8> Debugging<LISTS> {
         ensures not_beyond { OnOk result (target ≤ self.new.position) }
         ensures unchanged { OnErr result (self.new ≡ self.old) }
     {
-        if self.undos.is_empty() {
-            return self.go_again(target);
-        }
         let Some(undo) = self.undos.pop() else {
-            unreachable!()
+            return self.go_again(target);
         };
         if let Err((e, undo)) = self.machine.undo(undo) {
-            self.undos.put_back(undo);
+            let size = undo.size();
+            self.undos.put_back(undo, size);
             return Err(e);
         }
         let before = self.position - 1;

@@ -1,9 +1,10 @@
 //! What watches see of an instruction. It is determined before the instruction is performed: so nothing of the state before it is recorded, and no
 //! list is copied, nor compared as a whole.
 
-ghost use Rattle.std.specs.Prelude.{ℕ, ◌<◌, ◌↔◌, length, IfOk, IsTrue, MatchOption, false};
+ghost use Rattle.std.specs.Prelude.{◌≡◌, ℕ, ◌<◌, ◌↔◌, length, IfOk, IfSome, IsTrue, MatchOption, Some, false};
 ghost use Rattle.std.specs.List.{All};
-ghost use Rattle.ot_isa.specs.declared.instruction.Instr.TheVariants.{Deliver, Edit, Join};
+ghost use Rattle.ot_isa.specs.Program.{client_of, IsForClients};
+ghost use Rattle.ot_isa.specs.declared.instruction.Instr.TheVariants.{Deliver, Edit};
 ghost use Rattle.ot_model.specs.Operation.{Operation};
 ghost use Rattle.ot_model.specs.Table.{step};
 ghost use Rattle.ot_debug.specs.Session.{IsOfClients};
@@ -16,19 +17,11 @@ use ot_machine::{INSERTED_LIMIT, Machine, Phase};
 use ot_text::TextOp;
 use std::alloc::AllocError;
 
-// The client's edit changes the list of the client that is watched. An edit that the table refuses is not looked at.
-fn edit_changes(
-    machine: &Machine,
-    own: u16,
-    op: &TextOp<char>,
-    client: u32,
-) -> Result<bool, AllocError>
-    requires { client < length machine.now.clients }
-    ensures { IfOk result (λ changed. Foretells (step machine.now (Edit own op.now)) machine.now (Watched.Doc client) changed) }
+// The client's edit changes its list. An edit that the table refuses is not looked at.
+fn edit_changes(machine: &Machine, own: u16, op: &TextOp<char>) -> Result<bool, AllocError>
+    requires { own < length machine.now.clients }
+    ensures { IfOk result (λ changed. Foretells (step machine.now (Edit own op.now)) machine.now (Watched.Doc own) changed) }
 {
-    if u32::from(own) != client {
-        return Ok(false);
-    }
     // For the proof: the invariant of every machine.
     let _sound = machine.clients();
     let list = machine.document(own);
@@ -41,65 +34,55 @@ fn edit_changes(
 }
 
 // So does a delivery.
-fn delivery_changes(machine: &Machine, own: u16, client: u32) -> Result<bool, AllocError>
-    requires { client < length machine.now.clients }
-    ensures { IfOk result (λ changed. Foretells (step machine.now (Deliver own)) machine.now (Watched.Doc client) changed) }
+fn delivery_changes(machine: &Machine, own: u16) -> Result<bool, AllocError>
+    requires { own < length machine.now.clients }
+    ensures { IfOk result (λ changed. Foretells (step machine.now (Deliver own)) machine.now (Watched.Doc own) changed) }
 {
-    if u32::from(own) != client {
-        return Ok(false);
-    }
     match machine.delivery(own)? {
         Some(op) => Ok(changes(&op, machine.document(own))),
         None => Ok(false),
     }
 }
 
-// So does a Join, where the server's list is another.
-fn join_changes(machine: &Machine, own: u16, client: u32) -> bool
-    requires { client < length machine.now.clients }
-    ensures { Foretells (step machine.now (Join own)) machine.now (Watched.Doc client) result }
-{
-    if u32::from(own) != client {
-        return false;
-    }
-    !machine.server_document().equals(machine.document(own))
-}
-
-// The instruction changes the client's list.
-fn changes_list(machine: &Machine, instr: &Instr, client: u32) -> Result<bool, AllocError>
-    requires { client < length machine.now.clients }
-    ensures { IfOk result (λ changed. Foretells (step machine.now instr.now) machine.now (Watched.Doc client) changed) }
+// The instruction changes the list of the client that it names: a Join where the server's list is another.
+fn changes_list(machine: &Machine, instr: &Instr) -> Result<bool, AllocError>
+    requires { IsForClients (length machine.now.clients) instr.now }
+    ensures { IfOk result (λ changed. IfSome (client_of instr.now) (λ c. Foretells (step machine.now instr.now) machine.now (Watched.Doc c) changed)) }
 {
     match instr {
-        Instr::Edit(own, op) => edit_changes(machine, *own, op, client),
-        Instr::Deliver(own) => delivery_changes(machine, *own, client),
-        Instr::Join(own) => Ok(join_changes(machine, *own, client)),
+        Instr::Edit(own, op) => edit_changes(machine, *own, op),
+        Instr::Deliver(own) => delivery_changes(machine, *own),
+        Instr::Join(own) => Ok(!machine.server_document().equals(machine.document(*own))),
         _ => Ok(false),
     }
 }
 
-// The client's edit leads the client that is watched to another state. It does not where there is a buffer already.
-fn edit_moves(machine: &Machine, own: u16, client: u32) -> bool
-    requires { client < length machine.now.clients }
-    ensures { (op : Operation ℕ) → Foretells (step machine.now (Edit own op)) machine.now (Watched.State client) result }
+// The client's edit leads it to another state. It does not where there is a buffer already.
+fn edit_moves(machine: &Machine, own: u16) -> bool
+    requires { own < length machine.now.clients }
+    ensures { (op : Operation ℕ) → Foretells (step machine.now (Edit own op)) machine.now (Watched.State own) result }
 {
-    if u32::from(own) != client {
-        return false;
-    }
     !matches!(machine.phase(own), Phase::AwaitingWithBuffer)
 }
 
-// The instruction leads the client to another state.
-fn changes_phase(machine: &Machine, instr: &Instr, client: u32) -> bool
-    requires { client < length machine.now.clients }
-    ensures { Foretells (step machine.now instr.now) machine.now (Watched.State client) result }
+// The instruction leads the client that it names to another state.
+fn changes_phase(machine: &Machine, instr: &Instr) -> bool
+    requires { IsForClients (length machine.now.clients) instr.now }
+    ensures { IfSome (client_of instr.now) (λ c. Foretells (step machine.now instr.now) machine.now (Watched.State c) result) }
 {
     match instr {
-        Instr::Edit(own, _) => edit_moves(machine, *own, client),
-        Instr::Acknowledge(own) => u32::from(*own) == client,
-        Instr::Join(own) => u32::from(*own) == client,
+        Instr::Edit(own, _) => edit_moves(machine, *own),
+        Instr::Acknowledge(_) => true,
+        Instr::Join(_) => true,
         _ => false,
     }
+}
+
+// The instruction names the client.
+fn names(instr: &Instr, client: u32) -> bool
+    ensures { IsTrue result ↔ (client_of instr.now ≡ Some client) }
+{
+    matches!(instr.client(), Some(own) if u32::from(own) == client)
 }
 
 // The instruction changes what the watch looks at.
@@ -108,8 +91,8 @@ fn changes_seen(machine: &Machine, instr: &Instr, watch: Watched) -> Result<bool
     ensures { IfOk result (λ changed. Foretells (step machine.now instr.now) machine.now watch changed) }
 {
     match watch {
-        Watched::Doc(client) => changes_list(machine, instr, client),
-        Watched::State(client) => Ok(changes_phase(machine, instr, client)),
+        Watched::Doc(client) => Ok(names(instr, client) && changes_list(machine, instr)?),
+        Watched::State(client) => Ok(names(instr, client) && changes_phase(machine, instr)),
         Watched::ServerRevision => Ok(matches!(instr, Instr::Take(_))),
     }
 }

@@ -1,6 +1,4 @@
 mod Clients
-mod Counting
-mod Delivered
 mod LineByLine
 mod Progress
 mod Sizes

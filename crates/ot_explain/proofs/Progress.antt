@@ -18,6 +18,8 @@ use Rattle.ot_model.proofs.States.{take_entry}
 use Rattle.ot_machine.specs.Answers.{IsRefusal}
 use Rattle.ot_machine.specs.Ended.{reached, IsStop}
 use Rattle.ot_machine.proofs.Stopping.{stopped_at, whole}
+use Rattle.ot_model.specs.Operation.{Operation}
+use Rattle.ot_steps.specs.Steps.{applies}
 use Rattle.ot_steps.proofs.Running.{reached_within}
 use Rattle.ot_steps.specs.declared.writing.StepsFault.{StepsFault}
 use Rattle.ot_steps.specs.declared.writing.StepsFault.TheVariants.{Memory, WriteFault}
@@ -65,11 +67,11 @@ one_more lines said s p q i t shown here at e =
 -- ---- one instruction
 
 -- a paragraph from its parts
-pub paragraph_made : (line place number : ℕ) (i : Instr) (s t : State) (start mid text : List ℕ) → place ≡ line → start ≡ heading place number i → mid ≡ start ++ before i s → text ≡ mid ++ after i t
-    → text ≡ paragraph line number i s t
-paragraph_made line place number i s t start mid text is_line is_start is_mid is_text =
-    is_text ∙ ap (λ (m : List ℕ). m ++ after i t) is_mid ∙ append_assoc start (before i s) (after i t)
-    ∙ ap (λ (h : List ℕ). h ++ (before i s ++ after i t)) (is_start ∙ ap (λ (l : ℕ). heading l number i) is_line)
+pub paragraph_made : (line number : ℕ) (i : Instr) (s t : State) (applied : Option (Operation ℕ)) (start mid text : List ℕ) → start ≡ heading line number i → mid ≡ start ++ before i s → text ≡ mid ++ after i applied t
+    → applied ≡ applies i s → text ≡ paragraph line number i s t
+paragraph_made line number i s t applied start mid text is_start is_mid is_text is_applied =
+    is_text ∙ ap (λ (m : List ℕ). m ++ after i applied t) is_mid ∙ append_assoc start (before i s) (after i applied t)
+    ∙ (λ k. is_start k ++ (before i s ++ after i (is_applied k) t))
 
 -- ---- a run under way
 

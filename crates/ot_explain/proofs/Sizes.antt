@@ -9,7 +9,7 @@ use Rattle.ot_json.specs.Writing.{text_of_operation}
 use Rattle.ot_model.specs.Operation.{Item, Old, New, Operation}
 use Rattle.ot_steps.specs.Lettered.{lettered}
 use Rattle.ot_steps.specs.Lines.{plain_item, plain_operation}
-use Rattle.ot_explain.specs.Words.{is_short, operation_words, size_text, size_words}
+use Rattle.ot_explain.specs.Words.{is_short, operation_words, size_words}
 
 -- ---- the components without their tags
 
@@ -43,7 +43,7 @@ runs_plain from (Old i ∷ items) end =
 
 -- ---- the numbers
 
-components_plain : (op : Operation Tagged) → length (normal_runs (plain_operation op)) ≡ length (normal_runs op)
+pub components_plain : (op : Operation Tagged) → length (normal_runs (plain_operation op)) ≡ length (normal_runs op)
 components_plain op = ap length (runs_plain 0 op.image op.base) ∙ length-map (normal_runs op) plain_run
 
 news_plain : (items : List (Item Tagged)) → length (text.news (map plain_item items)) ≡ length (text.news items)
@@ -54,15 +54,12 @@ news_plain (New x ∷ items) = ap (λ (n : ℕ). suc n) (news_plain items)
 pub short_plain : (op : Operation Tagged) → is_short (plain_operation op) ≡ is_short op
 short_plain op = λ i. nat_le (components_plain op i) 40 && nat_le (news_plain op.image i) 200
 
-pub size_plain : (op : Operation Tagged) → size_text (plain_operation op) ≡ size_text op
-size_plain op = λ i. size_words (components_plain op i) op.base (length-map op.image plain_item i)
-
 -- ---- what is shown
 
 pub whole : (op : Operation ℕ) → is_short op ≡ true → text_of_operation op ≡ operation_words op
 unfolding operation_words
 whole op short = rw short refl
 
-pub by_size : (op : Operation ℕ) → is_short op ≡ false → size_text op ≡ operation_words op
+pub by_size : (op : Operation ℕ) (count base target : ℕ) → is_short op ≡ false → count ≡ length (normal_runs op) → base ≡ op.base → target ≡ length op.image → size_words count base target ≡ operation_words op
 unfolding operation_words
-by_size op long = rw long refl
+by_size op count base target long is_count is_base is_target = rw long (λ i. size_words (is_count i) (is_base i) (is_target i))

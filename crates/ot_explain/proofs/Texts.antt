@@ -1,12 +1,20 @@
 -- Texts that are written part by part.
-use Rattle.std.proofs.Common.{◌≡◌, ℕ, List, ◌++◌, ap, ◌∙◌, append_assoc}
+use Rattle.std.proofs.Common.{◌≡◌, ℕ, List, ◌++◌, ap, ◌∙◌, append_assoc, if◌then◌else◌}
+use Rattle.std.specs.Prelude.{Result, Ok, Err, OnOk, is_ok}
 
--- the text b is a with this behind it
-pub record Follows (a b part : List ℕ) : Type 0 where
-  pub is : b ≡ a ++ part
+-- what the last call added, if it was not out of memory
+pub pushed : {A E : Type 0} (r : Result A E) (new more same : List ℕ) → new ≡ (if is_ok r then more else same) → OnOk r (new ≡ more)
+pushed (Ok x) new more same is = is
+pushed (Err e) new more same is = tt
 
-pub one : (a b part : List ℕ) → b ≡ a ++ part → Follows a b part
-one a b part is = record { is = is }
+pub two : {b c : List ℕ} (a x y : List ℕ) → b ≡ a ++ x → c ≡ b ++ y → c ≡ a ++ (x ++ y)
+two {b} {c} a x y e f = f ∙ ap (λ (t : List ℕ). t ++ y) e ∙ append_assoc a x y
 
-pub more : {a b c first second : List ℕ} → Follows a b first → Follows b c second → Follows a c (first ++ second)
-more {a} {b} {c} {first} {second} x y = record { is = y.is ∙ ap (λ (t : List ℕ). t ++ second) x.is ∙ append_assoc a first second }
+pub three : {b c d : List ℕ} (a x y z : List ℕ) → b ≡ a ++ x → c ≡ b ++ y → d ≡ c ++ z → d ≡ a ++ (x ++ (y ++ z))
+three {b} {c} {d} a x y z e f g = two a x (y ++ z) e (two b y z f g)
+
+pub four : {b c d e : List ℕ} (a x y z w : List ℕ) → b ≡ a ++ x → c ≡ b ++ y → d ≡ c ++ z → e ≡ d ++ w → e ≡ a ++ (x ++ (y ++ (z ++ w)))
+four {b} {c} {d} {e} a x y z w f g h i = two a x (y ++ (z ++ w)) f (three b y z w g h i)
+
+pub five : {b c d e g : List ℕ} (a x y z w v : List ℕ) → b ≡ a ++ x → c ≡ b ++ y → d ≡ c ++ z → e ≡ d ++ w → g ≡ e ++ v → g ≡ a ++ (x ++ (y ++ (z ++ (w ++ v))))
+five {b} {c} {d} {e} {g} a x y z w v p q r s t = two a x (y ++ (z ++ (w ++ v))) p (four b y z w v q r s t)

@@ -15,10 +15,15 @@ use Rattle.ot_steps.specs.Lines.{plain_operation}
 abbrev pub is_short : {A : Type 0} → Operation A → Bool
 is_short op = nat_le (length (normal_runs op)) 40 && nat_le (inserted op) 200
 
+-- words, a number, and words behind it
+abbrev pub number : List ℕ → ℕ → List ℕ → List ℕ
+number words n more = words ++ (decimal n ++ more)
+
 -- so many components, from a base length to a target length: [41 components, which make 60 characters of 20]
 abbrev pub size_words : ℕ → ℕ → ℕ → List ℕ
 size_words count base target =
-    codes "[" ++ (decimal count ++ ((if count == 1 then codes " component, which makes " else codes " components, which make ") ++ (decimal target ++ (codes " characters of " ++ (decimal base ++ codes "]")))))
+    if count == 1 then codes "[1 component, which makes " ++ (decimal target ++ (codes " characters of " ++ (decimal base ++ codes "]")))
+    else codes "[" ++ (decimal count ++ (codes " components, which make " ++ (decimal target ++ (codes " characters of " ++ (decimal base ++ codes "]")))))
 
 abbrev pub size_text : {A : Type 0} → Operation A → List ℕ
 size_text op = size_words (length (normal_runs op)) op.base (length op.image)
@@ -27,19 +32,15 @@ size_text op = size_words (length (normal_runs op)) op.base (length op.image)
 unfoldable pub operation_words : Operation ℕ → List ℕ
 operation_words op = if is_short op then text_of_operation op else size_text op
 
--- the same of an operation without its tags
-abbrev pub operation_text : Operation Tagged → List ℕ
-operation_text op = operation_words (plain_operation op)
+-- these words and the operation, or where there is none the other words
+abbrev pub with_operation : List ℕ → Option (Operation ℕ) → List ℕ → List ℕ
+with_operation words None other = other
+with_operation words (Some op) other = words ++ operation_words op
 
--- an operation of the table, where there is one, as there always is for a performed instruction
-abbrev pub made_text : Option (Operation ℕ) → List ℕ
-made_text None = codes "nothing"
-made_text (Some op) = operation_words op
-
--- an entry of the log, where there is one
+-- an entry of the log, where there is one, as there always is for a delivery
 abbrev pub entry_text : Option Entry → List ℕ
 entry_text None = codes "nothing"
-entry_text (Some h) = codes "client " ++ (decimal h.maker ++ (codes "'s operation " ++ operation_text h.op))
+entry_text (Some h) = number (codes "client ") h.maker (codes "'s operation ") ++ operation_words (plain_operation h.op)
 
 -- a text of at most 80 characters as a JSON string, else how long it is
 abbrev pub document_text : List ℕ → List ℕ
@@ -47,6 +48,10 @@ document_text chars = if nat_lt 80 (length chars) then decimal (length chars) ++
 
 abbrev pub list_text : List Tagged → List ℕ
 list_text list = document_text (chars_of list)
+
+-- these words, the document and the line's end
+abbrev pub document_words : List ℕ → List Tagged → List ℕ
+document_words words list = words ++ (list_text list ++ codes "\n")
 
 -- what is said of client c, where it is there
 abbrev pub of_client : State → ℕ → (Client → List ℕ) → List ℕ

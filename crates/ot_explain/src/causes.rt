@@ -3,50 +3,39 @@
 //! No clause says anything of these words: the fault's line and kind are `ot_asm`'s, and what is said of its cause here is a help to
 //! repair it.
 
-ghost use Rattle.std.specs.Prelude.{◌≤◌, length};
-
 use ot_asm::{AsmFault, Kind, read_text, split_word, trimmed};
 use std::alloc::{AllocError, Global};
-use streams::split_line;
 
-// The line with this number, counted from 1, if there is one.
+// The line with this number, counted from 1, if there is one and something stands on it.
 fn line_of(text: &[u8], number: u64) -> Option<&[u8]> {
-    let mut left = number;
-    let mut rest = text;
-    while let Some((line, below)) = split_line(rest) {
-        if left <= 1 {
-            return Some(line);
-        }
-        left -= 1;
-        rest = below;
-    }
-    if left <= 1 && !rest.is_empty() {
-        return Some(rest);
-    }
-    None
+    let mut lines = text.split(|byte| *byte == b'\n');
+    let line = lines.nth(number.saturating_sub(1) as usize)?;
+    if line.is_empty() { None } else { Some(line) }
+}
+
+// The bytes from this one on; none where there are not so many.
+fn behind(line: &[u8], at: usize) -> &[u8] {
+    let (_, rest) = line.split_at(at.min(line.len()));
+    rest
 }
 
 fn is_blank(byte: u8) -> bool {
-    byte == b' ' || byte == b'\t' || byte == b'\r'
+    matches!(byte, b' ' | b'\t' | b'\r')
+}
+
+// Where the blanks end that begin at a byte, or the word that does.
+fn end_of(line: &[u8], at: usize, blanks: bool) -> usize {
+    let rest = behind(line, at).iter();
+    at.saturating_add(rest.take_while(|byte| is_blank(**byte) == blanks).count())
 }
 
 // Where a word of the line begins, the first being number 0; where there are not so many, the line's end.
-fn start_of(line: &[u8], word: usize) -> usize
-    ensures { result ≤ length line.now }
-{
-    let mut left = word;
-    let mut inside = false;
-    for (at, byte) in line.iter().enumerate() {
-        let blank = is_blank(*byte);
-        if !blank && !inside {
-            if left == 0 {
-                return at;
-            }
-            left -= 1;
-        }
-        inside = !blank;
+fn start_of(line: &[u8], word: usize) -> usize {
+    let mut at = end_of(line, 0, true);
+    for _word in 0..word {
+        at = end_of(line, end_of(line, at, false), true);
     }
-    line.len()
+    at
 }
 
 // How many characters stand before a byte of the line, and one more.
@@ -75,53 +64,6 @@ enum Before {
     Closing,
 }
 
-// Where a component has to begin.
-fn begin(byte: u8) -> Result<Before, &'static str> {
-    match byte {
-        b'"' => Ok(Before::Text),
-        b'-' => Ok(Before::Minus),
-        b'1'..=b'9' => Ok(Before::Number(1)),
-        b'0' => Err("no component is 0, and no number begins with 0"),
-        b',' => Err("a component is missing before this comma"),
-        b']' => Err("a component is missing behind the last comma"),
-        b'\'' => Err("strings stand in double quotes"),
-        b'[' | b'{' => Err("a component is a string or a number: nothing is nested"),
-        b'.' => Err("numbers are whole"),
-        b'+' => Err("a number that retains has no sign"),
-        _ => Err("a component is a string in double quotes or a number"),
-    }
-}
-
-// Behind a minus.
-fn go_on_behind_minus(byte: u8) -> Result<Before, &'static str> {
-    match byte {
-        b'1'..=b'9' => Ok(Before::Number(1)),
-        b'0' => begin(byte),
-        _ => Err("a number stands right behind its minus"),
-    }
-}
-
-// Behind a whole component.
-fn go_on_behind_component(byte: u8) -> Result<Before, &'static str> {
-    match byte {
-        b',' => Ok(Before::Comma),
-        b']' => Ok(Before::Closing),
-        b'"' | b'-' | b'0'..=b'9' => Err("a comma is missing before this component"),
-        b'.' | b'\'' | b'[' | b'{' => begin(byte),
-        _ => Err("a comma, or the bracket that closes the array, stands behind a component"),
-    }
-}
-
-// Behind so many digits of a number.
-fn go_on_in_number(digits: usize, byte: u8) -> Result<Before, &'static str> {
-    match byte {
-        b'0'..=b'9' if digits < 7 => Ok(Before::Number(digits + 1)),
-        b'0'..=b'9' => Err("no document has more than 1000000 characters"),
-        b'.' | b'e' | b'E' => Err("numbers are whole"),
-        _ => go_on_behind_component(byte),
-    }
-}
-
 // The number of an escape by four digits at the front of a text.
 fn unit(json: &[u8]) -> Option<u32> {
     if !json.starts_with(b"\\u".as_slice()) {
@@ -137,8 +79,7 @@ fn unit(json: &[u8]) -> Option<u32> {
 
 // How long an escape by four digits at the front of a text is, both halves of a surrogate pair together.
 fn unit_len(json: &[u8]) -> Result<usize, &'static str> {
-    let (_, behind) = json.split_at(json.len().min(6));
-    match (unit(json), unit(behind)) {
+    match (unit(json), unit(behind(json, 6))) {
         (Some(0xD800..=0xDBFF), Some(0xDC00..=0xDFFF)) => Ok(12),
         (Some(0xD800..=0xDFFF), _) => {
             Err("this is half of a surrogate pair: the other half is missing")
@@ -157,48 +98,46 @@ fn escape_len(json: &[u8]) -> Result<usize, &'static str> {
     }
 }
 
-// Within a string, at a byte with what is behind it.
-fn go_on_in_text(byte: u8, json: &[u8]) -> Result<Before, &'static str> {
-    match byte {
-        b'"' => Ok(Before::Component),
-        b'\\' => Ok(Before::Escape(escape_len(json)?.saturating_sub(1))),
-        0..=0x1F => Err("a control character in a string is written as an escape, such as \\t"),
-        _ => Ok(Before::Text),
-    }
-}
-
-// Behind the bracket that closes the array.
-fn go_on_behind_array(byte: u8) -> Result<Before, &'static str> {
-    match byte {
-        b';' => Err("a comment stands on a line of its own"),
-        b',' => Err("no comma stands behind the array"),
-        _ => Err("nothing stands behind the array"),
-    }
-}
-
 // What stands before the next byte, where that is right: `json` is the text from this byte on.
 fn go_on(before: Before, byte: u8, json: &[u8]) -> Result<Before, &'static str> {
-    match before {
-        Before::Text => go_on_in_text(byte, json),
-        Before::Escape(left) if left > 1 => Ok(Before::Escape(left - 1)),
-        Before::Escape(_) => Ok(Before::Text),
-        Before::Minus => go_on_behind_minus(byte),
-        Before::Number(_) if is_blank(byte) => Ok(Before::Component),
-        _ if is_blank(byte) => Ok(before),
-        Before::Opening if byte == b']' => Ok(Before::Closing),
-        Before::Opening | Before::Comma => begin(byte),
-        Before::Number(digits) => go_on_in_number(digits, byte),
-        Before::Component => go_on_behind_component(byte),
-        Before::Closing => go_on_behind_array(byte),
-    }
-}
-
-// Where an array that ends so is wrong, and what is wrong there.
-fn end_cause(json: &[u8], before: Before) -> (usize, &'static str) {
-    match before {
-        Before::Closing => (0, "this is no array of strings and numbers"),
-        Before::Text | Before::Escape(_) => (json.len(), "the string is not closed"),
-        _ => (json.len(), "the array is not closed"),
+    use Before::{Closing, Comma, Component, Escape, Minus, Number, Opening, Text};
+    match (before, byte) {
+        (Text, b'"') => Ok(Component),
+        (Text, b'\\') => Ok(Escape(escape_len(json)?.saturating_sub(1))),
+        (Text, 0..=0x1F) => {
+            Err("a control character in a string is written as an escape, such as \\t")
+        }
+        (Escape(left), _) if left > 1 => Ok(Escape(left - 1)),
+        (Text | Escape(_), _) => Ok(Text),
+        (Minus, b'1'..=b'9') => Ok(Number(1)),
+        (Minus, b'0') => Err("no component is 0, and no number begins with 0"),
+        (Minus, _) => Err("a number stands right behind its minus"),
+        (Number(_), b' ' | b'\t' | b'\r') => Ok(Component),
+        (_, b' ' | b'\t' | b'\r') => Ok(before),
+        (Closing, b';') => Err("a comment stands on a line of its own"),
+        (Closing, b',') => Err("no comma stands behind the array"),
+        (Closing, _) => Err("nothing stands behind the array"),
+        (Number(digits), b'0'..=b'9') if digits < 7 => Ok(Number(digits + 1)),
+        (Number(_), b'0'..=b'9') => Err("no document has more than 1000000 characters"),
+        (Number(_), b'e' | b'E') | (_, b'.') => Err("numbers are whole"),
+        (_, b'\'') => Err("strings stand in double quotes"),
+        (_, b'[' | b'{') => Err("a component is a string or a number: nothing is nested"),
+        (Number(_) | Component, b',') => Ok(Comma),
+        (Number(_) | Component | Opening, b']') => Ok(Closing),
+        (Number(_) | Component, b'"' | b'-' | b'0'..=b'9') => {
+            Err("a comma is missing before this component")
+        }
+        (Number(_) | Component, _) => {
+            Err("a comma, or the bracket that closes the array, stands behind a component")
+        }
+        (_, b'"') => Ok(Text),
+        (_, b'-') => Ok(Minus),
+        (_, b'1'..=b'9') => Ok(Number(1)),
+        (_, b'0') => Err("no component is 0, and no number begins with 0"),
+        (_, b',') => Err("a component is missing before this comma"),
+        (_, b']') => Err("a component is missing behind the last comma"),
+        (_, b'+') => Err("a number that retains has no sign"),
+        _ => Err("a component is a string in double quotes or a number"),
     }
 }
 
@@ -206,103 +145,40 @@ fn end_cause(json: &[u8], before: Before) -> (usize, &'static str) {
 fn array_cause(json: &[u8]) -> (usize, &'static str) {
     let mut before = Before::Opening;
     for (at, byte) in json.iter().enumerate().skip(1) {
-        let (_, rest) = json.split_at(at);
-        match go_on(before, *byte, rest) {
+        match go_on(before, *byte, behind(json, at)) {
             Ok(next) => before = next,
             Err(words) => return (at, words),
         }
     }
-    end_cause(json, before)
+    match before {
+        Before::Closing => (0, "this is no array of strings and numbers"),
+        Before::Text | Before::Escape(_) => (json.len(), "the string is not closed"),
+        _ => (json.len(), "the array is not closed"),
+    }
 }
 
-fn operation_cause(json: &[u8]) -> (usize, &'static str) {
-    match json.first() {
+// Where the operation of an edit is wrong, and what is wrong there.
+fn edit_cause(line: &[u8]) -> (usize, &'static str) {
+    let start = start_of(line, 2);
+    let json = trimmed(behind(line, start));
+    let (at, words) = match json.first() {
         Some(b'[') => array_cause(json),
         Some(_) => (
             0,
             "an operation is an array, such as [1,\"a\",-2], and nothing round it",
         ),
         None => (0, "an operation is missing, such as [1,\"a\",-2]"),
-    }
+    };
+    (start.saturating_add(at), words)
 }
 
-// Where a first word that is not allowed begins, and why it is not.
-fn word_cause(word: &[u8]) -> &'static str {
-    if word == b"clients".as_slice() {
-        return "this line stands once, and first";
-    }
-    if word == b"present".as_slice() {
-        return "this line stands once, directly below `clients N`";
-    }
-    if word == b"start".as_slice() {
-        return "this line stands once, above all instructions";
-    }
-    match word.first() {
+// What is wrong with a line that begins with this byte, or with other words.
+fn front_cause(first: Option<&u8>, other: &'static str) -> &'static str {
+    match first {
         Some(b'#' | b'/') => "a comment begins with `;`",
         Some(b'A'..=b'Z') => "words are in lower case",
-        _ => "an instruction is edit, take, deliver, ack, join, read or read-server",
+        _ => other,
     }
-}
-
-// The line says `read server`.
-fn is_read_of_server(line: &[u8]) -> bool {
-    let (word, behind) = split_word(trimmed(line));
-    let (next, _) = split_word(trimmed(behind));
-    word == b"read".as_slice() && next == b"server".as_slice()
-}
-
-// Where a number is none, and what is wrong there.
-fn number_cause(line: &[u8]) -> (usize, &'static str) {
-    let start = start_of(line, 1);
-    let (_, rest) = line.split_at(start);
-    let digits = rest.iter().take_while(|byte| byte.is_ascii_digit()).count();
-    match rest.get(digits) {
-        Some(b'[') if digits > 0 => (
-            start.saturating_add(digits),
-            "a blank is missing behind the number",
-        ),
-        _ if is_read_of_server(line) => (start, "the server's document is read by `read-server`"),
-        _ => (start, "a number of one to nine digits stands here"),
-    }
-}
-
-// What is wrong with the number of a line that begins with this word.
-fn client_cause(word: &[u8]) -> &'static str {
-    if word == b"clients".as_slice() {
-        return "there are 1 to 64 clients";
-    }
-    if word == b"present".as_slice() {
-        return "no more clients are present than there are";
-    }
-    "no client has this number: `clients N` makes clients 0 to N - 1"
-}
-
-// Where a word too many stands, and what is wrong with it.
-fn extra_cause(line: &[u8], word: &[u8]) -> (usize, &'static str) {
-    let words = if word == b"read-server".as_slice() {
-        1
-    } else {
-        2
-    };
-    let at = start_of(line, words);
-    match line.get(at) {
-        Some(b';') => (at, "a comment stands on a line of its own"),
-        _ => (at, "nothing more stands on this line"),
-    }
-}
-
-// Where a text that is too long stands, and how long it may be.
-fn long_cause(line: &[u8], word: &[u8]) -> (usize, &'static str) {
-    if word == b"start".as_slice() {
-        return (
-            start_of(line, 1),
-            "a start text has at most 40000 characters",
-        );
-    }
-    (
-        start_of(line, 2),
-        "no document has more than 1000000 characters",
-    )
 }
 
 // What is wrong where the text begins otherwise than with the clients.
@@ -310,72 +186,100 @@ fn first_cause(line: &[u8]) -> &'static str {
     if line.starts_with(b"\xEF\xBB\xBF".as_slice()) {
         return "a byte order mark stands in front: save the text as UTF-8 without it";
     }
-    match line.first() {
-        Some(b'#' | b'/') => "a comment begins with `;`",
-        Some(b'A'..=b'Z') => "words are in lower case",
-        _ => "`clients N` is the first line, above all others but comments",
-    }
+    front_cause(
+        line.first(),
+        "`clients N` is the first line, above all others but comments",
+    )
 }
 
-// Where a line stops being ASCII, if it does.
-fn first_wide(line: &[u8]) -> usize {
-    for (at, byte) in line.iter().enumerate() {
-        if *byte >= 0x80 {
-            return at;
+// Why a line does not begin with this word.
+fn word_cause(word: &str, text: &[u8]) -> &'static str {
+    match word {
+        "clients" => "this line stands once, and first",
+        "present" => "this line stands once, directly below `clients N`",
+        "start" => "this line stands once, above all instructions",
+        "%%" if text.len() == 2 => {
+            "`%%` and what stands behind it are read by debug, conform and view alone"
         }
+        _ => front_cause(
+            text.first(),
+            "an instruction is edit, take, deliver, ack, join, read or read-server",
+        ),
     }
-    0
 }
 
-// Where the operation of an edit is wrong, and what is wrong there.
-fn edit_cause(line: &[u8]) -> (usize, &'static str) {
-    let start = start_of(line, 2);
-    let (_, rest) = line.split_at(start);
-    let (at, words) = operation_cause(trimmed(rest));
-    (start.saturating_add(at), words)
+// Where a number is none, and what is wrong there.
+fn number_cause(line: &[u8]) -> (usize, &'static str) {
+    let start = start_of(line, 1);
+    let rest = behind(line, start);
+    let digits = rest.iter().take_while(|byte| byte.is_ascii_digit()).count();
+    let (word, after) = split_word(trimmed(line));
+    let (next, _) = split_word(trimmed(after));
+    match rest.get(digits) {
+        Some(b'[') if digits > 0 => (
+            start.saturating_add(digits),
+            "a blank is missing behind the number",
+        ),
+        _ if word == b"read".as_slice() && next == b"server".as_slice() => {
+            (start, "the server's document is read by `read-server`")
+        }
+        _ => (start, "a number of one to nine digits stands here"),
+    }
+}
+
+// What is wrong with the number of a line that begins with this word.
+fn client_cause(word: &str) -> &'static str {
+    match word {
+        "clients" => "there are 1 to 64 clients",
+        "present" => "no more clients are present than there are",
+        _ => "no client has this number: `clients N` makes clients 0 to N - 1",
+    }
+}
+
+// Where a word too many stands, and what is wrong with it.
+fn extra_cause(line: &[u8], word: &str) -> (usize, &'static str) {
+    let at = start_of(line, if word == "read-server" { 1 } else { 2 });
+    match line.get(at) {
+        Some(b';') => (at, "a comment stands on a line of its own"),
+        _ => (at, "nothing more stands on this line"),
+    }
 }
 
 // Where a line with a fault of this kind is wrong, as the number of a byte, and what is wrong there.
 fn cause(line: &[u8], kind: Kind) -> (usize, &'static str) {
-    let (word, _) = split_word(trimmed(line));
-    match kind {
+    let text = trimmed(line);
+    let (word, _) = split_word(text);
+    let word = read_text(word).unwrap_or("");
+    let (number, words) = match kind {
         Kind::BadText if read_text(line).is_none() => {
-            (first_wide(line), "a byte here or behind is not UTF-8")
+            let at = line.iter().position(|byte| *byte >= 0x80).unwrap_or(0);
+            return (at, "a byte here or behind is not UTF-8");
         }
         Kind::BadText => (
-            start_of(line, 1),
+            1,
             "a start text is a JSON string in double quotes, alone to the end of the line",
         ),
-        Kind::NoClients => (start_of(line, 0), first_cause(line)),
-        Kind::UnknownWord if trimmed(line) == b"%%".as_slice() => (
-            start_of(line, 0),
-            "`%%` and what stands behind it are read by debug, conform and view alone",
-        ),
-        Kind::UnknownWord => (start_of(line, 0), word_cause(word)),
-        Kind::BadNumber => number_cause(line),
-        Kind::BadClient => (start_of(line, 1), client_cause(word)),
-        Kind::BadOperation => edit_cause(line),
-        Kind::Extra => extra_cause(line, word),
-        Kind::TooLong => long_cause(line, word),
-        Kind::TooMany => (
-            start_of(line, 0),
-            "a schedule has at most 100000 instructions",
-        ),
+        Kind::NoClients => (0, first_cause(line)),
+        Kind::UnknownWord => (0, word_cause(word, text)),
+        Kind::BadNumber => return number_cause(line),
+        Kind::BadClient => (1, client_cause(word)),
+        Kind::BadOperation => return edit_cause(line),
+        Kind::Extra => return extra_cause(line, word),
+        Kind::TooLong if word == "start" => (1, "a start text has at most 40000 characters"),
+        Kind::TooLong => (2, "no document has more than 1000000 characters"),
+        Kind::TooMany => (0, "a schedule has at most 100000 instructions"),
         Kind::Memory | Kind::ReadFault => (0, "this line was not read"),
-    }
-}
-
-// Whether bytes begin as an image does, and so as no line of a text that is a schedule.
-fn is_image(text: &[u8]) -> bool {
-    text.starts_with(b"OTS1".as_slice()) || text.starts_with(b"OTS2".as_slice())
+    };
+    (start_of(line, number), words)
 }
 
 /// The words for the cause of a text's fault, with its column: a line, or nothing where the text itself is not at fault.
 pub fn fault_words(alloc: Global, text: &[u8], fault: AsmFault) -> Result<String, AllocError> {
-    if fault.kind == Kind::Memory || fault.kind == Kind::ReadFault {
+    if matches!(fault.kind, Kind::Memory | Kind::ReadFault) {
         return Ok(String::new(alloc));
     }
-    if is_image(text) {
+    // So begins an image, and no line of a text that is a schedule.
+    if text.starts_with(b"OTS1".as_slice()) || text.starts_with(b"OTS2".as_slice()) {
         return String::from_str(
             alloc,
             "  column 1: this is an image, which `run --image` and `dis` read\n",

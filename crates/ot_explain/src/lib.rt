@@ -8,7 +8,7 @@
 //! ```
 //!
 //! - *What an instruction did* (`specs/Told.antt`): `paragraph`, a text made of the written table's states before and after the instruction
-//!   (`ot_model`'s specs/Table.antt), by way of what a line of `ot_steps` says (`delivers`, `last_of`, operations without tags).
+//!   (`ot_model`'s specs/Table.antt), by way of what a line of `ot_steps` says (`applies`, `outstanding_of`, `last_of`).
 //! - *Why one is refused* (`specs/Reasons.antt`): `reason`, of the refusal and the state in which the run stands.
 //! - *Where an instruction stands* (`specs/Placed.antt`): [`places`], the lines of a text that are neither blank, nor comments, nor those
 //!   above the instructions.
@@ -19,9 +19,8 @@
 //! Begin reading at `paragraph` in specs/Told.antt, then at [`explain`].
 #![tactic(auto)]
 
-mod after;
-mod before;
 mod causes;
+mod ends;
 mod paragraphs;
 mod placing;
 mod reasons;

@@ -1,23 +1,22 @@
-//! Paragraphs: one for each instruction, and those before and behind them.
+//! The paragraph of an instruction: its line, what the state before it says, what it applied, and what the state after it says. If memory runs out, the text holds a
+//! part of it.
 
-ghost use Rattle.std.specs.Prelude.{◌≡◌, ◌++◌, IfErr, IfOk, OnErr, OnOk, string_bytes};
+ghost use Rattle.std.specs.Prelude.{◌≡◌, ◌++◌, ◌<◌, length, IfErr, IfOk, OnErr, OnOk, string_bytes};
 ghost use Rattle.ot_isa.specs.Program.{IsForClients};
 ghost use Rattle.ot_machine.specs.Answers.{IsRefusal};
+ghost use Rattle.ot_model.specs.Runs.{opening_of};
 ghost use Rattle.ot_model.specs.Table as table;
-ghost use Rattle.ot_steps.specs.Steps as steps;
-ghost use Rattle.ot_explain.specs.Told.{heading, opening_words};
-ghost use Rattle.ot_explain.specs.Reasons.{refused_paragraph, tried};
-ghost use Rattle.ot_explain.specs.Explained.{IsMove, end_text, end_words, last_text, line_at, stop_text};
+ghost use Rattle.ot_steps.specs.Held.{operations};
+ghost use Rattle.ot_machine.specs.Effects.{client_in};
+ghost use Rattle.ot_explain.specs.Told as told;
+ghost use Rattle.ot_explain.specs.Told.{acknowledge_words, against_log, appended_words, client_words, deliver_words, edit_goes, edit_words, heading, opening_words, take_words, user_words};
+ghost use Rattle.ot_explain.specs.Explained.{IsMove, line_at};
 
-use crate::after::push_after;
-use crate::before::{edit_text, push_applied, push_before};
-use crate::reasons::reason;
-use crate::values::letters_text;
-use ot_asm::{Comments, named, push_cut};
-use ot_isa::{Instr, Schedule};
-use ot_machine::{Machine, Refusal};
-use ot_steps::word;
-use ot_values::refusal_name;
+use crate::values::{push_document, push_edit, push_entry, push_list, push_operation, push_with};
+use ot_isa::{Instr, Schedule, Tagged};
+use ot_machine::{Machine, Phase, Refusal};
+use ot_steps::{buffer, last_operation, outstanding, word};
+use ot_text::TextOp;
 use std::alloc::{AllocError, Global};
 
 // The line of an instruction.
@@ -30,21 +29,215 @@ fn line_at(lines: &[u64], number: usize) -> u64
     }
 }
 
-// Which instruction it is, and where it stands.
-fn heading(alloc: Global, line: u64, number: usize, instr: &Instr) -> Result<String, AllocError>
-    ensures { IfOk result (λ s. string_bytes s ≡ heading line number instr.now) }
+/// Adds which instruction it is, and where it stands.
+pub(crate) fn push_heading(
+    text: &mut String,
+    lines: &[u64],
+    number: usize,
+    instr: &Instr,
+) -> Result<(), AllocError>
+    ensures { OnOk result (string_bytes text.new ≡ string_bytes text.old ++ heading (line_at lines.now number) number instr.now) }
 {
-    let word = word(instr);
+    let line = line_at(lines, number);
+    write!(text, "line {line}, instruction ")?;
+    write!(text, "{number}: ")?;
+    text.push_str(word(instr))?;
     match instr.client() {
-        Some(client) => format!(in alloc; "line {line}, instruction {number}: {word} {client}\n"),
-        None => format!(in alloc; "line {line}, instruction {number}: {word}\n"),
+        Some(client) => write!(text, " {client}\n"),
+        None => text.push_str("\n"),
+    }
+}
+
+/// Adds an edit of a client's user, up to where it goes.
+pub(crate) fn push_user(text: &mut String, client: u16, op: &TextOp<char>) -> Result<(), AllocError>
+    ensures { OnOk result (string_bytes text.new ≡ string_bytes text.old ++ user_words client op.now) }
+{
+    write!(text, "  the user of client {client} edits ")?;
+    push_edit(text, op)
+}
+
+// Where an edit goes.
+fn push_goes(text: &mut String, revision: u32, phase: Phase) -> Result<(), AllocError>
+    ensures { OnOk result (string_bytes text.new ≡ string_bytes text.old ++ edit_goes revision phase) }
+{
+    match phase {
+        Phase::NotJoined => text.push_str("\n"),
+        Phase::Synchronized => write!(text, "; it is sent at revision {revision}\n"),
+        Phase::AwaitingConfirm => text.push_str("; it becomes the buffer\n"),
+        Phase::AwaitingWithBuffer => text.push_str("; it is composed into the buffer\n"),
+    }
+}
+
+fn push_edited(
+    text: &mut String,
+    machine: &Machine,
+    client: u16,
+    op: &TextOp<char>,
+) -> Result<(), AllocError>
+    requires { client < length machine.now.clients }
+    ensures { OnOk result (string_bytes text.new ≡ string_bytes text.old ++ edit_words client op.now (client_in machine.now client)) }
+{
+    push_user(text, client, op)?;
+    push_goes(text, machine.revision(client), machine.phase(client))
+}
+
+// How many operations of the log a message is transformed against.
+fn push_against_log(text: &mut String, count: usize) -> Result<(), AllocError>
+    ensures { OnOk result (string_bytes text.new ≡ string_bytes text.old ++ against_log count) }
+{
+    match count {
+        0 => text.push_str(","),
+        1 => text.push_str(", transforms it against 1 operation of the log"),
+        _ => write!(
+            text,
+            ", transforms it against {count} operations of the log"
+        ),
+    }
+}
+
+// The message that the server takes, if there is one.
+fn push_taken(text: &mut String, machine: &Machine, client: u16) -> Result<(), AllocError>
+    requires { client < length machine.now.clients }
+    ensures { OnOk result (string_bytes text.new ≡ string_bytes text.old ++ take_words client (length machine.now.log) (client_in machine.now client).message) }
+{
+    let Some(message) = machine.up(client) else {
+        return text.push_str("  the server takes nothing");
+    };
+    let revision = message.revision;
+    write!(
+        text,
+        "  the server takes client {client}'s message of revision "
+    )?;
+    write!(text, "{revision}, ")?;
+    push_operation(text, &message.op)?;
+    push_against_log(
+        text,
+        machine.server_revision().saturating_sub(revision as usize),
+    )
+}
+
+// A delivery, up to what is applied.
+fn push_delivery(text: &mut String, machine: &Machine, client: u16) -> Result<(), AllocError>
+    requires { client < length machine.now.clients }
+    ensures { OnOk result (string_bytes text.new ≡ string_bytes text.old ++ deliver_words machine.now client (client_in machine.now client)) }
+{
+    let entry = machine.entry(machine.revision(client) as usize);
+    let pending = outstanding(machine, client);
+    write!(text, "  client {client} takes ")?;
+    push_entry(text, entry)?;
+    push_with(
+        text,
+        ", transforms it against its outstanding operation ",
+        pending,
+        "",
+    )?;
+    push_with(text, " and its buffer ", buffer(machine, client), "")
+}
+
+fn push_acknowledgement(text: &mut String, machine: &Machine, client: u16) -> Result<(), AllocError>
+    requires { client < length machine.now.clients }
+    ensures { OnOk result (string_bytes text.new ≡ string_bytes text.old ++ acknowledge_words client (client_in machine.now client)) }
+{
+    let sent = buffer(machine, client);
+    write!(
+        text,
+        "  client {client} has its outstanding operation confirmed"
+    )?;
+    push_with(text, ", ", outstanding(machine, client), "")?;
+    push_with(text, "; it sends its buffer ", sent, "; it has no buffer")?;
+    text.push_str("\n")
+}
+
+// What the state before the instruction says of it.
+fn push_before(text: &mut String, machine: &Machine, instr: &Instr) -> Result<(), AllocError>
+    ensures { IsForClients (length machine.now.clients) instr.now → OnOk result (string_bytes text.new ≡ string_bytes text.old ++ told.before instr.now machine.now) }
+{
+    let clients = machine.clients();
+    match instr {
+        Instr::Edit(client, op) if *client < clients => push_edited(text, machine, *client, op),
+        Instr::Take(client) if *client < clients => push_taken(text, machine, *client),
+        Instr::Deliver(client) if *client < clients => push_delivery(text, machine, *client),
+        Instr::Acknowledge(client) if *client < clients => push_acknowledgement(
+            text, machine, *client,
+        ),
+        Instr::Join(client) => write!(
+            text,
+            "  client {client} joins with the server's document and revision\n"
+        ),
+        _ => Ok(()),
+    }
+}
+
+// The state of a client that has joined.
+fn push_client(text: &mut String, machine: &Machine, client: u16) -> Result<(), AllocError>
+    requires { client < length machine.now.clients }
+    ensures { OnOk result (string_bytes text.new ≡ string_bytes text.old ++ client_words client (client_in machine.now client)) }
+{
+    let revision = machine.revision(client);
+    let pending = outstanding(machine, client);
+    write!(text, "  client {client} at revision ")?;
+    write!(text, "{revision}")?;
+    push_with(
+        text,
+        " awaits the confirmation of ",
+        pending,
+        " is synchronized",
+    )?;
+    push_with(text, ", with the buffer ", buffer(machine, client), "")?;
+    push_document(text, "; its document is ", machine.document(client))
+}
+
+// What the server appended.
+fn push_appended(text: &mut String, machine: &Machine) -> Result<(), AllocError>
+    ensures { OnOk result (string_bytes text.new ≡ string_bytes text.old ++ appended_words machine.now) }
+{
+    let revision = machine.server_revision();
+    push_with(text, " and appends ", last_operation(machine), "")?;
+    write!(text, " as revision {revision}")?;
+    push_document(
+        text,
+        "\n  the server's document is now ",
+        machine.server_document(),
+    )
+}
+
+// What the instruction applied by a delivery, and what the state after it says of it.
+fn push_after(
+    text: &mut String,
+    machine: &Machine,
+    instr: &Instr,
+    applied: Option<&TextOp<Tagged>>,
+) -> Result<(), AllocError>
+    requires { IsForClients (length machine.now.clients) instr.now }
+    ensures { OnOk result (string_bytes text.new ≡ string_bytes text.old ++ told.after instr.now (operations applied.entry) machine.now) }
+{
+    match instr {
+        Instr::Take(_) => push_appended(text, machine),
+        Instr::Deliver(client) => {
+            push_with(text, " and applies ", applied, "")?;
+            text.push_str("\n")?;
+            push_client(text, machine, *client)
+        }
+        Instr::Read(client) => {
+            write!(text, "  client {client}")?;
+            push_document(text, "'s document is ", machine.document(*client))
+        }
+        Instr::ReadServer => {
+            push_document(
+                text,
+                "  the server's document is ",
+                machine.server_document(),
+            )
+        }
+        Instr::Edit(client, _) | Instr::Acknowledge(client) | Instr::Join(client) => {
+            push_client(text, machine, *client)
+        }
     }
 }
 
 /// Performs the instruction and writes its paragraph into the text, instead of what that held, or says why it was not performed. Only
 /// after a performed one the text holds a paragraph.
 pub(crate) fn perform(
-    alloc: Global,
     text: &mut String,
     machine: &mut Machine,
     lines: &[u64],
@@ -55,124 +248,31 @@ pub(crate) fn perform(
     ensures refused { IfOk result (λ answer. IfErr answer (λ r. IsRefusal (table.step machine.old instr.now) r)) }
     ensures unchanged { IfOk result (λ answer. OnErr answer (machine.new ≡ machine.old)) }
 {
-    let heading = heading(alloc, line_at(lines, number), number, instr)?;
     text.clear();
-    text.push_str(heading.as_str())?;
-    push_before(alloc, text, machine, instr)?;
-    let applied = match ot_steps::perform(machine, instr) {
-        Ok(applied) => applied,
+    push_heading(text, lines, number, instr)?;
+    push_before(text, machine, instr)?;
+    let effect = match machine.perform::<false>(instr) {
+        Ok(effect) => effect,
         Err(refusal) => return Ok(Err(refusal)),
     };
-    push_applied(alloc, text, instr, applied.operation(machine))?;
-    push_after(alloc, text, machine, instr)?;
+    push_after(text, machine, instr, effect.applied.operation(machine))?;
     Ok(Ok(()))
 }
 
-/// The paragraph of the opening.
-pub(crate) fn opening_words(alloc: Global, schedule: &Schedule) -> Result<String, AllocError>
+/// The paragraph of the opening, of the machine as it is there.
+pub(crate) fn opening_words(
+    alloc: Global,
+    schedule: &Schedule,
+    machine: &Machine,
+) -> Result<String, AllocError>
+    requires { machine.now ≡ opening_of schedule.now }
     ensures { IfOk result (λ s. string_bytes s ≡ opening_words schedule.now) }
 {
     let clients = schedule.clients();
     let present = schedule.present();
-    let start = letters_text(alloc, schedule.start())?;
+    let mut start = String::new(alloc);
+    push_list(&mut start, machine.server_document())?;
     format!(in alloc;
         "the opening: {present} of {clients} clients joined, every document is {start}\n"
     )
-}
-
-// The edit that was tried, if the instruction is one.
-fn tried(alloc: Global, instr: &Instr) -> Result<String, AllocError>
-    ensures { IfOk result (λ s. string_bytes s ≡ tried instr.now) }
-{
-    match instr {
-        Instr::Edit(client, op) => edit_text(alloc, *client, op, ""),
-        _ => Ok(String::new(alloc)),
-    }
-}
-
-// The paragraph of an instruction that the machine as it is refuses.
-fn refused_paragraph(
-    alloc: Global,
-    machine: &Machine,
-    line: u64,
-    number: usize,
-    instr: &Instr,
-    refusal: Refusal,
-) -> Result<String, AllocError>
-    ensures { IfOk result (λ s. string_bytes s ≡ refused_paragraph line number instr.now machine.now refusal) }
-{
-    let heading = heading(alloc, line, number, instr)?;
-    let tried = tried(alloc, instr)?;
-    let name = refusal_name(refusal);
-    let reason = reason(alloc, machine, instr, refusal)?;
-    format!(in alloc; "{heading}{tried}  refused: {name}: {reason}\n")
-}
-
-// The paragraph of the instruction at which a run stopped, if it did.
-fn stop_words(
-    alloc: Global,
-    machine: &Machine,
-    lines: &[u64],
-    schedule: &Schedule,
-    stopped: Option<(usize, Refusal)>,
-) -> Result<String, AllocError>
-    ensures { IfOk result (λ s. string_bytes s ≡ stop_text lines.now schedule.now machine.now stopped) }
-{
-    let Some((number, refusal)) = stopped else {
-        return Ok(String::new(alloc));
-    };
-    let line = line_at(lines, number);
-    match schedule.get(number) {
-        Some(instr) => refused_paragraph(alloc, machine, line, number, instr, refusal),
-        None => Ok(String::new(alloc)),
-    }
-}
-
-// Whether all is quiet.
-fn is_quiet(machine: &Machine) -> bool
-    ensures { result ≡ steps.is_quiet machine.now }
-{
-    machine.is_quiet()
-}
-
-fn end_words(quiet: bool) -> &'static str
-    ensures { result.now ≡ end_words quiet }
-{
-    if quiet {
-        "the end: all is quiet\n"
-    } else {
-        "the end: not all is quiet\n"
-    }
-}
-
-// The paragraphs of a run's stop, if there was one, and of its end.
-fn end_text(
-    alloc: Global,
-    machine: &Machine,
-    lines: &[u64],
-    schedule: &Schedule,
-    stopped: Option<(usize, Refusal)>,
-) -> Result<String, AllocError>
-    ensures { IfOk result (λ s. string_bytes s ≡ end_text lines.now schedule.now machine.now stopped) }
-{
-    let mut text = stop_words(alloc, machine, lines, schedule, stopped)?;
-    text.push_str(end_words(is_quiet(machine)))?;
-    Ok(text)
-}
-
-/// These paragraphs with the clients' names, and behind them what tells of the cut.
-pub(crate) fn last_words(
-    alloc: Global,
-    machine: &Machine,
-    lines: &[u64],
-    comments: &Comments,
-    schedule: &Schedule,
-    stopped: Option<(usize, Refusal)>,
-) -> Result<Vec<u8>, AllocError>
-    ensures { IfOk result (λ v. v.items ≡ last_text lines.now comments.now schedule.now machine.now stopped) }
-{
-    let text = end_text(alloc, machine, lines, schedule, stopped)?;
-    let mut last = named(alloc, text.as_bytes(), comments)?;
-    push_cut(&mut last, comments)?;
-    Ok(last)
 }

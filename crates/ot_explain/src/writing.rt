@@ -5,7 +5,8 @@ ghost use Rattle.ot_model.specs.Runs.{opening_of};
 ghost use Rattle.ot_steps.specs.Written.{IsCaused};
 ghost use Rattle.ot_explain.specs.Explained.{MovesUpTo, WritesMoves, WritesRun, WritesUpTo};
 
-use crate::paragraphs::{last_words, opening_words, perform};
+use crate::ends::last_words;
+use crate::paragraphs::{opening_words, perform};
 use ot_asm::{Comments, named};
 use ot_isa::Schedule;
 use ot_machine::{Machine, Refusal};
@@ -32,7 +33,7 @@ fn write_moves<W: Sink>(
         let Some(instr) = schedule.get(number) else {
             unreachable!()
         };
-        match perform(alloc, &mut paragraph, machine, lines, number, instr)? {
+        match perform(&mut paragraph, machine, lines, number, instr)? {
             Ok(()) => {
                 let words = named(alloc, paragraph.as_bytes(), comments)?;
                 output.put(words.as_slice())?;
@@ -64,7 +65,7 @@ pub fn explain<W: Sink>(
 {
     let clients = schedule.clients();
     let mut machine = Machine::with_present(alloc, clients, schedule.present(), schedule.start())?;
-    let opening = opening_words(alloc, schedule)?;
+    let opening = opening_words(alloc, schedule, &machine)?;
     output.put(opening.as_bytes())?;
     let stopped = write_moves(alloc, &mut machine, lines, comments, schedule, output)?;
     let last = last_words(alloc, &machine, lines, comments, schedule, stopped)?;

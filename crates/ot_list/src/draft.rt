@@ -25,14 +25,14 @@ pub struct Draft<E: Item> {
     place: usize,
 }
 
-// Takes the first items out, as a leaf. Where these are all, and they have no more room than a leaf, none is copied.
-fn take_front<T: Copy>(items: &mut Vec<T>, count: usize, room: usize) -> Result<Vec<T>, AllocError>
+// Takes the first items out, as a leaf. Where these are all, and fill most of their room, none is copied.
+fn take_front<T: Copy>(items: &mut Vec<T>, count: usize) -> Result<Vec<T>, AllocError>
     requires { count ≤ length items.old.items }
     ensures front { IfOk result (λ front. front.items ≡ take count items.old.items) }
     ensures rest { OnOk result (items.new.items ≡ drop count items.old.items) }
 {
     let alloc = *items.allocator();
-    if count == items.len() && items.capacity() <= room {
+    if count == items.len() && items.capacity() / 4 <= count / 3 {
         return Ok(std::mem::replace(items, Vec::new(alloc)));
     }
     let front = Vec::from_slice(alloc, &items[..count])?;
@@ -163,7 +163,7 @@ impl<E: Item> Draft<E> {
         requires end { MayEnd E.CAP (front_of old.now self.old) count }
         ensures { OnOk result (HasClosed E.CAP E.total old.now self.old self.new count) }
     {
-        let leaf = take_front(&mut self.pending, count, E::CAP)?;
+        let leaf = take_front(&mut self.pending, count)?;
         self.add(old, leaf)?;
         Ok(())
     }

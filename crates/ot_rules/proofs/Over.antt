@@ -1,12 +1,11 @@
 -- One more item of a loop's list.
 use Rattle.std.proofs.Common.{◌≡◌, ℕ, ◌+◌, ◌<◌, ◌≤◌, List, ◌∷◌, ◌++◌, length, drop, get_or, refl, sym, ap, ◌∙◌, subst, arith, add-one, length-drop, drop-cons, append_assoc, Option, Some, None, Bool, true}
 use Rattle.std.specs.Prelude.{codes}
-use Rattle.std.specs.Option.{option_map}
 use Rattle.ot_operation.specs.Operation.{Operation}
 use Rattle.ot_operation.specs.Run.{Run, Keep, Add, Skip}
 use Rattle.ot_rules.specs.Text.{concurrent_lines, given_operation}
 use Rattle.ot_rules.specs.Units.{IsAdded, behind, unit_run, units_from, with_one_more}
-use Rattle.ot_rules.specs.Wrong.{Pair, second_of, swapped, transformed, other_tie_over}
+use Rattle.ot_rules.specs.Wrong.{second_of, transformed, turned_over}
 
 pub drop_here : {A : Type 0} (xs : List A) (i : ℕ) (x : A) → i < length xs → x ≡ get_or xs i x → drop i xs ≡ x ∷ drop (i + 1) xs
 drop_here xs i x here is =
@@ -15,24 +14,20 @@ drop_here xs i x here is =
 
 -- ---- a message over the log
 
-abbrev over_rest : Option (Operation ℕ) → List (Operation ℕ) → Option (Operation ℕ)
-over_rest None rest = None
-over_rest (Some next) rest = other_tie_over next rest
-
-over_pair : (p : Option Pair) (rest : List (Operation ℕ)) → (elim (option_map swapped p) as (λ _. Option (Operation ℕ)) [ None ↦ None | Some pair ↦ other_tie_over pair.0 rest ]) ≡ over_rest (second_of p) rest
-over_pair None rest = refl
-over_pair (Some pair) rest = refl
+over_step : (op other : Operation ℕ) (rest : List (Operation ℕ)) (p : Option (Operation ℕ)) → second_of (transformed other op) ≡ p
+    → turned_over op (other ∷ rest) ≡ (elim p as (λ _. Option (Operation ℕ)) [ None ↦ None | Some next ↦ turned_over next rest ])
+over_step op other rest p e = ap (λ (q : Option (Operation ℕ)). elim q as (λ _. Option (Operation ℕ)) [ None ↦ None | Some next ↦ turned_over next rest ]) e
 
 module _ (op current other : Operation ℕ) (xs : List (Operation ℕ)) (i : ℕ) (here : i < length xs) (is : other ≡ get_or xs i other)
-    (so_far : other_tie_over current (drop i xs) ≡ other_tie_over op xs) where
-  left : over_rest (second_of (transformed other current)) (drop (i + 1) xs) ≡ other_tie_over op xs
-  left = sym (over_pair (transformed other current) (drop (i + 1) xs)) ∙ ap (other_tie_over current) (sym (drop_here xs i other here is)) ∙ so_far
+    (so_far : turned_over current (drop i xs) ≡ turned_over op xs) where
+  left : turned_over current (other ∷ drop (i + 1) xs) ≡ turned_over op xs
+  left = ap (turned_over current) (sym (drop_here xs i other here is)) ∙ so_far
 
-  pub over_none : second_of (transformed other current) ≡ None → None ≡ other_tie_over op xs
-  over_none e = ap (λ o. over_rest o (drop (i + 1) xs)) (sym e) ∙ left
+  pub over_none : second_of (transformed other current) ≡ None → None ≡ turned_over op xs
+  over_none e = sym (over_step current other (drop (i + 1) xs) None e) ∙ left
 
-  pub over_more : (next : Operation ℕ) → second_of (transformed other current) ≡ Some next → other_tie_over next (drop (i + 1) xs) ≡ other_tie_over op xs
-  over_more next e = ap (λ o. over_rest o (drop (i + 1) xs)) (sym e) ∙ left
+  pub over_more : (next : Operation ℕ) → second_of (transformed other current) ≡ Some next → turned_over next (drop (i + 1) xs) ≡ turned_over op xs
+  over_more next e = sym (over_step current other (drop (i + 1) xs) (Some next) e) ∙ left
 
 -- ---- components over a text
 
@@ -55,18 +50,10 @@ behind_within text later (Skip count) small is = omega (arith, ap length is, len
 
 -- ---- lines of operations
 
-pub lines_more : (old text next : List ℕ) (ops : List (Operation ℕ)) (i : ℕ) (op : Operation ℕ) → i < length ops → op ≡ get_or ops i op
-    → text ++ concurrent_lines (drop i ops) ≡ old ++ concurrent_lines ops → next ≡ text ++ given_operation (codes "concurrent") op
-    → next ++ concurrent_lines (drop (i + 1) ops) ≡ old ++ concurrent_lines ops
-lines_more old text next ops i op here at so_far is =
+pub lines_more : (text next all : List ℕ) (ops : List (Operation ℕ)) (i : ℕ) (op : Operation ℕ) → i < length ops → op ≡ get_or ops i op
+    → text ++ concurrent_lines (drop i ops) ≡ all → next ≡ text ++ given_operation (codes "concurrent") op → next ++ concurrent_lines (drop (i + 1) ops) ≡ all
+lines_more text next all ops i op here at so_far is =
     ap (λ (t : List ℕ). t ++ concurrent_lines (drop (i + 1) ops)) is
     ∙ append_assoc text (given_operation (codes "concurrent") op) (concurrent_lines (drop (i + 1) ops))
     ∙ ap (λ (rest : List (Operation ℕ)). text ++ concurrent_lines rest) (sym (drop_here ops i op here at))
     ∙ so_far
-
--- texts behind one another
-two : (a b c x y : List ℕ) → b ≡ a ++ x → c ≡ b ++ y → c ≡ a ++ (x ++ y)
-two a b c x y first second = second ∙ ap (λ (t : List ℕ). t ++ y) first ∙ append_assoc a x y
-
-pub three : (a b c d x y z : List ℕ) → b ≡ a ++ x → c ≡ b ++ y → d ≡ c ++ z → d ≡ a ++ (x ++ (y ++ z))
-three a b c d x y z first second third = two a b d x (y ++ z) first (two b c d y z second third)

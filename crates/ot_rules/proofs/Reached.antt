@@ -1,9 +1,11 @@
 -- The machine on its way through a run, and the log against which a message is transformed.
-use Rattle.std.proofs.Common.{◌≡◌, ◌≢◌, ℕ, suc, ◌+◌, ◌-◌, ◌<◌, ◌≤◌, List, [], ◌∷◌, ◌++◌, length, drop, take, refl, sym, ap, ◌∙◌, subst, arith, Option, Some, None, Bool, true, false}
+use Rattle.std.proofs.Common.{◌≡◌, ◌≢◌, ℕ, suc, ◌+◌, ◌-◌, ◌<◌, ◌≤◌, List, [], ◌∷◌, ◌++◌, length, drop, take, refl, sym, ap, ◌∙◌, subst, arith, Option, Some, None, Bool, true, false, inl, inr}
 use Rattle.std.specs.Prelude.{map, slice_get, ◌==◌, ◌↔◌, IsTrue, if◌then◌else◌}
 use Rattle.std.specs.Option.{option_map}
 use Rattle.std.proofs.lemmas.Bool.{eq-eqb, ne_eqb, iff_false}
-use Rattle.std.proofs.lemmas.List.{append_assoc, append-nil, drop-take, drop_all, length-take-le}
+use Rattle.std.proofs.Math.Nat.{min-le_left, min-le_right}
+use Rattle.std.proofs.lemmas.Option.{slice_get_cases}
+use Rattle.std.proofs.lemmas.List.{append_assoc, append-nil, drop-take, drop_all, length-take}
 use Rattle.ot_isa.specs.Program.{Program}
 use Rattle.ot_isa.specs.declared.elements.Tagged.{Tagged}
 use Rattle.ot_isa.specs.declared.instruction.Instr.{Instr}
@@ -102,8 +104,16 @@ pub gathered_all : (items : List (Operation ℕ)) (log : List Entry) (i : ℕ) (
 gathered_all items log i all past so_far =
     sym (append-nil items) ∙ ap (λ (rest : List Entry). items ++ map entry_operation rest) (sym (drop_all i log past)) ∙ so_far
 
-pub replay_whole : (log : List Entry) (list : List Tagged) (i r : ℕ) (all : Option (List Tagged)) → r ≤ i → r ≤ length log → replayed list (drop i (take r log)) ≡ all → Some list ≡ all
-replay_whole log list i r all past within so_far =
-    let l = length-take-le r log within in
-    let none : drop i (take r log) ≡ [] = drop_all i (take r log) (omega arith) in
-    ap (replayed list) (sym none) ∙ so_far
+-- the last entry is behind
+replay_all : (log : List Entry) (list : List Tagged) (i r : ℕ) (all : Option (List Tagged)) → length (take r log) ≤ i → replayed list (drop i (take r log)) ≡ all → Some list ≡ all
+replay_all log list i r all past so_far = ap (replayed list) (sym (drop_all i (take r log) past)) ∙ so_far
+
+pub replay_whole : (log : List Entry) (list : List Tagged) (i r : ℕ) (all : Option (List Tagged)) → r ≤ i → replayed list (drop i (take r log)) ≡ all → Some list ≡ all
+replay_whole log list i r all past = replay_all log list i r all (let l = length-take r log in let few = min-le_left r (length log) in omega arith)
+
+pub replay_past : (log : List Entry) (list : List Tagged) (i r : ℕ) (all : Option (List Tagged)) → i < r → slice_get log i ≡ None → replayed list (drop i (take r log)) ≡ all → Some list ≡ all
+replay_past log list i r all within none =
+    let past : length log ≤ i = elim (slice_get_cases log i).1 [ inl found ↦ absurd (let here = found.2 in cc) | inr past ↦ past.0 ] in
+    let l = length-take r log in
+    let few = min-le_right r (length log) in
+    replay_all log list i r all (omega arith)

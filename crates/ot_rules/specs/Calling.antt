@@ -1,11 +1,11 @@
 -- Which method of ot.js an instruction calls, and what that is given.
 use Rattle.std.specs.Prelude.{ℕ, List, map, drop, slice_get, Option, Some, None}
 use Rattle.ot_isa.specs.declared.instruction.Instr.{Instr}
-use Rattle.ot_isa.specs.declared.instruction.Instr.TheVariants.{Edit, Take, Deliver, Acknowledge, Join, Read, ReadServer}
+use Rattle.ot_isa.specs.declared.instruction.Instr.TheVariants.{Edit, Take, Deliver, Acknowledge}
 use Rattle.ot_model.specs.Operation.{Operation}
 use Rattle.ot_model.specs.Table.{Phase, NotJoined, Synchronized, AwaitingConfirm, AwaitingWithBuffer, Entry, Message, State}
 use Rattle.ot_steps.specs.Lines.{plain_operation}
-use Rattle.ot_steps.specs.Steps.{client_in}
+use Rattle.ot_machine.specs.Effects.{client_in}
 use Rattle.ot_rules.specs.declared.call.Pending.{Pending}
 use Rattle.ot_rules.specs.declared.call.Pending.TheVariants.{Nothing, Outstanding, Buffered}
 use Rattle.ot_rules.specs.Call.{Call, ApplyClient, ApplyServer, ServerAck, ReceiveOperation}
@@ -49,6 +49,4 @@ call_of s (Edit c op) = edits (pending_in (client_in s c).phase) op
 call_of s (Take c) = takes s.log (client_in s c).message
 call_of s (Deliver c) = delivers (pending_in (client_in s c).phase) (slice_get s.log (client_in s c).revision)
 call_of s (Acknowledge c) = acknowledges (client_in s c).revision (pending_in (client_in s c).phase)
-call_of s (Join c) = None
-call_of s (Read c) = None
-call_of s ReadServer = None
+call_of s _ = None

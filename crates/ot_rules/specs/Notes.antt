@@ -11,10 +11,10 @@ use Rattle.ot_rules.specs.declared.note.Note.{Note}
 use Rattle.ot_rules.specs.declared.note.Note.TheVariants.{SameEffect, InUnits, Turned, Untransformed, HalfTransformed, EditAlone, WithoutEdit, RevisionBefore, RevisionAtOpening, DocumentAlone}
 use Rattle.ot_rules.specs.declared.explaining.Difference as program_difference
 use Rattle.ot_rules.specs.declared.note.Asked as program
-use Rattle.ot_rules.specs.Call.{Call, ApplyClient, ApplyServer, ServerAck, ReceiveOperation, call_value}
+use Rattle.ot_rules.specs.Call.{Call, ServerAck, call_value}
 use Rattle.ot_rules.specs.Texts.{letters}
 use Rattle.ot_rules.specs.Units.{in_units}
-use Rattle.ot_rules.specs.Wrong.{at_key, made_by_edit_alone, made_by_half, made_other_tie, made_untransformed, made_without_edit}
+use Rattle.ot_rules.specs.Wrong.{made_at}
 
 -- what a port printed that ot.js has not: which value, both as JSON texts, and whether the port printed the operation that the instruction
 -- applies, and it is ot.js'
@@ -57,16 +57,8 @@ counted (Some op) (Some text) = in_units op text
 
 -- the operation that a note says was found, if it says one
 abbrev pub said : Note → Asked → Option (Operation ℕ)
-said SameEffect a = None
 said InUnits a = counted (operation_in (operation_of_text a.difference.wanted)) a.text
-said Turned a = at_key (made_other_tie a.call) a.difference.key
-said Untransformed a = at_key (made_untransformed a.call) a.difference.key
-said HalfTransformed a = at_key (made_by_half a.call) a.difference.key
-said EditAlone a = at_key (made_by_edit_alone a.call) a.difference.key
-said WithoutEdit a = at_key (made_without_edit a.call) a.difference.key
-said RevisionBefore a = None
-said RevisionAtOpening a = None
-said DocumentAlone a = None
+said note a = made_at note a.call a.difference.key
 
 -- the text is the operation's
 abbrev pub IsTextOf : List ℕ → Option (Operation ℕ) → Type 0
@@ -87,15 +79,10 @@ IsRevisionBefore _ a = ⊥
 
 abbrev pub IsTrueOf : Note → Asked → Type 0
 IsTrueOf SameEffect a = AreOne (operation_in (operation_of_text a.difference.found)) (operation_in (operation_of_text a.difference.wanted))
-IsTrueOf InUnits a = IsTextOf a.difference.found (said InUnits a)
-IsTrueOf Turned a = IsTextOf a.difference.found (said Turned a)
-IsTrueOf Untransformed a = IsTextOf a.difference.found (said Untransformed a)
-IsTrueOf HalfTransformed a = IsTextOf a.difference.found (said HalfTransformed a)
-IsTrueOf EditAlone a = IsTextOf a.difference.found (said EditAlone a)
-IsTrueOf WithoutEdit a = IsTextOf a.difference.found (said WithoutEdit a)
 IsTrueOf RevisionBefore a = IsRevisionBefore a.call a
 IsTrueOf RevisionAtOpening a = IsSentRevision 0 a
 IsTrueOf DocumentAlone a = (a.difference.key ≡ Some key.Document) × (a.difference.printed ≡ true)
+IsTrueOf note a = IsTextOf a.difference.found (said note a)
 
 -- the order in which they are asked
 abbrev pub rank : Note → ℕ
@@ -117,22 +104,16 @@ IsFirst (Some note) a = IsTrueOf note a × ((n : Note) → rank n < rank note �
 
 -- ---- in words
 
-abbrev pub untransformed : Option Key → List ℕ
-untransformed (Some key.Outstanding) = codes "that is the outstanding operation as it was, not transformed"
-untransformed (Some key.Buffer) = codes "that is the buffer as it was, not transformed"
-untransformed (Some key.Appended) = codes "that is the message itself, not transformed"
-untransformed _ = codes "that is the delivered operation itself, not transformed"
-
-abbrev pub by_half : Option Key → List ℕ
-by_half (Some key.Buffer) = codes "that is the buffer transformed against the delivered operation itself, and not against what the outstanding one makes of it"
-by_half _ = codes "that was transformed against the outstanding operation and not against the buffer"
-
 abbrev pub sentence : Note → Option Key → List ℕ
 sentence SameEffect f = codes "the same effect in another form: ot.js keeps an insertion before a deletion and merges neighbours"
 sentence InUnits f = codes "the same operation with lengths counted in UTF-16 units; otbench counts Unicode scalar values"
 sentence Turned f = codes "that is what transform gives if the text of its second argument goes first"
-sentence Untransformed f = untransformed f
-sentence HalfTransformed f = by_half f
+sentence Untransformed (Some key.Outstanding) = codes "that is the outstanding operation as it was, not transformed"
+sentence Untransformed (Some key.Buffer) = codes "that is the buffer as it was, not transformed"
+sentence Untransformed (Some key.Appended) = codes "that is the message itself, not transformed"
+sentence Untransformed _ = codes "that is the delivered operation itself, not transformed"
+sentence HalfTransformed (Some key.Buffer) = codes "that is the buffer transformed against the delivered operation itself, and not against what the outstanding one makes of it"
+sentence HalfTransformed _ = codes "that was transformed against the outstanding operation and not against the buffer"
 sentence EditAlone f = codes "that is the edit alone, not composed with the buffer"
 sentence WithoutEdit f = codes "that is the buffer as it was, the edit not composed with it"
 sentence RevisionBefore f = codes "that is the revision before this acknowledgement"

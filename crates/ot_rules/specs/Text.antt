@@ -35,12 +35,20 @@ abbrev pub concurrent_lines : List (Operation ℕ) → List ℕ
 concurrent_lines [] = []
 concurrent_lines (op ∷ ops) = given_operation (codes "concurrent") op ++ concurrent_lines ops
 
+abbrev pub operand_lines : Pending → Operation ℕ → List ℕ
+operand_lines w op = pending_lines w ++ given_operation (codes "operation") op
+
+abbrev pub message_lines : Operation ℕ → List (Operation ℕ) → List ℕ
+message_lines op concurrent = given_operation (codes "operation") op ++ concurrent_lines concurrent
+
+abbrev pub received_lines : ℕ → Operation ℕ → List (Operation ℕ) → List ℕ
+received_lines revision op concurrent = given (codes "revision") (decimal revision) ++ message_lines op concurrent
+
 abbrev pub given_lines : Call → List ℕ
-given_lines (ApplyClient w op) = pending_lines w ++ given_operation (codes "operation") op
-given_lines (ApplyServer w op) = pending_lines w ++ given_operation (codes "operation") op
+given_lines (ApplyClient w op) = operand_lines w op
+given_lines (ApplyServer w op) = operand_lines w op
 given_lines (ServerAck revision w) = given (codes "revision") (decimal revision) ++ pending_lines w
-given_lines (ReceiveOperation revision op concurrent) =
-    given (codes "revision") (decimal revision) ++ (given_operation (codes "operation") op ++ concurrent_lines concurrent)
+given_lines (ReceiveOperation revision op concurrent) = received_lines revision op concurrent
 
 -- the method, and what it is given
 abbrev pub call_lines : Call → List ℕ

@@ -1,20 +1,17 @@
 //! Which call an instruction is.
 
-ghost use Rattle.std.specs.Prelude.{◌≡◌, ◌<◌, drop, length, map, IfOk, slice_get};
+ghost use Rattle.std.specs.Prelude.{◌≡◌, ◌<◌, drop, length, map, IfOk};
 ghost use Rattle.std.specs.Option.{option_map};
-ghost use Rattle.ot_model.specs.Table.{Entry};
-ghost use Rattle.ot_steps.specs.Lines.{plain_operation};
-ghost use Rattle.ot_steps.specs.Steps.{client_in};
+ghost use Rattle.ot_machine.specs.Effects.{client_in};
 ghost use Rattle.ot_rules.specs.Call.{call_value};
 ghost use Rattle.ot_rules.specs.Calling as calling;
-ghost use Rattle.ot_rules.specs.Calling.{acknowledges, delivers, edits, entry_operation, takes, pending_in};
+ghost use Rattle.ot_rules.specs.Calling.{entry_operation, takes, pending_in};
 
-use crate::call::{Call, Pending};
+use crate::call::{Call, Operation, Pending};
 use ot_client::Client;
 use ot_isa::Instr;
 use ot_machine::Machine;
 use ot_steps::plain_operation;
-use ot_text::TextOp;
 use std::alloc::{AllocError, Global};
 
 // The pending operations of the client, who is there; none where it has not joined.
@@ -38,68 +35,17 @@ fn pending(alloc: Global, machine: &Machine, client: u16) -> Result<Option<Pendi
 }
 
 // The operations of the log from a revision on.
-fn concurrent(
-    alloc: Global,
-    machine: &Machine,
-    revision: u32,
-) -> Result<Vec<TextOp<char>>, AllocError>
-    ensures { IfOk result (λ ops. ops.items ≡ map entry_operation (drop revision machine.now.log)) }
+fn concurrent(alloc: Global, machine: &Machine, from: u32) -> Result<Vec<Operation>, AllocError>
+    ensures { IfOk result (λ ops. ops.items ≡ map entry_operation (drop from machine.now.log)) }
 {
     let mut operations = Vec::new(alloc);
-    for number in revision as usize..machine.server_revision() {
+    for number in from as usize..machine.server_revision() {
         let Some(entry) = machine.entry(number) else {
             unreachable!()
         };
         operations.push(plain_operation(alloc, entry.operation())?)?;
     }
     Ok(operations)
-}
-
-// An edit of the client, who is there.
-fn edit(
-    alloc: Global,
-    machine: &Machine,
-    client: u16,
-    op: &TextOp<char>,
-) -> Result<Option<Call>, AllocError>
-    requires { client < length machine.now.clients }
-    ensures { IfOk result (λ call. option_map call_value call ≡ edits (pending_in (client_in machine.now client).phase) op.now) }
-{
-    let Some(pending) = pending(alloc, machine, client)? else {
-        return Ok(None);
-    };
-    Ok(Some(Call::ApplyClient(pending, op.copy()?)))
-}
-
-// A delivery to the client, who is there.
-fn delivery(alloc: Global, machine: &Machine, client: u16) -> Result<Option<Call>, AllocError>
-    requires { client < length machine.now.clients }
-    ensures { IfOk result (λ call. option_map call_value call ≡ delivers (pending_in (client_in machine.now client).phase) (slice_get machine.now.log (client_in machine.now client).revision)) }
-{
-    let Some(pending) = pending(alloc, machine, client)? else {
-        return Ok(None);
-    };
-    let Some(entry) = machine.entry(machine.revision(client) as usize) else {
-        return Ok(None);
-    };
-    let operation = plain_operation(alloc, entry.operation())?;
-    Ok(Some(Call::ApplyServer(pending, operation)))
-}
-
-// An acknowledgement to the client, who is there.
-fn acknowledgement(
-    alloc: Global,
-    machine: &Machine,
-    client: u16,
-) -> Result<Option<Call>, AllocError>
-    requires { client < length machine.now.clients }
-    ensures { IfOk result (λ call. option_map call_value call ≡ acknowledges (client_in machine.now client).revision (pending_in (client_in machine.now client).phase)) }
-{
-    let revision = machine.revision(client);
-    match pending(alloc, machine, client)? {
-        None | Some(Pending::Nothing) => Ok(None),
-        Some(pending) => Ok(Some(Call::ServerAck(revision, pending))),
-    }
 }
 
 // The server takes the client's message, where there is one.
@@ -126,11 +72,19 @@ pub fn call_of(alloc: Global, machine: &Machine, instr: &Instr) -> Result<Option
     if client >= machine.clients() {
         return Ok(None);
     }
-    match instr {
-        Instr::Edit(_, op) => edit(alloc, machine, client, op),
-        Instr::Take(_) => taking(alloc, machine, client),
-        Instr::Deliver(_) => delivery(alloc, machine, client),
-        Instr::Acknowledge(_) => acknowledgement(alloc, machine, client),
-        Instr::Join(_) | Instr::Read(_) | Instr::ReadServer => Ok(None),
+    let revision = machine.revision(client);
+    match (instr, pending(alloc, machine, client)?) {
+        (Instr::Take(_), _) => taking(alloc, machine, client),
+        (Instr::Edit(_, op), Some(pending)) => Ok(Some(Call::ApplyClient(pending, op.copy()?))),
+        (Instr::Deliver(_), Some(pending)) => match machine.entry(revision as usize) {
+            Some(entry) => {
+                let operation = plain_operation(alloc, entry.operation())?;
+                Ok(Some(Call::ApplyServer(pending, operation)))
+            }
+            None => Ok(None),
+        },
+        (Instr::Acknowledge(_), Some(Pending::Nothing)) => Ok(None),
+        (Instr::Acknowledge(_), Some(pending)) => Ok(Some(Call::ServerAck(revision, pending))),
+        _ => Ok(None),
     }
 }

@@ -1,6 +1,6 @@
 //! What is said of a port's first difference.
 
-ghost use Rattle.std.specs.Prelude.{◌≡◌, ◌++◌, ◌≤◌, ◌≢◌, length, IfOk, OnOk, string_bytes};
+ghost use Rattle.std.specs.Prelude.{◌≡◌, ◌≤◌, ◌≢◌, length, IfOk, OnOk, string_bytes};
 ghost use Rattle.std.specs.Option.{option_map};
 ghost use Rattle.ot_model.specs.Runs.{opening_of, place_at};
 ghost use Rattle.ot_rules.specs.Call.{call_value};
@@ -9,7 +9,7 @@ ghost use Rattle.ot_rules.specs.Notes as notes;
 
 use crate::call::Call;
 use crate::calling::call_of;
-use crate::note::{Asked, Note, first_note, sentence};
+use crate::note::{Asked, first_note, sentence};
 use crate::printing::print_call;
 use crate::text::text_for;
 use ot_isa::{Instr, Schedule};
@@ -62,29 +62,12 @@ fn machine_at(
         let Some(instr) = schedule.get(number) else {
             unreachable!()
         };
-        match machine.perform::<false>(instr) {
-            Ok(_) => {}
-            Err(refusal) => {
-                only_refused(refusal)?;
-                return Ok(None);
-            }
+        if let Err(refusal) = machine.perform::<false>(instr) {
+            only_refused(refusal)?;
+            return Ok(None);
         }
     }
     Ok(Some(machine))
-}
-
-// The line of a note, where there is one.
-fn push_note(text: &mut String, note: Option<Note>, key: Option<Key>) -> Result<(), AllocError>
-    ensures { OnOk result (string_bytes text.new ≡ string_bytes text.old ++ explained.note_lines note key) }
-{
-    match note {
-        None => Ok(()),
-        Some(note) => {
-            text.push_str("note ")?;
-            text.push_str(sentence(note, key))?;
-            text.push_str("\n")
-        }
-    }
 }
 
 // The lines of the call that the instruction is, before which the machine is, and of the first note that is true.
@@ -104,10 +87,14 @@ fn explain_call(
         text: &text,
         difference,
     };
-    let note = first_note(alloc, &asked)?;
-    let mut lines = print_call(alloc, call)?;
-    push_note(&mut lines, note, difference.key)?;
-    Ok(lines)
+    let lines = print_call(alloc, call)?;
+    match first_note(alloc, &asked)? {
+        None => Ok(lines),
+        Some(note) => {
+            let sentence = sentence(note, difference.key);
+            format!(in alloc; "{lines}note {sentence}\n")
+        }
+    }
 }
 
 // What is said of the instruction, which the machine is before, if it is performed.
@@ -124,13 +111,11 @@ fn explain_step(
         return Ok(String::new(alloc));
     };
     let lines = explain_call(alloc, schedule, machine, instr, &call, difference)?;
-    match machine.perform::<false>(instr) {
-        Ok(_) => Ok(lines),
-        Err(refusal) => {
-            only_refused(refusal)?;
-            Ok(String::new(alloc))
-        }
+    if let Err(refusal) = machine.perform::<false>(instr) {
+        only_refused(refusal)?;
+        return Ok(String::new(alloc));
     }
+    Ok(lines)
 }
 
 // A rule of ot.js makes the value; the place, the instruction and its client are the schedule's.

@@ -1,24 +1,17 @@
 //! Sentences that are true of what a port printed.
 
-ghost use Rattle.std.specs.Prelude.{◌≡◌, ◌↔◌, ◌≤◌, length, IfOk, IsTrue, None, false};
-ghost use Rattle.std.specs.Option.{option_copied, option_map};
+ghost use Rattle.std.specs.Prelude.{◌≡◌, ◌↔◌, IfOk, IsTrue};
+ghost use Rattle.std.specs.Option.{option_map};
 ghost use Rattle.ot_json.specs.Reading.{operation_of_text};
-ghost use Rattle.ot_rules.specs.Call.{call_value};
 ghost use Rattle.ot_rules.specs.Notes as notes;
 ghost use Rattle.ot_rules.specs.Texts.{letters};
-ghost use Rattle.ot_rules.specs.Wrong.{at_key};
-ghost use Rattle.ot_rules.specs.declared.wrong.Made.{Made};
 
-use crate::call::Call;
+use crate::call::{Call, Operation};
 use crate::explaining::Difference;
-use crate::printing::number;
 use crate::units::in_units;
-use crate::wrong::{
-    at_key, made_by_edit_alone, made_by_half, made_other_tie, made_untransformed, made_without_edit,
-};
+use crate::wrong::made;
 use ot_json::{OpFault, read_op, write_op};
 use ot_steps::Key;
-use ot_text::TextOp;
 use std::alloc::{AllocError, Global};
 
 /// A sentence on a value that a port printed where ot.js has another, in the order in which they are asked.
@@ -71,7 +64,7 @@ pub struct Asked<'a> {
 }
 
 // The operation that a text is, if it is one.
-fn read(alloc: Global, text: &str) -> Result<Option<TextOp<char>>, AllocError>
+fn read(alloc: Global, text: &str) -> Result<Option<Operation>, AllocError>
     ensures { IfOk result (λ op. op ≡ notes.operation_in (operation_of_text text.now)) }
 {
     match read_op(alloc, text) {
@@ -85,69 +78,43 @@ fn read(alloc: Global, text: &str) -> Result<Option<TextOp<char>>, AllocError>
 fn are_one(alloc: Global, found: &str, wanted: &str) -> Result<bool, AllocError>
     ensures { IfOk result (λ same. IsTrue same ↔ notes.AreOne (notes.operation_in (operation_of_text found.now)) (notes.operation_in (operation_of_text wanted.now))) }
 {
-    let Some(found) = read(alloc, found)? else {
-        return Ok(false);
-    };
-    match read(alloc, wanted)? {
-        Some(wanted) => Ok(found.equals(&wanted)),
-        None => Ok(false),
+    match (read(alloc, found)?, read(alloc, wanted)?) {
+        (Some(found), Some(wanted)) => Ok(found.equals(&wanted)),
+        _ => Ok(false),
     }
 }
 
-// The operation that a text is, counted in UTF-16 units.
+// The operation of ot.js, counted in UTF-16 units.
 fn wanted_in_units(
     alloc: Global,
     wanted: &str,
     text: &Option<Vec<char>>,
-) -> Result<Option<TextOp<char>>, AllocError>
+) -> Result<Option<Operation>, AllocError>
     ensures { IfOk result (λ op. op ≡ notes.counted (notes.operation_in (operation_of_text wanted.now)) (option_map letters text.now)) }
 {
-    let Some(text) = text else {
-        return Ok(None);
-    };
-    match read(alloc, wanted)? {
-        Some(op) => in_units(&op, text.as_slice()),
-        None => Ok(None),
+    match (text, read(alloc, wanted)?) {
+        (Some(text), Some(op)) => in_units(&op, text.as_slice()),
+        _ => Ok(None),
     }
-}
-
-// A wrong rule makes an operation under this key.
-fn is_made(key: Option<Key>) -> bool
-    ensures { result ≡ false → (made : Made) → at_key made key ≡ None }
-{
-    matches!(
-        key,
-        Some(Key::Outstanding | Key::Buffer | Key::Applied | Key::Appended)
-    )
 }
 
 // The operation that a note says was found, if it says one.
-fn said(alloc: Global, note: Note, asked: &Asked<'_>) -> Result<Option<TextOp<char>>, AllocError>
+fn said(alloc: Global, note: Note, asked: &Asked<'_>) -> Result<Option<Operation>, AllocError>
     ensures { IfOk result (λ op. op ≡ notes.said note (notes.asked_value asked.now)) }
 {
-    if note == Note::InUnits {
-        return wanted_in_units(alloc, asked.difference.wanted, asked.text);
+    match (note, asked.difference.key) {
+        (Note::InUnits, _) => wanted_in_units(alloc, asked.difference.wanted, asked.text),
+        (_, Some(key)) => made(note, asked.call, key),
+        (_, None) => Ok(None),
     }
-    if !is_made(asked.difference.key) {
-        return Ok(None);
-    }
-    let mut made = match note {
-        Note::Turned => made_other_tie(alloc, asked.call)?,
-        Note::Untransformed => made_untransformed(asked.call)?,
-        Note::HalfTransformed => made_by_half(alloc, asked.call)?,
-        Note::EditAlone => made_by_edit_alone(asked.call)?,
-        Note::WithoutEdit => made_without_edit(asked.call)?,
-        _ => return Ok(None),
-    };
-    Ok(at_key(&mut made, asked.difference.key))
 }
 
 // The text is the operation's.
-fn is_text_of(alloc: Global, text: &str, op: Option<&TextOp<char>>) -> Result<bool, AllocError>
-    ensures { IfOk result (λ same. IsTrue same ↔ notes.IsTextOf text.now (option_copied op.entry)) }
+fn is_text_of(text: &str, op: Option<Operation>) -> Result<bool, AllocError>
+    ensures { IfOk result (λ same. IsTrue same ↔ notes.IsTextOf text.now op) }
 {
     match op {
-        Some(op) => Ok(write_op(alloc, op)?.as_str() == text),
+        Some(op) => Ok(write_op(op.allocator(), &op)?.as_str() == text),
         None => Ok(false),
     }
 }
@@ -159,17 +126,7 @@ fn is_sent_revision(alloc: Global, asked: &Asked<'_>, revision: u32) -> Result<b
     if !matches!(asked.difference.key, Some(Key::SentRevision)) {
         return Ok(false);
     }
-    Ok(number(alloc, revision)?.as_str() == asked.difference.found)
-}
-
-// It is the revision of the client before an acknowledgement.
-fn is_revision_before(alloc: Global, asked: &Asked<'_>) -> Result<bool, AllocError>
-    ensures { IfOk result (λ same. IsTrue same ↔ notes.IsTrueOf Note.RevisionBefore (notes.asked_value asked.now)) }
-{
-    match asked.call {
-        Call::ServerAck(revision, _) => is_sent_revision(alloc, asked, *revision),
-        _ => Ok(false),
-    }
+    Ok(format!(in alloc; "{revision}")?.as_str() == asked.difference.found)
 }
 
 // The note is true.
@@ -178,20 +135,15 @@ fn is_true(alloc: Global, note: Note, asked: &Asked<'_>) -> Result<bool, AllocEr
 {
     match note {
         Note::SameEffect => are_one(alloc, asked.difference.found, asked.difference.wanted),
-        Note::InUnits
-        | Note::Turned
-        | Note::Untransformed
-        | Note::HalfTransformed
-        | Note::EditAlone
-        | Note::WithoutEdit => {
-            let op = said(alloc, note, asked)?;
-            is_text_of(alloc, asked.difference.found, op.as_ref())
-        }
-        Note::RevisionBefore => is_revision_before(alloc, asked),
+        Note::RevisionBefore => match asked.call {
+            Call::ServerAck(revision, _) => is_sent_revision(alloc, asked, *revision),
+            _ => Ok(false),
+        },
         Note::RevisionAtOpening => is_sent_revision(alloc, asked, 0),
         Note::DocumentAlone => Ok(
             matches!(asked.difference.key, Some(Key::Document)) && asked.difference.printed,
         ),
+        _ => is_text_of(asked.difference.found, said(alloc, note, asked)?),
     }
 }
 
@@ -211,46 +163,38 @@ pub fn first_note(alloc: Global, asked: &Asked<'_>) -> Result<Option<Note>, Allo
 pub fn sentence(note: Note, key: Option<Key>) -> &'static str
     ensures { result.now ≡ notes.sentence note key }
 {
-    match note {
-        Note::SameEffect => {
+    match (note, key) {
+        (Note::SameEffect, _) => {
             "the same effect in another form: ot.js keeps an insertion before a deletion and merges neighbours"
         }
-        Note::InUnits => {
+        (Note::InUnits, _) => {
             "the same operation with lengths counted in UTF-16 units; otbench counts Unicode scalar values"
         }
-        Note::Turned => {
+        (Note::Turned, _) => {
             "that is what transform gives if the text of its second argument goes first"
         }
-        Note::Untransformed => untransformed(key),
-        Note::HalfTransformed => by_half(key),
-        Note::EditAlone => "that is the edit alone, not composed with the buffer",
-        Note::WithoutEdit => "that is the buffer as it was, the edit not composed with it",
-        Note::RevisionBefore => "that is the revision before this acknowledgement",
-        Note::RevisionAtOpening => "that is the revision at the opening",
-        Note::DocumentAlone => {
-            "the operation printed here is ot.js' own, and the document is not: look at what applies it to the text"
+        (Note::Untransformed, Some(Key::Outstanding)) => {
+            "that is the outstanding operation as it was, not transformed"
         }
-    }
-}
-
-fn untransformed(key: Option<Key>) -> &'static str
-    ensures { result.now ≡ notes.untransformed key }
-{
-    match key {
-        Some(Key::Outstanding) => "that is the outstanding operation as it was, not transformed",
-        Some(Key::Buffer) => "that is the buffer as it was, not transformed",
-        Some(Key::Appended) => "that is the message itself, not transformed",
-        _ => "that is the delivered operation itself, not transformed",
-    }
-}
-
-fn by_half(key: Option<Key>) -> &'static str
-    ensures { result.now ≡ notes.by_half key }
-{
-    match key {
-        Some(Key::Buffer) => {
+        (Note::Untransformed, Some(Key::Buffer)) => {
+            "that is the buffer as it was, not transformed"
+        }
+        (Note::Untransformed, Some(Key::Appended)) => {
+            "that is the message itself, not transformed"
+        }
+        (Note::Untransformed, _) => "that is the delivered operation itself, not transformed",
+        (Note::HalfTransformed, Some(Key::Buffer)) => {
             "that is the buffer transformed against the delivered operation itself, and not against what the outstanding one makes of it"
         }
-        _ => "that was transformed against the outstanding operation and not against the buffer",
+        (Note::HalfTransformed, _) => {
+            "that was transformed against the outstanding operation and not against the buffer"
+        }
+        (Note::EditAlone, _) => "that is the edit alone, not composed with the buffer",
+        (Note::WithoutEdit, _) => "that is the buffer as it was, the edit not composed with it",
+        (Note::RevisionBefore, _) => "that is the revision before this acknowledgement",
+        (Note::RevisionAtOpening, _) => "that is the revision at the opening",
+        (Note::DocumentAlone, _) => {
+            "the operation printed here is ot.js' own, and the document is not: look at what applies it to the text"
+        }
     }
 }

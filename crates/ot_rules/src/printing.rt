@@ -1,17 +1,16 @@
 //! A call as lines.
 
-ghost use Rattle.std.specs.Prelude.{◌≡◌, ◌++◌, codes, decimal, IfOk, OnOk, string_bytes};
+ghost use Rattle.std.specs.Prelude.{◌≡◌, codes, decimal, IfOk, string_bytes};
 ghost use Rattle.ot_rules.specs.Call.{call_value};
-ghost use Rattle.ot_rules.specs.Text.{call_lines, concurrent_lines, given, given_lines, given_operation, rule_text, pending_lines};
+ghost use Rattle.ot_rules.specs.Text as text;
 
-use crate::call::{Call, Pending};
+use crate::call::{Call, Operation, Pending};
 use ot_json::write_op;
-use ot_text::TextOp;
 use std::alloc::{AllocError, Global};
 
 /// The method's name, as ot.js has it: of a client's state, or of the server.
 pub fn rule(call: &Call) -> &'static str
-    ensures { result.now ≡ rule_text (call_value call.now) }
+    ensures { result.now ≡ text.rule_text (call_value call.now) }
 {
     match call {
         Call::ApplyClient(Pending::Nothing, _) => "Synchronized.applyClient",
@@ -27,108 +26,92 @@ pub fn rule(call: &Call) -> &'static str
     }
 }
 
-// A line `given NAME V`.
-fn push_given(text: &mut String, name: &str, value: &str) -> Result<(), AllocError>
-    ensures { OnOk result (string_bytes text.new ≡ string_bytes text.old ++ given name.now value.now) }
-{
-    text.push_str("given ")?;
-    text.push_str(name)?;
-    text.push_str(" ")?;
-    text.push_str(value)?;
-    text.push_str("\n")
-}
-
-fn push_operation(
-    alloc: Global,
-    text: &mut String,
-    name: &str,
-    op: &TextOp<char>,
-) -> Result<(), AllocError>
-    ensures { OnOk result (string_bytes text.new ≡ string_bytes text.old ++ given_operation name.now op.now) }
+// The line of an operation that is given.
+fn given(alloc: Global, name: &str, op: &Operation) -> Result<String, AllocError>
+    ensures { IfOk result (λ s. string_bytes s ≡ text.given_operation name.now op.now) }
 {
     let value = write_op(alloc, op)?;
-    push_given(text, name, value.as_str())
+    format!(in alloc; "given {name} {value}\n")
 }
 
-/// A number as text.
-pub(crate) fn number(alloc: Global, number: u32) -> Result<String, AllocError>
-    ensures { IfOk result (λ text. string_bytes text ≡ decimal number) }
+fn revision_line(alloc: Global, revision: u32) -> Result<String, AllocError>
+    ensures { IfOk result (λ s. string_bytes s ≡ text.given (codes "revision") (decimal revision)) }
 {
-    format!(in alloc; "{number}")
+    format!(in alloc; "given revision {revision}\n")
 }
 
-fn push_revision(alloc: Global, text: &mut String, revision: u32) -> Result<(), AllocError>
-    ensures { OnOk result (string_bytes text.new ≡ string_bytes text.old ++ given (codes "revision") (decimal revision)) }
-{
-    let value = number(alloc, revision)?;
-    push_given(text, "revision", value.as_str())
-}
-
-fn push_pending(alloc: Global, text: &mut String, pending: &Pending) -> Result<(), AllocError>
-    ensures { OnOk result (string_bytes text.new ≡ string_bytes text.old ++ pending_lines pending.now) }
+fn pending_lines(alloc: Global, pending: &Pending) -> Result<String, AllocError>
+    ensures { IfOk result (λ s. string_bytes s ≡ text.pending_lines pending.now) }
 {
     match pending {
-        Pending::Nothing => Ok(()),
-        Pending::Outstanding(op) => push_operation(alloc, text, "outstanding", op),
+        Pending::Nothing => Ok(String::new(alloc)),
+        Pending::Outstanding(op) => given(alloc, "outstanding", op),
         Pending::Buffered(op, buffer) => {
-            push_operation(alloc, text, "outstanding", op)?;
-            push_operation(alloc, text, "buffer", buffer)
+            let outstanding = given(alloc, "outstanding", op)?;
+            let buffer = given(alloc, "buffer", buffer)?;
+            format!(in alloc; "{outstanding}{buffer}")
         }
     }
 }
 
-fn push_concurrent(
-    alloc: Global,
-    text: &mut String,
-    operations: &[TextOp<char>],
-) -> Result<(), AllocError>
-    ensures { OnOk result (string_bytes text.new ≡ string_bytes text.old ++ concurrent_lines operations.now) }
+fn concurrent_lines(alloc: Global, operations: &[Operation]) -> Result<String, AllocError>
+    ensures { IfOk result (λ s. string_bytes s ≡ text.concurrent_lines operations.now) }
 {
+    let mut lines = String::new(alloc);
     for op in operations {
-        push_operation(alloc, text, "concurrent", op)?;
+        let line = given(alloc, "concurrent", op)?;
+        lines.push_str(line.as_str())?;
     }
-    Ok(())
+    Ok(lines)
 }
 
-fn push_operands(
-    alloc: Global,
-    text: &mut String,
-    pending: &Pending,
-    op: &TextOp<char>,
-) -> Result<(), AllocError>
-    ensures { OnOk result (string_bytes text.new ≡ string_bytes text.old ++ (pending_lines pending.now ++ given_operation (codes "operation") op.now)) }
+fn operand_lines(alloc: Global, pending: &Pending, op: &Operation) -> Result<String, AllocError>
+    ensures { IfOk result (λ s. string_bytes s ≡ text.operand_lines pending.now op.now) }
 {
-    push_pending(alloc, text, pending)?;
-    push_operation(alloc, text, "operation", op)
+    let pending = pending_lines(alloc, pending)?;
+    let operation = given(alloc, "operation", op)?;
+    format!(in alloc; "{pending}{operation}")
 }
 
-fn push_received(
+fn message_lines(
     alloc: Global,
-    text: &mut String,
+    op: &Operation,
+    concurrent: &[Operation],
+) -> Result<String, AllocError>
+    ensures { IfOk result (λ s. string_bytes s ≡ text.message_lines op.now concurrent.now) }
+{
+    let operation = given(alloc, "operation", op)?;
+    let concurrent = concurrent_lines(alloc, concurrent)?;
+    format!(in alloc; "{operation}{concurrent}")
+}
+
+fn received_lines(
+    alloc: Global,
     revision: u32,
-    op: &TextOp<char>,
-    concurrent: &[TextOp<char>],
-) -> Result<(), AllocError>
-    ensures { OnOk result (string_bytes text.new ≡ string_bytes text.old ++ (given (codes "revision") (decimal revision) ++ (given_operation (codes "operation") op.now ++ concurrent_lines concurrent.now))) }
+    op: &Operation,
+    concurrent: &[Operation],
+) -> Result<String, AllocError>
+    ensures { IfOk result (λ s. string_bytes s ≡ text.received_lines revision op.now concurrent.now) }
 {
-    push_revision(alloc, text, revision)?;
-    push_operation(alloc, text, "operation", op)?;
-    push_concurrent(alloc, text, concurrent)
+    let revision = revision_line(alloc, revision)?;
+    let message = message_lines(alloc, op, concurrent)?;
+    format!(in alloc; "{revision}{message}")
 }
 
 // What the call is given, a line each.
-fn push_given_lines(alloc: Global, text: &mut String, call: &Call) -> Result<(), AllocError>
-    ensures { OnOk result (string_bytes text.new ≡ string_bytes text.old ++ given_lines (call_value call.now)) }
+fn given_lines(alloc: Global, call: &Call) -> Result<String, AllocError>
+    ensures { IfOk result (λ s. string_bytes s ≡ text.given_lines (call_value call.now)) }
 {
     match call {
-        Call::ApplyClient(pending, op) => push_operands(alloc, text, pending, op),
-        Call::ApplyServer(pending, op) => push_operands(alloc, text, pending, op),
+        Call::ApplyClient(pending, op) => operand_lines(alloc, pending, op),
+        Call::ApplyServer(pending, op) => operand_lines(alloc, pending, op),
         Call::ServerAck(revision, pending) => {
-            push_revision(alloc, text, *revision)?;
-            push_pending(alloc, text, pending)
+            let revision = revision_line(alloc, *revision)?;
+            let pending = pending_lines(alloc, pending)?;
+            format!(in alloc; "{revision}{pending}")
         }
         Call::ReceiveOperation(revision, op, concurrent) => {
-            push_received(alloc, text, *revision, op, concurrent.as_slice())
+            received_lines(alloc, *revision, op, concurrent.as_slice())
         }
     }
 }
@@ -136,12 +119,9 @@ fn push_given_lines(alloc: Global, text: &mut String, call: &Call) -> Result<(),
 /// The line `rule R`, and a line `given NAME V` for each thing that the method is given: `revision`, `outstanding`, `buffer`, `operation`, and each
 /// `concurrent` operation in turn, operations as ot.js' `toJSON` has them.
 pub fn print_call(alloc: Global, call: &Call) -> Result<String, AllocError>
-    ensures { IfOk result (λ text. string_bytes text ≡ call_lines (call_value call.now)) }
+    ensures { IfOk result (λ s. string_bytes s ≡ text.call_lines (call_value call.now)) }
 {
-    let mut text = String::new(alloc);
-    text.push_str("rule ")?;
-    text.push_str(rule(call))?;
-    text.push_str("\n")?;
-    push_given_lines(alloc, &mut text, call)?;
-    Ok(text)
+    let rule = rule(call);
+    let given = given_lines(alloc, call)?;
+    format!(in alloc; "rule {rule}\n{given}")
 }

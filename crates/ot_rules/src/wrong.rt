@@ -1,166 +1,101 @@
 //! What typical wrong rules make of a call.
 
-ghost use Rattle.std.specs.Prelude.{◌≡◌, IfOk, Some};
+ghost use Rattle.std.specs.Prelude.{◌≡◌, IfOk};
 ghost use Rattle.ot_rules.specs.Call.{call_value};
 ghost use Rattle.ot_rules.specs.Wrong as wrong;
 
-use crate::call::{Call, Pending};
-use ot_algebra::{transform, transform_second};
+use crate::call::{Call, Operation, Pending};
+use crate::note::Note;
+use ot_algebra::transform;
 use ot_steps::Key;
-use ot_text::{LIMIT, TextOp};
-use std::alloc::{AllocError, Global};
-
-/// What a call makes: the operations of the line behind it, where it has them.
-#[derive(Drop)]
-pub struct Made {
-    pub outstanding: Option<TextOp<char>>,
-    pub buffer: Option<TextOp<char>>,
-    pub applied: Option<TextOp<char>>,
-    pub appended: Option<TextOp<char>>,
-}
-
-fn nothing() -> Made
-    ensures { result ≡ wrong.nothing }
-{
-    Made {
-        outstanding: None,
-        buffer: None,
-        applied: None,
-        appended: None,
-    }
-}
-
-/// Takes out the operation under this key, if there is one.
-pub fn at_key(made: &mut Made, key: Option<Key>) -> Option<TextOp<char>>
-    ensures { result ≡ wrong.at_key made.old key }
-{
-    match key {
-        Some(Key::Outstanding) => made.outstanding.take(),
-        Some(Key::Buffer) => made.buffer.take(),
-        Some(Key::Applied) => made.applied.take(),
-        Some(Key::Appended) => made.appended.take(),
-        _ => None,
-    }
-}
+use ot_text::LIMIT;
+use std::alloc::AllocError;
 
 // Transform takes the two: they have one base, and the base and what both insert are at most 1,000,000 together.
-fn may_transform(a: &TextOp<char>, b: &TextOp<char>) -> bool
+fn may_transform(a: &Operation, b: &Operation) -> bool
     ensures { result ≡ wrong.may_transform a.now b.now }
 {
     a.base_len() == b.base_len() && a.base_len() + (a.inserted() + b.inserted()) <= LIMIT
 }
 
-/// Both results of transform, where it takes the two: they have one base, and the base and what both insert are at most 1,000,000 together.
-pub fn transformed(
-    alloc: Global,
-    a: &TextOp<char>,
-    b: &TextOp<char>,
-) -> Result<Option<(TextOp<char>, TextOp<char>)>, AllocError>
+// Both results of transform, where it takes the two.
+fn transformed(a: &Operation, b: &Operation) -> Result<Option<(Operation, Operation)>, AllocError>
     ensures { IfOk result (λ pair. pair ≡ wrong.transformed a.now b.now) }
 {
     if !may_transform(a, b) {
         return Ok(None);
     }
-    Ok(Some(transform(alloc, a, b)?))
+    Ok(Some(transform(a.allocator(), a, b)?))
 }
 
-/// Its first result.
-pub fn first_transformed(
-    alloc: Global,
-    a: &TextOp<char>,
-    b: &TextOp<char>,
-) -> Result<Option<TextOp<char>>, AllocError>
+/// The first result of transform, where it takes the two: they have one base, and the base and what both insert are at most 1,000,000 together.
+pub(crate) fn first_of(a: &Operation, b: &Operation) -> Result<Option<Operation>, AllocError>
     ensures { IfOk result (λ op. op ≡ wrong.first_of (wrong.transformed a.now b.now)) }
 {
-    match transformed(alloc, a, b)? {
+    match transformed(a, b)? {
         Some((first, _second)) => Ok(Some(first)),
         None => Ok(None),
     }
 }
 
 // Its second result.
-fn second_transformed(
-    a: &TextOp<char>,
-    b: &TextOp<char>,
-) -> Result<Option<TextOp<char>>, AllocError>
+fn second_of(a: &Operation, b: &Operation) -> Result<Option<Operation>, AllocError>
     ensures { IfOk result (λ op. op ≡ wrong.second_of (wrong.transformed a.now b.now)) }
 {
-    if !may_transform(a, b) {
-        return Ok(None);
-    }
-    Ok(Some(transform_second(a, b)?))
-}
-
-// Both, with the text of the second argument first where both insert at one place.
-fn other_tie(
-    alloc: Global,
-    a: &TextOp<char>,
-    b: &TextOp<char>,
-) -> Result<Option<(TextOp<char>, TextOp<char>)>, AllocError>
-    ensures { IfOk result (λ pair. pair ≡ wrong.other_tie a.now b.now) }
-{
-    match transformed(alloc, b, a)? {
-        Some((second, first)) => Ok(Some((first, second))),
+    match transformed(a, b)? {
+        Some((_first, second)) => Ok(Some(second)),
         None => Ok(None),
     }
 }
 
-// A delivery over the outstanding operation and the buffer.
-fn other_tie_past_buffer(
-    alloc: Global,
-    outstanding: &TextOp<char>,
-    buffer: &TextOp<char>,
-    op: &TextOp<char>,
-) -> Result<Made, AllocError>
-    ensures { IfOk result (λ made. made ≡ wrong.other_tie_past_buffer buffer.now (wrong.other_tie outstanding.now op.now)) }
+// What a delivery makes under a key: of these pending operations and the one that is applied.
+fn delivered(
+    outstanding: Operation,
+    buffer: Option<Operation>,
+    applied: Operation,
+    key: Key,
+) -> Option<Operation>
+    ensures { result ≡ wrong.delivered outstanding buffer applied key }
 {
-    let Some((outstanding, passed)) = other_tie(alloc, outstanding, op)? else {
-        return Ok(nothing());
-    };
-    let Some((buffer, applied)) = other_tie(alloc, buffer, &passed)? else {
-        return Ok(nothing());
-    };
-    Ok(Made {
-        outstanding: Some(outstanding),
-        buffer: Some(buffer),
-        applied: Some(applied),
-        ..nothing()
-    })
+    match key {
+        Key::Outstanding => Some(outstanding),
+        Key::Buffer => buffer,
+        Key::Applied => Some(applied),
+        _ => None,
+    }
 }
 
-fn other_tie_delivery(
-    alloc: Global,
-    pending: &Pending,
-    op: &TextOp<char>,
-) -> Result<Made, AllocError>
-    ensures { IfOk result (λ made. made ≡ wrong.other_tie_delivery pending.now op.now) }
+// A delivery with the two arguments of each transform exchanged: so the text of the second one goes first where both insert at one place.
+fn turned(pending: &Pending, op: &Operation, key: Key) -> Result<Option<Operation>, AllocError>
+    ensures { IfOk result (λ made. made ≡ wrong.turned pending.now op.now key) }
 {
     match pending {
-        Pending::Nothing => Ok(nothing()),
-        Pending::Outstanding(outstanding) => match other_tie(alloc, outstanding, op)? {
-            None => Ok(nothing()),
-            Some((outstanding, applied)) => Ok(Made {
-                outstanding: Some(outstanding),
-                applied: Some(applied),
-                ..nothing()
-            }),
+        Pending::Nothing => Ok(None),
+        Pending::Outstanding(outstanding) => match transformed(op, outstanding)? {
+            Some((applied, outstanding)) => Ok(delivered(outstanding, None, applied, key)),
+            None => Ok(None),
         },
         Pending::Buffered(outstanding, buffer) => {
-            other_tie_past_buffer(alloc, outstanding, buffer, op)
+            let Some((passed, outstanding)) = transformed(op, outstanding)? else {
+                return Ok(None);
+            };
+            match transformed(&passed, buffer)? {
+                Some((applied, buffer)) => {
+                    Ok(delivered(outstanding, Some(buffer), applied, key))
+                }
+                None => Ok(None),
+            }
         }
     }
 }
 
-// A message transformed against the log, where the text of each entry goes first.
-fn other_tie_over(
-    op: &TextOp<char>,
-    concurrent: &[TextOp<char>],
-) -> Result<Option<TextOp<char>>, AllocError>
-    ensures { IfOk result (λ current. current ≡ wrong.other_tie_over op.now concurrent.now) }
+// A message over the log, so turned.
+fn turned_over(op: &Operation, concurrent: &[Operation]) -> Result<Option<Operation>, AllocError>
+    ensures { IfOk result (λ current. current ≡ wrong.turned_over op.now concurrent.now) }
 {
     let mut current = op.copy()?;
     for other in concurrent {
-        let Some(next) = second_transformed(other, &current)? else {
+        let Some(next) = second_of(other, &current)? else {
             return Ok(None);
         };
         current = next;
@@ -168,91 +103,51 @@ fn other_tie_over(
     Ok(Some(current))
 }
 
-/// The rule with a transform in which the text of the second argument goes first. A message transformed against the log costs for each entry what
-/// `transform_second` of `ot_algebra` does.
-pub fn made_other_tie(alloc: Global, call: &Call) -> Result<Made, AllocError>
-    ensures { IfOk result (λ made. made ≡ wrong.made_other_tie (call_value call.now)) }
+// Each operation as it was.
+fn untransformed(call: &Call, key: Key) -> Result<Option<Operation>, AllocError>
+    ensures { IfOk result (λ made. made ≡ wrong.untransformed (call_value call.now) key) }
 {
-    match call {
-        Call::ApplyServer(pending, op) => other_tie_delivery(alloc, pending, op),
-        Call::ReceiveOperation(_, op, concurrent) => Ok(Made {
-            appended: other_tie_over(op, concurrent.as_slice())?,
-            ..nothing()
-        }),
-        Call::ApplyClient(..) | Call::ServerAck(..) => Ok(nothing()),
+    match (call, key) {
+        (Call::ApplyServer(Pending::Outstanding(op), _), Key::Outstanding) => Ok(Some(op.copy()?)),
+        (Call::ApplyServer(Pending::Outstanding(_), op), Key::Applied) => Ok(Some(op.copy()?)),
+        (Call::ApplyServer(Pending::Buffered(op, _), _), Key::Outstanding) => Ok(Some(op.copy()?)),
+        (Call::ApplyServer(Pending::Buffered(_, op), _), Key::Buffer) => Ok(Some(op.copy()?)),
+        (Call::ApplyServer(Pending::Buffered(..), op), Key::Applied) => Ok(Some(op.copy()?)),
+        (Call::ReceiveOperation(_, op, _), Key::Appended) => Ok(Some(op.copy()?)),
+        _ => Ok(None),
     }
 }
 
-// The pending operations, if any, and the delivered operation.
-fn untransformed(pending: &Pending, op: &TextOp<char>) -> Result<Made, AllocError>
-    ensures { IfOk result (λ made. made ≡ wrong.untransformed pending.now op.now) }
+/// What the wrong rule that the note names makes under a key, if it makes something there.
+pub(crate) fn made(note: Note, call: &Call, key: Key) -> Result<Option<Operation>, AllocError>
+    ensures { IfOk result (λ made. made ≡ wrong.made note (call_value call.now) key) }
 {
-    let (outstanding, buffer) = match pending {
-        Pending::Nothing => return Ok(nothing()),
-        Pending::Outstanding(outstanding) => (outstanding.copy()?, None),
-        Pending::Buffered(outstanding, buffer) => {
-            let outstanding = outstanding.copy()?;
-            (outstanding, Some(buffer.copy()?))
-        }
-    };
-    Ok(Made {
-        outstanding: Some(outstanding),
-        buffer,
-        applied: Some(op.copy()?),
-        ..nothing()
-    })
-}
-
-/// The rule without any transform: each operation as it was.
-pub fn made_untransformed(call: &Call) -> Result<Made, AllocError>
-    ensures { IfOk result (λ made. made ≡ wrong.made_untransformed (call_value call.now)) }
-{
-    match call {
-        Call::ApplyServer(pending, op) => untransformed(pending, op),
-        Call::ReceiveOperation(_, op, _) => Ok(Made {
-            appended: Some(op.copy()?),
-            ..nothing()
-        }),
-        Call::ApplyClient(..) | Call::ServerAck(..) => Ok(nothing()),
-    }
-}
-
-/// A delivery of which half is done: the buffer over the delivered operation itself, and that over the outstanding operation alone.
-pub fn made_by_half(alloc: Global, call: &Call) -> Result<Made, AllocError>
-    ensures { IfOk result (λ made. made ≡ wrong.made_by_half (call_value call.now)) }
-{
-    match call {
-        Call::ApplyServer(Pending::Buffered(outstanding, buffer), op) => Ok(Made {
-            buffer: first_transformed(alloc, buffer, op)?,
-            applied: second_transformed(outstanding, op)?,
-            ..nothing()
-        }),
-        _ => Ok(nothing()),
-    }
-}
-
-/// An edit that takes the buffer's place.
-pub fn made_by_edit_alone(call: &Call) -> Result<Made, AllocError>
-    ensures { IfOk result (λ made. made ≡ wrong.made_by_edit_alone (call_value call.now)) }
-{
-    match call {
-        Call::ApplyClient(Pending::Buffered(..), op) => Ok(Made {
-            buffer: Some(op.copy()?),
-            ..nothing()
-        }),
-        _ => Ok(nothing()),
-    }
-}
-
-/// An edit that the buffer does not take up.
-pub fn made_without_edit(call: &Call) -> Result<Made, AllocError>
-    ensures { IfOk result (λ made. made ≡ wrong.made_without_edit (call_value call.now)) }
-{
-    match call {
-        Call::ApplyClient(Pending::Buffered(_, buffer), _) => Ok(Made {
-            buffer: Some(buffer.copy()?),
-            ..nothing()
-        }),
-        _ => Ok(nothing()),
+    match note {
+        Note::Turned => match (call, key) {
+            (Call::ApplyServer(pending, op), _) => turned(pending, op, key),
+            (Call::ReceiveOperation(_, op, concurrent), Key::Appended) => {
+                turned_over(op, concurrent.as_slice())
+            }
+            _ => Ok(None),
+        },
+        Note::Untransformed => untransformed(call, key),
+        Note::HalfTransformed => match (call, key) {
+            (Call::ApplyServer(Pending::Buffered(_, buffer), op), Key::Buffer) => {
+                first_of(buffer, op)
+            }
+            (Call::ApplyServer(Pending::Buffered(outstanding, _), op), Key::Applied) => {
+                second_of(outstanding, op)
+            }
+            _ => Ok(None),
+        },
+        Note::EditAlone => match (call, key) {
+            (Call::ApplyClient(Pending::Buffered(..), op), Key::Buffer) => Ok(Some(op.copy()?)),
+            _ => Ok(None),
+        },
+        Note::WithoutEdit => match (call, key) {
+            (Call::ApplyClient(Pending::Buffered(_, op), _), Key::Buffer) => Ok(Some(op.copy()?)),
+            _ => Ok(None),
+        },
+        _ => Ok(None),
     }
 }

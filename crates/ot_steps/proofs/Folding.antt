@@ -12,14 +12,15 @@ use Rattle.ot_isa.specs.declared.instruction.Instr.{Instr}
 use Rattle.ot_isa.specs.declared.instruction.Instr.TheVariants.{Edit, Take, Deliver, Acknowledge, Join, Read, ReadServer}
 use Rattle.ot_isa.specs.Tagging.{chars_of, tagged_chars, tagged_items}
 use Rattle.ot_model.specs.Operation.{Item, Old, New, Operation}
-use Rattle.ot_model.specs.Table.{Phase, NotJoined, Synchronized, AwaitingConfirm, AwaitingWithBuffer, Client, Entry, Message, State, Head, Op, Outcome, Performed, Refused, NoRow, acknowledged, against_pending, delivered, downlink, edited, head_for, is_joined, joined, step, tag_operation, taken, with_row}
+use Rattle.ot_model.specs.Table.{Phase, NotJoined, Synchronized, AwaitingConfirm, AwaitingWithBuffer, Client, Entry, Message, State, Outcome, Performed, Refused, NoRow, acknowledged, against_pending, delivered, edited, is_joined, joined, step, tag_operation, taken, with_row}
 use Rattle.ot_model.specs.Table as table
 use Rattle.ot_model.proofs.Outcomes.{by_edit, by_take, by_deliver, by_acknowledge, by_join, by_read, by_read_server}
-use Rattle.ot_model.proofs.States.{slice_get-set_same, drop_entry}
+use Rattle.ot_model.proofs.States.{slice_get-set_same}
 use Rattle.ot_server.specs.History.{transform_over}
 use Rattle.ot_steps.specs.Lines.{Line, plain_item, plain_message, plain_operation}
 use Rattle.ot_steps.specs.Lines as lines
-use Rattle.ot_steps.specs.Steps.{client_in, is_synchronized, last_of, step_line}
+use Rattle.ot_machine.specs.Effects.{client_in, delivery_of, is_synchronized}
+use Rattle.ot_steps.specs.Steps.{last_of, step_line}
 use Rattle.ot_steps.specs.Fold.{ClientText, EntryText, Session, client_text, entry_text, folded, session_in, under_way, with_client}
 use Rattle.ot_steps.specs.Fold as fold
 
@@ -108,14 +109,13 @@ pub same_session : (xs ys : List ClientText) (d e : List ℕ) (l m : List EntryT
 same_session xs ys d e l m clients document log =
     rw (clients, document, log) refl
 
--- the head of a downlink
-head_is : (s : State) (c : ℕ) (x : Client) (h : Entry) → is_joined x.phase ≡ true → slice_get s.log x.revision ≡ Some h → h.maker ≢ c → slice_get (downlink s c x) 0 ≡ Some (Op h.op)
-head_is s c x h on head other =
-    rw on (ap (λ (log : List Entry). slice_get (map (head_for c) log) 0) (drop_entry s.log x.revision h head) ∙ go (h.maker == c) refl)
+-- what a delivery applies
+delivery_is : (s : State) (c : ℕ) (x : Client) (h : Entry) → is_joined x.phase ≡ true → slice_get s.log x.revision ≡ Some h → h.maker ≢ c → delivery_of s c x ≡ Some (against_pending x.phase h.op)
+delivery_is s c x h on head other = rw (on, head) (by_maker (h.maker == c) refl)
   where
-    go : (own : Bool) → (h.maker == c) ≡ own → Some (head_for c h) ≡ Some (Op h.op)
-    go true own = absurd (other (eqb-true h.maker c own))
-    go false own = rw own refl
+    by_maker : (own : Bool) → (h.maker == c) ≡ own → (if own then None else Some (against_pending x.phase h.op)) ≡ Some (against_pending x.phase h.op)
+    by_maker true is = absurd (other (eqb-true h.maker c is))
+    by_maker false is = refl
 
 -- what an edit sends, by the phase before it
 abbrev if_sent : Phase → Option Message → Option lines.Message
@@ -141,7 +141,7 @@ module _ (documents : Bool) (at : ℕ) (s : State) (c : ℕ) (x : Client) (here 
   fold_deliver : (h : Entry) → is_joined x.phase ≡ true → slice_get s.log x.revision ≡ Some h → h.maker ≢ c → IsFolded documents at (Deliver c) s (Performed (table.with_client s c (delivered x h.op)) None)
   fold_deliver h on head other =
       let y = delivered x h.op in
-      rw (told_here s c x here, client_here s c x here, client_then s c x y here, head_is s c x h on head other)
+      rw (told_here s c x here, client_here s c x here, client_then s c x y here, delivery_is s c x h on head other)
       (client_set s c y _ (same_parts y _ _ (apply_plain (against_pending x.phase h.op) x.list) refl))
 
   -- an acknowledgement

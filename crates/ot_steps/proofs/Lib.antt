@@ -4,7 +4,6 @@ mod Folding
 mod Gathering
 pub mod Running
 mod Untagging
-pub mod Delivering
 mod Short
 mod Texts
 pub mod Progress

@@ -6,23 +6,28 @@ use Rattle.std.specs.declared.alloc.Global.{Global}
 use Rattle.std.specs.Io.KnownBytes.{Appends, Keeps}
 use Rattle.std.proofs.lemmas.List.{append_assoc, append-nil, length-set, length-take-le}
 use Rattle.std.proofs.lemmas.Option.{same_Some, slice_get_past, slice_get_within}
+use Rattle.std.specs.Option.{option_map}
 use Rattle.streams.specs.Streams.{WritesPart}
 use Rattle.streams.proofs.Parts.{part_of_front}
 use Rattle.ot_isa.specs.Program.{Program, IsForClients}
+use Rattle.ot_isa.specs.declared.elements.Tagged.{Tagged}
 use Rattle.ot_isa.specs.declared.instruction.Instr.{Instr}
 use Rattle.ot_isa.specs.declared.instruction.Instr.TheVariants.{Edit, Take, Deliver, Acknowledge, Join, Read, ReadServer}
 use Rattle.ot_model.specs.declared.shown.Refusal.{Refusal}
 use Rattle.ot_model.specs.declared.shown.Shown.{Shown}
+use Rattle.ot_model.specs.Operation.{Operation}
 use Rattle.ot_model.specs.Table.{Phase, NotJoined, Synchronized, AwaitingConfirm, AwaitingWithBuffer, Client, State, Place, Outcome, Performed, Refused, NoRow, acknowledged, begin, run, step, with_row, with_shown, IsQuiet}
 use Rattle.ot_model.specs.Runs.{done, opening_of, place_at}
 use Rattle.ot_model.proofs.Outcomes.{by_edit, by_take, by_deliver, by_acknowledge, by_join, by_read, by_read_server}
 use Rattle.ot_model.proofs.Runs.{place_at-next, reaches}
 use Rattle.ot_model.proofs.States.{take_entry}
 use Rattle.ot_machine.specs.Answers.{IsRefusal}
+use Rattle.ot_machine.specs.Effects.{IsEffect, applied_in, reader_of, shown_by}
+use Rattle.ot_machine.specs.declared.effect.Effect.{Effect}
 use Rattle.ot_machine.specs.Ended.{reached, IsStop}
 use Rattle.ot_machine.proofs.Stopping.{stopped_at, whole}
-use Rattle.ot_steps.specs.Lines.{Line}
-use Rattle.ot_steps.specs.Steps.{LeadsTo, end_line, first_lines, is_quiet, last_lines, lines_from, opening_line, run_lines, step_line, stop_at, stop_line}
+use Rattle.ot_steps.specs.Lines.{Line, plain_operation}
+use Rattle.ot_steps.specs.Steps.{LeadsTo, applies, end_line, first_lines, is_quiet, last_lines, lines_from, opening_line, run_lines, step_line, stop_at, stop_line}
 use Rattle.ot_steps.specs.Text.{line_text, lines_text}
 use Rattle.ot_steps.specs.Gathered.{Gathers, GathersUpTo, GathersMoves, GathersRun, MovesUpTo, RunUpTo}
 use Rattle.ot_steps.specs.Written.{AreRunLines, IsMove, WritesRun, WritesUpTo, moves_text}
@@ -59,6 +64,15 @@ within s ReadServer = by_read_server (IsWithin ReadServer) (λ r. tt) s (λ belo
 
 pub leads_within : (s t : State) (i : Instr) → LeadsTo i s t → IsForClients (length t.clients) i
 leads_within s t i leads = subst (IsWithin i) leads.1 (within s i)
+
+-- what the machine says that it did
+pub did : (s : State) (i : Instr) (t : State) (effect : Effect) → IsEffect s i t effect → LeadsTo i s t
+did s i t effect is = (option_map (shown_by t) (reader_of i), is.led)
+
+pub did_apply :
+    (s : State) (i : Instr) (t : State) (effect : Effect) (op : Option (Operation Tagged)) → IsEffect s i t effect → op ≡ applied_in t effect.applied
+    → option_map plain_operation op ≡ applies i s
+did_apply s i t effect op is same = ap (option_map plain_operation) (same ∙ is.applied)
 
 -- ---- lines as text
 

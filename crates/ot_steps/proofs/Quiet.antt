@@ -3,7 +3,8 @@ use Rattle.std.proofs.Common.{◌≡◌, ℕ, zero, suc, List, [], ◌∷◌, dr
 use Rattle.std.specs.Prelude.{◌↔◌, ◌&&◌, IsTrue, slice_get, is_none, if◌then◌else◌}
 use Rattle.std.proofs.lemmas.Option.{same_Some}
 use Rattle.ot_model.specs.Table.{Phase, NotJoined, Synchronized, AwaitingConfirm, AwaitingWithBuffer, Client, Entry, Message, State, is_joined, IsQuiet, IsQuietClient}
-use Rattle.ot_steps.specs.Steps.{are_quiet, is_client_quiet, is_end, is_quiet, is_synchronized}
+use Rattle.ot_machine.specs.Effects.{is_synchronized}
+use Rattle.ot_steps.specs.Steps.{are_quiet, is_client_quiet, is_end, is_quiet}
 
 both : (a b : Bool) → (a && b) ≡ true → (a ≡ true) × (b ≡ true)
 both true true e = (refl, refl)

@@ -1,5 +1,5 @@
 -- The lines of a schedule's run.
-use Rattle.std.specs.Prelude.{◌≡◌, ℕ, suc, List, [], ◌∷◌, ◌++◌, ◌-◌, ◌||◌, ◌&&◌, length, drop, take, get_or, slice_get, is_none, if◌then◌else◌, Bool, true, false, Option, Some, None}
+use Rattle.std.specs.Prelude.{◌≡◌, ℕ, suc, List, [], ◌∷◌, ◌++◌, ◌-◌, ◌||◌, ◌&&◌, length, drop, take, slice_get, is_none, if◌then◌else◌, Bool, true, false, Option, Some, None}
 use Rattle.std.specs.Option.{option_map}
 use Rattle.ot_isa.specs.Program.{Program, client_of}
 use Rattle.ot_isa.specs.Tagging.{chars_of}
@@ -8,8 +8,10 @@ use Rattle.ot_isa.specs.declared.instruction.Instr.TheVariants.{Edit, Take, Deli
 use Rattle.ot_model.specs.declared.shown.Refusal.{Refusal}
 use Rattle.ot_model.specs.declared.shown.Shown.{Shown}
 use Rattle.ot_model.specs.Operation.{Operation}
-use Rattle.ot_model.specs.Table.{Phase, Synchronized, AwaitingConfirm, AwaitingWithBuffer, Client, absent, State, Entry, Head, Ack, Op, Performed, Refused, NoRow, against_pending, downlink, is_joined, step}
+use Rattle.ot_model.specs.Table.{Phase, AwaitingConfirm, AwaitingWithBuffer, Client, State, Entry, Performed, Refused, NoRow, is_joined, step}
 use Rattle.ot_model.specs.Runs.{opening_of}
+use Rattle.ot_machine.specs.Effects as machine
+use Rattle.ot_machine.specs.Effects.{client_in, is_synchronized, sends}
 use Rattle.ot_machine.specs.Readers.{phase_name}
 use Rattle.ot_machine.specs.declared.state.Phase as shown
 use Rattle.ot_machine.specs.Ended.{reached}
@@ -21,9 +23,6 @@ LeadsTo i s t = (shown : Option Shown) × (step s i ≡ Performed t shown)
 
 -- ---- what stands in the states
 
-abbrev pub client_in : State → ℕ → Client
-client_in s c = get_or s.clients c absent
-
 abbrev pub outstanding_of : Phase → Option (Operation ℕ)
 outstanding_of (AwaitingConfirm o) = Some (plain_operation o)
 outstanding_of (AwaitingWithBuffer o b) = Some (plain_operation o)
@@ -33,33 +32,9 @@ abbrev pub buffer_of : Phase → Option (Operation ℕ)
 buffer_of (AwaitingWithBuffer o b) = Some (plain_operation b)
 buffer_of _ = None
 
-abbrev pub is_synchronized : Phase → Bool
-is_synchronized Synchronized = true
-is_synchronized _ = false
-
-abbrev pub has_buffer : Phase → Bool
-has_buffer (AwaitingWithBuffer o b) = true
-has_buffer _ = false
-
--- whether an instruction puts a message on a client's link to the server: an edit in Synchronized, and an acknowledgement that sends the buffer
-abbrev pub sends : Instr → State → Bool
-sends (Edit c op) s = is_synchronized (client_in s c).phase
-sends (Acknowledge c) s = has_buffer (client_in s c).phase
-sends _ s = false
-
--- what a client makes of the message at the head of its downlink, if that is another's operation
-abbrev pub against_pending_head : Phase → Option Head → Option (Operation ℕ)
-against_pending_head phase None = None
-against_pending_head phase (Some Ack) = None
-against_pending_head phase (Some (Op op)) = Some (plain_operation (against_pending phase op))
-
-abbrev pub delivers : State → ℕ → Option (Operation ℕ)
-delivers s c = against_pending_head (client_in s c).phase (slice_get (downlink s c (client_in s c)) 0)
-
 -- the operation that an instruction applies to the client's document by a delivery
 abbrev pub applies : Instr → State → Option (Operation ℕ)
-applies (Deliver c) s = delivers s c
-applies _ s = None
+applies i s = option_map plain_operation (machine.applied_by s i)
 
 -- the last operation of a log
 abbrev pub last_of : List Entry → Option (Operation ℕ)

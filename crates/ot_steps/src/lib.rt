@@ -1,8 +1,8 @@
 //! A schedule's run as lines of JSON: the opening, a line for each performed instruction with what it changed, a stop, and the end.
 //!
 //! ```text
-//!    instruction ── sends ──▶ perform ── Line::step ──▶ Line ── value ──▶ what a Key has
-//!       (of the state before)  (what a delivery applied)    └── text ──▶ {"at":7,"do":"deliver","client":0,"revision":1, ..}
+//!    instruction ── Machine::perform ──▶ Effect ── Line::step ──▶ Line ── value ──▶ what a Key has
+//!                              (what it sent and applied)          └── text ──▶ {"at":7,"do":"deliver","client":0,"revision":1, ..}
 //! ```
 //!
 //! - *The lines as values* (`specs/Lines.antt`, `specs/Steps.antt`): `step_line` is a function of the written table's states before and after the
@@ -16,14 +16,13 @@
 //! - *Writing* (`specs/Written.antt`): [`print_steps`] writes the lines while the run goes, 64 KiB of them at a time (`specs/Gathered.antt`), and after a
 //!   fault a first part of them stands.
 //!
-//! What a delivery applies is made once: the machine that performs it gives it ([`perform`]); [`applies`] says it without performing anything. Begin reading
+//! What an instruction sent, and what a delivery applied, the machine that performs it says (`Effect` of `ot_machine`). Begin reading
 //! at `step_line` in specs/Steps.antt, then at [`Line`] and [`print_steps`].
 #![tactic(auto)]
 
 mod key;
 mod laws;
 mod line;
-mod moving;
 mod operations;
 mod plain;
 mod value;
@@ -32,7 +31,6 @@ mod writing;
 pub use key::{KEYS, Key, key_text};
 pub use laws::{downlinks_follow, fold_is_run, lines_fold};
 pub use line::{Line, Step, Stop, buffer, last_operation, outstanding, placed_client, word};
-pub use moving::{applies, perform, sends};
 pub use operations::push_decimal;
 pub use plain::plain_operation;
 pub use value::{Value, push_array, push_plain_array};

@@ -7,7 +7,8 @@ ghost use Rattle.ot_isa.specs.Tagging.{chars_of};
 ghost use Rattle.ot_steps.specs.Held.{IsHeld, is_read, messages, operations, printed_of, step_printed, step_whole, value_of, whole_of};
 ghost use Rattle.ot_steps.specs.Lines.{word_of};
 ghost use Rattle.ot_steps.specs.Steps as steps;
-ghost use Rattle.ot_steps.specs.Steps.{buffer_of, client_in, document_in, edit_of, last_of, message_if, named, outstanding_of, revision_at};
+ghost use Rattle.ot_machine.specs.Effects.{client_in};
+ghost use Rattle.ot_steps.specs.Steps.{buffer_of, document_in, edit_of, last_of, message_if, named, outstanding_of, revision_at};
 ghost use Rattle.ot_steps.specs.Text.{Op, end_text, fields_of, fields_text, line_text, value_at, word_text};
 
 use crate::key::{KEYS, Key, key_head};
@@ -28,9 +29,9 @@ pub struct Step<'a> {
     /// The place after it.
     pub at: usize,
     pub instr: &'a Instr,
-    /// Whether it put a message on its client's link to the server, as [`sends`](crate::sends) says of the machine before it.
+    /// Whether it put a message on its client's link to the server, as the machine's `Effect` says.
     pub sent: bool,
-    /// What it applied by a delivery, as [`applies`](crate::applies) says of that machine.
+    /// What it applied by a delivery, likewise.
     pub delivered: Option<&'a TextOp<Tagged>>,
 }
 

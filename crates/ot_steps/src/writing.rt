@@ -10,7 +10,6 @@ ghost use Rattle.ot_steps.specs.Gathered.{Gathers, GathersMoves, GathersRun, Gat
 ghost use Rattle.ot_steps.specs.Written.{IsCaused, IsMove, WritesRun, WritesUpTo};
 
 use crate::line::{Line, Stop};
-use crate::moving::{perform, sends};
 use ot_isa::{Instr, Schedule};
 use ot_machine::{Machine, Refusal};
 use std::alloc::{AllocError, Global};
@@ -63,13 +62,12 @@ fn write_move(
     ensures refused { IfOk result (λ answer. IfErr answer (λ r. IsRefusal (table.step machine.old instr.now) r)) }
     ensures unchanged { IfOk result (λ answer. OnErr answer (machine.new ≡ machine.old)) }
 {
-    let sent = sends(machine, instr);
-    let applied = match perform(machine, instr) {
-        Ok(applied) => applied,
+    let effect = match machine.perform::<false>(instr) {
+        Ok(effect) => effect,
         Err(refusal) => return Ok(Err(refusal)),
     };
-    let delivered = applied.operation(machine);
-    let line = Line::step(machine, at, instr, sent, delivered);
+    let delivered = effect.applied.operation(machine);
+    let line = Line::step(machine, at, instr, effect.sent, delivered);
     line.write(alloc, text, documents)?;
     Ok(Ok(()))
 }

@@ -10,7 +10,7 @@ unreachable-requires c =
     let few : done s ≤ length s.instrs = performed-length s.instrs (opening_of s) in
     let past : length s.instrs ≤ c.loop-place.place = c.in_default.ensures.none refl in
     let less = c.loop-place-test.true in
-    let here = c.requires in
+    let here = c.requires.count in
     absurd (omega (arith, few, past, less, here))
 
 pub unreachable-requires-in_default-refusal : goal.unreachable-requires-in_default-refusal

@@ -1,11 +1,11 @@
-use Rattle.ot_debug.proofs.Foretelling.{acknowledge_phase, join_phase, phase_rest}
+use Rattle.ot_debug.proofs.Foretelling.{acknowledge_moves, join_moves, phase_rest}
 use Rattle.ot_debug.proofs.watching.changes_phase.Goals as goal
 
 pub returns-in-Acknowledge : goal.returns-in-Acknowledge
-returns-in-Acknowledge c = acknowledge_phase c.args.machine.now c.args.instr.now c.in-Acknowledge.own c.args.client c.from.result c.in-Acknowledge.is c.from.ensures
+returns-in-Acknowledge c = rw c.in-Acknowledge.is (acknowledge_moves c.args.machine.now _)
 
 pub returns-in-Join : goal.returns-in-Join
-returns-in-Join c = join_phase c.args.machine.now c.args.instr.now c.in-Join.own c.args.client c.from-in-Join.result c.in-Join.is c.from-in-Join.ensures
+returns-in-Join c = rw c.in-Join.is (join_moves c.args.machine.now _)
 
 pub returns-in_default : goal.returns-in_default
-returns-in_default c = phase_rest c.args.machine.now c.args.instr.now c.args.client c.in_default.not-Edit c.in_default.not-Acknowledge c.in_default.not-Join
+returns-in_default c = phase_rest c.args.machine.now c.args.instr.now c.in_default.not-Edit c.in_default.not-Acknowledge c.in_default.not-Join

@@ -1,4 +1,4 @@
-use Rattle.std.proofs.Common.{◌∙◌, subst, sym}
+use Rattle.std.proofs.Common.{subst}
 use Rattle.ot_machine.specs.Effects.{delivery_of}
 use Rattle.ot_machine.specs.Readers.{ClientHas}
 use Rattle.ot_debug.proofs.Foretelling.{delivery_changes}
@@ -6,5 +6,5 @@ use Rattle.ot_debug.proofs.watching.delivery_changes.Goals as goal
 
 pub returns-in-Some : goal.returns-in-Some
 returns-in-Some c =
-    delivery_changes c.args.machine.now c.args.own c.args.client c.in-Some.op c.document.result.now c.changes.result (sym c.from.ensures ∙ c.if-from-client.false) c.document.ensures
+    delivery_changes c.args.machine.now c.args.own c.in-Some.op c.document.result.now c.changes.result c.document.ensures
     (subst (ClientHas c.args.machine.now c.args.own (delivery_of c.args.machine.now c.args.own)) c.in-Some.is c.in_ok-op.ensures.value) c.changes.ensures

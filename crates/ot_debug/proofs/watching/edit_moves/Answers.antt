@@ -1,4 +1,4 @@
-use Rattle.std.proofs.Common.{◌∙◌, subst, sym}
+use Rattle.std.proofs.Common.{subst, sym}
 use Rattle.std.specs.Prelude.{not}
 use Rattle.ot_isa.specs.declared.instruction.Instr.TheVariants.{Edit}
 use Rattle.ot_model.specs.Table.{step}
@@ -12,9 +12,9 @@ pub returns : goal.returns
 returns c = λ op.
     elim c.match-matches.branch [
       | in-AwaitingWithBuffer w ↦
-          subst (λ b. Foretells (step c.args.machine.now (Edit c.args.own op)) c.args.machine.now (watched.State c.args.client) (not b)) (sym w.matches-is)
-          (edit_waits c.args.machine.now c.args.own c.args.client c.phase.result op (sym c.from.ensures ∙ c.if-from-client.false) c.phase.ensures w.in-AwaitingWithBuffer.is)
+          subst (λ b. Foretells (step c.args.machine.now (Edit c.args.own op)) c.args.machine.now (watched.State c.args.own) (not b)) (sym w.matches-is)
+          (edit_waits c.args.machine.now c.args.own c.phase.result op c.phase.ensures w.in-AwaitingWithBuffer.is)
       | in_default w ↦
-          subst (λ b. Foretells (step c.args.machine.now (Edit c.args.own op)) c.args.machine.now (watched.State c.args.client) (not b)) (sym w.matches-is)
-          (edit_goes_on c.args.machine.now c.args.own c.args.client c.phase.result op (sym c.from.ensures ∙ c.if-from-client.false) c.phase.ensures w.in_default.not-AwaitingWithBuffer)
+          subst (λ b. Foretells (step c.args.machine.now (Edit c.args.own op)) c.args.machine.now (watched.State c.args.own) (not b)) (sym w.matches-is)
+          (edit_goes_on c.args.machine.now c.args.own c.phase.result op c.phase.ensures w.in_default.not-AwaitingWithBuffer)
     ]

@@ -1,7 +1,5 @@
 use Rattle.std.proofs.Common.{◌∙◌, ap, arith, subst, string_bytes, List, ℕ}
 use Rattle.std.specs.Prelude.{Result, IfErr, OnErr, OnOk, ◌≡◌}
-use Rattle.std.specs.Io.KnownBytes.{Appends}
-use Rattle.streams.specs.Streams.{WritesPart}
 use Rattle.ot_model.specs.Table.{step}
 use Rattle.ot_model.specs.declared.shown.Refusal.{Refusal}
 use Rattle.ot_machine.specs.Answers.{IsRefusal}

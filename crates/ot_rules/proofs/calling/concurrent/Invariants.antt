@@ -5,4 +5,4 @@ use Rattle.ot_rules.proofs.calling.concurrent.Given as goal
 
 abbrev pub invariant-loop-number : goal.invariant-loop-number
 invariant-loop-number l =
-    l.operations.items ++ map entry_operation (drop l.number l.machine.log) ≡ map entry_operation (drop l.revision l.machine.log)
+    l.operations.items ++ map entry_operation (drop l.number l.machine.log) ≡ map entry_operation (drop l.from l.machine.log)

@@ -11,12 +11,12 @@ loop-number-init c = state_begun c.args.schedule.now c.in_ok-machine.machine c.i
 pub loop-number-preserved : goal.loop-number-preserved
 loop-number-preserved c =
     let t = c.perform.new.self in
-    state_next c.args.schedule.now c.loop-number.number c.in-Some.instr.now c.loop-number.machine t (option_map (shown_by t) (reader_of c.in-Some.instr.now)) c.loop-number.invariant c.in-Some.ensures.some c.in-Ok.ensures.effect.led
+    state_next c.args.schedule.now c.loop-number.number c.in-Some.instr.now c.loop-number.machine t (option_map (shown_by t) (reader_of c.in-Some.instr.now)) c.loop-number.invariant c.in-Some.ensures.some c.in_default-perform.ensures.effect.led
 
 pub returns-in-Err : goal.returns-in-Err
 returns-in-Err c =
     is_nowhere c.args.schedule.now c.loop-number.number c.args.place c.in-Some.instr.now c.in-Err.refusal c.loop-number.machine
-    c.loop-number.invariant c.in-Some.ensures.some c.in-Err.ensures.refused c.in_ok-only_refused-in-Err.ensures c.loop-number-test.true c.requires
+    c.loop-number.invariant c.in-Some.ensures.some c.in-Err.ensures.refused c.in_ok-only_refused.ensures c.loop-number-test.true c.requires
 
 pub returns : goal.returns
 returns c = is_there c.args.schedule.now c.loop-number.number c.args.place c.loop-number.machine (omega arith) (omega arith) c.loop-number.invariant

@@ -23,6 +23,5 @@ loop-instr-smaller c =
 
 pub loop-instr-preserved : goal.loop-instr-preserved
 loop-instr-preserved c =
-    let performed = c.in_default-perform.ensures.done in
-    passes_more c.args.schedule.now c.args.self.now c.loop-instr.self (read_as c.args.line.now) c.in-Some.instr.now c.perform.new.machine performed.0 c.loop-instr.invariant c.in-Some.ensures.some performed.1
+    passes_more c.args.schedule.now c.args.self.now c.loop-instr.self (read_as c.args.line.now) c.in-Some.instr.now c.perform.new.self _ c.loop-instr.invariant c.in-Some.ensures.some c.in_default-perform.ensures.effect.led
     (sym c.passes_next.ensures ∙ c.if-not-passes_next.false)
