@@ -19,6 +19,14 @@ const USAGE = `usage: node recorder/merge.js [--schedule] LOG ..
 Prints the session of the recorder's logs, of the server and of the clients: its schedule, and behind a line '%%' what the
 participants had; with --schedule the schedule alone.`;
 
+function bytesOf(file) {
+  try {
+    return fs.readFileSync(file);
+  } catch (fault) {
+    throw fault.code === "ENOENT" ? new Error(`${file}: there is no such file`) : fault;
+  }
+}
+
 function main() {
   const options = { schedule: { type: "boolean" }, help: { type: "boolean", short: "h" } };
   const { values, positionals } = parseArgs({ options, allowPositionals: true });
@@ -27,7 +35,7 @@ function main() {
     process.exitCode = 2;
     return;
   }
-  const events = positionals.flatMap((file) => readEvents(decode(fs.readFileSync(file), file), file));
+  const events = positionals.flatMap((file) => readEvents(decode(bytesOf(file), file), file));
   const { schedule, lines, notes, fault } = merge(events);
   process.stdout.write((values.schedule ? schedule : [...schedule, "%%", ...lines]).join("\n") + "\n");
   for (const note of notes) console.error(`merge: ${note}`);

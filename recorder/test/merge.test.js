@@ -395,6 +395,10 @@ test("the command line", () => {
   fs.rmSync(folder, { recursive: true });
 });
 
+test("a log that is not there is named", () => {
+  assert.deepEqual([call("none.log").status, call("none.log").stderr], [1, "merge: none.log: there is no such file\n"]);
+});
+
 test("words that are not understood, and help, are answered by the usage", () => {
   for (const words of [[], ["--help"], ["-h"], ["--schedule"]]) {
     const { status, stdout, stderr } = call(...words);

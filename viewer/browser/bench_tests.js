@@ -196,6 +196,8 @@ export function testIn(name, openBrowser) {
       await user.until('!document.getElementById("leave-out").hidden', "the refusal");
       assert.match(await user.text("#to-fault"), /^line 12, ack 0: LinkEmpty: /);
       assert.match(await user.text("#verdict"), /^stopped at 8: LinkEmpty \(line 12\); ends quiet/);
+      const colours = await user.run('["stop", "end"].map((id) => getComputedStyle(document.getElementById(id)).color)');
+      assert.deepEqual(colours, ["rgb(196, 22, 42)", "rgb(95, 104, 117)"]);
       await user.click("#leave-out");
       await user.until('document.getElementById("to-fault").hidden', "no refusal");
       assert.match(await user.schedule(), /deliver 0\nread 1$/);
@@ -311,7 +313,62 @@ export function testIn(name, openBrowser) {
       assert.equal(await user.run('document.querySelectorAll("#heads .lane").length'), 2);
       await page.size(390, 800);
       await page.drawn();
-      assert.equal(await user.run("document.documentElement.scrollWidth"), 390, "nothing is wider than a narrow window");
+      assert.ok(await user.run("document.documentElement.scrollWidth <= document.documentElement.clientWidth"), "nothing is wider than a narrow window");
+      await page.size(1440, 900);
+    });
+
+    test("on a phone all controls are in sight and high enough for a finger, no text is cut, and lanes are seen whole", async () => {
+      await page.size(390, 800);
+      await user.open();
+      await user.until('document.getElementById("list-verdict").textContent !== ""', "the verdict");
+      const port = makePort();
+      bugs.tie(port);
+      await user.paste("body", `${file("weak-order.ots")}%%\n${drive(file("weak-order.ots"), port).join("\n")}\n`);
+      await user.until('document.getElementById("conformance").textContent.startsWith("differs at 7")', "the answer of conform");
+      await user.press("d");
+      await user.settled(7);
+      const controls = `[...document.querySelectorAll("header button, header select, header input, .card button")]`;
+      const faulty = await user.run(`${controls}.map((control) => [control.id || control.textContent, control.getBoundingClientRect()])
+        .filter(([, { left, right, height }]) => left < 0 || right > innerWidth || height < 32).map(([name]) => name)`);
+      assert.deepEqual(faulty, []);
+      const cut = await user.run(`[...document.querySelectorAll("header *")].filter((part) => !part.matches("input, select, option") && getComputedStyle(part).display !== "inline")
+        .filter((part) => part.scrollWidth > part.clientWidth + 2 || part.scrollHeight > part.clientHeight + 2).map((part) => part.id || part.className)`);
+      assert.deepEqual(cut, []);
+      const heads = `(() => {
+        const left = document.querySelector("#heads .texts svg").getBoundingClientRect().right;
+        const names = [...document.querySelectorAll("#heads .lane text")].map((name) => [name.textContent, name.getBoundingClientRect()]);
+        const cut = names.filter(([, box]) => box.left < left && box.right > left);
+        const whole = names.filter(([, box]) => box.left >= left && box.right <= innerWidth);
+        return [cut, whole].map((some) => some.sort(([, a], [, b]) => a.left - b.left).map(([name]) => name).join());
+      })()`;
+      const seen = (names) => user.until(`${heads}.join(": ") === ": ${names}"`, `${names}, and no other name cut`);
+      await seen("client 0,server,client 1");
+      await user.drop("five.ots", 'clients 5\nedit 4 ["abc"]\nedit 0 ["d"]\ntake 4\n');
+      await user.until('document.getElementById("length").textContent === "of 3"', "the session of five");
+      for (const [i, names] of ["server,client 3,client 4", "client 0,client 1,client 2", "client 2,server,client 3"].entries()) {
+        await user.press("ArrowRight");
+        await user.settled(i + 1);
+        await seen(names);
+      }
+      await user.press("?");
+      assert.equal(await user.run('document.getElementById("keys").scrollTop'), 0, "the keys are shown from the first");
+      assert.ok(await user.run('document.getElementById("keys").scrollHeight > document.getElementById("keys").clientHeight'));
+      await user.press("Escape");
+      assert.equal(await user.run("scrollY"), 0, "stepping does not scroll the page");
+      await page.size(1440, 900);
+    });
+
+    test("long verdicts leave the controls where they are", async () => {
+      await page.size(1400, 900);
+      await user.open();
+      const places = '[...document.querySelectorAll(".tools button")].map((button) => (({ left, top }) => [left, top])(button.getBoundingClientRect()).join())';
+      const before = await user.run(places);
+      await user.drop("refused.ots", 'clients 2\nstart "hello"\nedit 0 [3,"a"]\n');
+      await user.until('document.getElementById("verdict").textContent === "stopped at 0: BadBase (line 3); ends quiet"', "the refusal");
+      await user.until('document.getElementById("list-verdict").textContent !== ""', "the verdict");
+      assert.deepEqual(await user.run(places), before);
+      const right = await user.run('Math.max(...[...document.querySelectorAll(".verdict")].map((verdict) => verdict.getBoundingClientRect().right))');
+      assert.ok(right < Number(before[0].split(",")[0]), "nothing stands over another");
       await page.size(1440, 900);
     });
 
@@ -363,6 +420,12 @@ export function testIn(name, openBrowser) {
       assert.equal(await user.schedule(), first, "a new visit");
     });
 
+    test("until the engine has started the page says that it starts, and nothing else", async () => {
+      await page.goto(addressOfPage((html) => html.replace("onmessage = async", "const heard = async")));
+      await wait(300);
+      assert.equal(await user.run("document.body.innerText.trim()"), "Starting …");
+    });
+
     test("a page whose engine does not load says so, and leaves the viewer", async () => {
       const lines = otbench(["steps"], file("weak-order.ots")).replaceAll("<", "\\u003c");
       const broken = (html) => html.replace(/(id="module">)[^<]*/, "$1AAAA").replace('id="lines">\n', () => `id="lines">\n${lines}`);
@@ -372,6 +435,9 @@ export function testIn(name, openBrowser) {
       await user.settled(1);
       assert.deepEqual(await user.documents(), ["x", "xz", "x"]);
       assert.equal(await user.run('document.querySelectorAll("[contenteditable], [data-play]").length'), 0);
+      await page.goto(addressOfPage((html) => html.replace(/(id="module">)[^<]*/, "$1AAAA")));
+      await user.until('/^The engine does not run: /.test(document.getElementById("refused").textContent)', "the reason");
+      assert.match(await user.run("document.body.innerText"), /^A session, to look at\n[^]*The engine does not run: /);
       page.exceptions.length = 0;
     });
   });

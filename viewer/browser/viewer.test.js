@@ -203,6 +203,7 @@ test("a file is dropped, and a faulty one is refused with its line", async () =>
   const drop = (content) => `(() => { const data = new DataTransfer(); data.items.add(new File([${JSON.stringify(content)}], "a.jsonl"));
     document.body.dispatchEvent(new DragEvent("drop", { dataTransfer: data, bubbles: true })); })()`;
   await page.goto(new URL("../viewer.html", import.meta.url).href);
+  assert.match(await page.run("document.body.innerText"), /^A session, to look at\n/);
   await page.run(drop('{"at":1}\n'));
   await page.drawn();
   assert.equal(await text("#refused"), "line 1 is no line of otbench steps: the opening is missing");

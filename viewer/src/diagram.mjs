@@ -1,7 +1,7 @@
 // The space-time diagram: lanes, messages and rows, as SVG.
 
 import { headMarkup, headTexts, lanesMarkup } from "./lanes.mjs";
-import { HEAD_HEIGHT, layoutOf, rowCount } from "./layout.mjs";
+import { GAP, HEAD_HEIGHT, layoutOf, rowCount } from "./layout.mjs";
 import { messagesMarkup } from "./messages.mjs";
 import { rowMarkup } from "./rows.mjs";
 import { withValues } from "./theme.mjs";
@@ -22,13 +22,13 @@ export function diagram(session, layout, view) {
     rows.push(rowMarkup(session, layout, row, view));
   const cutLine = `M${textWidth - 6} ${(place + 1) * rowHeight}H${width}`;
   const cut = `<path d="${cutLine}" stroke="var(--pick-line)" stroke-width="1.5" stroke-dasharray="7 4"/>`;
-  const size = `width="${textWidth - 14}" height="${(to - from + 1) * rowHeight}"`;
+  const size = `width="${textWidth - GAP}" height="${(to - from + 1) * rowHeight}"`;
   const paper = `<rect x="0" y="${from * rowHeight}" ${size} fill="var(--background)"/>`;
   const lanes = lanesMarkup(session, layout, view);
   const marks = rows.map((row) => row.marks).join("");
   return {
     graph: bands(width) + lanes + arrows + marks + labels + (place >= from - 1 && place <= to ? cut : ""),
-    texts: paper + bands(textWidth - 14) + rows.map((row) => row.texts).join(""),
+    texts: paper + bands(textWidth - GAP) + rows.map((row) => row.texts).join(""),
   };
 }
 

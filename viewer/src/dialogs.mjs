@@ -9,6 +9,7 @@ import { escapeMarkup, nameOfMember } from "./words.mjs";
 export function openDialog(id) {
   element(id).returnValue = "";
   element(id).showModal();
+  element(id).scrollTop = 0; // its button may be at its end, and has the focus
 }
 
 /* What a dialog was closed by. */

@@ -2,7 +2,7 @@
 
 import { lastUpTo } from "./document.mjs";
 import { SERVER } from "./fold.mjs";
-import { HEAD_HEIGHT, svgText } from "./layout.mjs";
+import { GAP, HEAD_HEIGHT, svgText } from "./layout.mjs";
 import { colourOf } from "./theme.mjs";
 import { brief, escapeMarkup, nameOfMember, seen } from "./words.mjs";
 
@@ -22,7 +22,7 @@ export function headMarkup(layout, followed, names = new Map()) {
 }
 
 export const headTexts = (layout) =>
-  `<rect width="${layout.textWidth - 14}" height="${HEAD_HEIGHT}" fill="var(--background)"/>` +
+  `<rect width="${layout.textWidth - GAP}" height="${HEAD_HEIGHT}" fill="var(--background)"/>` +
   svgText(44, 19, "at", 'text-anchor="end" font-size="11" fill="var(--dim)"') +
   svgText(56, 19, layout.textWidth < 200 ? "instruction" : "instruction, operation", 'font-size="11" fill="var(--dim)"');
 

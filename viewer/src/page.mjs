@@ -15,7 +15,7 @@ import { choose, played, watchCards } from "./playing.mjs";
 import { Port } from "./port.mjs";
 import { scheduleOf, textOfSchedule } from "./reader.mjs";
 import { savePicture, saveSession } from "./saving.mjs";
-import { deck, setSplit, setTheme, show, showLegend, themeNow, timeline, viewOf } from "./screen.mjs";
+import { deck, isNarrow, setSplit, setTheme, show, showEmpty, showLegend, themeNow, timeline, viewOf } from "./screen.mjs";
 import { readAddress } from "./share.mjs";
 import { Sheet } from "./sheet.mjs";
 import { shownPlace } from "./state.mjs";
@@ -182,7 +182,7 @@ const KEYS = {
   o: openFile,
   s: askToSave,
   t: turnTheme,
-  "?": () => element("keys").showModal(),
+  "?": () => openDialog("keys"),
 };
 
 const KEYS_OF_PLAY = {
@@ -244,7 +244,7 @@ const CLICKS = {
   link: copyLink,
   save: askToSave,
   theme: turnTheme,
-  help: () => element("keys").showModal(),
+  help: () => openDialog("keys"),
   lanes: () => showLanes(bench.state),
   "text-shown": () => turnText(),
   quiet: letThrough,
@@ -276,12 +276,21 @@ element("slider").oninput = () => {
 
 element("time").onscroll = () => requestAnimationFrame(() => timeline.measure());
 addEventListener("scroll", ({ target }) => target.matches?.(".document") && deck.keepScrolled(target), true);
-onresize = () =>
+const resized = () =>
   requestAnimationFrame(() => {
     timeline.measure();
     if (bench.state.session) changed({ do: "resize" });
     sheet.measure();
   });
+onresize = resized;
+
+/* In a narrow window the lanes follow the width of the diagram, of which a scroll bar takes some. */
+let width = 0;
+new ResizeObserver(([{ contentRect }]) => {
+  if (isNarrow() && contentRect.width !== width) resized();
+  width = contentRect.width;
+}).observe(element("time"));
+
 element("rows").onclick = (event) => go(timeline.placeAt(event.clientY));
 element("heads").onclick = (event) => {
   const lane = event.target.closest(".lane");
@@ -403,7 +412,7 @@ addEventListener("beforeunload", (event) => {
 /* The engine, if the page has one and the browser can run it; else the viewer stays, and says what is wanted. */
 async function startEngine() {
   const module = given("module").trim();
-  if (module === "" || module.startsWith("/*")) return;
+  if (module === "" || module.startsWith("/*")) return showEmpty();
   const missing = wanted(globalThis);
   const engine = missing ? null : new Engine(given("worker"), module);
   try {
@@ -413,12 +422,13 @@ async function startEngine() {
     const notice = `The engine does not run: ${fault.message}. The page shows lines of otbench steps all the same; a browser of 2023 or later runs the engine.`;
     if (bench.state.session) say(notice);
     element("refused").textContent = notice;
-    return;
+    return showEmpty();
   }
   canPlay = true;
   document.body.classList.add("with-engine");
   element("text").readOnly = false;
   bench.use(engine);
+  return undefined;
 }
 
 async function start() {

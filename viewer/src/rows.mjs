@@ -54,7 +54,8 @@ const refusedText = (stop, { textWidth }) => (textWidth < 200 ? "refused" : `${i
 function closingRow(session, layout, row) {
   const y = layout.y(row);
   const isStop = session.stop && row === session.length + 1;
-  const colour = isStop ? "var(--bad)" : session.end === "quiet" ? "var(--good)" : "var(--dim)";
+  const isGood = session.end === "quiet" && !session.stop;
+  const colour = isStop ? "var(--bad)" : isGood ? "var(--good)" : "var(--dim)";
   const words = isStop ? refusedText(session.stop, layout) : session.end;
   const text = svgText(56, y + 4, escapeMarkup(words), `font-size="12" font-weight="700" fill="${colour}"`);
   if (!isStop) return { text, mark: "" };

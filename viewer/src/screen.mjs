@@ -42,16 +42,17 @@ function isPictured(state, view, isOther) {
 export function show(state, { canPlay, isOther, isTyped, sheet }) {
   const { session } = state;
   element("refused").textContent = session ? "" : faultWords(state);
+  if (!session && state.fault) showEmpty();
   if (!session) return;
   const isFirst = element("main").hidden;
-  element("empty").hidden = true;
+  element("starting").hidden = element("empty").hidden = true;
   element("header").hidden = element("main").hidden = false;
   document.body.classList.toggle("long", session.length >= LONG);
   const view = viewOf(state, canPlay);
   showHeader(state, view);
   if (!isPictured(state, view, isOther)) {
     if (isFirst) timeline.measure();
-    timeline.show(view, { isNarrow: isNarrow() || !element("writing").hidden, isOther });
+    timeline.show(view, { isNarrow: isNarrow() || !element("writing").hidden, isFitted: isNarrow(), isOther });
     if (isFirst) setSplit();
     deck.show(view, isTyped ? state.caret : null);
   }
@@ -61,6 +62,12 @@ export function show(state, { canPlay, isOther, isTyped, sheet }) {
   if (!isOther) return;
   scrollToCard(view);
   requestAnimationFrame(() => followCard(view, 6));
+}
+
+/** Where there is no session and none comes by itself: how to open one. */
+export function showEmpty() {
+  element("starting").hidden = true;
+  element("empty").hidden = !element("main").hidden;
 }
 
 /* Cards that were out of sight have their height only when they are drawn: the next frames look whether the card is in sight. */
@@ -112,7 +119,9 @@ function showVerdicts(state) {
   const end = session.end === null ? "no end line" : `ends ${session.end}`;
   const [quiet = "", list = ""] = verdicts.filter((line) => !line.startsWith("stopped"));
   const more = quiet.startsWith("not quiet: ") ? ` (${quiet.slice(11)})` : "";
-  setVerdict("verdict", stop + end + more, session.stop ? "bad" : session.end === "quiet" ? "good" : "");
+  setText("stop", stop);
+  setText("end", end + more);
+  element("verdict").className = `verdict ${session.stop ? "bad" : session.end === "quiet" ? "good" : ""}`;
   const lists = { holds: "the weak list property holds", "trace full": "too long to judge its lists" };
   element("list-verdict").hidden = list === "";
   setVerdict("list-verdict", lists[list] ?? list, list === "holds" ? "good" : "");
@@ -204,7 +213,11 @@ function scrollToCard({ place, port }) {
   const { style } = element("state");
   if (style.scrollPaddingTop !== covered) style.scrollPaddingTop = covered;
   if (port && place === port.first) element("state").scrollTop = 0;
-  else if (moved) moved.scrollIntoView({ block: "nearest" });
+  else if (moved) {
+    const { scrollX, scrollY } = window;
+    moved.scrollIntoView({ block: "nearest" });
+    scrollTo(scrollX, scrollY); // a page that is higher than a narrow window stays where it is
+  }
 }
 
 /** The width of the diagram, which is that of its lanes where no other is asked for. */

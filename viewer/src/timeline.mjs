@@ -3,7 +3,7 @@
 import { diagram } from "./diagram.mjs";
 import { element } from "./dom.mjs";
 import { headMarkup, headTexts } from "./lanes.mjs";
-import { HEAD_HEIGHT, layoutOf, rowCount } from "./layout.mjs";
+import { GAP, HEAD_HEIGHT, layoutOf, rowCount } from "./layout.mjs";
 
 export class Timeline {
   layout = null;
@@ -11,6 +11,7 @@ export class Timeline {
   #drawn = ""; // the rows that are drawn
   #heads = "";
   #of = []; // of what they are drawn
+  #isFitted = false; // the lanes to the width of what is seen
   #size = "";
   #box = { top: 0, left: 0, width: 0, height: 0 }; // how it is scrolled: asked of it after each change it would be slow
 
@@ -22,12 +23,13 @@ export class Timeline {
   }
 
   /** Shows the rows of a view, where it has another place those around it. */
-  show(view, { isNarrow, isOther }) {
+  show(view, { isNarrow, isFitted, isOther }) {
     this.#view = view;
-    this.layout = layoutOf(view.session, isNarrow, view.hidden);
-    const { rowHeight, width } = this.layout;
+    this.#isFitted = isFitted;
+    this.layout = layoutOf(view.session, isNarrow, view.hidden, isFitted ? this.#box.width : Infinity);
+    const { rowHeight, laneWidth, width } = this.layout;
     const { session, place, port, followed, hidden } = view;
-    const of = [session, place, port, followed, hidden, isNarrow];
+    const of = [session, place, port, followed, hidden, isNarrow, laneWidth];
     if (of.some((part, i) => part !== this.#of[i])) this.#drawn = "";
     this.#of = of;
     const height = rowCount(view.session) * rowHeight + 40;
@@ -56,7 +58,7 @@ export class Timeline {
     const height = Math.max(0, (to - from + 1) * layout.rowHeight);
     const box = (width) => `style="top:${top}px" width="${width}" height="${height}" viewBox="0 ${top} ${width} ${height}"`;
     const label = `role="img" aria-label="space-time diagram, places ${from} to ${Math.min(to, session.length)}"`;
-    const words = `<div class="texts" aria-hidden="true"><svg ${box(layout.textWidth - 14)}>${texts}</svg></div>`;
+    const words = `<div class="texts" aria-hidden="true"><svg ${box(layout.textWidth - GAP)}>${texts}</svg></div>`;
     element("rows").innerHTML = `<svg ${label} ${box(layout.width)}>${graph}</svg>${words}`;
   }
 
@@ -65,7 +67,7 @@ export class Timeline {
     const { followed, names } = this.#view;
     const box = (width) => `width="${width}" height="${HEAD_HEIGHT}" aria-hidden="true"`;
     const heads = `<svg ${box(layout.width)}>${headMarkup(layout, followed, names)}</svg>`;
-    const corner = `<svg ${box(layout.textWidth - 14)} style="top:-${HEAD_HEIGHT}px">${headTexts(layout)}</svg>`;
+    const corner = `<svg ${box(layout.textWidth - GAP)} style="top:-${HEAD_HEIGHT}px">${headTexts(layout)}</svg>`;
     const markup = `${heads}<div class="texts">${corner}</div>`;
     if (markup !== this.#heads) element("heads").innerHTML = markup;
     this.#heads = markup;
@@ -85,9 +87,11 @@ export class Timeline {
     if (moved === undefined || !layout.members.has(moved)) return;
     const lane = layout.x(moved);
     const [from, to] = [lane - layout.laneWidth / 2, lane + layout.laneWidth / 2];
-    const isInSight = from >= box.left + layout.textWidth && to <= box.left + box.width;
-    if (isInSight) return;
-    box.left = Math.max(0, lane - (box.width + layout.textWidth) / 2);
+    const gap = this.#isFitted ? GAP : 0;
+    const whole = (left) => (this.#isFitted ? layout.leftOf(Math.max(0, Math.round((left - GAP) / layout.laneWidth))) : left);
+    const isInSight = from >= box.left + layout.textWidth - gap && to <= box.left + box.width;
+    if (isInSight && Math.abs(whole(box.left) - box.left) < 1) return;
+    box.left = whole(Math.max(0, lane - (box.width + layout.textWidth) / 2));
     element("time").scrollLeft = box.left;
   }
 

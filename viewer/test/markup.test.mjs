@@ -7,7 +7,7 @@ import { bugs } from "../../examples/port/bugs.js";
 import { cardMarkup, cardParts } from "../src/cards.mjs";
 import { picture } from "../src/diagram.mjs";
 import { SERVER, fold } from "../src/fold.mjs";
-import { rowCount } from "../src/layout.mjs";
+import { layoutOf, rowCount } from "../src/layout.mjs";
 import { Port } from "../src/port.mjs";
 import { apart, operationText, quoted, seen, sentence } from "../src/words.mjs";
 import { example, linesOf, portLinesOf, seededSchedule } from "./sessions.mjs";
@@ -90,6 +90,32 @@ test("a message that is never received is drawn", () => {
   const session = fold(linesOf('clients 2\nedit 0 ["a"]\nedit 1 ["b"]\ntake 0\n'));
   const drawn = picture(session, { from: 0, to: rowCount(session) - 1, place: 3, followed: null, port: null }, "light");
   assert.equal(drawn.match(/r="3.5"/g).length, 3, "one to the server, two from it");
+});
+
+test("the end has the colour of success where no instruction was refused", () => {
+  const lines = linesOf('clients 1\nstart "hello"\n').filter((line) => !line.includes('"end"'));
+  const end = (stop) => {
+    const session = fold([...lines, ...stop, '{"at":0,"end":"quiet"}']);
+    const drawn = picture(session, { from: 0, to: rowCount(session) - 1, place: 0, followed: null, port: null }, "light");
+    return /fill="([^"]*)">quiet</.exec(drawn)[1];
+  };
+  assert.equal(end([]), "#15763a");
+  assert.equal(end(['{"at":0,"do":"edit","client":0,"edit":[3,"a"],"stopped":"BadBase"}']), "#5f6875");
+});
+
+test("in a narrow window lanes are seen whole, as many as have room for their heads", () => {
+  const lanes = (clients, room) => {
+    const session = fold(linesOf(`clients ${clients}\n`));
+    const { laneWidth, textWidth, width } = layoutOf(session, true, new Set(), room);
+    return [laneWidth, textWidth + laneWidth * Math.floor((room - textWidth) / laneWidth) <= room, width <= room];
+  };
+  assert.deepEqual(lanes(2, 390), [74, true, true]);
+  assert.deepEqual(lanes(2, 320), [77, true, false]);
+  assert.deepEqual(lanes(2, 768), [150, true, true], "no wider than in a wide one");
+  assert.deepEqual(lanes(3, 390), [74, true, false]);
+  assert.deepEqual(lanes(20, 390), [24, true, false]);
+  assert.deepEqual(lanes(2, 0), [60, true, false]);
+  assert.equal(layoutOf(weakOrder(), true).laneWidth, 150, "where no room is given they are not fitted");
 });
 
 test("every place of a session can be drawn", () => {

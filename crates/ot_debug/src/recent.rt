@@ -5,10 +5,10 @@
 //!     u4   u5   u6   u7   u8      the last performed instruction is number 8
 //! ```
 //!
-//! A record is pushed behind the newest. Where all would be too large together then, the oldest go first. So after a push there are as many records of the last instructions as the
-//! budget has room for, of one instruction at least, or all that were pushed since they were forgotten and not popped.
+//! A record is pushed behind the newest. Where all together would be larger than the budget, the oldest go first, and they do not come back: what lies before the records
+//! that are left is performed once more where somebody goes there. The newest record stays, however large it is.
 
-ghost use Rattle.std.specs.Prelude.{◌≡◌, ◌<◌, ◌≤◌, ◌+◌, ◌↔◌, ◌++◌, ◌∷◌, ◌||◌, [], true, false, IfOk, IfSome, IsTrue, None, OnOk};
+ghost use Rattle.std.specs.Prelude.{◌≡◌, ◌<◌, ◌≤◌, ◌+◌, ◌↔◌, ◌++◌, ◌∷◌, ◌⊎◌, ◌-◌, ◌^◌, ◌||◌, [], true, false, IfOk, IfSome, IsTrue, None, OnOk, min};
 ghost use Rattle.std.specs.VecDeque.{deque_capacity, deque_len};
 ghost use Rattle.ot_debug.specs.Stepping.{undos_in, AreNewest, IsAsBefore, IsPushed};
 
@@ -17,7 +17,7 @@ use std::alloc::{AllocError, Global};
 use std::collections::VecDeque;
 
 /// How large the records of a debugger may be in all, counted as `Undo::size` counts: a unit takes 24 bytes, and up to 230 where many clients have much pending, so
-/// they stay below 1 GB. 100,000 instructions of thirty components each are within it.
+/// they stay below 1 GB. 100,000 instructions of thirty components each are within it. One record alone may be larger.
 pub(crate) const BUDGET: usize = 4_000_000;
 
 /// The records of the last instructions, oldest first.
@@ -47,7 +47,7 @@ impl Recent {
         }
     }
 
-    /// No records yet, with room for so many, which may be as large as these; what is performed leaves some.
+    /// A stack without records, with room for so many and the same budget. What is performed leaves records there.
     pub(crate) fn again(&self, count: usize) -> Result<Recent, AllocError>
         ensures none { IfOk result (λ recent. undos_in recent ≡ []) }
         ensures limit { IfOk result (λ recent. recent.limit ≡ self.now.limit) }
@@ -69,6 +69,7 @@ impl Recent {
     /// All of them go.
     pub(crate) fn forget(&mut self)
         ensures none { undos_in self.new ≡ [] }
+        ensures size { self.new.size ≡ 0 }
         ensures limit { self.new.limit ≡ self.old.limit }
         ensures kept { self.new.kept ≡ self.old.kept }
     {
@@ -101,11 +102,11 @@ impl Recent {
         self.records.reserve(1)
     }
 
-    /// Adds a record of this size behind all others, for which there is room. None goes.
-    pub(crate) fn put_back(&mut self, undo: Undo, size: usize)
+    // Adds a record of this size behind all others, for which there is room. None goes.
+    fn add(&mut self, undo: Undo, size: usize)
         requires { deque_len self.old.records < deque_capacity self.old.records }
         ensures more { undos_in self.new ≡ undos_in self.old ++ undo ∷ [] }
-        ensures size { size ≤ self.new.size }
+        ensures size { self.new.size ≡ min (self.old.size + size) (2 ^ 64 - 1) }
         ensures limit { self.new.limit ≡ self.old.limit }
         ensures kept { self.new.kept ≡ self.old.kept }
     {
@@ -113,11 +114,24 @@ impl Recent {
         self.records.push_back_reserved(undo);
     }
 
-    // The oldest go, as long as all would be too large together with one of this size more.
+    /// Adds a record that was taken off behind all others, for which there is room. None goes.
+    pub(crate) fn put_back(&mut self, undo: Undo)
+        requires { deque_len self.old.records < deque_capacity self.old.records }
+        ensures more { undos_in self.new ≡ undos_in self.old ++ undo ∷ [] }
+        ensures limit { self.new.limit ≡ self.old.limit }
+        ensures kept { self.new.kept ≡ self.old.kept }
+    {
+        let size = undo.size();
+        self.add(undo, size);
+    }
+
+    // Drops the oldest records until one of this size fits into the budget beside the others, or none is left.
     fn make_room(&mut self, size: usize)
         requires { deque_len self.old.records < deque_capacity self.old.records }
         ensures rest { AreNewest (undos_in self.old) (undos_in self.new) }
         ensures stay { self.old.size + size ≤ self.old.limit → undos_in self.new ≡ undos_in self.old }
+        ensures few { (min (self.new.size + size) (2 ^ 64 - 1) ≤ self.old.limit) ⊎ (undos_in self.new ≡ []) }
+        ensures less { self.new.size ≤ self.old.size }
         ensures room { deque_len self.new.records < deque_capacity self.new.records }
         ensures limit { self.new.limit ≡ self.old.limit }
         ensures kept { self.new.kept ≡ self.old.kept }
@@ -136,19 +150,21 @@ impl Recent {
         requires { deque_len self.old.records < deque_capacity self.old.records }
         ensures more { IsPushed undo (undos_in self.old) (undos_in self.new) }
         ensures stay { self.old.size + self.new.size ≤ self.old.limit → undos_in self.new ≡ undos_in self.old ++ undo ∷ [] }
+        ensures few { (self.new.size ≤ self.old.limit) ⊎ (undos_in self.new ≡ undo ∷ []) }
         ensures limit { self.new.limit ≡ self.old.limit }
         ensures kept { self.new.kept ≡ self.old.kept }
     {
         let size = undo.size();
         self.make_room(size);
-        self.put_back(undo, size);
+        self.add(undo, size);
     }
 
     /// Takes the last record off. There is room for it then.
     pub(crate) fn pop(&mut self) -> Option<Undo>
-        ensures none { result ≡ None → undos_in self.new ≡ [] }
+        ensures none { result ≡ None → (undos_in self.old ≡ []) × (undos_in self.new ≡ []) }
         ensures some { IfSome result (λ undo. undos_in self.old ≡ undos_in self.new ++ undo ∷ []) }
         ensures room { IfSome result (λ undo. deque_len self.new.records < deque_capacity self.new.records) }
+        ensures less { self.new.size ≤ self.old.size }
         ensures limit { self.new.limit ≡ self.old.limit }
         ensures kept { self.new.kept ≡ self.old.kept }
     {

@@ -70,8 +70,8 @@ pub(crate) fn perform<const LISTS: u8>(
     Ok(list)
 }
 
-/// Performs so many of the schedule's instructions once more, from the opening on. Gives another machine, which stands after them, and the records of
-/// the last ones, of one at least where there is one: `undos`, which has none yet, is to take them.
+/// Performs so many of the schedule's instructions once more, from the opening on. Gives another machine, which stands after them, and `undos` with the records
+/// of the last ones: of one instruction at least, if there is one. `undos` has none before.
 pub(crate) fn perform_again(
     schedule: &Schedule,
     count: usize,

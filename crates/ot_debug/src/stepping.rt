@@ -107,8 +107,7 @@ impl<const LISTS: u8> Debugging<LISTS> {
             return self.go_again(target);
         };
         if let Err((e, undo)) = self.machine.undo(undo) {
-            let size = undo.size();
-            self.undos.put_back(undo, size);
+            self.undos.put_back(undo);
             return Err(e);
         }
         let before = self.position - 1;

@@ -32,7 +32,7 @@ fn push_gap(text: &mut String, base: usize, count: usize) -> Result<(), AllocErr
     write!(text, "{many} too many")
 }
 
-// Of a base length that is the document's in UTF-16: by so many characters longer.
+// Adds that the base length is the document's length in UTF-16, which has `past` units more than the document has characters.
 fn push_units(text: &mut String, base: usize, count: usize, past: usize) -> Result<(), AllocError>
     ensures { OnOk result (string_bytes text.new ≡ string_bytes text.old ++ units_words base (count + past)) }
 {

@@ -27,7 +27,7 @@ replayed list (h ∷ log) = if h.op.base == length list then replayed (apply h.o
 abbrev pub text_at : List ℕ → List Entry → ℕ → Option (List ℕ)
 text_at start log revision = option_map chars_of (replayed (start_list start) (take revision log))
 
--- how many entries of the log its client has seen behind the call more than before it
+-- how many more entries of the log the client has seen after the call than before it
 abbrev pub gained : Call → ℕ
 gained (ApplyServer w op) = 1
 gained (ServerAck revision w) = 1

@@ -30,7 +30,7 @@ abbrev pub second_of : Option Pair → Option (Operation ℕ)
 second_of None = None
 second_of (Some pair) = Some pair.1
 
--- ---- the tie broken the other way: the arguments of each transform are exchanged, so the text of the second one goes first
+-- ---- the tie broken the other way: the arguments of each transform are exchanged, so the text that should come second goes first
 
 -- what a delivery makes: the outstanding operation, the buffer if there is one, and the operation that is applied
 abbrev pub delivered : Operation ℕ → Option (Operation ℕ) → Operation ℕ → Key → Option (Operation ℕ)

@@ -49,7 +49,7 @@ fn text_at(
     Ok(Some(letters(&list)?))
 }
 
-// How many entries of the log the client has seen behind the call more than before it.
+// How many more entries of the log the client has seen after the call than before it.
 fn gained(call: &Call) -> usize
     ensures { result ≡ texts.gained (call_value call.now) }
 {

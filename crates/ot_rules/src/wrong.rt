@@ -65,7 +65,7 @@ fn delivered(
     }
 }
 
-// A delivery with the two arguments of each transform exchanged: so the text of the second one goes first where both insert at one place.
+// A delivery with the two arguments of each transform exchanged. Where both insert at one place, the text that should come second then goes first.
 fn turned(pending: &Pending, op: &Operation, key: Key) -> Result<Option<Operation>, AllocError>
     ensures { IfOk result (λ made. made ≡ wrong.turned pending.now op.now key) }
 {

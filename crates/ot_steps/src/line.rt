@@ -21,6 +21,9 @@ use ot_text::{Doc, TextOp};
 use ot_values::{phase_name, refusal_name};
 use std::alloc::{AllocError, Global};
 
+// The room, in bytes, for a line when it is begun. Most lines are shorter, so they need no other allocation.
+const USUAL: usize = 256;
+
 /// An instruction that was performed.
 #[derive(Clone, Copy)]
 pub struct Step<'a> {
@@ -31,7 +34,7 @@ pub struct Step<'a> {
     pub instr: &'a Instr,
     /// Whether it put a message on its client's link to the server, as the machine's `Effect` says.
     pub sent: bool,
-    /// What it applied by a delivery, likewise.
+    /// The operation that a delivery applied, as the machine's `Effect` says.
     pub delivered: Option<&'a TextOp<Tagged>>,
 }
 
@@ -389,7 +392,7 @@ impl<'a> Line<'a> {
         requires { IsHeld self.now }
         ensures { IfOk result (λ s. string_bytes s ≡ line_text (printed_of documents self.now)) }
     {
-        let mut text = String::new(alloc);
+        let mut text = String::with_capacity(alloc, USUAL)?;
         self.write(alloc, &mut text, documents)?;
         Ok(text)
     }

@@ -10,7 +10,7 @@ undo-requires g c =
 
 pub invariant_of-self : goal.invariant_of-self
 invariant_of-self g c = (
-  record { session = c.self.invariant.0.session; last = last_none c.self.inside.schedule c.self.inside.position (undos_in c.pop.new.self) (c.in_default.ensures.none refl) },
+  record { session = c.self.invariant.0.session; last = last_none c.self.inside.schedule c.self.inside.position (undos_in c.pop.new.self) (c.in_default.ensures.none refl).1 },
   c.self.invariant.1,
   c.self.invariant.2,
 )

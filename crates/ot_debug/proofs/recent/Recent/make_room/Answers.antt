@@ -11,6 +11,7 @@ loop-self-preserved c =
         were = before.were ∙ ap (λ (us : List Undo). before.gone ++ us) c.in-Some.ensures.items ∙ sym (append_assoc before.gone (c.in-Some.oldest ∷ []) c.pop_front.new.self.items);
       };
       stay = λ fits. absurd (omega (arith, fits, (c.loop-self.invariant.stay fits).0, c.loop-self.invariant.limit, c.loop-self-test.true, c.saturating_add.ensures));
+      less = omega (arith, c.loop-self.invariant.less, c.saturating_sub-self.ensures);
       room = omega arith;
       limit = c.loop-self.invariant.limit;
       kept = c.loop-self.invariant.kept;

@@ -8,6 +8,7 @@ invariant-loop-self l =
     record {
       rest : AreNewest (undos_in l.fn.self) (undos_in l.self);
       stay : l.fn.self.size + l.size ≤ l.fn.self.limit → (l.self.size ≡ l.fn.self.size) × (undos_in l.self ≡ undos_in l.fn.self);
+      less : l.self.size ≤ l.fn.self.size;
       room : deque_len l.self.records < deque_capacity l.self.records;
       limit : l.self.limit ≡ l.fn.self.limit;
       kept : l.self.kept ≡ l.fn.self.kept;
