@@ -19,7 +19,7 @@ import sys
 import tempfile
 
 TOP = pathlib.Path(__file__).resolve().parent.parent
-LINKED = ["otbench", "package.json", "viewer", "recorder", "conformance", "bench", "oracle"]
+LINKED = ["otbench", "dist", "package.json", "viewer", "recorder", "conformance", "bench", "oracle"]
 
 
 def documents():
