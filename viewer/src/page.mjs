@@ -284,7 +284,7 @@ const resized = () =>
   });
 onresize = resized;
 
-/* In a narrow window the lanes follow the width of the diagram, of which a scroll bar takes some. */
+/* In a narrow window the lanes fit the diagram without its scroll bar. */
 let width = 0;
 new ResizeObserver(([{ contentRect }]) => {
   if (isNarrow() && contentRect.width !== width) resized();

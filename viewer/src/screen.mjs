@@ -64,7 +64,7 @@ export function show(state, { canPlay, isOther, isTyped, sheet }) {
   requestAnimationFrame(() => followCard(view, 6));
 }
 
-/** Where there is no session and none comes by itself: how to open one. */
+/** Shows how to open a session, if there is none and none is loading. */
 export function showEmpty() {
   element("starting").hidden = true;
   element("empty").hidden = !element("main").hidden;

@@ -1,8 +1,8 @@
 //! Whether receipts account for a record: first each block, then each worker, then each place.
 
-ghost use Rattle.std.specs.Prelude.{◌≡◌, ◌+◌, ◌<◌, ◌≤◌, ◌↔◌, length, map, take, drop, slice_get, IfOk, IfErr, IfSome, IfNone, IsTrue, OnOk, ℕ, slice_index, if◌then◌else◌};
+ghost use Rattle.std.specs.Prelude.{◌≡◌, ◌+◌, ◌<◌, ◌≤◌, ◌↔◌, length, IfErr, IfSome, IfNone, IsTrue, OnOk, ℕ, slice_index, if◌then◌else◌};
 ghost use Rattle.std.specs.List.{All};
-ghost use Rattle.ot_board.specs.Tiling.{end_of, IsThere, IsBackwards, AreRising, covers, times_in, times_covered, capped, lists, AreMarks, IsUneven, IsTiling, IsFirstMissing, IsFirstBackwards, IsFirst, IsFault};
+ghost use Rattle.ot_board.specs.Tiling.{end_of, IsThere, AreRising, covers, times_in, capped, lists, AreMarks, IsUneven, IsTiling, IsFirstMissing, IsFirstBackwards, IsFault};
 
 use crate::board::Finished;
 use crate::receipt::Receipt;

@@ -1,6 +1,6 @@
 //! The board: what it lends, what is returned to it, and what it records.
 
-ghost use Rattle.std.specs.Prelude.{◌≡◌, ◌≢◌, ◌+◌, ◌*◌, ◌<◌, ◌≤◌, ◌↔◌, true, false, None, Some, length, map, replicate, set, slice_get, take, [], ◌∷◌, ◌++◌, IfErr, IfNone, IfOk, IfSome, IsTrue, OnErr, OnOk};
+ghost use Rattle.std.specs.Prelude.{◌≡◌, ◌≢◌, ◌+◌, ◌<◌, ◌≤◌, ◌↔◌, true, false, None, Some, length, replicate, set, slice_get, take, [], ◌∷◌, IfErr, IfNone, IfOk, IfSome, IsTrue, OnErr, OnOk};
 ghost use Rattle.ot_isa.specs.Program.{with_instr, AreClients, IsForClients};
 ghost use Rattle.ot_isa.specs.declared.instruction.Instr.TheVariants.{Join, Take};
 ghost use Rattle.ot_model.specs.Table.{step};

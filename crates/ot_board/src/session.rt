@@ -1,6 +1,6 @@
 //! Typed sessions: a client off the machine, and the steps that it makes there.
 
-ghost use Rattle.std.specs.Prelude.{◌≡◌, ◌≢◌, ◌<◌, ◌≤◌, suc, length, None, Some, IfErr, IfOk, IfNone, IfSome};
+ghost use Rattle.std.specs.Prelude.{◌≡◌, ◌≢◌, ◌≤◌, suc, length, None, Some, IfErr, IfOk, IfNone, IfSome};
 ghost use Rattle.ot_isa.specs.declared.instruction.Instr.TheVariants.{Acknowledge, Deliver, Edit, Read};
 ghost use Rattle.ot_model.specs.Session.{IsAllowed, IsSoundPart, or_else};
 ghost use Rattle.ot_machine.specs.Parts.{part_in};

@@ -1,6 +1,6 @@
 //! One event of a trace.
 
-ghost use Rattle.std.specs.Prelude.{◌≡◌, ◌+◌, ◌≤◌, ◌<◌, ◌++◌, ◌||◌, filter, not, length, take, IfOk, OnOk};
+ghost use Rattle.std.specs.Prelude.{◌≡◌, ◌+◌, ◌≤◌, ◌++◌, filter, not, length, take, IfOk, OnOk};
 ghost use Rattle.std.specs.HashSet.{contains as set_contains};
 ghost use Rattle.ot_isa.specs.declared.elements.Tag.{Tag};
 ghost use Rattle.ot_isa.specs.Tagging.{tagged_operation};

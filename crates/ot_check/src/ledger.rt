@@ -1,6 +1,6 @@
 //! How many edits each client made, and how many of them lie in the log's entries.
 
-ghost use Rattle.std.specs.Prelude.{◌≡◌, ◌<◌, ◌+◌, ◌-◌, ◌++◌, ◌∷◌, [], ◌^◌, get_or, set, length, replicate, IfOk, OnOk};
+ghost use Rattle.std.specs.Prelude.{◌≡◌, ◌<◌, ◌+◌, ◌-◌, ◌++◌, ◌∷◌, [], ◌^◌, set, length, IfOk, OnOk};
 ghost use Rattle.ot_check.specs.Rows.{last_row, made_by, no_counts, row_at, waiting_of};
 ghost use Rattle.ot_check.specs.Following.{counts_of, waiting_after};
 

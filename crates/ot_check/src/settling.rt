@@ -1,6 +1,6 @@
 //! Whether a machine is quiet with equal lists everywhere.
 
-ghost use Rattle.std.specs.Prelude.{◌≡◌, ◌<◌, ◌↔◌, ◌++◌, [], ℕ, None, is_some, length, not, slice_get, ◌==◌, IfOk, OnOk};
+ghost use Rattle.std.specs.Prelude.{◌≡◌, ◌<◌, ◌↔◌, ◌++◌, [], ℕ, None, is_some, length, slice_get, ◌==◌, IfOk, OnOk};
 ghost use Rattle.ot_model.specs.Table.{downlink, IsQuiet};
 ghost use Rattle.ot_model.specs.Sound.{IsSound};
 ghost use Rattle.ot_machine.specs.Readers.{ClientHas};

@@ -14,7 +14,6 @@
 ghost use Rattle.std.specs.Prelude.{◌≡◌, IfOk, IfSome};
 ghost use Rattle.streams.specs.Lines.{lines_of};
 ghost use Rattle.streams.specs.Taken.{before};
-ghost use Rattle.streams.specs.Outcomes.{Gives, OutOfMemory};
 ghost use Rattle.ot_conform.specs.Compared.{verdict_status};
 ghost use Rattle.ot_commands.specs.Conformed.{Compares, IsTold, MayJudge, MayWrite, TellsStop, answer_status, with_names};
 

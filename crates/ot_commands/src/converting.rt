@@ -1,6 +1,6 @@
 //! `asm` and `dis`: between a schedule's text and its image.
 
-ghost use Rattle.std.specs.Prelude.{◌≡◌, IfSome};
+ghost use Rattle.std.specs.Prelude.{IfSome};
 ghost use Rattle.ot_commands.specs.Inputs.{OfImage, OfText};
 ghost use Rattle.ot_commands.specs.Converted.{MayGiveImage, MayGiveText};
 

@@ -1,6 +1,6 @@
 //! `debug`: a schedule's lines, a line `%%`, and commands that lead through its run back and forth.
 
-ghost use Rattle.std.specs.Prelude.{◌≡◌, Bool, IfSome};
+ghost use Rattle.std.specs.Prelude.{◌≡◌, IfSome};
 ghost use Rattle.streams.specs.Lines.{lines_of};
 ghost use Rattle.streams.specs.Taken.{before};
 ghost use Rattle.ot_commands.specs.Debugged.{loop_status, Debugs, MayConverse, TellsStop};

@@ -1,6 +1,6 @@
 //! `explain --trace`: the verdict of a recorded trace, with its words; of an input that is none, where its first fault is, in words.
 
-ghost use Rattle.std.specs.Prelude.{◌≡◌, ◌≢◌, ◌⊎◌, ◌++◌, Ok, Err, IfErr, IfOk, IfSome, string_bytes};
+ghost use Rattle.std.specs.Prelude.{◌≡◌, ◌≢◌, ◌++◌, Ok, Err, IfErr, IfOk, IfSome, string_bytes};
 ghost use Rattle.ot_commands.specs.ExplainedTraces.{ExplainsTrace, IsReasonOfBytes, MayTellVerdict, Tells};
 ghost use Rattle.ot_commands.specs.Judged.{trace_fault, trace_of_bytes};
 ghost use Rattle.ot_judge.specs.declared.fault.TraceFault.TheVariants as kind;

@@ -1,6 +1,5 @@
 //! `generate`: a session made at random.
 
-ghost use Rattle.std.specs.Prelude.{◌≡◌};
 ghost use Rattle.ot_commands.specs.Generated.{Generates};
 
 use crate::converting::give_text;

@@ -5,7 +5,7 @@
 //!      └── refused: the fault's line on the faults, nothing on the output
 //! ```
 
-ghost use Rattle.std.specs.Prelude.{◌≡◌, IfSome};
+ghost use Rattle.std.specs.Prelude.{IfSome};
 ghost use Rattle.ot_commands.specs.Stepped.{MayStep, Steps};
 
 use crate::faults::complain_of_line;

@@ -66,7 +66,7 @@ abbrev pub with_owner : Option ℕ → List ℕ → List ℕ
 with_owner None name = codes "server " ++ name
 with_owner (Some c) name = codes "client " ++ (decimal c ++ 32 ∷ name)
 
--- at an instruction; before it stands whose value it is
+-- the field's name; at an instruction, behind its owner
 abbrev pub field_text : What → Field → List ℕ
 field_text (Instruction i) f = if is_theirs f then with_owner (placed_client i) (field_name f) else field_name f
 field_text Opening f = field_name f

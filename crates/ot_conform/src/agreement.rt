@@ -1,6 +1,6 @@
 //! Whether what a port printed agrees with what the run has.
 
-ghost use Rattle.std.specs.Prelude.{◌≡◌, IfOk, option_map, string_bytes};
+ghost use Rattle.std.specs.Prelude.{◌≡◌, IfOk, option_map};
 ghost use Rattle.serde_json.specs.View.{items_view, view};
 ghost use Rattle.ot_steps.specs.Held.{value_of};
 ghost use Rattle.ot_conform.specs.Keys.{agrees, are_plain, is_message, is_plain, is_plain_item, is_written};

@@ -29,7 +29,7 @@ pub struct Difference {
     pub place: usize,
     /// `opening`, the instruction, `end` or `after the end`.
     pub what: String,
-    /// The field's name, and before it whose value it is.
+    /// The field's name; at an instruction, behind its owner: `client 1 document`.
     pub name: String,
     pub field: Field,
     /// What the port has there, as compact JSON, or in words.
@@ -94,7 +94,7 @@ fn field_name(field: Field) -> &'static str
     }
 }
 
-// A name, and before it whose value it is.
+// The name behind its owner: `client 1 document`.
 fn with_owner(alloc: Global, owner: Option<u16>, name: &str) -> Result<String, AllocError>
     ensures { IfOk result (λ s. string_bytes s ≡ with_owner owner name.now) }
 {
@@ -104,7 +104,7 @@ fn with_owner(alloc: Global, owner: Option<u16>, name: &str) -> Result<String, A
     }
 }
 
-// The field's name. At an instruction, whose value it is stands before it.
+// The field's name; at an instruction, behind its owner.
 fn field_text(alloc: Global, line: &Line<'_>, field: Field) -> Result<String, AllocError>
     ensures { IfOk result (λ s. string_bytes s ≡ field_text (what_of line.now) field) }
 {

@@ -66,7 +66,7 @@ fn counted(counts: Counts, line: &PortLine<'_>) -> Counts
     }
 }
 
-// Compares a line with the one that is due, and counts what it says where it agrees; else this is where it differs, in words.
+// Compares a line with the one that is due. If it agrees, its values are counted; else the verdict says where it differs.
 fn judge(
     alloc: Global,
     counts: &mut Counts,
@@ -117,16 +117,16 @@ fn is_limit(refusal: Refusal) -> bool
 }
 
 impl Comparison {
-    ghost use Rattle.std.specs.Prelude.{◌≡◌, ◌+◌, ◌^◌, ◌<◌, ◌≤◌, ◌&&◌, ◌∷◌, [], List, Err, IfOk, IfSome, IsSome, None, Ok, Some, true, false, length, slice_get};
+    ghost use Rattle.std.specs.Prelude.{◌≡◌, ◌+◌, ◌^◌, ◌<◌, ◌≤◌, ◌&&◌, [], List, IfOk, IfSome, IsSome, None, Some, true, false, length, slice_get};
     ghost use Rattle.ot_machine.specs.Answers.{IsRefusal};
     ghost use Rattle.ot_model.specs.Table.{step};
-    ghost use Rattle.ot_conform.specs.Differences.{Wanted, ending, is_limit, over};
-    ghost use Rattle.ot_conform.specs.Passed.{passes, passes_step, passes_stop};
+    ghost use Rattle.ot_conform.specs.Differences.{ending, over};
+    ghost use Rattle.ot_conform.specs.Passed.{passes_step, passes_stop};
     ghost use Rattle.ot_steps.specs.Steps.{is_quiet};
-    ghost use Rattle.ot_conform.specs.Due.{end_due, stop_due};
+    ghost use Rattle.ot_conform.specs.Due.{end_due};
     ghost use Rattle.ot_conform.specs.Ports.{PortLine as Printed, Nothing, front, is_nothing, is_opening_line, port_line};
     ghost use Rattle.ot_conform.specs.Read.{given_as, read_as};
-    ghost use Rattle.ot_conform.specs.Standing.{AgreesAt, EndsAt, Goes, IsStanding, IsVerdict, Passes, begun, rest};
+    ghost use Rattle.ot_conform.specs.Standing.{AgreesAt, Goes, IsStanding, IsVerdict, Passes, begun, rest};
 
     /// A comparison with the schedule's run that stands at its opening; or out of memory, for the machine. Where it is `sparse`, an instruction
     /// that a line passes over needs none of its own, and none is missing behind the last one.

@@ -1,7 +1,6 @@
 //! The lines that a port prints.
 
 ghost use Rattle.std.specs.Prelude.{◌≡◌, IfOk};
-ghost use Rattle.serde_json.specs.View.{view};
 ghost use Rattle.ot_conform.specs.Ports.{is_opening_line, port_line};
 ghost use Rattle.ot_conform.specs.Read.{given_as, read_as};
 

@@ -1,6 +1,6 @@
 //! What the rules of ot.js say of the first difference.
 
-ghost use Rattle.std.specs.Prelude.{◌≡◌, IfOk, string_bytes};
+ghost use Rattle.std.specs.Prelude.{IfOk, string_bytes};
 ghost use Rattle.ot_conform.specs.Ruled.{AreRules};
 
 use crate::answers::Difference;

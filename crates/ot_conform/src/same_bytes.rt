@@ -2,7 +2,7 @@
 //!
 //! Such a line need not be read: what it says is known, and agrees (specs/Alike.antt).
 
-ghost use Rattle.std.specs.Prelude.{◌≡◌, ◌++◌, ◌∷◌, [], length, IfSome};
+ghost use Rattle.std.specs.Prelude.{◌≡◌, ◌++◌, ◌∷◌, [], IfSome};
 ghost use Rattle.std.specs.Bool.{OnTrue};
 ghost use Rattle.ot_conform.specs.Alike.{IsPrinted};
 ghost use Rattle.ot_steps.specs.Held.{IsHeld, printed_of};

@@ -1,7 +1,6 @@
 //! From a line to a command.
 
-ghost use Rattle.std.specs.Prelude.{◌≡◌, codes};
-ghost use Rattle.std.specs.Str.{bytes_eq};
+ghost use Rattle.std.specs.Prelude.{◌≡◌};
 ghost use Rattle.ot_console.specs.Commands.{bare_command, command_of, counted_command, three_words, two_words, watched};
 
 use ot_asm::{read_number, split_word, trimmed};

@@ -2,7 +2,7 @@
 
 ghost use Rattle.std.specs.Prelude.{◌≡◌, IfOk, IsErr, string_bytes};
 ghost use Rattle.std.specs.Cow.{cow_str_bytes};
-ghost use Rattle.ot_console.specs.Replies.{is_fault, is_refused, place_line, stopped_line, IsMade, IsReplyText};
+ghost use Rattle.ot_console.specs.Replies.{is_fault, place_line, stopped_line, IsMade, IsReplyText};
 
 use ot_debug::{Reply, Stepper, Why};
 use ot_report::print_end;

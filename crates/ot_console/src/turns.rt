@@ -1,8 +1,6 @@
 //! What one line is answered with.
 
-ghost use Rattle.std.specs.Prelude.{◌≡◌};
 ghost use Rattle.std.specs.Cow.{cow_str_bytes};
-ghost use Rattle.ot_console.specs.Commands.{is_blank_line};
 ghost use Rattle.ot_console.specs.Looping.{IsCommandTurn, IsPrinted, IsTurn};
 
 use crate::commands::read_command;

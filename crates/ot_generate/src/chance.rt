@@ -1,6 +1,6 @@
 //! Numbers, characters and texts by chance.
 
-ghost use Rattle.std.specs.Prelude.{◌≡◌, ◌<◌, ◌≤◌, length, IfOk};
+ghost use Rattle.std.specs.Prelude.{◌≡◌, ◌<◌, length, IfOk};
 
 use rand_core::Rng;
 use rand_pcg::Pcg32;

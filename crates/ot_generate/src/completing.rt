@@ -1,8 +1,7 @@
 //! A schedule, and behind it what brings its run to quiet.
 
-ghost use Rattle.std.specs.Prelude.{◌≡◌, ◌≢◌, true, length, take, IfErr, IfOk, OnOk};
-ghost use Rattle.ot_isa.specs.declared.builder.TheConstants.{INSTR_LIMIT};
-ghost use Rattle.ot_generate.specs.Completed.{next_of, IsCompletion, IsIncomplete};
+ghost use Rattle.std.specs.Prelude.{◌≡◌, true, length, IfErr, IfOk, OnOk};
+ghost use Rattle.ot_generate.specs.Completed.{IsCompletion, IsIncomplete};
 ghost use Rattle.ot_generate.specs.Completing.{IsDrained, IsFollowed, IsStuck};
 
 use crate::walk::Walk;

@@ -1,6 +1,6 @@
 //! What is asked of a session.
 
-ghost use Rattle.std.specs.Prelude.{◌≡◌, ◌≤◌, Some};
+ghost use Rattle.std.specs.Prelude.{◌≡◌};
 ghost use Rattle.ot_generate.specs.Shapes.{shape_if, shape_in};
 
 use ot_isa::{CLIENT_LIMIT, INSTR_LIMIT, START_LIMIT};

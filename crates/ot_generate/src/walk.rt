@@ -1,13 +1,13 @@
 //! A session that grows.
 
 ghost use Rattle.std.specs.Prelude.{◌≡◌, ◌≢◌, ◌+◌, ◌<◌, ◌≤◌, ◌↔◌, ◌∷◌, [], suc, false, true, length, IfErr, IfOk, IfSome, IsTrue, None, OnOk, Some};
-ghost use Rattle.ot_isa.specs.Program.{with_instr, AreClients, IsForClients, IsProgram};
+ghost use Rattle.ot_isa.specs.Program.{with_instr, AreClients, IsForClients};
 ghost use Rattle.ot_isa.specs.declared.instruction.Instr.TheVariants as instr;
-ghost use Rattle.ot_model.specs.Table.{is_joined, step, IsQuiet, Refused};
+ghost use Rattle.ot_model.specs.Table.{step, IsQuiet, Refused};
 ghost use Rattle.ot_model.specs.declared.shown.Refusal.TheVariants as refusal;
 ghost use Rattle.ot_machine.specs.Readers.{ClientHas};
 ghost use Rattle.ot_generate.specs.Completed.{next_of, receipt_next, take_next};
-ghost use Rattle.ot_generate.specs.Left.{due, drain_due, edit_due, left, owed, work};
+ghost use Rattle.ot_generate.specs.Left.{drain_due, edit_due, left, work};
 ghost use Rattle.ot_generate.specs.Walks.{begun, HasNoMessage, HasReceived, HasSpare, IsAlong, IsAtRest, IsMade, IsPossible, IsRead, IsReadAt, IsWalk, MayEdit, MayMake, opened_up};
 ghost use Rattle.ot_isa.specs.declared.builder.TheConstants.{INSTR_LIMIT, START_LIMIT};
 

@@ -1,7 +1,7 @@
 //! What a performed instruction did, and what a delivery would apply.
 
 ghost use Rattle.std.specs.Prelude.{◌≡◌, ◌<◌, length, unwrap_or, IfOk, IfSome, None, false};
-ghost use Rattle.std.specs.Option.{option_copied, option_map};
+ghost use Rattle.std.specs.Option.{option_copied};
 ghost use Rattle.ot_isa.specs.declared.elements.Tagged.{Tagged as Letter};
 ghost use Rattle.ot_model.specs.Operation.{Operation};
 ghost use Rattle.ot_machine.specs.declared.effect.Applied.TheVariants.{Nothing};

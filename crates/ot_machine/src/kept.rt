@@ -1,7 +1,7 @@
 //! The undo record of a client's own step, and how the step is undone. `KEPT` says whether a step may have to be undone; where it may not,
 //! no inverse is made and nothing is recorded.
 
-ghost use Rattle.std.specs.Prelude.{◌≡◌, length, map, IfErr, IfOk, IsTrue, OnErr, OnOk};
+ghost use Rattle.std.specs.Prelude.{◌≡◌, length, map, IfErr, IfOk, IsFalse, IsTrue, None, OnErr, OnOk};
 ghost use Rattle.ot_operation.specs.Operation.{apply};
 ghost use Rattle.ot_machine.specs.Seats.{client_of, revision_of, view_of};
 ghost use Rattle.ot_machine.specs.Undoing.{exchanged, queue_before, reverted, unsent, FitsBack, FitsState, GivesBack};
@@ -29,7 +29,8 @@ pub(crate) fn inverse_of<const KEPT: bool>(
     list: &Doc<Tagged>,
 ) -> Result<Option<TextOp<Tagged>>, AllocError>
     requires { op.now.base ≡ length list.now }
-    ensures { IsTrue KEPT → IfOk result (λ inverse. GivesBack inverse list.now (apply op.now list.now)) }
+    ensures kept { IsTrue KEPT → IfOk result (λ inverse. GivesBack inverse list.now (apply op.now list.now)) }
+    ensures none { IsFalse KEPT → IfOk result (λ inverse. inverse ≡ None) }
 {
     if !KEPT {
         return Ok(None);

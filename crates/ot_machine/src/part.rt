@@ -1,6 +1,6 @@
 //! Clients off the machine: a copy of one, and how it comes back.
 
-ghost use Rattle.std.specs.Prelude.{◌≡◌, ◌+◌, ◌-◌, ◌≤◌, ◌↔◌, ◌<◌, drop, length, map, IfOk, IsTrue, None, true};
+ghost use Rattle.std.specs.Prelude.{◌≡◌, ◌+◌, ◌≤◌, ◌↔◌, ◌<◌, drop, length, map, IfOk, IsTrue, None, true};
 ghost use Rattle.std.specs.Option.{option_map};
 ghost use Rattle.ot_client.specs.Client.{message_of, state_of};
 ghost use Rattle.ot_model.specs.Part.{Leads};

@@ -1,19 +1,20 @@
 //! The rows of the table, and the instructions that they perform.
 
-ghost use Rattle.std.specs.Prelude.{◌≡◌, ◌≢◌, ◌<◌, ◌≤◌, IfErr, IfOk, IfSome, IsSome, IsSomeAnd, IsTrue, None, OnErr, OnOk, Option};
+ghost use Rattle.std.specs.Prelude.{◌≡◌, ◌≢◌, ◌<◌, ◌≤◌, IfErr, IfOk, IfSome, IsFalse, IsSome, IsSomeAnd, IsTrue, None, OnErr, OnOk, Option};
+ghost use Rattle.std.specs.Option.{option_map};
 ghost use Rattle.ot_isa.specs.declared.instruction.Instr.TheVariants.{Acknowledge, Deliver, Edit, Join, Take};
 ghost use Rattle.ot_model.specs.declared.shown.Refusal.TheVariants.{Memory, StepsFull};
 ghost use Rattle.ot_model.specs.declared.shown.Shown.{Shown as Shows};
 ghost use Rattle.ot_model.specs.Table.{step, Performed, Refused, State};
 ghost use Rattle.ot_machine.specs.Answers.{IsPerformed, IsRefusal};
 ghost use Rattle.ot_machine.specs.Common.{IsDelivered};
-ghost use Rattle.ot_machine.specs.Effects.{is_join, read_by, reader_of, IsEffect, IsReady, IsThere};
+ghost use Rattle.ot_machine.specs.Effects.{is_join, read_by, reader_of, shown_by, IsEffect, IsReady, IsThere};
 ghost use Rattle.ot_machine.specs.Undoing.{Undoes};
 
 use crate::effect::{Applied, Effect};
 use crate::machine::{INSERTED_LIMIT, Machine, STEP_LIMIT};
 use crate::seat;
-use crate::undo::Undo;
+use crate::undo::{Record, Undo};
 use ot_isa::{Instr, Tagged, tagged};
 use ot_model::{Reader, Refusal, Shown};
 use ot_text::{Doc, TextOp};
@@ -67,6 +68,7 @@ impl Machine {
         requires { IsReady self.old (Edit client op.now) }
         ensures effect { IfOk result (IsEffect self.old (Edit client op.now) self.new) }
         ensures undo { IsTrue KEPT → IfOk result (λ effect. IsSomeAnd effect.undo (Undoes self.old self.new)) }
+        ensures none { IsFalse KEPT → IfOk result (λ effect. effect.undo ≡ None) }
         ensures refused { IfErr result (λ r. IsRefusal (step self.old (Edit client op.now)) r) }
         ensures unchanged { OnErr result (self.new ≡ self.old) }
     {
@@ -81,7 +83,7 @@ impl Machine {
         let sent = seat::is_synchronized(seat);
         let before = seat::edit::<KEPT>(seat, &op)?;
         self.steps += 1;
-        let effect = Effect::undone_by(Undo::of_client::<KEPT>(client, before));
+        let effect = Effect::undone_by(Undo::of::<KEPT>(Record::ClientStep(client, before)));
         Ok(Effect { sent, ..effect })
     }
 
@@ -90,6 +92,7 @@ impl Machine {
         requires { IsReady self.old (Take client) }
         ensures effect { IfOk result (IsEffect self.old (Take client) self.new) }
         ensures undo { IsTrue KEPT → IfOk result (λ effect. IsSomeAnd effect.undo (Undoes self.old self.new)) }
+        ensures none { IsFalse KEPT → IfOk result (λ effect. effect.undo ≡ None) }
         ensures refused { IfErr result (λ r. IsRefusal (step self.old (Take client)) r) }
         ensures unchanged { OnErr result (self.new ≡ self.old) }
     {
@@ -113,6 +116,7 @@ impl Machine {
         requires common { IfSome common.old (IsDelivered self.old client) }
         ensures effect { IfOk result (IsEffect self.old (Deliver client) self.new) }
         ensures undo { IsTrue KEPT → IfOk result (λ effect. IsSomeAnd effect.undo (Undoes self.old self.new)) }
+        ensures none { IsFalse KEPT → IfOk result (λ effect. effect.undo ≡ None) }
         ensures refused { IfErr result (λ r. IsRefusal (step self.old (Deliver client)) r) }
         ensures unchanged { OnErr result (self.new ≡ self.old) }
     {
@@ -125,7 +129,7 @@ impl Machine {
         }
         let (before, applied) = seat::deliver::<KEPT>(seat, entry.operation(), common)?;
         self.steps += 1;
-        let effect = Effect::undone_by(Undo::of_client::<KEPT>(client, before));
+        let effect = Effect::undone_by(Undo::of::<KEPT>(Record::ClientStep(client, before)));
         Ok(Effect { applied, ..effect })
     }
 
@@ -134,6 +138,7 @@ impl Machine {
         requires { IsReady self.old (Acknowledge client) }
         ensures effect { IfOk result (IsEffect self.old (Acknowledge client) self.new) }
         ensures undo { IsTrue KEPT → IfOk result (λ effect. IsSomeAnd effect.undo (Undoes self.old self.new)) }
+        ensures none { IsFalse KEPT → IfOk result (λ effect. effect.undo ≡ None) }
         ensures refused { IfErr result (λ r. IsRefusal (step self.old (Acknowledge client)) r) }
         ensures unchanged { OnErr result (self.new ≡ self.old) }
     {
@@ -147,15 +152,16 @@ impl Machine {
         let sent = seat::has_buffer(seat);
         let before = seat::acknowledge(seat)?;
         self.steps += 1;
-        let effect = Effect::undone_by(Undo::of_client::<KEPT>(client, before));
+        let effect = Effect::undone_by(Undo::of::<KEPT>(Record::ClientStep(client, before)));
         Ok(Effect { sent, ..effect })
     }
 
     // The client gets the server's list and revision.
-    fn join(&mut self, client: u16) -> Result<Effect, Refusal>
+    fn join<const KEPT: bool>(&mut self, client: u16) -> Result<Effect, Refusal>
         requires { IsReady self.old (Join client) }
         ensures effect { IfOk result (IsEffect self.old (Join client) self.new) }
-        ensures undo { IfOk result (λ effect. IsSomeAnd effect.undo (Undoes self.old self.new)) }
+        ensures undo { IsTrue KEPT → IfOk result (λ effect. IsSomeAnd effect.undo (Undoes self.old self.new)) }
+        ensures none { IsFalse KEPT → IfOk result (λ effect. effect.undo ≡ None) }
         ensures refused { IfErr result (λ r. IsRefusal (step self.old (Join client)) r) }
         ensures unchanged { OnErr result (self.new ≡ self.old) }
     {
@@ -163,18 +169,19 @@ impl Machine {
         let seat = &mut self.seats[client as usize];
         seat::join(seat, revision, self.server.document())?;
         self.steps += 1;
-        Ok(Effect::undone_by(Some(Undo::of_join(client))))
+        Ok(Effect::undone_by(Undo::of::<KEPT>(Record::Joined(client))))
     }
 
     // A list is shown: a read only counts.
-    fn read(&mut self, who: Reader) -> Effect
+    fn read<const KEPT: bool>(&mut self, who: Reader) -> Effect
         requires { IsReady self.old (read_by who) }
         ensures effect { IsEffect self.old (read_by who) self.new result }
-        ensures undo { IsSomeAnd result.undo (Undoes self.old self.new) }
+        ensures undo { IsTrue KEPT → IsSomeAnd result.undo (Undoes self.old self.new) }
+        ensures none { IsFalse KEPT → result.undo ≡ None }
         ensures there { IsThere self.new who }
     {
         self.steps += 1;
-        let effect = Effect::undone_by(Some(Undo::of_read()));
+        let effect = Effect::undone_by(Undo::of::<KEPT>(Record::Read));
         Effect {
             shown: Some(who),
             ..effect
@@ -189,6 +196,7 @@ impl Machine {
         ensures effect { IfOk result (IsEffect self.old instr.now self.new) }
         ensures there { IfOk result (λ effect. IfSome effect.shown (IsThere self.new)) }
         ensures undo { IsTrue KEPT → IfOk result (λ effect. IsSomeAnd effect.undo (Undoes self.old self.new)) }
+        ensures none { IsFalse KEPT → IfOk result (λ effect. effect.undo ≡ None) }
         ensures refused { IfErr result (λ r. IsRefusal (step self.old instr.now) r) }
         ensures memory { IfErr result (λ r. r ≡ Memory → reader_of instr.now ≡ None) }
         ensures unchanged { OnErr result (self.new ≡ self.old) }
@@ -202,9 +210,9 @@ impl Machine {
                 self.deliver::<KEPT>(*client, &mut common)
             }
             Instr::Acknowledge(client) => self.acknowledge::<KEPT>(*client),
-            Instr::Join(client) => self.join(*client),
-            Instr::Read(client) => Ok(self.read(Reader::Client(*client))),
-            Instr::ReadServer => Ok(self.read(Reader::Server)),
+            Instr::Join(client) => self.join::<KEPT>(*client),
+            Instr::Read(client) => Ok(self.read::<KEPT>(Reader::Client(*client))),
+            Instr::ReadServer => Ok(self.read::<KEPT>(Reader::Server)),
         }
     }
 
@@ -212,6 +220,7 @@ impl Machine {
     /// alone.
     pub fn shown(&self, instr: &Instr) -> Result<Option<Shown>, Refusal>
         ensures shown { IfOk result (λ shown. (t : State) (list : Option Shows) → step self.now instr.now ≡ Performed t list → list ≡ shown) }
+        ensures read { IfOk result (λ shown. shown ≡ option_map (shown_by self.now) (reader_of instr.now)) }
         ensures performs { IfOk result (λ shown. IsSome shown → IsPerformed (step self.now instr.now)) }
         ensures refused { IfErr result (λ r. IsRefusal (step self.now instr.now) r) }
     {

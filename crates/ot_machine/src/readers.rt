@@ -1,6 +1,6 @@
 //! What callers see of a machine.
 
-ghost use Rattle.std.specs.Prelude.{◌≡◌, ◌<◌, ◌↔◌, length, map, slice_get, IfOk, IsTrue, None, Some, true};
+ghost use Rattle.std.specs.Prelude.{◌≡◌, ◌<◌, ◌↔◌, length, map, slice_get, IfOk, IsTrue, Some, true};
 ghost use Rattle.std.specs.Option.{option_copied, option_map};
 ghost use Rattle.ot_client.specs.Client.{message_of, state_of};
 ghost use Rattle.ot_model.specs.Table.{downlink, is_joined, phase_in, IsQuiet};

@@ -2,15 +2,15 @@
 //! fail. Then it gives its undo record, whole where it is `KEPT` (kept.rt). Each has one caller, and is put in its place there, so that a plain row pays nothing for a
 //! record that it does not give.
 
-ghost use Rattle.std.specs.Prelude.{◌≡◌, ◌+◌, ◌≤◌, ◌<◌, ◌↔◌, ◌++◌, drop, length, map, replicate, slice_get, OnOk, OnErr, IfOk, IfSome, IsSomeAnd, IsTrue, None, Some};
-ghost use Rattle.std.specs.Option.{option_copied, option_map};
+ghost use Rattle.std.specs.Prelude.{◌≡◌, ◌+◌, ◌≤◌, ◌↔◌, ◌++◌, drop, length, map, replicate, slice_get, OnOk, OnErr, IfOk, IfSome, IsFalse, IsSomeAnd, IsTrue, None, Some};
+ghost use Rattle.std.specs.Option.{option_copied};
 ghost use Rattle.ot_operation.specs.Operation.{apply, news};
 ghost use Rattle.ot_client.specs.State as state;
-ghost use Rattle.ot_client.specs.Client.{message_of, state_of};
+ghost use Rattle.ot_client.specs.Client.{message_of};
 ghost use Rattle.ot_server.specs.History.{fault_of, received, IsUndo};
 ghost use Rattle.ot_model.specs.Table.{absent, acknowledged, against_pending, delivered, edited, present_with};
 ghost use Rattle.ot_machine.specs.Effects.{has_buffer, is_synchronized, IsMadeOf};
-ghost use Rattle.ot_machine.specs.Seats.{client_of, phase_of, revision_of, view_of, AreSettled, idle, queued, joined_at, under_way, Follows, MayPush, MaySend, HasRoom, HaveRoomFrom, MayDeliverState, MaySeatAcknowledge, MaySeatDeliver, IsMemory, IsReceivable, IsSettled, IsWaiting, emptied, outstanding_at, outstanding_of, received_from};
+ghost use Rattle.ot_machine.specs.Seats.{client_of, phase_of, revision_of, view_of, AreSettled, idle, queued, joined_at, under_way, Follows, MayPush, MaySend, HasRoom, HaveRoomFrom, MaySeatAcknowledge, MaySeatDeliver, IsMemory, IsReceivable, IsSettled, IsWaiting, emptied, outstanding_at, outstanding_of, received_from};
 ghost use Rattle.ot_machine.specs.Undoing.{message_at, Restores};
 ghost use Rattle.ot_isa.specs.declared.tagging.TheConstants.{INSERTED_LIMIT};
 
@@ -127,6 +127,7 @@ pub(crate) fn edit<const KEPT: bool>(
     ensures down { seat.new.down ≡ seat.old.down }
     ensures err { OnErr result (seat.new ≡ seat.old) }
     ensures kept { IsTrue KEPT → IfOk result (λ before. Restores before (client_of seat.old) (client_of seat.new)) }
+    ensures none { IsFalse KEPT → IfOk result (λ before. before.inverse ≡ None) }
 {
     let Some(client) = &mut seat.client else {
         unreachable!()
@@ -254,6 +255,7 @@ pub(crate) fn deliver<const KEPT: bool>(
     ensures down { OnOk result (seat.new.down.items ≡ drop 1 seat.old.down.items) }
     ensures err { OnErr result (seat.new ≡ seat.old) }
     ensures kept { IsTrue KEPT → IfOk result (λ given. Restores given.0 (client_of seat.old) (client_of seat.new)) }
+    ensures none { IsFalse KEPT → IfOk result (λ given. given.0.inverse ≡ None) }
     ensures applied { IfOk result (λ given. IsMadeOf (revision_of seat.old.client) op.now (against_pending (phase_of seat.old.client) op.now) given.1) }
 {
     let Some(client) = &mut seat.client else {
@@ -337,6 +339,7 @@ fn receive<const KEPT: bool>(
     ensures ok { OnOk result (server.new ≡ received server.old client revision op.now) }
     ensures err { OnErr result (server.new ≡ server.old) }
     ensures undo { IsTrue KEPT → IfOk result (λ kept. IsSomeAnd kept (λ undo. IsUndo server.old server.new undo)) }
+    ensures none { IsFalse KEPT → IfOk result (λ kept. kept ≡ None) }
 {
     if !KEPT {
         return match server.receive(client, revision, op) {
@@ -361,6 +364,7 @@ fn receive_outstanding<const KEPT: bool>(
     ensures ok { OnOk result (server.new ≡ received_from server.old client (outstanding_of (revision_of seat.now.client) (phase_of seat.now.client))) }
     ensures err { OnErr result (server.new ≡ server.old) }
     ensures undo { IsTrue KEPT → IfOk result (λ kept. IsSomeAnd kept (λ undo. IsUndo server.old server.new undo)) }
+    ensures none { IsFalse KEPT → IfOk result (λ kept. kept ≡ None) }
 {
     match &seat.client {
         Some(Client::AwaitingConfirm(sender)) => {
@@ -388,6 +392,7 @@ pub(crate) fn take_in<const KEPT: bool>(
     ensures seats { OnErr result (map view_of seats.new.items ≡ map view_of seats.old.items) }
     ensures message { IfOk result (λ given. message_at (map view_of seats.old.items) client ≡ Some (message_of given.0)) }
     ensures undo { IsTrue KEPT → IfOk result (λ given. IsSomeAnd given.1 (λ undo. IsUndo server.old server.new undo)) }
+    ensures none { IsFalse KEPT → IfOk result (λ given. given.1 ≡ None) }
 {
     let place = client as usize;
     let number = server.revision() as u32;

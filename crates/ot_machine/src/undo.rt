@@ -1,9 +1,8 @@
 //! Steps with their undo records, and undoing them.
 
-ghost use Rattle.std.specs.Prelude.{◌≡◌, IfErr, IfOk, IsTrue, None, OnErr, OnOk, Some};
+ghost use Rattle.std.specs.Prelude.{◌≡◌, ◌<◌, IfErr, IsFalse, IsTrue, None, OnErr, OnOk, Some};
 ghost use Rattle.std.specs.Option.{option_map};
-ghost use Rattle.ot_model.specs.Table.{step, Performed, State};
-ghost use Rattle.ot_machine.specs.Answers.{IsRefusal};
+ghost use Rattle.ot_model.specs.Table.{step, State};
 ghost use Rattle.ot_machine.specs.declared.undo.Record.TheVariants.{ClientStep, Joined, Read, Taken};
 ghost use Rattle.ot_machine.specs.Undoing.{IsRecord, IsUndoable, IsUndoableRecord, Undoes};
 
@@ -33,17 +32,16 @@ pub(crate) enum Record {
 }
 
 impl Undo {
-    // Of a step at a client, where it is `KEPT`.
+    // Of a step, where it is `KEPT`.
     #[inline(always)]
-    pub(crate) fn of_client<const KEPT: bool>(client: u16, before: Before) -> Option<Undo>
-        ensures { IsTrue KEPT → result ≡ Some (record { step = ClientStep client before }) }
+    pub(crate) fn of<const KEPT: bool>(step: Record) -> Option<Undo>
+        ensures kept { IsTrue KEPT → result ≡ Some (record { step = step }) }
+        ensures none { IsFalse KEPT → result ≡ None }
     {
         if !KEPT {
             return None;
         }
-        Some(Undo {
-            step: Record::ClientStep(client, before),
-        })
+        Some(Undo { step })
     }
 
     // Of a Take, where the inverse of what was appended is recorded.
@@ -59,25 +57,11 @@ impl Undo {
         Some(Undo { step })
     }
 
-    // Of a Join.
-    pub(crate) fn of_join(client: u16) -> Undo
-        ensures { result.step ≡ Joined client }
-    {
-        Undo {
-            step: Record::Joined(client),
-        }
-    }
-
-    // Of a read.
-    pub(crate) fn of_read() -> Undo
-        ensures { result.step ≡ Read }
-    {
-        Undo { step: Record::Read }
-    }
-
     /// About how much it stores, counted in components and elements, 1 at least: those of the inverse, of what it holds of the client's pending
     /// operations, and of the message that a Take took. It goes through no component.
-    pub fn size(&self) -> usize {
+    pub fn size(&self) -> usize
+        ensures { 0 < result }
+    {
         let stored = match &self.step {
             Record::ClientStep(_, before) => {
                 let pending = before.change.size();
@@ -184,7 +168,12 @@ impl Machine {
             }
             Record::Joined(client) => match self.undo_join(client) {
                 Ok(()) => Ok(()),
-                Err(e) => Err((e, Undo::of_join(client))),
+                Err(e) => Err((
+                    e,
+                    Undo {
+                        step: Record::Joined(client),
+                    },
+                )),
             },
             Record::Read => {
                 self.undo_read();

@@ -16,8 +16,8 @@
 //! - *Writing* (`specs/Written.antt`): [`print_steps`] writes the lines while the run goes, 64 KiB of them at a time (`specs/Gathered.antt`), and after a
 //!   fault a first part of them stands.
 //!
-//! What an instruction sent, and what a delivery applied, the machine that performs it says (`Effect` of `ot_machine`). Begin reading
-//! at `step_line` in specs/Steps.antt, then at [`Line`] and [`print_steps`].
+//! The machine says what an instruction sent and what a delivery applied (`Effect` of `ot_machine`). Begin reading at `step_line` in
+//! specs/Steps.antt, then at [`Line`] and [`print_steps`].
 #![tactic(auto)]
 
 mod key;

@@ -1,7 +1,6 @@
 //! The lines of a run, and what they have under each key.
 
 ghost use Rattle.std.specs.Prelude.{◌≡◌, ◌++◌, ◌<◌, ℕ, length, IfOk, IfSome, OnOk, option_map, string_bytes};
-ghost use Rattle.std.specs.Option.{option_copied};
 ghost use Rattle.ot_isa.specs.Program.{IsForClients};
 ghost use Rattle.ot_isa.specs.Tagging.{chars_of};
 ghost use Rattle.ot_steps.specs.Held.{IsHeld, is_read, messages, operations, printed_of, step_printed, step_whole, value_of, whole_of};

@@ -1,6 +1,6 @@
 //! The lines of a whole run.
 
-ghost use Rattle.std.specs.Prelude.{◌≡◌, IfErr, IfOk, OnErr, OnOk, string_bytes};
+ghost use Rattle.std.specs.Prelude.{◌≡◌, ◌<◌, IfErr, IfOk, OnErr, OnOk, length, string_bytes};
 ghost use Rattle.ot_model.specs.Runs.{opening_of};
 ghost use Rattle.ot_model.specs.Table as table;
 ghost use Rattle.ot_machine.specs.Answers.{IsRefusal};
@@ -75,6 +75,7 @@ fn write_move(
 // Holds a text, and writes all that is held where it is much.
 fn gather<W: Sink>(held: &mut Vec<u8>, text: &str, output: &mut W) -> Result<(), StepsFault>
     ensures ok { OnOk result (Gathers (W.contents output.old) (W.contents output.new) held.old.items held.new.items text.now) }
+    ensures few { OnOk result (length held.new.items < HELD) }
     ensures err { IfErr result (λ f. GathersUpTo f (W.contents output.old) (W.contents output.new) held.old.items held.new.items text.now) }
     ensures cause { IfErr result (λ f. IsCaused f (W.failed output.new)) }
 {

@@ -1,6 +1,6 @@
 //! What is made of what workers left.
 
-ghost use Rattle.std.specs.Prelude.{◌≡◌, ◌≤◌, Ok, IfErr, IfNone, IfOk, IfSome, map, vec_items};
+ghost use Rattle.std.specs.Prelude.{◌≡◌, IfErr, IfNone, IfOk, IfSome, map, vec_items};
 ghost use Rattle.std.specs.List.{All};
 ghost use Rattle.ot_model.specs.Runs.{opening_of};
 ghost use Rattle.ot_model.specs.Session.{RunsTo};

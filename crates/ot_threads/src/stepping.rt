@@ -1,12 +1,11 @@
 //! One instruction of a schedule that is compared with a plan.
 
-ghost use Rattle.std.specs.Prelude.{◌≡◌, ◌+◌, ◌<◌, ◌^◌, IfSome, ◌≤◌, ◌↔◌, Ok, IfOk, IsTrue, IsFalse, length, option_map, replicate, slice_get, true, false};
+ghost use Rattle.std.specs.Prelude.{◌≡◌, ◌+◌, ◌<◌, ◌^◌, IfSome, ◌≤◌, ◌↔◌, IfOk, IsTrue, length, option_map, replicate, slice_get, false};
 ghost use Rattle.ot_model.specs.Table.{step, IsQuiet, Performed, Refused};
 ghost use Rattle.ot_model.specs.declared.shown.Refusal.{Refusal};
 ghost use Rattle.ot_model.specs.declared.shown.Shown.{Shown};
 ghost use Rattle.std.specs.Prelude.{Option};
 ghost use Rattle.ot_plan.specs.Typing.{action_view, edit_of};
-ghost use Rattle.ot_plan.specs.declared.typing.Typing.{Typing};
 ghost use Rattle.ot_threads.specs.Follows.{actions_of};
 ghost use Rattle.ot_threads.specs.Stepping.{counted, AreComplete, IsEdit, IsNext};
 ghost use Rattle.ot_operation.specs.declared.TheConstants.{LIMIT};

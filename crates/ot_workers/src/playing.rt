@@ -1,7 +1,7 @@
 //! What a turn does with a session, without the board and without the lock.
 
-ghost use Rattle.std.specs.Prelude.{◌≡◌, ◌<◌, None, Some, length, IfErr, IfNone, IfOk, IfSome};
-ghost use Rattle.ot_isa.specs.declared.instruction.Instr.TheVariants.{Edit, Read as ReadStep};
+ghost use Rattle.std.specs.Prelude.{◌≡◌, ◌<◌, None, length, IfErr, IfNone, IfOk, IfSome};
+ghost use Rattle.ot_isa.specs.declared.instruction.Instr.TheVariants.{Edit};
 ghost use Rattle.ot_board.specs.Sessions.{IsNext};
 ghost use Rattle.ot_board.specs.Lents.{session_of};
 ghost use Rattle.ot_plan.specs.Typing.{action_view, edit_of};

@@ -1,6 +1,6 @@
 //! Whether workers may share a board.
 
-ghost use Rattle.std.specs.Prelude.{◌≡◌, ◌<◌, ◌≤◌, ◌↔◌, length, map, IsTrue};
+ghost use Rattle.std.specs.Prelude.{◌<◌, ◌≤◌, ◌↔◌, map, IsTrue};
 ghost use Rattle.ot_plan.specs.Typing.{action_view, inserted, typing_view};
 ghost use Rattle.ot_workers.specs.Sharing.{MayShare, MayType};
 

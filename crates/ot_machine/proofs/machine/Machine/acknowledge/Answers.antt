@@ -54,5 +54,5 @@ returns-clause-effect g c =
 pub returns-clause-undo : goal.returns-clause-undo
 returns-clause-undo g c = λ yes.
     let here = receiver c.self.inside.server c.self.inside.seats.items c.self.inside.steps c.args.client c.index_mut-seat.result.now c.args.self.now c.self.invariant c.self.view_is c.requires c.index_mut-seat.ensures.value in
-    rw (c.undone_by-effect.ensures, c.of_client.ensures yes)
+    rw (c.undone_by-effect.ensures, c.of.ensures.kept yes)
     (client_record c.self.inside.server c.self.inside.seats.items c.self.inside.steps c.args.client c.index_mut-seat.result.now c.acknowledge.new.seat c.in_ok-before.before c.args.self.now c.self.invariant here.at c.self.view_is c.in_ok-before.ensures.kept)
