@@ -4,6 +4,7 @@ import { isatty } from "node:tty";
 import { EngineFault, serve } from "../engine/host.mjs";
 import { debug } from "../terminal/debugging.mjs";
 import { edit, USAGE as EDIT_HELP } from "../terminal/editing.mjs";
+import { writeFaultOf } from "../terminal/files.mjs";
 import { FILES, formOf, inputOf, isFile, OPTIONS, readWhole, split, STDIN, Unreadable } from "./files.mjs";
 import { hintsOf, looksAtOutput } from "./hints.mjs";
 import { engineBytes, release, viewer } from "./parts.mjs";
@@ -32,6 +33,10 @@ beside it what a port printed, its LINES. 'help' and 'version' print on the outp
 'threads' carries out plans of one worker.
 `;
 
+const DEBUG_HELP = `
+At a terminal 'otbench debug SCHEDULE [--port LINES]' has other commands: 'otbench debug SCHEDULE --help' lists them.
+`;
+
 const VIEW_HELP = `usage: otbench view [SCHEDULE [LINES]] > PAGE
 Reads a schedule's text, and the lines that a port printed, if any: as files, or on standard input with a line '%%' between them.
 Prints a page for a browser with the session in it.
@@ -46,12 +51,13 @@ function complain(text) {
   }
 }
 
-/* Writes on the output; whether it could. */
+/* Writes on the output; whether it could. What cannot be written is complained of, but where nobody reads it any more. */
 function print(bytes) {
   try {
     writeAll(STDOUT, bytes);
     return true;
-  } catch {
+  } catch (fault) {
+    complain(writeFaultOf(fault));
     return false;
   }
 }
@@ -66,8 +72,9 @@ function showVersion() {
   return print(utf8(said)) ? DONE : FAULT;
 }
 
-/* The help of what the program does not have. */
+/* The help of what the program does not have, and what stands below its own. */
 const OWN_HELP = { view: VIEW_HELP, edit: EDIT_HELP };
+const MORE_HELP_ON = { debug: DEBUG_HELP };
 
 /* The program's help, or that of one of its words, on the output. */
 function showHelp(words) {
@@ -75,7 +82,8 @@ function showHelp(words) {
   if (words.length === 1 && Object.hasOwn(OWN_HELP, word)) return print(utf8(OWN_HELP[word])) ? DONE : FAULT;
   const ask = asks(engine());
   const said = textOf(ask(["help", ...words], new Uint8Array(0)).errors);
-  if (!said.startsWith("error:")) return print(utf8(word === undefined ? said + MORE_HELP : said)) ? DONE : FAULT;
+  const more = word === undefined ? MORE_HELP : (MORE_HELP_ON[words.join(" ")] ?? "");
+  if (!said.startsWith("error:")) return print(utf8(said + more)) ? DONE : FAULT;
   complain(said);
   if (words.length === 1 && isatty(STDERR)) hint(similarTo(word, ask));
   return USAGE;
@@ -105,9 +113,7 @@ function view(words) {
   const { errors, ...shown } = shownOf((given, read) => serve(module, given, read), input);
   complain(textOf(errors));
   if (shown.lines === null) return FAULT;
-  if (print(pageOf(viewer(), shown, bytes))) return DONE;
-  complain("otbench: WriteFault\n");
-  return FAULT;
+  return print(pageOf(viewer(), shown, bytes)) ? DONE : FAULT;
 }
 
 /* Runs a word of the program that takes files. A file too many, and what may be an unknown option's value, is refused by the program. */
@@ -153,9 +159,9 @@ function asker() {
   };
 }
 
-/* Whether the words ask for the debugger at a terminal: a schedule alone, or with the lines of a port. */
+/* Whether the words ask for the debugger at a terminal: a schedule alone, or with the lines of a port; or for its help. */
 const isDebugging = ([word, file, ...more]) =>
-  word === "debug" && file !== undefined && !file.startsWith("-") && (more.length === 0 || more[0] === "--port");
+  word === "debug" && file !== undefined && !file.startsWith("-") && (more.length === 0 || more[0] === "--port" || more.some(isHelp));
 
 function run(words) {
   const [word, ...rest] = words;

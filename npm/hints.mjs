@@ -11,9 +11,10 @@ import { formOf } from "./files.mjs";
 import { kindOf } from "./kinds.mjs";
 import { markIn, textOf } from "./text.mjs";
 
-/* What `explain` tells of an answer; of a refused input of any other command it tells where the fault is. */
-const [HAPPENED, FAULT] = ["what happened", "where the fault is"];
-const TOLD = { run: HAPPENED, check: HAPPENED, steps: HAPPENED, complete: HAPPENED, asm: FAULT, dis: FAULT, judge: FAULT, threads: FAULT, conform: FAULT };
+/* What `explain` tells of a refused input, and of an answer. */
+const FAULT = "where the fault is";
+const TOLD = { run: "what happened", check: "what happened", steps: "what happened", complete: "what happened" };
+const READERS = new Set([...Object.keys(TOLD), "asm", "dis", "judge", "threads", "conform"]);
 const TOLD_OF_OUTPUT = { judge: "what the verdict says", conform: "what ot.js does there" };
 
 /* The commands over a schedule's text whose answer names an instruction. */
@@ -34,22 +35,23 @@ const LINES_END = "the port's lines end there";
 const NO_FORM = "each line of a port is one JSON object that has at, a number: docs/FORMATS.md, What a port prints";
 const MORE_LINES = "the port has more lines than the schedule has instructions";
 const OTHER_PLACE = "at counts performed instructions, and is 1 in the first one's line; conform --sparse skips instructions without a line";
+const UNKNOWN = /^otbench: line (\d+): UnknownWord\n$/;
+const OF_PORT = "is a line of a port: conform wants a line '%%' in front of those";
 const NO_VALUE = "no line has a value that is counted: docs/FORMATS.md, What a port prints";
 
 /* Of this command alone: an engine has one thread, and the second file of `debug` has commands. */
 const ONE_THREAD = 'this engine has one thread: it carries out plans with "workers":1';
 const COMMANDS = "the second file has commands: docs/FORMATS.md, Debugger commands; the lines of a port stand behind --port";
 
-/* What names an instruction, which may stand far down in the output: `complete` says it alone, on standard error. */
+/* What names an instruction, which may stand far down in the output, or refuses a text: `complete` says it alone, on standard error. */
 const stopOf = (serve, schedule) => textOf(serve(["complete"], schedule).errors);
 
-/* The line of what was named in a schedule's text. */
-function lineOf(word, { input, output }, serve) {
-  const mark = markIn(input);
-  const schedule = mark ? input.subarray(0, mark.start) : input;
-  const answer = word === "conform" ? textOf(output) : stopOf(serve, schedule);
+/* The line of what was named in a schedule's text; of a port's line among those of the schedule what is missing. */
+function lineOf(answer, text) {
   const named = namedIn(answer.split("\n"));
-  return named && lineTold(named, textOf(schedule));
+  if (named) return lineTold(named, text);
+  const number = UNKNOWN.exec(answer)?.[1];
+  return number && /^[ \t]*\{/.test(text.split("\n")[number - 1]) ? `line ${number} ${OF_PORT}` : null;
 }
 
 /* What may be wrong with a port's lines, by what conform answered. */
@@ -72,9 +74,10 @@ function asking(kind, word, files) {
 const ofKind = (kind, word, files) => (kind === "lines" ? LINES : `${KINDS[kind]}; in words: ${asking(kind, word, files)}`);
 
 /* How to ask on; `explain` itself has said it. */
-function pointerOf(word, reads, files, { output }) {
-  const told = output.length > 0 ? TOLD_OF_OUTPUT[word] ?? TOLD[word] : TOLD[word];
-  return told && `${told}, in words: ${asking(reads, word, files)}`;
+function pointerOf(word, reads, files, { isRefused, output }) {
+  if (!READERS.has(word)) return null;
+  const told = isRefused ? FAULT : (output.length > 0 && TOLD_OF_OUTPUT[word]) || (TOLD[word] ?? FAULT);
+  return `${told}, in words: ${asking(reads, word, files)}`;
 }
 
 /** Whether the hints are also by what was printed. */
@@ -96,7 +99,12 @@ export function hintsOf(word, { flags, files }, kept, serve) {
   if (kind !== reads) return [ofKind(kind, word, files)];
   if (word === "debug") return files.length === 2 ? [COMMANDS] : [];
   if (word === "threads" && serve(["explain", "--plan"], kept.input).status === 0) return [ONE_THREAD];
-  const line = NAMING.has(word) && reads === "schedule" ? lineOf(word, kept, serve) : null;
+  const mark = markIn(kept.input);
+  const schedule = mark ? kept.input.subarray(0, mark.start) : kept.input;
+  const isNaming = NAMING.has(word) && reads === "schedule";
+  const answer = word === "conform" && output !== "" ? output : isNaming ? stopOf(serve, schedule) : "";
+  const isRefused = reads === "image" ? serve(["dis"], kept.input).status !== 0 : /^otbench: line /.test(answer);
+  const line = isNaming ? lineOf(answer, textOf(schedule)) : null;
   const fault = word === "conform" ? faultOfLines(output.split("\n", 2)) : null;
-  return [line, fault, pointerOf(word, reads, files, kept)].filter(Boolean);
+  return [line, fault, pointerOf(word, reads, files, { isRefused, output })].filter(Boolean);
 }

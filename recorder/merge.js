@@ -12,19 +12,25 @@
 
 import fs from "node:fs";
 import { parseArgs } from "node:util";
-import { decode, readEvents } from "./logs.js";
+import { decode, readEvents, withoutHalf } from "./logs.js";
 import { merge } from "./merging.js";
 
 const USAGE = `usage: node recorder/merge.js [--schedule] LOG ..
 Prints the session of the recorder's logs, of the server and of the clients: its schedule, and behind a line '%%' what the
 participants had; with --schedule the schedule alone.`;
 
-function bytesOf(file) {
+const REASONS = { ENOENT: "there is no such file", EISDIR: "is a folder", EACCES: "cannot be read" };
+
+/* A file's events, and where its last line is half. */
+function readLog(file) {
+  let bytes;
   try {
-    return fs.readFileSync(file);
+    bytes = fs.readFileSync(file);
   } catch (fault) {
-    throw fault.code === "ENOENT" ? new Error(`${file}: there is no such file`) : fault;
+    throw new Error(`${file}: ${REASONS[fault.code] ?? fault.message}`);
   }
+  const { whole, cut } = withoutHalf(bytes, file);
+  return { events: readEvents(decode(whole, file), file), cut };
 }
 
 function main() {
@@ -35,16 +41,18 @@ function main() {
     process.exitCode = 2;
     return;
   }
-  const events = positionals.flatMap((file) => readEvents(decode(bytesOf(file), file), file));
-  const { schedule, lines, notes, fault } = merge(events);
+  const logs = positionals.map(readLog);
+  const { schedule, lines, notes, fault } = merge(logs.flatMap(({ events }) => events), logs.flatMap(({ cut }) => cut ?? []));
   process.stdout.write((values.schedule ? schedule : [...schedule, "%%", ...lines]).join("\n") + "\n");
   for (const note of notes) console.error(`merge: ${note}`);
   if (fault) throw new Error(fault);
 }
 
+/* Of words that are not understood node's message ends with advice, which is for words of any command. */
 function fail(fault) {
-  console.error(`merge: ${fault.message}`);
-  process.exitCode = /^ERR_PARSE_ARGS/.test(fault.code) ? 2 : 1;
+  const isOfWords = /^ERR_PARSE_ARGS/.test(fault.code);
+  console.error(isOfWords ? `merge: ${fault.message.split(". ")[0]}\n${USAGE}` : `merge: ${fault.message}`);
+  process.exitCode = isOfWords ? 2 : 1;
 }
 
 process.stdout.on("error", fail);

@@ -34,9 +34,13 @@ function distance(one, other) {
   return row[other.length];
 }
 
-/** The words nearest to this one, at most three, the nearest first. */
+/** How far a word that is meant may be: a letter in two of the word, or in three where the first one is another, and at most two. */
+const reach = (word, name) => Math.min(2, Math.floor(word.length / (word[0] === name[0] ? 2 : 3)));
+
+/** The words nearest to this one, at most three, the nearest first: those that are within reach, or that it begins with. */
 export function nearest(word, names = NAMES) {
-  const ranked = names.map((name) => ({ name, far: distance(word, name) })).filter(({ far }) => far <= Math.min(2, word.length - 1));
+  const all = names.map((name) => ({ name, far: distance(word, name) }));
+  const ranked = all.filter(({ name, far }) => far <= reach(word, name) || word.startsWith(name));
   return ranked.sort((a, b) => a.far - b.far).slice(0, 3).map(({ name }) => name);
 }
 

@@ -2,37 +2,57 @@
 
 import { readFileSync } from "node:fs";
 import { createInterface } from "node:readline";
-import { nearest } from "./commands.mjs";
+import { setImmediate } from "node:timers/promises";
+import { helpOf, nearest } from "./commands.mjs";
 import { Debugger } from "./debugger.mjs";
+import { reasonOf, writeFaultOf } from "./files.mjs";
 import { nativeProgram } from "./program.mjs";
 import { Recording, RefusedText } from "./recording.mjs";
 
 const USAGE = "usage: otbench debug FILE [--port PORT-LINES]\nSteps through the run of a schedule's text, forth and back. With the lines that a port printed it stops where the port differs.\n";
 
+/** The usage, and the commands at the prompt. */
+const HELP = `${USAGE}\n${helpOf().join("\n")}\n`;
+
 /**
- * A session: prompts where the input is a terminal, and answers each line.
+ * A session: prompts where the input is a terminal, and answers each line. Ends with the first fault of the output, or null.
  * @param {Debugger} session @param {NodeJS.ReadableStream & { isTTY?: boolean }} input @param {NodeJS.WritableStream} output
+ * @returns {Promise<NodeJS.ErrnoException | null>}
  */
 export async function converse(session, input, output) {
-  const say = (lines) => lines.forEach((line) => output.write(`${line}\n`));
-  say(session.greeting());
   const isTerminal = Boolean(input.isTTY);
   const reader = createInterface({ input, output: isTerminal ? output : undefined, terminal: isTerminal, completer: (line) => session.complete(line) });
+  let fault = null;
+  output.on("error", (it) => {
+    fault ??= it;
+    reader.close();
+  });
+  const say = (lines) => lines.forEach((line) => output.write(`${line}\n`));
   const prompt = () => {
     reader.setPrompt(session.prompt);
     if (isTerminal) reader.prompt();
   };
   reader.on("SIGINT", () => {
-    output.write("\n");
+    dropLine(reader);
+    output.write("^C\n");
     prompt();
   });
+  say(session.greeting());
   prompt();
   for await (const line of reader) {
+    if (fault) break;
     say(session.perform(line));
     if (session.isOver) break;
     prompt();
   }
   reader.close();
+  await setImmediate(); // a fault of the last write comes behind it
+  return fault;
+}
+
+/** Takes out what is typed of a line: from its end to its beginning. @param {import("node:readline").Interface} reader */
+function dropLine(reader) {
+  for (const name of ["e", "u"]) reader.write(null, { ctrl: true, name });
 }
 
 /** Words that are not understood, and why; of help nothing. */
@@ -59,18 +79,18 @@ function wordsOf(words) {
   return asked;
 }
 
-/** The file's text, or null, with a line on standard error. */
-function textOf(path) {
+/** The file's bytes, or null, with a line on standard error. */
+function bytesOf(path) {
   try {
-    return readFileSync(path, "utf8");
+    return readFileSync(path);
   } catch (fault) {
-    process.stderr.write(`otbench debug: ${path}: ${fault.code === "ENOENT" ? "there is no such file" : fault.message}\n`);
+    process.stderr.write(`otbench debug: ${reasonOf(path, fault)}\n`);
     return null;
   }
 }
 
 /**
- * The whole command. Answers its status: 0; 1 where a file cannot be read or is refused; 2 where words are not understood.
+ * The whole command. Answers its status: 0; 1 where a file cannot be read or is refused, or the output cannot be written; 2 where words are not understood.
  * @param {string[]} words @param {import("./program.mjs").Ask | null} ask null: the program that the words or OTBENCH name
  */
 export async function debug(words, ask = null) {
@@ -81,15 +101,18 @@ export async function debug(words, ask = null) {
     if (ask === null && asked.program === null) throw new Misunderstood("'--program' or OTBENCH has to name the program");
   } catch (fault) {
     if (!(fault instanceof Misunderstood)) throw fault;
-    process.stderr.write(`${fault.message && `error: ${fault.message}\n`}${USAGE}`);
+    process.stderr.write(fault.message ? `error: ${fault.message}\n${USAGE}` : HELP);
     return 2;
   }
-  const schedule = textOf(asked.file);
-  const port = asked.port === null ? null : textOf(asked.port);
+  const schedule = bytesOf(asked.file);
+  const port = asked.port === null ? null : bytesOf(asked.port);
   if (schedule === null || (asked.port !== null && port === null)) return 1;
   try {
-    await converse(new Debugger(new Recording(ask ?? nativeProgram(asked.program), schedule, port)), process.stdin, process.stdout);
-    return 0;
+    const session = new Debugger(new Recording(ask ?? nativeProgram(asked.program), schedule, port));
+    const fault = await converse(session, process.stdin, process.stdout);
+    if (fault === null) return 0;
+    process.stderr.write(writeFaultOf(fault));
+    return 1;
   } catch (fault) {
     if (!(fault instanceof RefusedText)) throw fault;
     process.stderr.write(fault.message);

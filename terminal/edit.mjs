@@ -3,4 +3,4 @@
 
 import { edit } from "./editing.mjs";
 
-process.exitCode = edit(process.argv.slice(2));
+process.exitCode = await edit(process.argv.slice(2));

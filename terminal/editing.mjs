@@ -1,6 +1,7 @@
 // Writes an edit by the texts that a report names.
 
 import { appendFileSync, readFileSync } from "node:fs";
+import { reasonOf, writeFaultOf, written } from "./files.mjs";
 import { nativeProgram } from "./program.mjs";
 import { Recording, RefusedText } from "./recording.mjs";
 
@@ -9,6 +10,8 @@ export const USAGE = `usage: otbench edit FILE C AT DELETED INSERTED
 Appends to the schedule FILE the edit with which client C deletes the text DELETED at place AT of its document, and inserts INSERTED there.
 AT counts characters (Unicode scalars) from 0. Either text may be empty: ''.
 `;
+
+const LF = "\n".charCodeAt(0);
 
 /** An edit that does not fit the document, and why. */
 export class Misfit extends Error {}
@@ -58,10 +61,10 @@ function faultOf(words) {
 }
 
 /**
- * The whole command. Answers its status: 0; 1 where the file cannot be read or written, is refused, or the edit does not fit; 2 where words are not understood.
+ * The whole command. Answers its status: 0; 1 where the file cannot be read or written, is refused, or the edit does not fit, and where the output cannot be written; 2 where words are not understood.
  * @param {string[]} words @param {import("./program.mjs").Ask | null} ask null: the program that the words or OTBENCH name
  */
-export function edit(words, ask = null) {
+export async function edit(words, ask = null) {
   const named = words[0] === "--program";
   const program = named ? words[1] : process.env.OTBENCH;
   const given = named ? words.slice(2) : words;
@@ -72,14 +75,16 @@ export function edit(words, ask = null) {
     return 2;
   }
   try {
-    const text = readFileSync(file, "utf8");
-    const { line, told } = editOf(new Recording(ask ?? nativeProgram(program), text), Number(client), Number(at), deleted, inserted);
-    appendFileSync(file, `${text === "" || text.endsWith("\n") ? "" : "\n"}${line}\n`);
-    process.stdout.write(`${line}\n${told}\n`);
-    return 0;
+    const schedule = readFileSync(file);
+    const { line, told } = editOf(new Recording(ask ?? nativeProgram(program), schedule), Number(client), Number(at), deleted, inserted);
+    appendFileSync(file, `${[undefined, LF].includes(schedule.at(-1)) ? "" : "\n"}${line}\n`);
+    const fault = await written(process.stdout, `${line}\n${told}\n`);
+    if (fault === null) return 0;
+    process.stderr.write(writeFaultOf(fault));
+    return 1;
   } catch (fault) {
     if (fault instanceof RefusedText) process.stderr.write(fault.message);
-    else if (fault instanceof Misfit || fault.code) process.stderr.write(`otbench edit: ${fault.code === "ENOENT" ? `${file}: there is no such file` : fault.message}\n`);
+    else if (fault instanceof Misfit || fault.code) process.stderr.write(`otbench edit: ${fault.code ? reasonOf(file, fault) : fault.message}\n`);
     else throw fault;
     return 1;
   }

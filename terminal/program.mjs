@@ -4,7 +4,7 @@ import { spawnSync } from "node:child_process";
 
 /**
  * @typedef {{ status: number, output: string, errors: string }} Answer
- * @typedef {(words: string[], text: string) => Answer} Ask
+ * @typedef {(words: string[], text: string | Uint8Array) => Answer} Ask
  */
 
 /**

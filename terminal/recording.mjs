@@ -41,7 +41,7 @@ function differenceIn(answer, instructions) {
 /** What conform says of a port: where it differs, { place, number, line, answer } or null; and whether it shows nothing, so that no value was compared. */
 function conformOf(ask, schedule, port, instructions) {
   if (port === null) return { difference: null, showsNothing: false };
-  const { output, errors } = ask(["conform"], `${schedule.replace(/\n?$/, "\n")}%%\n${port}`);
+  const { output, errors } = ask(["conform"], Buffer.concat([Buffer.from(schedule.replace(/\n?$/, "\n%%\n")), Buffer.from(port)]));
   if (errors) throw new RefusedText(errors);
   const difference = output.startsWith("differs at ") ? differenceIn(withoutCut(output).trimEnd(), instructions) : null;
   return { difference, showsNothing: output.startsWith("nothing counted\n") };
@@ -51,12 +51,13 @@ function conformOf(ask, schedule, port, instructions) {
 export class Recording {
   /**
    * @param {import("./program.mjs").Ask} ask
-   * @param {string} schedule the text of a schedule
-   * @param {string | null} port the lines that a port printed, if there are some
+   * @param {string | Uint8Array} text of a schedule; bytes that are no UTF-8 are refused
+   * @param {string | Uint8Array | null} port the lines that a port printed, if there are some
    */
-  constructor(ask, schedule, port = null) {
-    const told = ask(["explain"], schedule);
+  constructor(ask, text, port = null) {
+    const told = ask(["explain"], text);
     if (told.errors) throw new RefusedText(told.errors);
+    const schedule = Buffer.from(text).toString();
     this.instructions = instructionsOf(told.output);
     Object.assign(this, commentsOf(schedule)); // names and cut
     this.opening = told.output.split("\n", 1)[0];

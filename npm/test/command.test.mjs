@@ -59,6 +59,8 @@ test("files that are not there, are folders, or are too many", () => {
   assert.deepEqual(call(["conform", file("w.ots", WEAK), "none"]), [1, "", "otbench: none: there is no such file\n"]);
   assert.deepEqual(call(["view", "none.ots"]), [1, "", "otbench: none.ots: there is no such file\n"]);
   assert.deepEqual(call(["run", "."]), [1, "", "otbench: .: is a folder\n"]);
+  assert.deepEqual(call(["debug", "."]), [1, "", "otbench debug: .: is a folder\n"]);
+  assert.deepEqual(call(["edit", ".", "0", "0", "", "a"]), [1, "", "otbench edit: .: is a folder\n"]);
   const [status, , errors] = call(["run", "a", "b"]);
   assert.equal(status, 2);
   assert.match(errors, /^error: unexpected argument 'b' found\n/);
@@ -100,6 +102,11 @@ test("help on the output with status 0, --help as the program has it, and the ve
     assert.deepEqual(call(["view", ...words]), [2, "", said + call(["help", "view"])[1]]);
   const { version } = JSON.parse(fs.readFileSync(new URL("../package.json", import.meta.url)));
   for (const word of ["version", "--version", "-V", "-v"]) assert.deepEqual(call([word]), [0, `otbench ${version} (no release, not proved)\n`, ""]);
+});
+
+test("the help of both debuggers", () => {
+  assert.match(call(["help", "debug"])[1], /^(?!usage)[^]*\nAt a terminal 'otbench debug SCHEDULE \[--port LINES\]' has other commands: /);
+  for (const words of [["w.ots", "--help"], ["w.ots", "--port", "x", "-h"]]) assert.match(call(["debug", ...words])[2], /^usage: otbench debug FILE [^]*\n\nstep +performs one instruction, or N\n[^]*\nuntil /);
 });
 
 test("view: the viewer's page with the lines, as viewer/view writes it", { skip: NATIVE === null && "no native program" }, () => {
@@ -170,7 +177,7 @@ test("answers come before the input ends", async () => {
   assert.equal(await new Promise((resolve) => child.on("exit", resolve)), 0);
 });
 
-test("an output that nobody reads any more, and a full disk: status 1, and nothing is said", { skip: process.platform !== "linux" }, () => {
+test("an output that nobody reads any more, and a full disk: status 1; of the latter only what the program does not print says so", { skip: process.platform !== "linux" }, () => {
   const session = path.join(folder, file("long.ots", LONG));
   const sh = (script) => {
     const { stdout, stderr } = spawnSync("sh", ["-c", script, process.execPath, COMMAND, session], { encoding: "utf8" });
@@ -180,7 +187,12 @@ test("an output that nobody reads any more, and a full disk: status 1, and nothi
   assert.deepEqual(sh('status=0; "$0" "$1" steps "$2" >/dev/full || status=$?; echo $status'), ["1\n", ""]);
   assert.deepEqual(sh('status=0; "$0" "$1" run none.ots 2>/dev/full || status=$?; echo $status'), ["1\n", ""]);
   assert.deepEqual(sh('status=0; "$0" "$1" view "$2" >/dev/full || status=$?; echo $status'), ["1\n", "otbench: WriteFault\n"]);
-  assert.deepEqual(sh('status=0; "$0" "$1" help >/dev/full || status=$?; echo $status'), ["1\n", ""]);
+  for (const words of ["help", "version", "help edit", "debug $2", "edit $2 0 0 '' a"])
+    assert.deepEqual(sh(`status=0; "$0" "$1" ${words.replace("$2", '"$2"')} >/dev/full </dev/null || status=$?; echo $status`), ["1\n", "otbench: WriteFault\n"], words);
+  const [shown, status] = sh('(status=0; "$0" "$1" view "$2" || status=$?; echo $status >&2) | head -c 5');
+  assert.deepEqual([shown.length, status], [5, "1\n"]);
+  const typed = '(status=0; yes step | head -n 20000 | "$0" "$1" debug "$2" || status=$?; echo $status >&2) | head -n 1';
+  assert.match(sh(typed).join(""), /^the opening: [^\n]*\n1\n$/);
 });
 
 /* Words and an input, of every subcommand. */

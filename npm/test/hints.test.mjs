@@ -40,7 +40,7 @@ test("of a refused instruction its line, and how to ask explain", () => {
     assert.deepEqual(hints(word, [], [], TWICE), [line, "what happened, in words: give the schedule to otbench explain"]);
   }
   assert.deepEqual(hints("asm", [], ["a.ots"], "clients\n"), ["where the fault is, in words: otbench explain a.ots"]);
-  assert.deepEqual(hints("run", [], ["a.ots"], "clients\n"), ["what happened, in words: otbench explain a.ots"]);
+  for (const word of ["run", "check", "steps", "complete"]) assert.deepEqual(hints(word, [], ["a.ots"], "clients\n"), ["where the fault is, in words: otbench explain a.ots"]);
   assert.deepEqual(hints("conform", [], ["a.ots", "b"], "clients\n%%\n"), ["where the fault is, in words: otbench explain a.ots"]);
   assert.deepEqual(hints("explain", [], ["a.ots"], "clients\n"), []);
 });
@@ -60,6 +60,15 @@ test("of lines that are none of a port what may be wrong", () => {
   const all = '{"at":1}\n{"at":2}\n{"at":2,"stopped":"x"}\n';
   for (const more of ['{"at":3}\n', '{"at":2,"end":"not quiet"}\n{"at":3}\n']) assert.equal(ofLines(all + more)[1], "the port has more lines than the schedule has instructions", more);
   assert.deepEqual(ofLines(all), ["no line has a value that is counted: docs/FORMATS.md, What a port prints", THERE]);
+});
+
+test("of a port's line in the schedule that a line %% is missing", () => {
+  const where = "where the fault is, in words: ";
+  const said = "line 6 is a line of a port: conform wants a line '%%' in front of those";
+  for (const line of ['{"at":1}', ' \t{"at":1}']) assert.deepEqual(hints("conform", [], ["a"], `${TWICE}${line}\n`), [said, `${where}give the schedule to otbench explain`]);
+  assert.deepEqual(hints("conform", [], ["a", "b"], `${TWICE}{"at":1}\n%%\n{"at":1}\n`), [said, `${where}otbench explain a`]);
+  assert.deepEqual(hints("run", [], ["a"], `${TWICE}{"at":1}\n`), [said, `${where}otbench explain a`]);
+  assert.deepEqual(hints("conform", [], [], `${TWICE}edti 0 {}\n{"at":1}\n`), [`${where}give the schedule to otbench explain`]);
 });
 
 const IMAGE = fs.readFileSync(`${TOP}examples/late-join.img`);
@@ -89,7 +98,9 @@ test("of images, traces and plans how to ask explain", () => {
   const fault = "where the fault is, in words: ";
   assert.deepEqual(hints("dis", [], ["a.img"], "OTS2"), [`${fault}otbench explain --image a.img`]);
   assert.deepEqual(hints("dis", [], [], "OTS2"), [`${fault}give the image to otbench explain --image`]);
-  assert.deepEqual(hints("run", ["--image"], ["a.img"], "OTS2"), ["what happened, in words: otbench explain --image a.img"]);
+  assert.deepEqual(hints("run", ["--image"], ["a.img"], "OTS2"), [`${fault}otbench explain --image a.img`]);
+  const stopped = serve(["asm"], Buffer.from(TWICE)).output;
+  assert.deepEqual(hints("run", ["--image"], ["a.img"], stopped), ["what happened, in words: otbench explain --image a.img"]);
   assert.deepEqual(hints("judge", [], [], "{}"), [`${fault}give the trace to otbench explain --trace`]);
   assert.deepEqual(hints("judge", [], ["a.json"], "{}"), [`${fault}otbench explain --trace a.json`]);
   assert.deepEqual(hints("judge", [], ["a.json"], example("reversed.json")), ["what the verdict says, in words: otbench explain --trace a.json"]);
@@ -146,6 +157,7 @@ test("./otbench says the same", () => {
   const lines = ["", '{"at":1}\n', "hello\n", '{"at":0,"do":"edit"}\n', '{"at":1}\n{"at":2}\n{"at":2,"stopped":"x"}\n', '{"at":1}\n{"at":2}\n{"at":2,"stopped":"x"}\n{"at":3}\n'];
   const ofPorts = lines.flatMap(ofLines).filter((hint) => !hint.startsWith("place ") && hint !== THERE);
   assert.equal(ofPorts.length, 6);
+  assert.ok(wrapper.includes(" is a line of a port: conform wants a line '%%' in front of those\""));
   const kinds = Object.values(KINDS).map(([, said]) => said.split("; in words")[0]);
   const told = ["what happened", "where the fault is", "what the verdict says", "what ot.js does there"];
   for (const hint of [...ofPorts, ...kinds, ...told]) assert.ok(wrapper.includes(`"${hint}"`), hint);

@@ -389,13 +389,38 @@ test("the command line", () => {
   assert.match(call(file).stderr, /^merge: the log of .* has no event 0\n$/);
   fs.writeFileSync(file, log.split("\n").find((line) => JSON.parse(line).role === "server"));
   assert.deepEqual([call("--schedule", file).status, call(file).stdout, call(file).stderr], [1, "", "merge: no log is a client's\n"]);
-  fs.writeFileSync(file, Buffer.concat([Buffer.from(`${log}\n`), Buffer.from([0xe9])]));
+  fs.writeFileSync(file, Buffer.concat([Buffer.from(`${log}\n`), Buffer.from([0xe9, 0x0a])]));
   assert.deepEqual([call(file).status, call(file).stdout], [1, ""]);
   assert.match(call(file).stderr, /^merge: .*session\.log, line \d+ is no UTF-8\n$/);
   fs.rmSync(folder, { recursive: true });
 });
 
-test("a log that is not there is named", () => {
+test("a log whose last line is half is merged up to there", () => {
+  const folder = fs.mkdtempSync(path.join(os.tmpdir(), "otbench-merge-"));
+  const file = path.join(folder, "session.log");
+  const { log } = liveSession({ seed: 1 });
+  const { schedule } = mergeText(log);
+  const count = log.trimEnd().split("\n").length;
+  for (const half of [Buffer.from('{"who":"ann","n":'), Buffer.from([0x7b, 0x22, 0xf0, 0x9f])]) {
+    fs.writeFileSync(file, Buffer.concat([Buffer.from(`${log.trimEnd()}\n`), half]));
+    const said = `${file}, line ${count + 1} is half: the log is cut there`;
+    const { status, stdout, stderr } = call("--schedule", file);
+    assert.deepEqual([status, stderr], [1, `merge: ${said}\n`]);
+    assert.equal(stdout, [...schedule, `; cut: ${JSON.stringify(said)}`, ""].join("\n"));
+  }
+  fs.writeFileSync(file, log.trimEnd().slice(0, -9));
+  const cut = call(file);
+  assert.match(cut.stderr, new RegExp(`; ${file}, line ${count} is half: the log is cut there\n$|^merge: ${file}, line ${count} is half: `));
+  assert.deepEqual(JSON.parse(cut.stdout.trimEnd().split("\n").at(-1)), { cut: cut.stderr.slice("merge: ".length).trimEnd() });
+  fs.writeFileSync(file, log.trimEnd()); // the last line is whole
+  assert.deepEqual([call(file).status, call(file).stderr], [0, ""]);
+  fs.writeFileSync(file, "{");
+  assert.equal(call(file).stderr, `merge: ${file}, line 1 is no JSON: is the log cut?\n`);
+  fs.rmSync(folder, { recursive: true });
+});
+
+test("a log that is not there, or is a folder, is named", () => {
+  assert.deepEqual([call("/").status, call("/").stderr], [1, "merge: /: is a folder\n"]);
   assert.deepEqual([call("none.log").status, call("none.log").stderr], [1, "merge: none.log: there is no such file\n"]);
 });
 
@@ -407,7 +432,7 @@ test("words that are not understood, and help, are answered by the usage", () =>
   }
   const { status, stderr } = call("--shedule", "session.log");
   assert.equal(status, 2);
-  assert.match(stderr, /^merge: Unknown option '--shedule'/);
+  assert.match(stderr, /^merge: Unknown option '--shedule'\nusage: /);
 });
 
 test("an output that cannot be written is named in a line", { skip: !fs.existsSync("/dev/full") }, () => {

@@ -23,8 +23,10 @@ function answers(lines, schedule = WEAK, port = null) {
 test("first letters name a command, and an unknown word is answered with the nearest ones", () => {
   assert.deepEqual(["s", "st", "n", "b", "ba", "r", "rr", "u", "l", "sh", "e", "g", "w", "q"].map((word) => commandOf(word).name), ["step", "step", "next", "back", "back", "run", "rrun", "until", "list", "show", "explain", "goto", "watch", "quit"]);
   assert.equal(commandOf("stpe").fault, "there is no stpe; nearest: step");
-  assert.equal(commandOf("wach").fault, "there is no wach; nearest: watch, back");
-  assert.equal(commandOf("continue").fault, "there is no continue; help lists all words");
+  assert.equal(commandOf("wach").fault, "there is no wach; nearest: watch");
+  assert.equal(commandOf("backwards").fault, "there is no backwards; nearest: back");
+  assert.deepEqual(["oto", "qit", "hlep", "unitl", "steps"].map((word) => nearest(word)[0]), ["goto", "quit", "help", "until", "step"]);
+  for (const word of ["continue", "foo", "bar", "exit", "rat"]) assert.equal(commandOf(word).fault, `there is no ${word}; help lists all words`);
   assert.deepEqual(nearest("x"), []);
 });
 
@@ -90,7 +92,7 @@ test("show has documents, states, pending operations and links", options, () => 
     '  outstanding ["c",1]',
     '  from the server: ack, [2,"z"]',
     'server rev 2 "cxz"',
-    "not quiet: client 0 is awaiting-with-buffer",
+    "not quiet: client 0 is awaiting-with-buffer; 1 more client is not quiet",
   ]);
   assert.equal(one.split("\n")[0], 'client 1 rev 0 awaiting-confirm "cx"');
   assert.equal(server.split("\n")[0], 'server rev 2 "cxz"');
@@ -151,6 +153,20 @@ test("a refused instruction ends the run with its reason", options, () => {
 
 test("a refused text is answered as explain answers it", options, () => {
   assert.throws(() => new Recording(ask, "clients 1\nedti 0 []\n"), (fault) => fault instanceof RefusedText && fault.message.startsWith("otbench: line 2: UnknownWord\n  column 1: "));
+});
+
+test("of an end that is not quiet the first client is named, and how many more there are", options, () => {
+  const ended = (clients) => answers(["run"], `clients ${clients}\nedit 0 ["a"]\ntake 0\nack 0\n`)[0].split("\n").at(-1);
+  assert.equal(ended(1), "the end: quiet");
+  assert.equal(ended(2), "the end: not quiet: 1 message is under way to client 1");
+  assert.equal(ended(3), "the end: not quiet: 1 message is under way to client 1; 1 more client is not quiet");
+  assert.equal(ended(4), "the end: not quiet: 1 message is under way to client 1; 2 more clients are not quiet");
+});
+
+test("bytes that are no UTF-8 are refused as the program refuses them, and of a port are a difference", options, () => {
+  const bytes = Buffer.from('clients 1\nstart "\xff"\n', "latin1");
+  assert.throws(() => new Recording(ask, bytes), (fault) => fault instanceof RefusedText && fault.message.startsWith("otbench: line 2: BadText\n"));
+  assert.match(answers(["run"], "clients 1\nread 0\n", Buffer.from('{"at":1,"document":"\xff"}\n', "latin1"))[0], /\ndiffers at 1: read 0: line\n/);
 });
 
 test("words that do not fit are complained of, and the session goes on", options, () => {

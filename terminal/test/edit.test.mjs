@@ -55,6 +55,38 @@ test("where it does not fit the file stays as it is", options, () => {
   assert.equal(edited(text, "0", "zero", "", "a").status, 2);
 });
 
+test("a schedule that is no UTF-8 is refused, and stays as it is", options, () => {
+  const { status, errors, now } = edited(Buffer.from('clients 1\nstart "\xff"\n', "latin1"), "0", "0", "", "a");
+  assert.equal(status, 1);
+  assert.match(errors, /^otbench: line 2: BadText\n/);
+  assert.equal(now, 'clients 1\nstart "\ufffd"\n');
+});
+
+/* What a shell makes of a script of this folder, with these words behind `node SCRIPT`: status and standard error, output and all. */
+function shell(call) {
+  const env = { ...process.env, OTBENCH: PROGRAM, SCRIPTS: path.dirname(SCRIPT), SCHEDULE: WEAK };
+  return spawnSync("sh", ["-c", call], { encoding: "utf8", env });
+}
+
+const WEAK = fileURLToPath(new URL("../../examples/weak-order.ots", import.meta.url));
+
+test("a folder is called one", options, () => {
+  assert.equal(shell('node "$SCRIPTS/debug.mjs" / </dev/null').stderr, "otbench debug: /: is a folder\n");
+  assert.equal(shell('node "$SCRIPTS/debug.mjs" "$SCHEDULE" --port / </dev/null').stderr, "otbench debug: /: is a folder\n");
+  assert.equal(shell('node "$SCRIPTS/edit.mjs" / 0 0 "" a').stderr, "otbench edit: /: is a folder\n");
+});
+
+test("an output that nobody reads any more ends the debugger, and of a full disk it is said", { skip: options.skip || process.platform !== "linux" }, () => {
+  const cut = shell('(yes step | head -n 20000 | node "$SCRIPTS/debug.mjs" "$SCHEDULE" || echo $? >&2) | head -n 1');
+  assert.deepEqual([cut.stdout.split("\n").length, cut.stderr], [2, "1\n"]);
+  for (const input of ["/dev/null", '"$SCHEDULE"']) {
+    const full = shell(`node "$SCRIPTS/debug.mjs" "$SCHEDULE" <${input} >/dev/full`);
+    assert.deepEqual([full.status, full.stderr], [1, "otbench: WriteFault\n"]);
+  }
+  const appended = shell('cp "$SCHEDULE" "$0"; node "$SCRIPTS/edit.mjs" "$0" 0 0 "" a >/dev/full; echo $?; rm "$0"'.replaceAll("$0", path.join(tmpdir(), `edit-${process.pid}.ots`)));
+  assert.deepEqual([appended.stdout, appended.stderr], ["1\n", "otbench: WriteFault\n"]);
+});
+
 test("words that are not understood are named", () => {
   const call = (script, ...words) => {
     const { status, stderr } = spawnSync(process.execPath, [SCRIPT.replace("edit.mjs", script), ...words], { encoding: "utf8", env: { ...process.env, OTBENCH: PROGRAM } });
@@ -77,7 +109,7 @@ test("words that are not understood are named", () => {
   for (const [words, said] of rows) assert.deepEqual(call(...words), [2, said]);
   for (const words of [["edit.mjs", "--help"], ["debug.mjs", "-h"], ["debug.mjs", "a.ots", "--help"]]) {
     const { status, stderr } = spawnSync(process.execPath, [SCRIPT.replace("edit.mjs", words[0]), ...words.slice(1)], { encoding: "utf8" });
-    assert.match(stderr, /^usage: /);
+    assert.match(stderr, words[0] === "debug.mjs" ? /^usage: [^]*\n\nstep +performs one instruction, or N\n[^]*\nquit / : /^usage: /);
     assert.equal(status, 2);
   }
 });

@@ -90,6 +90,14 @@ class Debugging(unittest.TestCase):
         self.assertIn("before line 11, instruction 6: deliver 0", shown)
         self.assertIn('client 0 doc: "az" -> "acz"', shown)
 
+    def test_the_key_that_interrupts_drops_the_line(self):
+        """Wherever the cursor stands in it."""
+        terminal = self.start(str(TOP / "examples/two-clients.ots"))
+        for typed in ("goto 5", "goto 5\x1b[D\x1b[D", ""):
+            terminal.type(f"{typed}\x03", r"\^C\r\n\(\d/8\) $")
+            self.assertNotIn("no place", terminal.type("step\r", r"behind line[^\r]*\r\n[^\r]*\r\n\(\d/8\) $"))
+        self.assertIn("behind line", terminal.type("\r", r"\(4/8\) $"))
+
     def test_history_completion_and_the_end(self):
         terminal = self.start(str(TOP / "examples/two-clients.ots"))
         terminal.type("ste\t\r", r"\(1/8\) $")

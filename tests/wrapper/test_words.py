@@ -107,6 +107,7 @@ class Words(unittest.TestCase):
             self.assertIn(word, added)
         self.table([
             (["help", "run"], "", (0, "Usage: otbench run\n", "")),
+            (["help", "debug"], "", (0, "Usage: otbench debug\n\nAt a terminal './otbench debug FILE [--port PORT-LINES]' has other commands: './otbench debug FILE --help' lists them.\n", "")),
             (["help", "nosuch"], "", (2, "", "error: unrecognized subcommand 'nosuch'\n")),
         ])
 
@@ -191,7 +192,11 @@ class Terminal(unittest.TestCase):
                 for streams in ((0, 1), (0, 2), (0,)):
                     status, shown, others = self.run_on_terminal(*words, terminal=streams, FAKE_STATUS="1")
                     self.assertNotIn("otbench:", shown + others)
-        self.assertEqual(self.run_on_terminal("steps", "/dev/null")[1], f"otbench: line 1: NoClients\n{happened}{program} explain /dev/null\n")
+        self.assertEqual(self.run_on_terminal("steps", "/dev/null")[1], f"otbench: line 1: NoClients\n{fault}{program} explain /dev/null\n")
+        for word in ("run", "check", "steps", "complete"):
+            self.assertEqual(self.run_on_terminal(word, "a.ots", FAKE_FAULT="line 1: Extra")[1], f"otbench: line 1: Extra\n{fault}{program} explain a.ots\n", word)
+        self.assertEqual(self.run_on_terminal("run", "--image", "an.img", FAKE_FAULT="byte 4: Cut")[1], f"otbench: byte 4: Cut\n{fault}{program} explain --image an.img\n")
+        self.assertEqual(self.run_on_terminal("complete", "a.ots", FAKE_FAULT="TooMany")[1], f"otbench: TooMany\n{happened}{program} explain a.ots\n")
         for status in (0, 2):
             self.assertNotIn("otbench:", self.run_on_terminal("run", "a.ots", FAKE_STATUS=str(status))[1])
         self.assertEqual(self.run_on_terminal("judge", "trace", FAKE_FAULT="BadShape")[:2], (1, f"otbench: BadShape\n{fault}{program} explain --trace trace\n"))
@@ -229,6 +234,16 @@ class Terminal(unittest.TestCase):
         for answer in ("differs at 1: edit 0: edit\nfound [1]\not.js [2]\nnote: line", "differs at 1: read 0: client 0 document\nfound \": at\"\not.js \"\""):
             self.assertEqual(len(self.said_on_terminal("conform", "a.ots", "port", FAKE_ANSWER=answer).splitlines()), 1, answer)
 
+    def test_a_line_of_a_port_in_the_schedule(self):
+        self.tree.has_proved()
+        self.tree.put("both", 'clients 1\n \t{"at":0}\nedti {}\n')
+        hint = "otbench: line 2 is a line of a port: conform wants a line '%%' in front of those\n"
+        for words in (["conform", "both"], ["conform", "both", "port"], ["run", "both"]):
+            shown = self.run_on_terminal(*words, FAKE_FAULT="line 2: UnknownWord")[1]
+            self.assertTrue(shown.startswith(f"otbench: line 2: UnknownWord\n{hint}otbench: where the fault is, in words: "), shown)
+        for fault in ("line 1: UnknownWord", "line 3: UnknownWord", "line 2: Extra"):
+            self.assertNotIn("a line of a port", self.run_on_terminal("conform", "both", FAKE_FAULT=fault)[1])
+
     def said_on_terminal(self, *words, **how):
         shown = self.run_on_terminal(*words, FAKE_STATUS="1", **how)[1]
         return "".join(line for line in shown.splitlines(True) if line.startswith("otbench: ") and "NoClients" not in line)
@@ -241,8 +256,9 @@ class Terminal(unittest.TestCase):
         explain = f"{self.tree.top / 'otbench'} explain"
         stopped = f"otbench: instruction 1 is line 7: edit 0\notbench: what happened, in words: {explain} told\n"
         for word in ("run", "check", "steps", "complete"):
-            self.assertEqual(self.said_on_terminal(word, "told"), stopped, word)
-            self.assertEqual(self.said_on_terminal(word, terminal=(1, 2), given=told), stopped.replace(f"{explain} told", f"give the schedule to {explain}"), word)
+            wanted = stopped.replace("what happened", "where the fault is") if word == "steps" else stopped  # the `steps` that stands here refuses the text
+            self.assertEqual(self.said_on_terminal(word, "told"), wanted, word)
+            self.assertEqual(self.said_on_terminal(word, terminal=(1, 2), given=told), wanted.replace(f"{explain} told", f"give the schedule to {explain}"), word)
             self.assertEqual(self.said_on_terminal(word, "told", terminal=(0, 1)) + self.said_on_terminal(word, "told", terminal=(0, 2)), "", word)
         self.assertNotIn("line 7", self.said_on_terminal("run", "--image", "told") + self.said_on_terminal("asm", "told"))
         rows = [

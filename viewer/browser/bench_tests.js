@@ -172,10 +172,14 @@ export function testIn(name, openBrowser) {
       await user.press("Control+End");
       await page.type("edit 1 [2,");
       await user.until('/^line 12, column 1\\d: BadOperation/.test(document.getElementById("to-fault").textContent)', "the fault");
+      assert.match(await user.text("#verdict"), /^the text before: ends /);
+      assert.equal(await user.run('document.getElementById("verdict").className'), "verdict ");
+      assert.equal(await user.run('getComputedStyle(document.getElementById("time")).opacity'), "0.5");
       assert.equal(await user.text("#marks .bad mark"), " ");
       assert.equal(await user.run('document.querySelector("#numbers .bad").textContent'), "12");
       await page.type('"c"]');
       await user.until('document.getElementById("to-fault").hidden', "no fault");
+      assert.match(await user.text("#verdict"), /^ends /);
       await user.settled(9);
       assert.deepEqual(await user.documents(), ["ba", "ba", "bac"]);
       await user.press("ArrowUp", "ArrowUp");

@@ -39,14 +39,20 @@ export function headsAt(session, client, place) {
 export const receiptsIn = (instructions, client) =>
   instructions.filter((instruction) => instruction === `deliver ${client}` || instruction === `ack ${client}`).length;
 
-/* "quiet", or the first thing that is under way. A client whose message is under way to the server awaits a confirmation. */
+/* What of a client is under way at a place, or null. One whose message is under way to the server awaits a confirmation. */
+function openOf(session, client, place) {
+  const { state } = stateAt(session, client, place);
+  if (state === "not-joined") return null;
+  if (state !== "synchronized") return `client ${client} is ${state}`;
+  const { from, to } = downAt(session, client, place);
+  return from < to ? `${to - from} message${to - from > 1 ? "s are" : " is"} under way to client ${client}` : null;
+}
+
+/* "quiet", or the first thing that is under way, and of how many more clients something is. */
 export function quietAt(session, place) {
-  for (let client = 0; client < session.clients; client++) {
-    const { state } = stateAt(session, client, place);
-    if (state === "not-joined") continue;
-    if (state !== "synchronized") return `not quiet: client ${client} is ${state}`;
-    const { from, to } = downAt(session, client, place);
-    if (from < to) return `not quiet: ${to - from} message${to - from > 1 ? "s are" : " is"} under way to client ${client}`;
-  }
-  return "quiet";
+  const all = Array.from({ length: session.clients }, (_, client) => openOf(session, client, place));
+  const [first, ...more] = all.filter((open) => open !== null);
+  if (first === undefined) return "quiet";
+  const others = more.length === 0 ? "" : `; ${more.length} more client${more.length > 1 ? "s are" : " is"} not quiet`;
+  return `not quiet: ${first}${others}`;
 }

@@ -10,7 +10,7 @@ import { quietAt } from "./places.mjs";
 import { isAnswered, shownPlace } from "./state.mjs";
 import { variablesOf } from "./theme.mjs";
 import { Timeline } from "./timeline.mjs";
-import { apart, escapeMarkup, instructionOf, nameOfMember, seen, sentence, valueMarkup } from "./words.mjs";
+import { apart, escapeMarkup, instructionOf, nameOfMember, seen, sentence, valueMarkup, verdictOn } from "./words.mjs";
 
 /** Of a session of so many instructions, above how many milliseconds of the engine's the page says that the picture comes later. */
 const LONG = 1000;
@@ -48,6 +48,7 @@ export function show(state, { canPlay, isOther, isTyped, sheet }) {
   element("starting").hidden = element("empty").hidden = true;
   element("header").hidden = element("main").hidden = false;
   document.body.classList.toggle("long", session.length >= LONG);
+  document.body.classList.toggle("of-text-before", state.fault !== null);
   const view = viewOf(state, canPlay);
   showHeader(state, view);
   if (!isPictured(state, view, isOther)) {
@@ -119,9 +120,10 @@ function showVerdicts(state) {
   const end = session.end === null ? "no end line" : `ends ${session.end}`;
   const [quiet = "", list = ""] = verdicts.filter((line) => !line.startsWith("stopped"));
   const more = quiet.startsWith("not quiet: ") ? ` (${quiet.slice(11)})` : "";
-  setText("stop", stop);
+  const { front, look } = verdictOn(state);
+  setText("stop", front + stop);
   setText("end", end + more);
-  element("verdict").className = `verdict ${session.stop ? "bad" : session.end === "quiet" ? "good" : ""}`;
+  element("verdict").className = `verdict ${look}`;
   const lists = { holds: "the weak list property holds", "trace full": "too long to judge its lists" };
   element("list-verdict").hidden = list === "";
   setVerdict("list-verdict", lists[list] ?? list, list === "holds" ? "good" : "");

@@ -141,3 +141,9 @@ const PHRASES = {
   read: (session, { line }) => `shows ${textMarkup(line.document)}`,
   "read-server": (session, { line }) => `shows ${textMarkup(line.document)}`,
 };
+
+/** How the verdict on a session's end looks, and what stands in front of it: of a text with a fault the picture is that of the text before. */
+export function verdictOn({ session, fault }) {
+  if (fault) return { front: "the text before: ", look: "" };
+  return { front: "", look: session.stop ? "bad" : session.end === "quiet" ? "good" : "" };
+}

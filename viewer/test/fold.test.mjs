@@ -76,8 +76,8 @@ test("states and links", () => {
   assert.deepEqual(downAt(session, 1, 7), { from: 0, to: 2 });
   assert.deepEqual(downAt(session, 0, 7), { from: 1, to: 2 });
   assert.equal(logLengthAt(session, 4), 0);
-  assert.equal(quietAt(session, 7), "not quiet: client 0 is awaiting-with-buffer");
-  assert.equal(quietAt(session, 11), "not quiet: client 0 is awaiting-confirm");
+  assert.equal(quietAt(session, 7), "not quiet: client 0 is awaiting-with-buffer; 1 more client is not quiet");
+  assert.equal(quietAt(session, 11), "not quiet: client 0 is awaiting-confirm; 1 more client is not quiet");
   assert.equal(quietAt(session, 13), "quiet");
 });
 
@@ -96,7 +96,7 @@ test("a refused instruction and the end", () => {
   assert.equal(session.length, 2);
   assert.deepEqual([session.stop.at, session.stop.do, session.stop.client], [2, "deliver", 0]);
   assert.equal(session.end, "not quiet");
-  assert.equal(quietAt(session, 2), "not quiet: client 0 is awaiting-confirm");
+  assert.equal(quietAt(session, 2), "not quiet: client 0 is awaiting-confirm; 1 more client is not quiet");
   assert.equal(quietAt(session, 0), "quiet");
 });
 

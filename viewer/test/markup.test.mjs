@@ -9,7 +9,7 @@ import { picture } from "../src/diagram.mjs";
 import { SERVER, fold } from "../src/fold.mjs";
 import { layoutOf, rowCount } from "../src/layout.mjs";
 import { Port } from "../src/port.mjs";
-import { apart, operationText, quoted, seen, sentence } from "../src/words.mjs";
+import { apart, operationText, quoted, seen, sentence, verdictOn } from "../src/words.mjs";
 import { example, linesOf, portLinesOf, seededSchedule } from "./sessions.mjs";
 
 const ENTITIES = { "&lt;": "<", "&gt;": ">", "&quot;": '"', "&amp;": "&" };
@@ -101,6 +101,14 @@ test("the end has the colour of success where no instruction was refused", () =>
   };
   assert.equal(end([]), "#15763a");
   assert.equal(end(['{"at":0,"do":"edit","client":0,"edit":[3,"a"],"stopped":"BadBase"}']), "#5f6875");
+});
+
+test("of a text with a fault the verdict is that on the text before, and without a colour", () => {
+  const session = weakOrder();
+  assert.deepEqual(verdictOn({ session, fault: null }), { front: "", look: "good" });
+  assert.deepEqual(verdictOn({ session: { ...session, stop: { at: 1 } }, fault: null }), { front: "", look: "bad" });
+  assert.deepEqual(verdictOn({ session: { ...session, end: "not quiet" }, fault: null }), { front: "", look: "" });
+  assert.deepEqual(verdictOn({ session, fault: { line: 1, column: 1, kind: "NoClients", cause: "" } }), { front: "the text before: ", look: "" });
 });
 
 test("in a narrow window lanes are seen whole, as many as have room for their heads", () => {
