@@ -2,6 +2,7 @@
 import argparse
 import difflib
 import os
+import pathlib
 import re
 import shutil
 
@@ -51,9 +52,11 @@ def to_write(text):
 
 
 def to_read(text):
-    """A file or a folder that is there."""
+    """A file, or a folder with schedules, that is there."""
     if not os.path.exists(text):
         raise argparse.ArgumentTypeError(f"invalid value '{text}': it is not there")
+    if os.path.isdir(text) and not any(pathlib.Path(text).glob("*.ots")):
+        raise argparse.ArgumentTypeError(f"invalid value '{text}': the folder has no schedules, files *.ots")
     return text
 
 

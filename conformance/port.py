@@ -7,6 +7,8 @@ import subprocess
 import tempfile
 import time
 
+from errors import telling
+
 ENDED = "the driver was ended: it"  # how what is said of a driver begins that took too long or printed too much
 MARK = b"%%\n"  # the line that ends a session where a process is given several
 MARKED = re.compile(rb"(?:^|(?<=\n))%%\r?\n\Z")  # and the one that ends what it prints of it
@@ -193,6 +195,6 @@ def how_ended(status):
 
 
 def said_of(trouble, errors):
-    """What is said of a driver, with the last line of its standard error."""
-    said = errors.decode("utf-8", "replace").strip().split("\n")[-1]
-    return f"{trouble}: {said}" if trouble and said else trouble
+    """What is said of a driver, with the line of its standard error that says most."""
+    said = telling(errors.decode("utf-8", "replace")) if trouble else ""
+    return f"{trouble}: {said}" if said else trouble

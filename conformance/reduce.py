@@ -41,7 +41,7 @@ def repaired(schedule):
 def size(schedule):
     """What reducing makes less: instructions, then clients, components, characters and lengths."""
     components = [component for instruction in schedule.instructions for component in instruction.edit]
-    texts = [schedule.start] + [component for component in components if isinstance(component, str)]
+    texts = list(schedule.texts())
     lengths = sum(abs(component) for component in components if not isinstance(component, str))
     rare = sum(len(text) - text.count("a") for text in texts)
     late = schedule.clients - schedule.present

@@ -36,6 +36,12 @@ class Schedule:
     instructions: tuple
     names: tuple = ()
 
+    def texts(self):
+        """The start text and the texts that are inserted."""
+        yield self.start
+        for instruction in self.instructions:
+            yield from (component for component in instruction.edit if isinstance(component, str))
+
     def text(self):
         lines = [f"; client {client} is {name}" for client, name in enumerate(self.names) if name is not None]
         lines.append(f"clients {self.clients}")

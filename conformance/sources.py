@@ -9,7 +9,6 @@ from program import program
 from schedule import read_schedule
 
 MARK = re.compile(r"^[ \t]*%%[ \t]*\r?$", re.MULTILINE)
-LARGE, LONG = 8192, 1000  # bytes and lines of a session that takes long
 FOLDER = pathlib.Path(__file__).resolve().parent / "sessions"
 
 
@@ -18,20 +17,15 @@ class Refused(Exception):
 
 
 def corpus():
-    """The sessions by name; one of those of large texts, which take long, behind each tenth of the others; and long ones last."""
-    paths = sorted(FOLDER.glob("*.ots"), key=lambda path: (path.read_bytes().count(b"\n") > LONG, path))
-    large = [path for path in paths if path.stat().st_size > LARGE]
-    plain = [path for path in paths if path not in large]
-    for number, path in enumerate(plain, 1):
-        yield named(path)
-        if number % 10 == 0 and large[:-1]:
-            yield named(large.pop(0))
-    yield from map(named, large)
+    """The sessions, small ones first, so that a small one is shown of a fault that many find; those about characters behind all others."""
+    paths = sorted(FOLDER.glob("*.ots"), key=lambda path: (path.stat().st_size, path))
+    sessions = [(path.stem, read_schedule(path.read_text(encoding="utf-8"))) for path in paths]
+    return sorted(sessions, key=lambda session: is_about_characters(session[1]))
 
 
-def named(path):
-    """A session of the corpus: its name, and what it performs."""
-    return path.stem, read_schedule(path.read_text(encoding="utf-8"))
+def is_about_characters(schedule):
+    """Whether a text has a character that is not printable ASCII."""
+    return not all(text.isascii() and text.isprintable() for text in schedule.texts())
 
 
 def at_random(words):
@@ -68,5 +62,5 @@ def rounds(words):
     if words.session:
         sessions = list(own(words))
         return [("of one's own", len(sessions), sessions)]
-    sessions = list(corpus())
+    sessions = corpus()
     return [("corpus", len(sessions), sessions), ("at random", words.sessions, at_random(words))]

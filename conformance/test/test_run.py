@@ -14,7 +14,8 @@ from messages import TOLD, was_changed
 from options import cores
 from port import Driver, KeptDriver
 from report import visible
-from sources import LARGE, corpus
+from schedule import read_schedule
+from sources import corpus, is_about_characters
 
 SAMPLE = ["node", str(KIT.parent / "examples" / "port" / "driver.js"), "--faults", str(KIT / "faults.js")]
 
@@ -25,6 +26,7 @@ class Drivers(unittest.TestCase):
             (["cat"], 60, b"clients 1\n", None),
             (["echo", "1"], 60, b"1\n", None),
             (["sh", "-c", "cat; echo at the end >&2; exit 1"], 60, b"clients 1\n", "the driver ended with status 1: at the end"),
+            (["sh", "-c", "cat; echo 'TypeError: a' >&2; echo '  at b' >&2; exit 1"], 60, b"clients 1\n", "the driver ended with status 1: TypeError: a"),
             (["sh", "-c", "cat >/dev/null; echo 2; kill -SEGV $$"], 60, b"2\n", "the driver was ended by signal 11"),
             (["sh", "-c", "echo 3; sleep 60"], 5, b"3\n", "the driver was ended: it took more than 5 s"),
             (["sh", "-c", "exec >&- 2>&-; sleep 60"], 5, b"", "the driver was ended: it took more than 5 s"),
@@ -121,13 +123,22 @@ class Runs(Kit):
                 f"compared clients 0 do {2 * (sessions + 5)} sent 0 document 0 end 0\n")
         self.assertEqual((status, printed), (0, said))
 
-    def test_large_sessions_are_spread_over_the_corpus(self):
-        names = [name for name, _ in corpus()]
-        large = [number for number, name in enumerate(names) if (KIT / "sessions" / f"{name}.ots").stat().st_size > LARGE]
+    def test_small_sessions_come_first_and_those_about_characters_last(self):
+        sessions = corpus()
+        names = [name for name, _ in sessions]
+        plain = [name for name, schedule in sessions if not is_about_characters(schedule)]
         self.assertEqual(sorted(names), sorted(path.stem for path in (KIT / "sessions").glob("*.ots")))
-        self.assertEqual(large, [*range(10, 11 * len(large) - 11, 11), len(names) - 1])
-        self.assertEqual(names[-1], "log-above-1000")
-        self.assertLess(len(large), 10)
+        self.assertEqual(names[:len(plain)], plain)
+        for those in (plain, names[len(plain):]):
+            sizes = [(KIT / "sessions" / f"{name}.ots").stat().st_size for name in those]
+            self.assertEqual(sizes, sorted(sizes))
+        self.assertLess(names.index("server-five-concurrent"), names.index("log-above-100"))
+        self.assertEqual([name for name in plain if name.startswith("characters-")], [])
+
+    def test_which_sessions_are_about_characters(self):
+        rows = [('start "a b~"\nedit 0 [4,"1"]\n', False), ('start "\u00e9"\n', True), ('edit 0 ["a\\r\\n"]\n', True), ("edit 0 [2]\n", False)]
+        for text, is_so in rows:
+            self.assertEqual(is_about_characters(read_schedule("clients 1\n" + text)), is_so, text)
 
     def test_a_port_that_differs_is_reduced(self):
         driver = ["sh", "-c", "if grep -q join; then echo wrong 99; fi"]
@@ -268,6 +279,7 @@ class Runs(Kit):
             ("--save", str(KIT), "it is a folder"),
             ("--junit", "/there/is/none/x", "there is no folder /there/is/none"),
             ("--session", "/there/is/none", "it is not there"),
+            ("--session", str(KIT / "test"), "the folder has no schedules, files *.ots"),
         ]
         for word, value, takes in rows:
             self.refused(f"argument {word}: invalid value '{value}': {takes}", ["true"], word, value)
@@ -433,6 +445,23 @@ class Kept(Kit):
         self.assertRegex(printed, r"\nnot ok 2 - what is needed .*\n# the driver ended with status 3 behind its last session\n1..2\n$")
 
 
+    NOTE = "\nnote with --keep-driver a driver has to answer each session at its line %%, before the end of its input\n"
+
+    def test_a_driver_that_reads_to_the_end_of_its_input(self):
+        words = *self.own(READS), "--seconds", "1", "--reduce-seconds", "1"
+        for driver, kept, is_noted in (("lines=$(cat); echo %%", ["--keep-driver"], True), ("sleep 60", [], False)):
+            status, printed, _ = self.run_kit(["sh", "-c", driver], *words, *kept)
+            self.assertEqual(status, 1)
+            self.assertIn("\nthe driver was ended: it took more than ", printed)
+            self.assertEqual(self.NOTE in printed, is_noted, printed)
+
+    def test_one_that_hangs_in_a_later_session(self):
+        answers_once = ["sh", "-c", "while read -r line && [ \"$line\" != %% ]; do :; done; echo %%; cat >/dev/null"]
+        _, printed, _ = self.run_kit(answers_once, *self.own(READS, READS), "--seconds", "1", "--reduce-seconds", "1", "--jobs", "1", "--keep-driver")
+        self.assertIn("\nthe driver was ended: it took more than ", printed)
+        self.assertNotIn(self.NOTE, printed)
+
+
 class WithoutBuilding(unittest.TestCase):
     """A tree whose `./otbench`, which is asked for the program alone, leaves a mark that it was called."""
 
@@ -530,6 +559,13 @@ class Together(unittest.TestCase):
         status, printed, _ = self.run_kit("--session", KIT / "sessions" / "characters-past-the-plane.ots", *SAMPLE)
         self.assertEqual(status, 1)
         self.assertTrue(printed.endswith("\nnote a text has characters past U+FFFF: a port that counts UTF-16 units is tried with --utf16\n"), printed)
+
+    def test_a_fault_that_has_nothing_to_do_with_lengths(self):
+        session = KIT / "sessions" / "characters-past-the-plane-composed.ots"
+        for does, is_noted in (("s/\"revision\":1,/\"revision\":7,/", False), ("/\"at\":3/q", False), ("/\"at\":3/{s/.*/{\"at\":3,\"stopped\":\"a\"}/;q}", True)):
+            _, printed, _ = self.run_kit("--session", session, "--reduce-seconds", "0.1", "sh", "-c", f"'{PROGRAM}' steps | sed '{does}'")
+            self.assertRegex(printed, "\ndiffers at ")
+            self.assertEqual("--utf16" in printed, is_noted, printed)
 
     def test_state_that_leaks_from_one_session_to_the_next(self):
         sessions = [word for name in ("join-an-empty-log", "transform-tie") for word in ("--session", KIT / "sessions" / f"{name}.ots")]

@@ -7,7 +7,7 @@
  *     conformance/run --utf16 node driver.js
  *     (cat session.ots; echo %%; conformance/utf16 node driver.js < session.ots) | otbench view > session.html
  *
- *     --port FILE   a module, also of CommonJS, with TextOperation, Client and Server; oracle/otjs.js without it
+ *     --port FILE   a module, also of CommonJS, with TextOperation, Client and Server; without it oracle/otjs.js, a re-creation of ot.js
  *     --bug NAME    with one of the faults of bugs.js planted in it
  *     --faults FILE a module with other faults, as conformance/faults.js
  *     --short       documents only where one is read or a client joins
