@@ -6,10 +6,15 @@ import { generate } from "./otbench.mjs";
 const CORPUS = new URL("../conformance/sessions/", import.meta.url);
 const SEEDS = 1_000_000_000;
 
-/** The sessions of the corpus, each written for one rule. */
+/* A text with a character that is not printable ASCII, or with an escape. */
+const UNUSUAL = /^[^;].*"[^"]*[^\x20-\x5b\x5d-\x7e\r\n]/m;
+
+/** The sessions of the corpus, each written for one rule: small ones first, and those about characters behind all others. */
 export function* corpus() {
   const files = readdirSync(CORPUS).filter((file) => file.endsWith(".ots"));
-  for (const file of files.sort()) yield { name: file.slice(0, -".ots".length), schedule: readFileSync(new URL(file, CORPUS), "utf8") };
+  const sessions = files.map((file) => ({ name: file.slice(0, -".ots".length), schedule: readFileSync(new URL(file, CORPUS), "utf8") }));
+  const isUnusual = ({ schedule }) => Number(UNUSUAL.test(schedule));
+  yield* sessions.sort((a, b) => isUnusual(a) - isUnusual(b) || a.schedule.length - b.schedule.length || (a.name < b.name ? -1 : 1));
 }
 
 /** Sessions made at random: that of the seed and those of the seeds behind it. */
