@@ -562,7 +562,7 @@ class Together(unittest.TestCase):
 
     def test_a_fault_that_has_nothing_to_do_with_lengths(self):
         session = KIT / "sessions" / "characters-past-the-plane-composed.ots"
-        for does, is_noted in (("s/\"revision\":1,/\"revision\":7,/", False), ("/\"at\":3/q", False), ("/\"at\":3/{s/.*/{\"at\":3,\"stopped\":\"a\"}/;q}", True)):
+        for does, is_noted in (("s/\"revision\":1,/\"revision\":7,/", False), ("/\"at\":3/q", False), ("/\U0001f600/{s/,.*/,\"stopped\":\"a\"}/;q}", True)):
             _, printed, _ = self.run_kit("--session", session, "--reduce-seconds", "0.1", "sh", "-c", f"'{PROGRAM}' steps | sed '{does}'")
             self.assertRegex(printed, "\ndiffers at ")
             self.assertEqual("--utf16" in printed, is_noted, printed)
