@@ -1,74 +1,136 @@
 #!/usr/bin/env python3
-"""otbench and ot.js under node on the same schedules, side by side.
+"""otbench, ot.js under node and other programs on the same schedules, side by side.
 
-    python3 bench/compare.py [--dir DIR] [--runs N] [--seeds S,S,..] [--only a,b,c,d,e,f] [--program PROGRAM]
+    python3 bench/compare.py [--seeds S,S,..] [--runs N] [--only a,b,..] [--program PROGRAM] [--beside "NAME=PROGRAM WORD.."].. [--count] [--write] [--dir DIR]
 
-Writes the schedules of storms.py, for each seed (1), to DIR (a temporary folder by default), runs `otbench run` and `node oracle/run.js` on each, N times (3) in turns, compares
-what the two print, and prints for each the least processor time (user and system), the peak memory, and the ratio of node's to otbench's; at the end the least ratio of each shape.
+Writes the schedules of storms.py, for each seed (1), to DIR (a temporary folder by default). Runs `node oracle/run.js`, each program that is named, and `otbench run` on each, N times (3) in turns, and compares what they print.
+Prints for each schedule the least processor time (user and system) and the peak memory (at least that of Python) of all, node's time in parts of otbench's, otbench's in parts of that of each program that is named, and with --count
+the same of instructions, as valgrind counts them. Last comes a table in Markdown, a row for each shape, of each figure the least and the greatest of the seeds. --write puts it into bench/README.md, and a picture of it, of the
+first seed, into bench/storms.svg.
+
+A program that is named reads a schedule on its input and prints what `otbench run` prints: --beside "before=/tmp/otbench-before run".
 """
 import argparse
+import filecmp
 import os
+import shutil
 import subprocess
 import sys
 import tempfile
+
+from measuring import instructions, measured
+from picture import drawn
+from storms import ALL
 
 HERE = os.path.dirname(os.path.abspath(__file__))
 TOP = os.path.dirname(HERE)
 # `./otbench` runs the proved program here, or none.
 os.environ['OTBENCH_NEEDS_PROVED'] = '1'
-
-
-def measured(words, path, out):
-    """Runs words with path as input and out as output: processor seconds, peak memory in MiB, status."""
-    with open(path, 'rb') as source, open(out, 'wb') as sink:
-        child = subprocess.Popen(words, stdin=source, stdout=sink)
-        _, status, usage = os.wait4(child.pid, 0)
-        child.returncode = os.waitstatus_to_exitcode(status)
-    return usage.ru_utime + usage.ru_stime, usage.ru_maxrss / 1024, child.returncode
+# Between these lines the table stands in README.md.
+MARKS = '<!-- what compare.py --write puts here -->\n', '<!-- to here -->\n'
 
 
 def beside(path, peers, runs):
-    """The peers' least time and most memory on a schedule, and whether they printed the same and went well."""
+    """Of each peer the least time and the most memory on a schedule; and whether all printed the same and went well."""
     outs = {peer: path[:-4] + '.' + peer for peer in peers}
     seen = {peer: [] for peer in peers}
     for _ in range(runs):
         for peer, command in peers.items():
             seen[peer].append(measured(command, path, outs[peer]))
-    texts = []
+    well = all(filecmp.cmp(outs['otbench'], out, shallow=False) for out in outs.values())
+    well = well and all(run.status == 0 for of_peer in seen.values() for run in of_peer)
     for out in outs.values():
-        with open(out, 'rb') as text:
-            texts.append(text.read())
         os.remove(out)
-    well = texts[0] == texts[1] and all(run[2] == 0 for of_peer in seen.values() for run in of_peer)
-    return {peer: (min(run[0] for run in of_peer), max(run[1] for run in of_peer)) for peer, of_peer in seen.items()}, well
+    return {peer: (min(run.seconds for run in of_peer), max(run.mebibytes for run in of_peer)) for peer, of_peer in seen.items()}, well
+
+
+def figures(path, peers, runs, counts):
+    """The figures of one schedule by their columns' names, and whether all went well."""
+    best, well = beside(path, peers, runs)
+    ours = best['otbench']
+    row = {f'{peer} s': seconds for peer, (seconds, _) in best.items()}
+    row |= {f'{peer} MiB': mebibytes for peer, (_, mebibytes) in best.items()}
+    row['node / otbench'] = best['node'][0] / ours[0]
+    named = [peer for peer in peers if peer not in ('node', 'otbench')]
+    row |= {f'otbench / {peer}': ours[0] / best[peer][0] for peer in named}
+    if counts and named:
+        count = {peer: instructions(peers[peer], path) for peer in ('otbench', *named)}
+        row |= {f'otbench / {peer}, instructions': count['otbench'] / count[peer] for peer in named}
+    return row, well
+
+
+def shown(column, values):
+    """The least and the greatest of some figures."""
+    digits = '%.3f' if column.endswith(' s') else '%.0f' if column.endswith(' MiB') else '%.2f'
+    ends = [digits % pick(values) for pick in (min, max)]
+    return ends[0] if ends[0] == ends[1] else ' to '.join(ends)
+
+
+def table(rows):
+    """Markdown: a row for each shape, of the figures of all seeds, but of memory otbench's alone."""
+    columns = [it for it in next(iter(rows.values()))[0] if not it.endswith(' MiB') or it == 'otbench MiB']
+    lines = [['Shape', *columns], ['---'] * (len(columns) + 1)]
+    lines += [[shape, *(shown(column, [row[column] for row in of_seeds]) for column in columns)] for shape, of_seeds in rows.items()]
+    return ''.join('| %s |\n' % ' | '.join(line) for line in lines)
+
+
+def write(rows, peers):
+    """Puts the table and the picture into their files."""
+    with open(os.path.join(HERE, 'README.md'), encoding='utf-8') as file:
+        text = file.read()
+    front, rest = text.split(MARKS[0])
+    text = front + MARKS[0] + table(rows) + MARKS[1] + rest.split(MARKS[1])[1]
+    with open(os.path.join(HERE, 'README.md'), 'w', encoding='utf-8') as file:
+        file.write(text)
+    with open(os.path.join(HERE, 'storms.svg'), 'w', encoding='utf-8') as file:
+        file.write(drawn({shape: [of_seeds[0][f'{peer} s'] for peer in peers] for shape, of_seeds in rows.items()}, list(peers)))
+
+
+def programs(named, program):
+    """The commands by their names: node, those that are named, otbench."""
+    peers = {'node': ['node', os.path.join(TOP, 'oracle', 'run.js')]}
+    for given in named:
+        name, _, command = given.partition('=')
+        if not command or name in ('', 'node', 'otbench', *peers):
+            sys.exit('compare.py: --beside wants a name of its own, and a command: %s' % given)
+        peers[name] = command.split()
+    return {**peers, 'otbench': [program, 'run']}
+
+
+def asked():
+    words = argparse.ArgumentParser()
+    words.add_argument('--seeds', default='1')
+    words.add_argument('--runs', type=int, default=3)
+    words.add_argument('--only', default=ALL)
+    words.add_argument('--program')
+    words.add_argument('--beside', action='append', default=[])
+    words.add_argument('--count', action='store_true')
+    words.add_argument('--write', action='store_true')
+    words.add_argument('--dir')
+    return words.parse_args()
 
 
 def main():
-    words = argparse.ArgumentParser()
-    words.add_argument('--dir')
-    words.add_argument('--runs', type=int, default=3)
-    words.add_argument('--seeds', default='1')
-    words.add_argument('--only', default='a,b,c,d,e,f')
-    words.add_argument('--program')
-    words = words.parse_args()
+    words = asked()
+    peers = programs(words.beside, words.program or os.path.join(TOP, 'crates', 'otbench', 'out', 'otbench'))
+    if words.count and not shutil.which('valgrind'):
+        sys.exit('compare.py: --count wants valgrind, which is not there')
     if not words.program:
         subprocess.run([os.path.join(TOP, 'otbench'), 'run'], input=b'clients 1\n', stdout=subprocess.DEVNULL, check=True)
-    program = words.program or os.path.join(TOP, 'crates', 'otbench', 'out', 'otbench')
-    peers = {'node': ['node', os.path.join(HERE, '..', 'oracle', 'run.js')], 'otbench': [program, 'run']}
-    print('%-14s %6s %10s %10s %8s %12s %12s' % ('schedule', 'seed', 'node s', 'otbench s', 'ratio', 'node MiB', 'otbench MiB'))
-    folder, least, same = words.dir or tempfile.mkdtemp(), {}, True
+    folder, rows, same = words.dir or tempfile.mkdtemp(), {}, True
     for seed in words.seeds.split(','):
         at = os.path.join(folder, seed)
         made = [sys.executable, os.path.join(HERE, 'storms.py'), at, '--only', words.only, '--seed', seed]
         subprocess.run(made, check=True, stdout=subprocess.DEVNULL)
-        for name in sorted(it for it in os.listdir(at) if it.endswith('.txt')):
-            best, well = beside(os.path.join(at, name), peers, words.runs)
-            ratio = best['node'][0] / best['otbench'][0]
-            least[name], same = min(ratio, least.get(name, ratio)), same and well
-            print('%-14s %6s %10.3f %10.3f %8.2f %12.1f %12.1f%s' % (
-                name[:-4], seed, best['node'][0], best['otbench'][0], ratio,
-                best['node'][1], best['otbench'][1], '' if well else '   outputs differ'), flush=True)
-    print('the least of each: ' + ', '.join('%s %.2f' % (name[:-4], least[name]) for name in sorted(least)))
+        for name in sorted(it[:-4] for it in os.listdir(at) if it.endswith('.txt')):
+            row, well = figures(os.path.join(at, name + '.txt'), peers, words.runs, words.count)
+            rows.setdefault(name, []).append(row)
+            same = same and well
+            print('%s, seed %s: %s%s' % (name, seed, ', '.join('%s %s' % (column, shown(column, [value])) for column, value in row.items()),
+                                         '' if well else ': they print differently, or failed'), flush=True)
+    print(table(rows), end='')
+    if words.write:
+        write(rows, peers)
     return 0 if same else 1
 
 

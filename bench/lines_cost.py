@@ -1,43 +1,30 @@
 #!/usr/bin/env python3
 """What the lines of a run cost beside the run itself.
 
-    python3 bench/lines_cost.py [--dir DIR] [--seed S] [--only a,b,c,d,e,f] [--documents] [--count] [--program PROGRAM]
+    python3 bench/lines_cost.py [--dir DIR] [--seed S] [--only a,b,..] [--documents] [--count] [--program PROGRAM]
 
 Writes the schedules of storms.py to DIR (a temporary folder by default). For each it runs `otbench run`, `otbench steps`, and `otbench conform` on the lines of `steps`, with or without documents, and prints what
-`steps` takes of `run` and what `conform` takes of `steps`: processor time of the whole process (the least of five runs), or with --count instructions, by `valgrind --tool=callgrind`, which are the same on any machine. What is
+`steps` takes of `run` and what `conform` takes of `steps`: processor time of the whole process (the least of five runs), or with --count instructions, as valgrind counts them, which are the same on any machine. What is
 written goes to a file. Last come the bytes of the lines.
 """
 import argparse
 import os
-import re
 import subprocess
 import sys
 import tempfile
 
+from measuring import instructions, measured
+from storms import ALL
+
 HERE = os.path.dirname(os.path.abspath(__file__))
 PROGRAM = os.path.join(os.path.dirname(HERE), 'crates', 'otbench', 'out', 'otbench')
-COUNTING = ['valgrind', '--tool=callgrind', '--callgrind-out-file=/dev/null']
-
-
-def seconds(words, path, sink):
-    with open(path, 'rb') as source, open(sink, 'wb') as to:
-        child = subprocess.Popen(words, stdin=source, stdout=to)
-        _, _, usage = os.wait4(child.pid, 0)
-        child.returncode = 0
-    return usage.ru_utime + usage.ru_stime
-
-
-def instructions(words, path, sink):
-    with open(path, 'rb') as source, open(sink, 'wb') as to:
-        said = subprocess.run(COUNTING + words, stdin=source, stdout=to, stderr=subprocess.PIPE, check=False).stderr.decode()
-    return int(re.search(r'Collected : (\d+)', said).group(1))
 
 
 def main():
     words = argparse.ArgumentParser()
     words.add_argument('--dir')
     words.add_argument('--seed', type=int, default=7)
-    words.add_argument('--only', default='a,b,c,d,e,f')
+    words.add_argument('--only', default=ALL)
     words.add_argument('--documents', action='store_true')
     words.add_argument('--count', action='store_true')
     words.add_argument('--program', default=PROGRAM)
@@ -48,7 +35,7 @@ def main():
     def cost(command, path, sink):
         if words.count:
             return instructions([words.program] + command, path, sink) / 1e6
-        return min(seconds([words.program] + command, path, sink) for _ in range(5))
+        return min(measured([words.program] + command, path, sink).seconds for _ in range(5))
 
     print('%-12s %10s %10s %10s %12s %16s %12s' % ('schedule', 'run', 'steps', 'conform', 'steps / run', 'conform / steps', 'bytes'))
     for name in sorted(name for name in os.listdir(folder) if name.endswith('.txt')):

@@ -1,7 +1,7 @@
 #!/usr/bin/env python3
 """otbench's debugger against a plain run of the same schedule.
 
-    python3 bench/stepping.py [--dir DIR] [--rounds N] [--place P] [--only a,b,c,d] [--seed S]
+    python3 bench/stepping.py [--dir DIR] [--rounds N] [--place P] [--only a,b,..] [--seed S]
 
 Writes the schedules of storms.py to DIR (a temporary folder by default). For each it takes turns, N times (25) on one core: `otbench run`, and
 `otbench debug` with a break at place P (90000, or the schedule's end where that is nearer) and `run`. It prints the medians of both sides'
@@ -14,6 +14,9 @@ import subprocess
 import sys
 import tempfile
 
+from measuring import measured
+from storms import ALL
+
 HERE = os.path.dirname(os.path.abspath(__file__))
 TOP = os.path.dirname(HERE)
 # `./otbench` runs the proved program here, or none.
@@ -21,22 +24,12 @@ os.environ['OTBENCH_NEEDS_PROVED'] = '1'
 PROGRAM = os.path.join(TOP, 'crates', 'otbench', 'out', 'otbench')
 
 
-def measured(words, path):
-    """Runs words with path as input: processor seconds, page faults, what it printed."""
-    with open(path, 'rb') as source, tempfile.TemporaryFile() as sink:
-        child = subprocess.Popen(words, stdin=source, stdout=sink)
-        _, _, usage = os.wait4(child.pid, 0)
-        child.returncode = 0
-        sink.seek(0)
-        return usage.ru_utime + usage.ru_stime, usage.ru_minflt, sink.read()
-
-
 def main():
     words = argparse.ArgumentParser()
     words.add_argument('--dir')
     words.add_argument('--rounds', type=int, default=25)
     words.add_argument('--place', type=int, default=90000)
-    words.add_argument('--only', default='a,b,c,d')
+    words.add_argument('--only', default=ALL)
     words.add_argument('--seed', type=int, default=1)
     words = words.parse_args()
     folder = words.dir or tempfile.mkdtemp()
@@ -58,12 +51,13 @@ def main():
         sides = {'run': [], 'debug': []}
         for _ in range(words.rounds):
             sides['run'].append(measured([PROGRAM, 'run'], plain))
-            given = measured([PROGRAM, 'debug'], stepped)
-            if given[2].splitlines()[1] not in (b'at %d: break' % place, b'at %d: end' % place):
-                sys.exit('%s: %r' % (name, given[2]))
-            sides['debug'].append(given)
-        time = {side: statistics.median(one[0] for one in given) for side, given in sides.items()}
-        faults = {side: statistics.median(one[1] for one in given) for side, given in sides.items()}
+            sides['debug'].append(measured([PROGRAM, 'debug'], stepped, stepped + '.said'))
+            with open(stepped + '.said', 'rb') as said:
+                lines = said.read().splitlines()
+            if lines[1] not in (b'at %d: break' % place, b'at %d: end' % place):
+                sys.exit('%s: %r' % (name, lines))
+        time = {side: statistics.median(one.seconds for one in given) for side, given in sides.items()}
+        faults = {side: statistics.median(one.faults for one in given) for side, given in sides.items()}
         print('%-14s %10.3f %10.3f %8.2f %14d %14d' % (name[:-4], time['run'], time['debug'], time['debug'] / time['run'], faults['run'], faults['debug']))
 
 

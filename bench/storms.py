@@ -1,37 +1,37 @@
 #!/usr/bin/env python3
-"""Writes large schedules for benchmarks, each within the limits that
-docs/FORMATS.md names.
+"""Writes large schedules for benchmarks, each within the limits that docs/FORMATS.md names.
 
-    python3 storms.py OUTDIR [--only a,b,c,d,e,f] [--seed S] [--time]
+    python3 storms.py OUTDIR [--only a,b,..] [--seed S]
 
-a-typing.txt      one client, 20,000 edits, each taken and acknowledged
-b-eight.txt       8 clients typing at once, 100,000 instructions in random
-                  interleaving, the document grows past 40,000
-c-large.txt       40,000 start characters, 4 clients, many small edits
-d-lag.txt         64 clients; one types 9,000 edits in order, 62 edits made at
-                  revision 0 are taken in between, so that takes transform over
-                  thousands of log entries; then clients with outstanding and
-                  buffer deliver backlogs of more than 9,000 operations
-e-crowd.txt       64 clients that edit at random places of 8,000 characters,
-                  90,000 instructions, most of them deliveries
-f-behind.txt      four clients, each with an operation and a buffer of some
-                  hundred components under way, deliver 9,000 operations of a
-                  fifth
+a-typing          one client, 20,000 edits, each taken and acknowledged
+b-eight           8 clients typing at once, 100,000 instructions in random interleaving, the document grows past 40,000
+c-large           40,000 start characters, 4 clients, many small edits
+d-lag             64 clients; one types 9,000 edits in order, 62 edits made at revision 0 are taken in between, so that takes transform over thousands of
+                  log entries; then clients with outstanding and buffer deliver backlogs of more than 9,000 operations
+e-crowd           64 clients that edit at random places of 8,000 characters, 90,000 instructions, most of them deliveries
+f-behind          four clients, each with an operation and a buffer of some hundred components under way, deliver 9,000 operations of a fifth
+g-places          8 clients that edit documents of about 1,000 characters at 1 to 20 places at once: insertions, deletions, both at one place
+h-places-crowd    the same with 64 clients
+i-long            8 clients, documents of about 40,000 characters
+j-long-crowd      64 clients, documents of about 40,000 characters
+k-grown           20 to 24 clients, whose pastes have made documents of about 200,000 characters
+l-grown-crowd     the same with 64 clients
+m-replacements    4 to 16 clients that replace some characters by others, at 1 to 20 places at once
+n-cursors         2 to 4 clients with 2 to 20 cursors each, which type or delete the same letter at all of them, in 30,000 to 40,000 characters
+o-pastes          16 to 32 clients that paste and cut some hundred characters
+p-pastes-crowd    64 clients that paste and cut about 2,000 characters
+q-offline         3 to 8 clients that make 30 to 300 edits before their messages are taken
 
---time runs each under `node oracle/run.js --quiet --time`, three times, and prints
-the whole process' wall time and the time of the steps alone.
+From g-places on, the seed draws too what share of the edits has one place, how many places the others have, how fast all receive, how far behind a client
+still edits, and all lengths.
 
-The small simulator here only keeps lengths and pending operations (an insert
-is its text), to know the base of each edit; it is no reference for anything.
+The small simulator here only keeps lengths and pending operations (an insert is its text), to know the base of each edit; it is no reference for anything.
 """
 import argparse
 import json
 import os
 import random
-import subprocess
 import time
-
-HERE = os.path.dirname(os.path.abspath(__file__))
 
 
 def add(ops, x):
@@ -188,9 +188,21 @@ class Sim:
 LETTERS = 'etaoinshrdlucmfwypvbgkjqxz     '
 
 
+def text(r, length):
+    return ''.join(r.choice(LETTERS) for _ in range(length))
+
+
+def changed_at(s, c, changes):
+    """An edit at several places, in their order: at each, how many characters go, and what comes."""
+    ops, done = [], 0
+    for at, gone, ins in changes:
+        ops += [at - done, ins, -gone]
+        done = at + gone
+    s.edit(c, [*ops, s.len[c] - done])
+
+
 def one_place(s, c, at, gone, ins):
-    n = s.len[c]
-    s.edit(c, [at, ins, -gone, n - at - gone])
+    changed_at(s, c, [(at, gone, ins)])
 
 
 def take_or_receive(s, r, c, takes, most):
@@ -224,7 +236,7 @@ def bench_a(r):
 
 
 def bench_b(r):
-    s = Sim(8, ''.join(r.choice(LETTERS) for _ in range(20000)))
+    s = Sim(8, text(r, 20000))
     cur = [r.randint(0, 20000) for _ in range(8)]
     while s.instrs() < 99_990:
         c = r.randrange(8)
@@ -239,7 +251,7 @@ def bench_b(r):
                 one_place(s, c, cur[c] - 1, 1, '')
                 cur[c] -= 1
             else:
-                t = ''.join(r.choice(LETTERS) for _ in range(r.randint(1, 5)))
+                t = text(r, r.randint(1, 5))
                 one_place(s, c, cur[c], 0, t)
                 cur[c] += len(t)
         elif k < .35:
@@ -253,7 +265,7 @@ def bench_b(r):
 
 
 def bench_c(r):
-    s = Sim(4, ''.join(r.choice(LETTERS) for _ in range(40000)))
+    s = Sim(4, text(r, 40000))
     while s.instrs() < 90_000:
         c = r.randrange(4)
         k = r.random()
@@ -263,15 +275,14 @@ def bench_c(r):
             if r.random() < .4 or s.count[c] >= 14990:
                 one_place(s, c, at, r.randint(1, 3), '')
             else:
-                one_place(s, c, at, r.choice([0, 0, 1]),
-                          ''.join(r.choice(LETTERS) for _ in range(r.randint(1, 3))))
+                one_place(s, c, at, r.choice([0, 0, 1]), text(r, r.randint(1, 3)))
         else:
             take_or_receive(s, r, c, k < .55, 4)
     return s
 
 
 def bench_d(r):
-    s = Sim(64, ''.join(r.choice(LETTERS) for _ in range(2000)))
+    s = Sim(64, text(r, 2000))
     lag = list(range(7))            # these deliver the whole backlog at the end
     for c in range(63):
         at = r.randint(0, 2000)
@@ -315,21 +326,20 @@ def bench_d(r):
 
 
 def bench_e(r):
-    s = Sim(64, ''.join(r.choice(LETTERS) for _ in range(8000)))
+    s = Sim(64, text(r, 8000))
     while s.instrs() < 90_000:
         c = r.randrange(64)
         k = r.random()
         if k < .05 and s.backlog(c) < 60:
             at = r.randint(0, s.len[c] - 4)
-            one_place(s, c, at, r.choice([0, 0, 0, 1, 3]),
-                      ''.join(r.choice(LETTERS) for _ in range(r.randint(1, 4))))
+            one_place(s, c, at, r.choice([0, 0, 0, 1, 3]), text(r, r.randint(1, 4)))
         else:
             take_or_receive(s, r, c, k < .12, 9)
     return s
 
 
 def bench_f(r):
-    s = Sim(5, ''.join(r.choice(LETTERS) for _ in range(4000)))
+    s = Sim(5, text(r, 4000))
     for c in range(4):
         for _ in range(300):
             at = r.randint(0, s.len[c] - 2)
@@ -346,40 +356,164 @@ def bench_f(r):
     return s
 
 
-BENCHES = {'a': ('a-typing.txt', bench_a), 'b': ('b-eight.txt', bench_b),
-           'c': ('c-large.txt', bench_c), 'd': ('d-lag.txt', bench_d),
-           'e': ('e-crowd.txt', bench_e), 'f': ('f-behind.txt', bench_f)}
+# How many instructions a session has, at which it ends: one turn has fewer than 20.
+MOST = 99_980
+# The most that a client inserts.
+INSERTED = 15_000
+
+
+def session(r, s, change, most_at_once=100):
+    """Clients in random interleaving: each turn one edits by `change`, or the server takes its message, or it receives. It ends before a client could
+    insert too much."""
+    behind, most = r.randint(10, 60), r.randint(3, 9)
+    edits = 1 / (2.5 + r.uniform(1.8, 3) * s.n / (most + 1))
+    while s.instrs() < MOST and max(s.count) <= INSERTED - most_at_once:
+        c, k = r.randrange(s.n), r.random()
+        if k >= edits:
+            take_or_receive(s, r, c, k < 2.5 * edits, most)
+        elif s.backlog(c) < behind:
+            change(c)
+    return s
+
+
+# Between two places of an edit lie at least so many characters.
+APART = 4
+
+
+def spots(r, length, count):
+    """So many places of a document, or as many as it has room for, in their order."""
+    room = length // APART
+    return [APART * it for it in sorted(r.sample(range(room), min(count, room)))] or [0]
+
+
+def how_many(r):
+    """Draws how an edit's count of places is drawn: often one, else 2 to 20."""
+    single, most = r.uniform(.3, .7), r.randint(8, 20)
+    return lambda: 1 if r.random() < single else r.randint(2, most)
+
+
+def places(r, s, length):
+    """Edits at 1 to 20 places, which keep the documents at about that length."""
+    count, both, most = how_many(r), r.uniform(0, .3), r.randint(1, 3)
+
+    def change(c):
+        n = s.len[c]
+        grows = .65 if n < length else .35
+
+        def at(place):
+            is_both, comes = r.random() < both, r.random() < grows
+            gone = r.randint(1, most) if (is_both or not comes) and place + most <= n else 0
+            return place, gone, text(r, r.randint(1, most)) if is_both or not gone else ''
+
+        changed_at(s, c, [at(place) for place in spots(r, n, count())])
+    return change
+
+
+def bench_places(r, clients, length):
+    length = r.randint(length * 3 // 4, length)
+    s = Sim(clients, text(r, length))
+    return session(r, s, places(r, s, length))
+
+
+def bench_grown(r, clients):
+    s = Sim(clients, text(r, r.randint(30_000, 40_000)))
+    length = r.randint(180_000, 220_000)
+    while s.server_len < length:
+        c = len(s.log) % clients
+        one_place(s, c, r.randint(0, s.len[c]), 0, text(r, r.randint(1800, 2200)))
+        s.take(c)
+        for other in range(clients):
+            s.down(other)
+    return session(r, s, places(r, s, length))
+
+
+def bench_replacements(r):
+    s = Sim(r.randint(4, 16), text(r, r.randint(1000, 40_000)))
+    count, most = how_many(r), r.randint(1, APART - 1)
+
+    def change(c):
+        changed_at(s, c, [(at, r.randint(1, most), text(r, r.randint(1, most))) for at in spots(r, s.len[c], count())])
+    return session(r, s, change)
+
+
+def bench_cursors(r):
+    s = Sim(r.randint(2, 4), text(r, r.randint(30_000, 40_000)))
+    cursors, typed, moves = [[] for _ in range(s.n)], [0] * s.n, r.uniform(.02, .1)
+
+    def change(c):
+        if not cursors[c] or cursors[c][-1] > s.len[c] or r.random() < moves:
+            cursors[c], typed[c] = spots(r, s.len[c], r.randint(2, 20)), 0
+        step = -1 if typed[c] and r.random() < .3 else 1
+        letter = r.choice(LETTERS)
+        changed_at(s, c, [(at, 0, letter) if step == 1 else (at - 1, 1, '') for at in cursors[c]])
+        cursors[c] = [at + step * (i + 1) for i, at in enumerate(cursors[c])]
+        typed[c] += step
+    return session(r, s, change)
+
+
+def bench_pastes(r, clients, least, most):
+    length = r.randint(1000, 40_000)
+    s = Sim(clients, text(r, length))
+
+    def change(c):
+        count, n = r.randint(least, most), s.len[c]
+        cuts = n > count and r.random() < (.35 if n < length else .65)
+        if cuts:
+            one_place(s, c, r.randint(0, n - count), count, '')
+        else:
+            one_place(s, c, r.randint(0, n), 0, text(r, count))
+    return session(r, s, change, most)
+
+
+def bench_offline(r):
+    s = Sim(r.randint(3, 8), text(r, r.randint(2000, 40_000)))
+    offline = r.uniform(.3, .7)
+    while s.instrs() < MOST - 400 and max(s.count) <= INSERTED - 300:
+        c = r.randrange(s.n)
+        if r.random() > offline:
+            take_or_receive(s, r, c, True, 0)
+            while s.backlog(c) and s.instrs() < MOST:
+                s.down(c)
+            continue
+        at = r.randint(0, s.len[c])
+        for _ in range(r.randint(30, 300)):
+            if r.random() < .05:
+                at = r.randint(0, s.len[c])
+            back = at > 0 and r.random() < .25
+            one_place(s, c, at - back, int(back), '' if back else r.choice(LETTERS))
+            at += -1 if back else 1
+    return s
+
+
+BENCHES = {
+    'a-typing': bench_a, 'b-eight': bench_b, 'c-large': bench_c, 'd-lag': bench_d, 'e-crowd': bench_e, 'f-behind': bench_f,
+    'g-places': lambda r: bench_places(r, 8, 1300), 'h-places-crowd': lambda r: bench_places(r, 64, 1300),
+    'i-long': lambda r: bench_places(r, 8, 40_000), 'j-long-crowd': lambda r: bench_places(r, 64, 40_000),
+    'k-grown': lambda r: bench_grown(r, r.randint(20, 24)), 'l-grown-crowd': lambda r: bench_grown(r, 64),
+    'm-replacements': bench_replacements, 'n-cursors': bench_cursors,
+    'o-pastes': lambda r: bench_pastes(r, r.randint(16, 32), 100, 900), 'p-pastes-crowd': lambda r: bench_pastes(r, 64, 1500, 2500),
+    'q-offline': bench_offline,
+}
+ALL = ','.join(name[0] for name in BENCHES)
 
 
 def main():
     a = argparse.ArgumentParser()
     a.add_argument('outdir')
-    a.add_argument('--only', default='a,b,c,d,e,f')
+    a.add_argument('--only', default=ALL)
     a.add_argument('--seed', default='1')
-    a.add_argument('--time', action='store_true')
     a = a.parse_args()
     os.makedirs(a.outdir, exist_ok=True)
-    for k in a.only.split(','):
-        name, f = BENCHES[k]
+    for name in BENCHES:
+        if name[0] not in a.only.split(','):
+            continue
         t = time.time()
-        s = f(random.Random('bench/%s/%s' % (k, a.seed)))
-        path = os.path.join(a.outdir, name)
+        s = BENCHES[name](random.Random('bench/%s/%s' % (name[0], a.seed)))
+        path = os.path.join(a.outdir, name + '.txt')
         with open(path, 'w', encoding='utf-8') as out:
             out.write(s.text())
-        print('%-14s clients %d instructions %d log %d server %d most inserted %d bytes %d '
-              '(made in %.1f s)' % (name, s.n, s.instrs(), len(s.log), s.server_len,
-                                    max(s.count), os.path.getsize(path), time.time() - t))
-        if a.time:
-            for _ in range(3):
-                t = time.time()
-                p = subprocess.run(['node', os.path.join(HERE, '..', 'oracle', 'run.js'), '--quiet', '--time'],
-                                   stdin=open(path, 'rb'), stdout=subprocess.PIPE,
-                                   stderr=subprocess.PIPE)
-                wall = time.time() - t
-                last = p.stdout.decode().split('\n')
-                assert 'stopped' not in p.stdout.decode(), last[:3]
-                print('    node: wall %.2f s, %s, status %d, %s' % (
-                    wall, p.stderr.decode().strip(), p.returncode, last[-3]))
+        print('%-14s clients %d instructions %d log %d server %d most inserted %d bytes %d (made in %.1f s)' % (
+            name, s.n, s.instrs(), len(s.log), s.server_len, max(s.count), os.path.getsize(path), time.time() - t), flush=True)
 
 
 if __name__ == '__main__':
