@@ -5,6 +5,7 @@ import { EngineFault, serve } from "../engine/host.mjs";
 import { debug } from "../terminal/debugging.mjs";
 import { edit, USAGE as EDIT_HELP } from "../terminal/editing.mjs";
 import { writeFaultOf } from "../terminal/files.mjs";
+import { visible } from "../terminal/visible.mjs";
 import { FILES, formOf, inputOf, isFile, OPTIONS, readWhole, split, STDIN, Unreadable } from "./files.mjs";
 import { hintsOf, looksAtOutput } from "./hints.mjs";
 import { engineBytes, release, viewer } from "./parts.mjs";
@@ -45,7 +46,7 @@ Prints a page for a browser with the session in it.
 /* What cannot be written on standard error is lost, and the status tells. */
 function complain(text) {
   try {
-    writeAll(STDERR, utf8(text));
+    writeAll(STDERR, utf8(isatty(STDERR) ? visible(text) : text));
   } catch {
     return;
   }
@@ -82,7 +83,7 @@ function showHelp(words) {
   if (words.length === 1 && Object.hasOwn(OWN_HELP, word)) return print(utf8(OWN_HELP[word])) ? DONE : FAULT;
   const ask = asks(engine());
   const said = textOf(ask(["help", ...words], new Uint8Array(0)).errors);
-  const more = word === undefined ? MORE_HELP : (MORE_HELP_ON[words.join(" ")] ?? "");
+  const more = word === undefined ? MORE_HELP : (words.length === 1 && Object.hasOwn(MORE_HELP_ON, word) ? MORE_HELP_ON[word] : "");
   if (!said.startsWith("error:")) return print(utf8(said + more)) ? DONE : FAULT;
   complain(said);
   if (words.length === 1 && isatty(STDERR)) hint(similarTo(word, ask));

@@ -81,7 +81,7 @@ function pointerOf(word, reads, files, { isRefused, output }) {
 }
 
 /** Whether the hints are also by what was printed. */
-export const looksAtOutput = (word) => word in TOLD_OF_OUTPUT;
+export const looksAtOutput = (word) => Object.hasOwn(TOLD_OF_OUTPUT, word);
 
 /**
  * The hints, a line each.

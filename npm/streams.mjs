@@ -1,7 +1,12 @@
 /* The program on the streams of this process: what it prints goes out at once, and what it reads is waited for. */
 
 import fs from "node:fs";
+import { isatty } from "node:tty";
 import { serveStreams } from "../engine/host.mjs";
+import { visible } from "../terminal/visible.mjs";
+import { bytesOf } from "./text.mjs";
+
+const [STDOUT, STDERR] = [1, 2];
 
 /* Whoever shares a stream with this process may have made it non-blocking: then it is tried again. */
 const RETRY_MS = 5;
@@ -50,6 +55,13 @@ function readPart(part, at, room) {
   return piece.length;
 }
 
+/* What a stream is written of the program's bytes: what a terminal would obey stands there by its number. A character may be cut by the end of a piece. */
+function shownOn(stream) {
+  if (!isatty(stream)) return (bytes) => bytes;
+  const decoder = new TextDecoder("utf-8", { ignoreBOM: true });
+  return (bytes) => bytesOf(visible(decoder.decode(bytes, { stream: true })), "the output");
+}
+
 const ignored = () => {};
 
 /**
@@ -62,12 +74,13 @@ const ignored = () => {};
  * @returns {number} the status
  */
 export function runOnStreams(module, words, input, { onRead = ignored, onWrite = ignored } = {}) {
+  const [output, errors] = [STDOUT, STDERR].map(shownOn);
   return serveStreams(module, words, {
     read: readerOf(input, onRead),
     write(bytes) {
-      writeAll(1, bytes);
+      writeAll(STDOUT, output(bytes));
       onWrite(bytes);
     },
-    error: (bytes) => writeAll(2, bytes),
+    error: (bytes) => writeAll(STDERR, errors(bytes)),
   });
 }

@@ -1,69 +1,72 @@
-// The words of the debugger: what each takes, its first letters, and the nearest ones to a word that is none.
+// The words of the debugger: what each takes and does, how many words may stand behind it, and its first letters.
 
+import { nearest } from "./nearest.mjs";
+
+const ANY = Infinity;
+
+/** A command that cannot be performed, and why. */
+export class Complaint extends Error {}
+
+const WORD = /"(?:[^"\\]|\\.)*"|\S+/g;
+
+/** The words of a line; a JSON string is one. @param {string} line @returns {string[]} */
+export const wordsIn = (line) => line.match(WORD) ?? [];
+
+/** @type {Record<string, { takes: string, most: number, does: string }>} */
 export const COMMANDS = {
-  step: { takes: "[N]", does: "performs one instruction, or N" },
-  next: { takes: "", does: "goes to behind the same client's next instruction" },
-  back: { takes: "[N]", does: "takes one instruction back, or N" },
-  run: { takes: "", does: "goes on to the next break, change or difference, or to the end" },
-  rrun: { takes: "", does: "goes back to the last break, change or difference, or to the opening" },
-  until: { takes: "WORDS", does: "goes on to behind the next instruction with these first words: until take 0" },
-  goto: { takes: "P|end", does: "goes to place P: P instructions are performed there" },
-  break: { takes: "[P|line L]", does: "stops at place P, or behind the instruction of line L; alone: lists breaks and watches" },
-  watch: { takes: "doc|state|outstanding|buffer C, watch server", does: "stops where that changes" },
-  clear: { takes: "[P]", does: "removes the break at place P, or all breaks and watches" },
-  list: { takes: "[P]", does: "shows the instructions around the place, with their lines" },
-  show: { takes: "[C|server]", does: "shows documents, states, outstanding operations, buffers and links" },
-  explain: { takes: "", does: "tells the instruction that was performed or taken back last in words" },
-  help: { takes: "[WORD]", does: "shows this" },
-  quit: { takes: "", does: "ends the session; so does the end of the input" },
+  step: { takes: "[N]", most: 1, does: "performs one instruction, or N" },
+  next: { takes: "[N]", most: 1, does: "goes to behind the same client's next instruction, or its N-th" },
+  back: { takes: "[N]", most: 1, does: "undoes one instruction, or N" },
+  rnext: { takes: "[N]", most: 1, does: "goes back to before the same client's last instruction, or its N-th" },
+  run: { takes: "", most: 0, does: "goes on to the next break, change or difference, or to the end" },
+  rrun: { takes: "", most: 0, does: "goes back to the last break, change or difference, or to the opening" },
+  until: { takes: "WORDS", most: ANY, does: "goes on to behind the next instruction with these first words: until take 0" },
+  runtil: { takes: "WORDS", most: ANY, does: "goes back to before the last instruction with these first words" },
+  goto: { takes: "P|end", most: 1, does: "goes to place P: P instructions are performed there" },
+  break: { takes: "[P|line L|WORDS] [if CONDITION] [time N]", most: ANY, does: 'stops at place P, behind the instruction of line L, behind each with these first words, or where CONDITION begins to hold: break take 1 if doc 0 contains "x"' },
+  watch: { takes: "doc|state|outstanding|buffer C, watch server", most: 2, does: "stops where that changes" },
+  display: { takes: "doc|state|outstanding|buffer C, display server", most: 2, does: "shows that behind each move" },
+  info: { takes: "[breaks]", most: 1, does: "lists breaks, watches and displays with their numbers, and at how many places a break stops" },
+  delete: { takes: "N", most: 1, does: "removes the break, watch or display of this number" },
+  clear: { takes: "[P]", most: 1, does: "removes the breaks at place P, or all breaks, watches and displays" },
+  list: { takes: "[P [Q]]", most: 2, does: "shows the instructions around the place, around P, or from P to Q, with their lines" },
+  show: { takes: "[C|server]", most: 1, does: "shows documents, states, outstanding operations, buffers and links; what is long is cut" },
+  print: { takes: "doc|outstanding|buffer|message|link C, print doc server, print instruction [N]", most: 2, does: "shows the whole of one value" },
+  explain: { takes: "[N]", most: 1, does: "describes the instruction that was performed or undone last, or instruction N, in words" },
+  source: { takes: "FILE", most: 1, does: "performs the commands of a file, line by line" },
+  save: { takes: "FILE", most: 1, does: "writes breaks, watches and displays as commands to a file, which must not be there yet" },
+  help: { takes: "[WORD]", most: 1, does: "shows this" },
+  quit: { takes: "", most: 0, does: "ends the session; so does the end of the input" },
 };
 
 const NAMES = Object.keys(COMMANDS);
 
 /** Letters that several words begin with, and which of them is meant. */
-const SHORT = { s: "step", b: "back", r: "run", c: "clear" };
-
-/** How many letters have to be changed, put in or left out to make one word of the other. */
-function distance(one, other) {
-  let row = Array.from({ length: other.length + 1 }, (_, i) => i);
-  for (let i = 1; i <= one.length; i++) {
-    const above = row;
-    row = [i];
-    for (let j = 1; j <= other.length; j++) row[j] = Math.min(above[j] + 1, row[j - 1] + 1, above[j - 1] + (one[i - 1] === other[j - 1] ? 0 : 1));
-  }
-  return row[other.length];
-}
-
-/** How far a word that is meant may be: a letter in two of the word, or in three where the first one is another, and at most two. */
-const reach = (word, name) => Math.min(2, Math.floor(word.length / (word[0] === name[0] ? 2 : 3)));
-
-/** The words nearest to this one, at most three, the nearest first: those that are within reach, or that it begins with. */
-export function nearest(word, names = NAMES) {
-  const all = names.map((name) => ({ name, far: distance(word, name) }));
-  const ranked = all.filter(({ name, far }) => far <= reach(word, name) || word.startsWith(name));
-  return ranked.sort((a, b) => a.far - b.far).slice(0, 3).map(({ name }) => name);
-}
+const SHORT = { s: "step", b: "back", r: "run", ru: "run", c: "clear", d: "display" };
 
 /**
  * The word that this one is or begins.
- * @returns {{ name: string } | { fault: string }}
+ * @param {string} word
+ * @returns {{ name: string, fault?: undefined } | { name?: undefined, fault: string }}
  */
 export function commandOf(word) {
-  if (word in COMMANDS) return { name: word };
-  if (word in SHORT) return { name: SHORT[word] };
+  if (Object.hasOwn(COMMANDS, word)) return { name: word };
+  if (Object.hasOwn(SHORT, word)) return { name: SHORT[word] };
   const begun = NAMES.filter((name) => name.startsWith(word));
   if (begun.length === 1) return { name: begun[0] };
   if (begun.length > 1) return { fault: `${word} begins ${begun.join(", ")}` };
-  const near = nearest(word);
+  const near = nearest(word, NAMES);
   return { fault: `there is no ${word}; ${near.length ? `nearest: ${near.join(", ")}` : "help lists all words"}` };
 }
 
-/** The lines of help. */
+const lineOf = (name) => `${`${name} ${COMMANDS[name].takes}`.trimEnd()}: ${COMMANDS[name].does}`;
+
+/** The lines of help. @param {string} [word] */
 export function helpOf(word) {
-  if (word) {
-    const found = commandOf(word);
-    return [found.fault ?? `${found.name} ${COMMANDS[found.name].takes}`.trimEnd() + `: ${COMMANDS[found.name].does}`];
+  if (word === undefined) {
+    const width = Math.max(...NAMES.map((name) => name.length));
+    return [...NAMES.map((name) => `${name.padEnd(width)}  ${COMMANDS[name].does}`), "First letters do, an empty line repeats. A place counts performed instructions, an instruction is counted from 0."];
   }
-  const width = Math.max(...NAMES.map((name) => name.length));
-  return [...NAMES.map((name) => `${name.padEnd(width)}  ${COMMANDS[name].does}`), "First letters do, an empty line repeats. A place counts performed instructions, an instruction is counted from 0."];
+  const { name, fault } = commandOf(word);
+  return [fault ?? lineOf(name)];
 }

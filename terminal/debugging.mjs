@@ -3,11 +3,15 @@
 import { readFileSync } from "node:fs";
 import { createInterface } from "node:readline";
 import { setImmediate } from "node:timers/promises";
-import { helpOf, nearest } from "./commands.mjs";
+import { colouring } from "./colours.mjs";
+import { helpOf } from "./commands.mjs";
 import { Debugger } from "./debugger.mjs";
 import { reasonOf, writeFaultOf } from "./files.mjs";
+import { openHistory } from "./history.mjs";
+import { nearest } from "./nearest.mjs";
 import { nativeProgram } from "./program.mjs";
 import { Recording, RefusedText } from "./recording.mjs";
+import { shownOn } from "./visible.mjs";
 
 const USAGE = "usage: otbench debug FILE [--port PORT-LINES]\nSteps through the run of a schedule's text, forth and back. With the lines that a port printed it stops where the port differs.\n";
 
@@ -15,39 +19,64 @@ const USAGE = "usage: otbench debug FILE [--port PORT-LINES]\nSteps through the 
 const HELP = `${USAGE}\n${helpOf().join("\n")}\n`;
 
 /**
- * A session: prompts where the input is a terminal, and answers each line. Ends with the first fault of the output, or null.
- * @param {Debugger} session @param {NodeJS.ReadableStream & { isTTY?: boolean }} input @param {NodeJS.WritableStream} output
+ * A session: prompts where the input is a terminal, and answers each line. Lines are edited, and the prompt stands, on the output, or on standard error where
+ * that is the terminal. Ends with the first fault of the output, or null.
+ * @param {Debugger} session @param {NodeJS.ReadStream} input @param {NodeJS.WriteStream} output
  * @returns {Promise<NodeJS.ErrnoException | null>}
  */
 export async function converse(session, input, output) {
-  const isTerminal = Boolean(input.isTTY);
-  const reader = createInterface({ input, output: isTerminal ? output : undefined, terminal: isTerminal, completer: (line) => session.complete(line) });
+  const shown = input.isTTY ? [output, process.stderr].find(({ isTTY }) => isTTY) : undefined;
+  const history = shown === undefined ? null : openHistory();
+  const reader = createInterface({ input, output: shown, terminal: shown !== undefined, completer: (line) => session.complete(line), history: history?.lines });
   let fault = null;
   output.on("error", (it) => {
     fault ??= it;
     reader.close();
   });
-  const say = (lines) => lines.forEach((line) => output.write(`${line}\n`));
+  const colour = colouring(output);
+  const say = (lines) => lines.forEach((line) => output.write(`${colour(shownOn(output, line))}\n`));
   const prompt = () => {
     reader.setPrompt(session.prompt);
-    if (isTerminal) reader.prompt();
+    if (shown !== undefined) reader.prompt();
   };
   reader.on("SIGINT", () => {
     dropLine(reader);
-    output.write("^C\n");
+    shown.write("^C\n");
     prompt();
   });
+  const release = shown === undefined ? () => {} : continueWith(reader, input);
   say(session.greeting());
   prompt();
   for await (const line of reader) {
     if (fault) break;
+    history?.add(line);
     say(session.perform(line));
     if (session.isOver) break;
     prompt();
   }
+  release();
   reader.close();
   await setImmediate(); // a fault of the last write comes behind it
   return fault;
+}
+
+/**
+ * Stops all of the job where a person asks for it (Ctrl-Z), and goes on, with the line that was begun, when the shell continues it. The terminal is the shell's
+ * meanwhile, which may have set it otherwise. Answers what ends this.
+ * @param {import("node:readline").Interface} reader @param {NodeJS.ReadStream} input
+ */
+function continueWith(reader, input) {
+  const goOn = () => {
+    for (const isRaw of [false, true]) input.setRawMode(isRaw);
+    reader.pause(); // the input is read again only if it was paused
+    reader.prompt(true);
+  };
+  reader.on("SIGTSTP", () => {
+    input.setRawMode(false);
+    process.kill(0, "SIGTSTP");
+  });
+  process.on("SIGCONT", goOn);
+  return () => process.removeListener("SIGCONT", goOn);
 }
 
 /** Takes out what is typed of a line: from its end to its beginning. @param {import("node:readline").Interface} reader */
@@ -115,7 +144,7 @@ export async function debug(words, ask = null) {
     return 1;
   } catch (fault) {
     if (!(fault instanceof RefusedText)) throw fault;
-    process.stderr.write(fault.message);
+    process.stderr.write(shownOn(process.stderr, fault.message));
     return 1;
   }
 }

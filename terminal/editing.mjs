@@ -2,8 +2,10 @@
 
 import { appendFileSync, readFileSync } from "node:fs";
 import { reasonOf, writeFaultOf, written } from "./files.mjs";
+import { alone, Locked } from "./lock.mjs";
 import { nativeProgram } from "./program.mjs";
 import { Recording, RefusedText } from "./recording.mjs";
+import { shownOn } from "./visible.mjs";
 
 /** What the command takes. */
 export const USAGE = `usage: otbench edit FILE C AT DELETED INSERTED
@@ -43,11 +45,19 @@ export function editOf(recording, client, at, deleted, inserted) {
   if (refused) throw new Misfit(`line ${refused.line}, ${refused.words}, is refused: nothing can follow it`);
   if (client >= recording.clients) throw new Misfit(`client ${client} is not there: clients are 0 to ${recording.clients - 1}`);
   if (recording.value({ what: "state", client }, end) === "not-joined") throw new Misfit(`client ${client} has not joined`);
-  const before = JSON.parse(recording.document(client, end));
+  const before = recording.text(client, end);
   const operation = operationAt(before, at, deleted, inserted);
   const all = [...before];
   const after = [...all.slice(0, at), inserted, ...all.slice(at + [...deleted].length)].join("");
   return { line: `edit ${client} ${JSON.stringify(operation)}`, told: `client ${client}'s document ${JSON.stringify(before)} becomes ${JSON.stringify(after)}` };
+}
+
+/** Appends a line that is made of what stands in a file; answers what was made. */
+function appended(file, make) {
+  const schedule = readFileSync(file);
+  const made = make(schedule);
+  appendFileSync(file, `${[undefined, LF].includes(schedule.at(-1)) ? "" : "\n"}${made.line}\n`);
+  return made;
 }
 
 /** Why these words are not understood, nothing for help, or null. */
@@ -75,16 +85,15 @@ export async function edit(words, ask = null) {
     return 2;
   }
   try {
-    const schedule = readFileSync(file);
-    const { line, told } = editOf(new Recording(ask ?? nativeProgram(program), schedule), Number(client), Number(at), deleted, inserted);
-    appendFileSync(file, `${[undefined, LF].includes(schedule.at(-1)) ? "" : "\n"}${line}\n`);
-    const fault = await written(process.stdout, `${line}\n${told}\n`);
+    const { line, told } = alone(file, () => appended(file, (schedule) => editOf(new Recording(ask ?? nativeProgram(program), schedule), Number(client), Number(at), deleted, inserted)));
+    const fault = await written(process.stdout, shownOn(process.stdout, `${line}\n${told}\n`));
     if (fault === null) return 0;
     process.stderr.write(writeFaultOf(fault));
     return 1;
   } catch (fault) {
-    if (fault instanceof RefusedText) process.stderr.write(fault.message);
-    else if (fault instanceof Misfit || fault.code) process.stderr.write(`otbench edit: ${fault.code ? reasonOf(file, fault) : fault.message}\n`);
+    const complain = (text) => process.stderr.write(shownOn(process.stderr, text));
+    if (fault instanceof RefusedText) complain(fault.message);
+    else if (fault instanceof Misfit || fault instanceof Locked || fault.code) complain(`otbench edit: ${fault.code ? reasonOf(fault.path ?? file, fault) : fault.message}\n`);
     else throw fault;
     return 1;
   }

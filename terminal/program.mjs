@@ -17,6 +17,7 @@ export function nativeProgram(program) {
   return (words, text) => {
     const ran = spawnSync(command, [...first, ...words], { input: text, maxBuffer: 2 ** 31 - 1 });
     if (ran.error) throw ran.error;
+    if (ran.signal) throw new Error(`${program} was stopped by ${ran.signal}`);
     return { status: ran.status ?? 1, output: ran.stdout.toString(), errors: ran.stderr.toString() };
   };
 }

@@ -5,12 +5,12 @@ import { namedIn, numberNamed } from "../viewer/src/numbering.mjs";
 import { documentAt, downAt, logLengthAt, quietAt, stateAt, upAt } from "../viewer/src/places.mjs";
 import { textOf } from "../viewer/src/document.mjs";
 import { commentsOf, withoutCut } from "./names.mjs";
+import { shortOperation, shortText } from "./values.mjs";
 
 /** A text that otbench refuses, with what it says of it. */
 export class RefusedText extends Error {}
 
-/** What can be watched of a client. */
-export const WATCHED = ["doc", "state", "outstanding", "buffer"];
+const LINK = 4; // messages of a link that are all shown
 
 /** @typedef {{ number: number, line: number, words: string, told: string, refused: boolean }} Instruction */
 
@@ -79,42 +79,64 @@ export class Recording {
     return this.session.clients;
   }
 
-  /** What is watched, as a text. @param {{ what: string, client: number }} watch @param {number} place */
+  /**
+   * A value in a place, as a text: a word, a number or JSON.
+   * @param {import("./subjects.mjs").Subject} subject @param {number} place
+   */
   value({ what, client }, place) {
     if (what === "server") return String(logLengthAt(this.session, place));
+    if (client === null) return JSON.stringify(this.text(null, place));
     const state = stateAt(this.session, client, place);
-    if (what === "doc") return state.state === "not-joined" ? "none" : this.document(client, place);
+    if (what === "doc") return state.state === "not-joined" ? "none" : JSON.stringify(this.text(client, place));
     if (what === "state") return state.state;
     return state[what] === null ? "none" : JSON.stringify(state[what]);
   }
 
-  /** A document as a JSON string. @param {number | null} client null: the server's */
-  document(client, place) {
-    return JSON.stringify(textOf(documentAt(this.session, client ?? SERVER, place)));
+  /** Whether the instruction that leads to a place may have changed a value. @param {import("./subjects.mjs").Subject} subject @param {number} place */
+  mayChange({ what, client }, place) {
+    if (client === null) return this.session.steps[place].moved === SERVER;
+    return this.session.steps[place].moved === client;
   }
 
-  /** What there is to show of a client, line by line. */
-  client(client, place) {
-    const { state, revision, outstanding, buffer } = stateAt(this.session, client, place);
-    if (state === "not-joined") return [`client ${client} not-joined`];
-    const lines = [`client ${client} rev ${revision} ${state} ${this.document(client, place)}`];
-    if (outstanding !== null) lines.push(`  outstanding ${JSON.stringify(outstanding)}`);
-    if (buffer !== null) lines.push(`  buffer ${JSON.stringify(buffer)}`);
+  /** A document. @param {number | null} client null: the server's @param {number} place */
+  text(client, place) {
+    return textOf(documentAt(this.session, client ?? SERVER, place));
+  }
+
+  /** A client in one line. @param {number} client @param {number} place */
+  head(client, place) {
+    const { state, revision } = stateAt(this.session, client, place);
+    return state === "not-joined" ? `client ${client} not-joined` : `client ${client} rev ${revision} ${state} ${shortText(this.text(client, place))}`;
+  }
+
+  /** The message under way from a client to the server, as JSON; or none. */
+  message(client, place) {
     const up = upAt(this.session, client, place);
-    if (up) lines.push(`  to the server: ${JSON.stringify(up.operation)} of revision ${up.revision}`);
+    return up ? [JSON.stringify({ revision: up.revision, operation: up.operation })] : [];
+  }
+
+  /** What is under way to a client, in order: operations as JSON, and `ack`. */
+  link(client, place, json = JSON.stringify) {
     const { from, to } = downAt(this.session, client, place);
-    const heads = this.session.log.slice(from, to).map((entry) => (entry.maker === client ? "ack" : JSON.stringify(entry.operation)));
-    if (heads.length) lines.push(`  from the server: ${heads.join(", ")}`);
+    return this.session.log.slice(from, to).map((entry) => (entry.maker === client ? "ack" : json(entry.operation)));
+  }
+
+  /** What there is to show of a client, line by line; what is long is cut. @param {number} client @param {number} place */
+  client(client, place) {
+    const { outstanding, buffer } = stateAt(this.session, client, place);
+    const lines = [this.head(client, place)];
+    if (outstanding !== null) lines.push(`  outstanding ${shortOperation(outstanding)}`);
+    if (buffer !== null) lines.push(`  buffer ${shortOperation(buffer)}`);
+    const up = upAt(this.session, client, place);
+    if (up) lines.push(`  to the server: ${shortOperation(up.operation)} of revision ${up.revision}`);
+    const heads = this.link(client, place, shortOperation);
+    const shown = heads.slice(0, heads.length > LINK ? 1 : LINK).join(", ");
+    if (heads.length) lines.push(`  from the server: ${heads.length > LINK ? `${heads.length} messages, first ` : ""}${shown}`);
     return lines;
   }
 
-  /** What there is to show of the server and of the whole. */
+  /** What there is to show of the server and of the whole. @param {number} place */
   server(place) {
-    return [`server rev ${logLengthAt(this.session, place)} ${this.document(null, place)}`, quietAt(this.session, place)];
-  }
-
-  /** Whether the instruction is of this client, or, for null, one of the server's own. */
-  isOf(number, client) {
-    return (this.session.steps[number + 1] ?? this.session.stop)?.line?.client === client;
+    return [`server rev ${logLengthAt(this.session, place)} ${shortText(this.text(null, place))}`, quietAt(this.session, place)];
   }
 }

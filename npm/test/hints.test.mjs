@@ -178,6 +178,14 @@ test("what is awaited is said", { skip: !hasPty && "no pty of Python's" }, () =>
   assert.doesNotMatch(shown("run", "twice.ots"), /reading/);
 });
 
+test("a terminal is shown what it would obey by its number", { skip: !hasPty && "no pty of Python's" }, () => {
+  fs.writeFileSync(`${folder}/bidi.ots`, 'clients 1\nstart "a\u202eb\u009b\u007f\u00e9"\n');
+  assert.match(shown("run", "bidi.ots"), /^client 0 rev 0 synchronized "a\\u202eb\\u009b\\u007f\u00e9"\n/);
+  assert.match(shown("explain", "bidi.ots"), /every document is "a\\u202eb\\u009b\\u007f\u00e9"\n/);
+  const { stdout } = spawnSync(process.execPath, [COMMAND, "run", "bidi.ots"], { encoding: "utf8", cwd: folder });
+  assert.match(stdout, /^client 0 rev 0 synchronized "a\u202eb\u009b\u007f\u00e9"\n/);
+});
+
 test("on a terminal alone", { skip: !hasPty && "no pty of Python's" }, () => {
   assert.match(shown("run", "twice.ots"), /^stopped at 2: LinkEmpty\n[^]*\notbench: instruction 2 is line 5: take 0\notbench: what happened, in words: otbench explain twice\.ots\n$/);
   assert.match(shown("conform", "twice.ots", "lines.jsonl"), /^differs at 1: edit 0: client 0 document\n[^]*\notbench: place 1 is behind line 3, instruction 0: edit 0\notbench: what ot\.js does there/);

@@ -3,9 +3,10 @@
 import assert from "node:assert/strict";
 import { existsSync, readFileSync } from "node:fs";
 import test from "node:test";
-import { commandOf, nearest } from "../commands.mjs";
+import { COMMANDS, commandOf } from "../commands.mjs";
 import { named, seen, withoutCut } from "../names.mjs";
 import { Debugger } from "../debugger.mjs";
+import { nearest as nearestOf } from "../nearest.mjs";
 import { nativeProgram } from "../program.mjs";
 import { Recording, RefusedText } from "../recording.mjs";
 
@@ -20,9 +21,11 @@ function answers(lines, schedule = WEAK, port = null) {
   return lines.map((line) => session.perform(line).join("\n"));
 }
 
+const nearest = (word) => nearestOf(word, Object.keys(COMMANDS));
+
 test("first letters name a command, and an unknown word is answered with the nearest ones", () => {
   assert.deepEqual(["s", "st", "n", "b", "ba", "r", "rr", "u", "l", "sh", "e", "g", "w", "q"].map((word) => commandOf(word).name), ["step", "step", "next", "back", "back", "run", "rrun", "until", "list", "show", "explain", "goto", "watch", "quit"]);
-  assert.equal(commandOf("stpe").fault, "there is no stpe; nearest: step");
+  assert.equal(commandOf("stpe").fault, "there is no stpe; nearest: step, save");
   assert.equal(commandOf("wach").fault, "there is no wach; nearest: watch");
   assert.equal(commandOf("backwards").fault, "there is no backwards; nearest: back");
   assert.deepEqual(["oto", "qit", "hlep", "unitl", "steps"].map((word) => nearest(word)[0]), ["goto", "quit", "help", "until", "step"]);
@@ -71,7 +74,7 @@ test("breaks at a place and at a line", options, () => {
   assert.equal(line, "break at place 5");
   assert.equal(first.split("\n").at(-1), "break at place 5");
   assert.equal(second.split("\n").at(-1), "break at place 7");
-  assert.equal(listed, "break 5\nbreak 7");
+  assert.equal(listed, "1 break 7  (at 1 place, 1 of them up to here)\n2 break 5  (at 1 place, 1 of them up to here)");
   assert.equal(cleared, "no break at place 7 any more");
 });
 
@@ -173,9 +176,9 @@ test("words that do not fit are complained of, and the session goes on", options
   const [place, client, watch, number, more] = answers(["goto 17", "watch doc 2", "watch link 0", "step x", "goto 1 2"]);
   assert.match(place, /^17 is no place: they are 0 to 16; /);
   assert.match(client, /^2 is no client: they are 0 to 1; /);
-  assert.match(watch, /^link cannot be watched; /);
+  assert.match(watch, /^link is no value of a client: they are doc, state, outstanding, buffer; watch /);
   assert.match(number, /^x is no number; /);
-  assert.match(more, /^goto takes a place; /);
+  assert.match(more, /^2 is a word too many; goto /);
 });
 
 test("a client's name stands behind its number, and in no string", () => {
@@ -215,5 +218,70 @@ test("completion knows commands, what is watched, and clients", options, () => {
   const session = new Debugger(new Recording(ask, WEAK));
   assert.deepEqual(session.complete("w"), [["watch"], "w"]);
   assert.deepEqual(session.complete("watch o"), [["outstanding"], "o"]);
-  assert.deepEqual(session.complete("watch doc "), [["0", "1"], ""]);
+  assert.deepEqual(session.complete("watch doc "), [["0", "1", "server"], ""]);
+  assert.deepEqual(session.complete("constructor "), [[], ""]);
+});
+
+test("words that every object has are no commands", options, () => {
+  for (const word of ["constructor", "toString", "__proto__", "valueOf", "hasOwnProperty"]) {
+    const [said, helped, watched] = answers([word, `help ${word}`, `watch ${word} 0`]);
+    assert.match(said, new RegExp(`^there is no ${word}; `));
+    assert.match(helped, new RegExp(`^there is no ${word}; `));
+    assert.match(watched, new RegExp(`^${word} is no value of a client: `));
+  }
+  assert.match(answers(["break line"])[0], /^the line's number is missing; break /);
+});
+
+test("a word too many is named", options, () => {
+  const rows = ["run 5", "rrun 5", "next 4 x", "explain 1 x", "list 3 4 x", "goto 1 x", "step 1 x", "back 1 x", "clear 1 x", "show 0 x", "help step x", "quit x", "watch server x", "break 5 x", "break line 5 x", "info breaks x", "delete 1 x"];
+  const said = answers(rows);
+  rows.forEach((row, i) => assert.match(said[i], new RegExp(`^${row.split(" ").at(-1)} is a word too many; ${row.split(" ")[0]}[ :]`), row));
+});
+
+test("next N, list P Q and explain N mean something", options, () => {
+  const [, , next, listed, told, none, back] = answers(["step 3", "step", "next 2", "list 3 5", "explain 6", "explain 99", "list 5 3"]);
+  assert.equal(next.split("\n")[0], "behind line 14, instruction 9: ack 1");
+  assert.deepEqual(listed.split("\n").map((line) => line.trim()), ["3  line 8: edit 1", "4  line 9: take 1"]);
+  assert.equal(told.split("\n")[0], "line 11, instruction 6: deliver 0");
+  assert.match(none, /^99 is no instruction: they are 0 to 15; /);
+  assert.match(back, /^5 is behind 3; /);
+});
+
+/* A document of 1,080 characters, in which client 0 inserts at 500. */
+const PANGRAM = "The quick brown fox jumps. ".repeat(40);
+const LONG = `clients 2\nstart ${JSON.stringify(PANGRAM)}\nedit 0 [500,"X",580]\nedit 0 [490,-4,587]\ntake 0\n`;
+
+test("of a long value the change and what stands around it are shown", options, () => {
+  const [, inserted, deleted, , shown, whole, server] = answers(["watch doc 0", "run", "run", "watch doc server", "show 0", "print doc 0", "print doc server"], LONG);
+  assert.equal(inserted.split("\n").at(-1), 'client 0 doc at 500: + "X" in .."e quick brow"|"n fox jumps."..');
+  assert.equal(deleted.split("\n").at(-1), 'client 0 doc at 490: - "quic" in .." jumps. The "|"k browXn fox"..');
+  assert.ok(shown.split("\n").every((line) => line.length < 160), shown);
+  assert.match(shown, /^client 0 rev 0 awaiting-with-buffer "The quick brown fox jump"\.\.".*" \(1,077 characters\)\n/);
+  assert.equal(JSON.parse(whole).length, 1077);
+  assert.equal(server, JSON.stringify(PANGRAM));
+});
+
+test("of a port's long value what stands around the difference is shown", options, () => {
+  const port = ask(["steps", "--documents"], LONG).output.replace("fox jumps. The quick browXn", "fox jumps. The quick bbowXn");
+  const [stopped] = answers(["run"], LONG, port);
+  const [, found, ours] = /\nfound (.*)\not\.js (.*)\n/.exec(stopped);
+  assert.match(found, /^\.\..*bbowXn.*\.\.$/);
+  assert.match(ours, /^\.\..*browXn.*\.\.$/);
+  assert.ok(stopped.split("\n").every((line) => line.length < 160), stopped);
+});
+
+test("what is shown of 64 clients and full links is short, and print has all", options, () => {
+  const edits = Array.from({ length: 40 }, (_, i) => `edit 0 [${JSON.stringify("typed ".repeat(20))}${i ? `,${120 * i}` : ""}]\ntake 0\nack 0\n`);
+  const [, shown, one, link] = answers(["goto end", "show", "show 63", "print link 63"], `clients 64\n${edits.join("")}`);
+  assert.ok(shown.length < 6000, String(shown.length));
+  assert.equal(shown.split("\n").length, 64 + 3);
+  assert.match(one, /\n {2}from the server: 40 messages, first \["typed typed typed typed "\.\./);
+  assert.equal(link.split("\n").length, 40);
+  assert.deepEqual(JSON.parse(link.split("\n")[0]), ["typed ".repeat(20)]);
+});
+
+test("what is watched already is not watched twice", options, () => {
+  const [, again, stopped] = answers(["watch doc 1", "watch doc 1", "run"]);
+  assert.equal(again, "already watching doc of client 1");
+  assert.equal(stopped.split("\n").filter((line) => line.startsWith("client 1 doc")).length, 1);
 });

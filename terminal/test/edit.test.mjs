@@ -1,8 +1,9 @@
 // Edits that are written by the texts of a report.
 
 import assert from "node:assert/strict";
-import { spawnSync } from "node:child_process";
-import { existsSync, mkdtempSync, readFileSync, rmSync, writeFileSync } from "node:fs";
+import { spawn, spawnSync } from "node:child_process";
+import { once } from "node:events";
+import { existsSync, mkdtempSync, readdirSync, readFileSync, rmSync, writeFileSync } from "node:fs";
 import { tmpdir } from "node:os";
 import path from "node:path";
 import test from "node:test";
@@ -53,6 +54,31 @@ test("where it does not fit the file stays as it is", options, () => {
   assert.equal(edited("clients 1\npresent 0\n", "0", "0", "", "a").status, 1);
   assert.equal(edited("clients 1\nedti\n", "0", "0", "", "a").status, 1);
   assert.equal(edited(text, "0", "zero", "", "a").status, 2);
+});
+
+test("of edits of one file at once each that says so is in the file, which is not refused", options, async () => {
+  const folder = mkdtempSync(path.join(tmpdir(), "edit-"));
+  const file = path.join(folder, "session.ots");
+  writeFileSync(file, "clients 2\n");
+  const calls = Array.from({ length: 6 }, (_, i) => spawn(process.execPath, [SCRIPT, "--program", PROGRAM, file, "0", "0", "", `${i}`], { stdio: "ignore" }));
+  const statuses = (await Promise.all(calls.map((call) => once(call, "exit")))).map(([status]) => status);
+  const { status, stdout } = spawnSync(PROGRAM, ["run"], { input: readFileSync(file), encoding: "utf8" });
+  assert.deepEqual(statuses, [0, 0, 0, 0, 0, 0]);
+  assert.equal(status, 0);
+  assert.deepEqual([...JSON.parse(/"[0-9]*"/.exec(stdout)[0])].sort().join(""), "012345");
+  assert.deepEqual(readdirSync(folder), ["session.ots"]);
+  rmSync(folder, { recursive: true });
+});
+
+test("a lock that stays is named", options, () => {
+  const folder = mkdtempSync(path.join(tmpdir(), "edit-"));
+  const file = path.join(folder, "session.ots");
+  writeFileSync(file, "clients 2\n");
+  writeFileSync(`${file}.lock`, "");
+  const ran = spawnSync(process.execPath, [SCRIPT, "--program", PROGRAM, file, "0", "0", "", "a"], { encoding: "utf8" });
+  assert.deepEqual([ran.status, ran.stderr], [1, `otbench edit: ${file}.lock is there: another edit is at work; if there is none, remove that file\n`]);
+  assert.equal(readFileSync(file, "utf8"), "clients 2\n");
+  rmSync(folder, { recursive: true });
 });
 
 test("a schedule that is no UTF-8 is refused, and stays as it is", options, () => {

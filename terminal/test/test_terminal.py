@@ -1,4 +1,5 @@
 """The debugger at a terminal: a pseudo-terminal types what a person would. Wants node and the program."""
+import fcntl
 import os
 import pathlib
 import pty
@@ -7,6 +8,7 @@ import select
 import shutil
 import subprocess
 import tempfile
+import termios
 import time
 import unittest
 
@@ -18,12 +20,15 @@ ESCAPES = re.compile(r"\x1b\[[0-9;?]*[A-Za-z]")
 class Terminal:
     """A debugger at a terminal of its own."""
 
-    def __init__(self, *words):
+    def __init__(self, *words, call=None, output=None, state=None, **more):
+        """call: what runs in place of the debugger; output: a file for its standard output; state: the folder for the state of programs."""
         master, slave = pty.openpty()
-        environment = {**os.environ, "OTBENCH": str(PROGRAM), "TERM": "xterm"}
-        self.ran = subprocess.Popen(["node", TOP / "terminal/debug.mjs", *words], stdin=slave, stdout=slave, stderr=slave, env=environment, close_fds=True)
+        self.state = tempfile.TemporaryDirectory()
+        environment = {**os.environ, "OTBENCH": str(PROGRAM), "TERM": "xterm", "XDG_STATE_HOME": state or self.state.name, **more}
+        self.ran = subprocess.Popen([*(call or ["node", TOP / "terminal/debug.mjs"]), *words], stdin=slave, stdout=output or slave, stderr=slave, env=environment, start_new_session=True, preexec_fn=lambda: fcntl.ioctl(slave, termios.TIOCSCTTY, 0))
         os.close(slave)
         self.master = master
+        self.bytes = b""
 
     def until(self, wanted, seconds=20):
         """What was shown up to these words."""
@@ -32,7 +37,9 @@ class Terminal:
             ready, _, _ = select.select([self.master], [], [], max(0, end - time.monotonic()))
             if not ready:
                 raise AssertionError(f"{wanted!r} was not shown, but {shown!r}")
-            shown += ESCAPES.sub("", os.read(self.master, 65536).decode())
+            read = os.read(self.master, 65536)
+            self.bytes += read
+            shown += ESCAPES.sub("", read.decode())
         return shown
 
     def type(self, text, wanted):
@@ -43,12 +50,13 @@ class Terminal:
         os.close(self.master)
         self.ran.kill()
         self.ran.wait()
+        self.state.cleanup()
 
 
 @unittest.skipUnless(shutil.which("node") and os.path.exists(PROGRAM), "node or the program is not there")
 class Debugging(unittest.TestCase):
-    def start(self, *words):
-        terminal = Terminal(*words)
+    def start(self, *words, **how):
+        terminal = Terminal(*words, **how)
         self.addCleanup(terminal.close)
         terminal.until(r"\(0/\d+\) ")
         return terminal
@@ -105,6 +113,62 @@ class Debugging(unittest.TestCase):
         terminal.type("\r", r"\(3/8\) $")
         os.write(terminal.master, b"\x04")
         self.assertEqual(terminal.ran.wait(timeout=10), 0)
+
+    @unittest.skipUnless(shutil.which("bash"), "no bash is there")
+    def test_a_session_that_is_stopped_goes_on(self):
+        """Ctrl-Z, a line to the shell, and fg, twice; the line that was begun is there."""
+        shell = Terminal("--norc", "--noprofile", "-i", call=["bash"], PS1="$ ")
+        self.addCleanup(shell.close)
+        shell.until(r"\$ $")
+        shell.type(f"node {TOP}/terminal/debug.mjs {TOP}/examples/two-clients.ots\r", r"\(0/8\) $")
+        shell.type("step\r", r"\(1/8\) $")
+        for place in (1, 2):
+            os.write(shell.master, b"ste")
+            shell.type("\x1a", r"Stopped[^$]*\$ $")
+            shell.type("echo he''re\r", r"here\r\n\$ $")
+            shell.type("fg\r", rf"\({place}/8\) ste")
+            shell.type("p\r", rf"\({place + 1}/8\) $")
+        shell.type("quit\r", r"\$ $")
+
+    def test_an_output_that_is_no_terminal_has_the_answers_alone(self):
+        """The prompt and what is typed are on standard error; no escape is in the output."""
+        with tempfile.TemporaryFile() as output:
+            terminal = self.start(str(TOP / "examples/two-clients.ots"), output=output)
+            terminal.type("step\r", r"\(1/8\) $")
+            terminal.type("quit\r", "quit")
+            self.assertEqual(terminal.ran.wait(timeout=10), 0)
+            output.seek(0)
+            said = output.read().decode()
+        self.assertNotIn("\x1b", said)
+        self.assertNotIn("(0/8)", said)
+        self.assertIn("behind line 4, instruction 0: edit 0", said)
+
+    def test_what_a_terminal_would_obey_is_shown_by_its_number(self):
+        with tempfile.TemporaryDirectory() as folder:
+            file = pathlib.Path(folder, "a.ots")
+            file.write_text('clients 1\nstart "a\u202eb\x9b2J"\nedit 0 [6,"\u2066"]\n', encoding="utf-8")
+            terminal = self.start(str(file))
+            for command in ("explain", "step", "show", "print doc 0", "list"):
+                terminal.type(f"{command}\r", r"\(\d/1\) $")
+            shown = terminal.bytes.decode()
+        self.assertIn("a\\u202eb\\u009b2J\\u2066", shown)
+        for character in "\u202e\x9b\u2066":
+            self.assertNotIn(character, shown)
+
+    def test_colours_unless_a_person_wants_none(self):
+        for more, has_colours in (({}, True), ({"NO_COLOR": "1"}, False)):
+            terminal = self.start(str(TOP / "examples/two-clients.ots"), **more)
+            terminal.type("step\r", r"\(1/8\) $")
+            self.assertEqual(b"\x1b[1mbehind line" in terminal.bytes, has_colours)
+
+    def test_the_history_is_kept_for_the_next_session(self):
+        with tempfile.TemporaryDirectory() as state:
+            terminal = self.start(str(TOP / "examples/two-clients.ots"), state=state)
+            terminal.type("goto 5\r", r"\(5/8\) $")
+            terminal.type("quit\r", "quit")
+            self.assertEqual(terminal.ran.wait(timeout=10), 0)
+            again = self.start(str(TOP / "examples/two-clients.ots"), state=state)
+            again.type("\x1b[A\x1b[A\r", r"\(5/8\) $")
 
 
 if __name__ == "__main__":

@@ -155,6 +155,20 @@ class Terminal(unittest.TestCase):
             other.seek(0)
             return status, shown.decode().replace("\r\n", "\n"), other.read().decode()
 
+    def test_a_terminal_is_shown_what_it_would_obey_by_its_number(self):
+        """Where the output is one; else the bytes are the program's."""
+        text = "a\u202eb\x9b\x7f\x1b[2J\u00e9\n"
+        self.tree.put("bidi.ots", text)
+        self.tree.has_proved()
+        shown = "proved one: run\na\\u202eb\\u009b\\u007f\\u001b[2J\u00e9\n"
+        for status in (0, 1, 3):
+            self.assertEqual(self.run_on_terminal("run", "bidi.ots", terminal=(0, 1), FAKE_STATUS=str(status)), (status, shown, ""))
+            self.assertEqual(self.run_on_terminal("run", "bidi.ots", FAKE_STATUS=str(status))[:2][0], status)
+        self.assertEqual(self.run_on_terminal("run", "bidi.ots"), (0, shown, ""))
+        self.assertEqual(self.run_on_terminal("run", "bidi.ots", terminal=(0, 2))[2], f"proved one: run\n{text}")
+        self.assertIn("a\\u202eb", self.run_on_terminal("conform", "bidi.ots", "port", FAKE_ANSWER="differs at 1: a\u202eb")[1])
+        self.assertIn("BadText\\u0007", self.run_on_terminal("run", "bidi.ots", FAKE_FAULT="line 1: BadText\x07")[1])
+
     def test_the_unproved_program_says_so(self):
         self.tree.run("run")
         self.assertEqual(self.run_on_terminal("run", "a.ots"), (0, f"{UNPROVED}quick one: run\nclients 1\n", ""))

@@ -1,0 +1,47 @@
+// The conditions of breaks: `doc 0 contains "x"`, `not state 1 is synchronized`.
+
+import { Complaint } from "./commands.mjs";
+import { subjectOf } from "./subjects.mjs";
+
+/** @typedef {{ isNot: boolean, subject: import("./subjects.mjs").Subject, verb: string, wanted: string }} Condition */
+
+const VERBS = ["contains", "is"];
+
+/** A text as it is written: a JSON string, or a word. */
+function textOf(word) {
+  if (!word.startsWith('"')) return word;
+  try {
+    return JSON.parse(word);
+  } catch {
+    throw new Complaint(`${word} is no JSON string`);
+  }
+}
+
+/** @param {string[]} words behind `if` @param {number} clients @returns {Condition} */
+export function conditionOf(words, clients) {
+  const isNot = words[0] === "not";
+  const given = isNot ? words.slice(1) : words;
+  const at = given.findIndex((word) => VERBS.includes(word));
+  if (at < 0) throw new Complaint("a condition is a value, contains or is, and a text");
+  if (given.length !== at + 2) throw new Complaint(given.length > at + 2 ? `${given[at + 2]} is a word too many` : `${given[at]} takes a text`);
+  const subject = subjectOf(given.slice(0, at), clients);
+  const isText = given[at] === "contains" || subject.what === "doc";
+  return { isNot, subject, verb: given[at], wanted: isText ? textOf(given[at + 1]) : given[at + 1] };
+}
+
+/** Whether a condition holds in a place. A client that has not joined has no document. */
+function holdsAt(recording, { isNot, subject, verb, wanted }, place) {
+  const value = recording.value(subject, place);
+  const text = subject.what === "doc" && value !== "none" ? JSON.parse(value) : value;
+  return (verb === "is" ? text === wanted : text.includes(wanted)) !== isNot;
+}
+
+/**
+ * Whether a condition holds, by place. It is looked at again only where its value may have changed, if the places are asked in their order.
+ * @param {import("./recording.mjs").Recording} recording @param {Condition} condition @returns {boolean[]}
+ */
+export function holdingOf(recording, condition) {
+  const holding = [holdsAt(recording, condition, 0)];
+  for (let p = 1; p <= recording.end; p++) holding.push(recording.mayChange(condition.subject, p) ? holdsAt(recording, condition, p) : holding[p - 1]);
+  return holding;
+}
