@@ -1,0 +1,5 @@
+use Rattle.ot_letters.proofs.laws.alike_is_length.Goals as goal
+use Rattle.ot_letters.proofs.Alike.{alike_is_length}
+
+pub returns : goal.returns
+returns c = alike_is_length

@@ -1,0 +1,4 @@
+pub mod Elements
+pub mod Letters
+pub mod Alike
+pub mod Laws
