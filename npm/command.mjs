@@ -31,11 +31,15 @@ ${Object.entries(FILES)
   otbench edit SCHEDULE C AT DELETED INSERTED    appends the edit with which client C changes its document so
 COMMANDS and LINES stand behind the schedule and a line '%%'. 'view' prints a page for a browser with the session in it, and
 beside it what a port printed, its LINES. 'help' and 'version' print on the output, with status 0; so do '--version', '-V' and '-v'.
-'threads' carries out plans of one worker.
+'threads' performs plans of one worker: this program has no threads.
 `;
 
 const DEBUG_HELP = `
 At a terminal 'otbench debug SCHEDULE [--port LINES]' has other commands: 'otbench debug SCHEDULE --help' lists them.
+`;
+
+const THREADS_HELP = `
+This program has no threads: it performs plans with "workers":1. './otbench threads' of the repository, built with the toolchain, performs all.
 `;
 
 const VIEW_HELP = `usage: otbench view [SCHEDULE [LINES]] > PAGE
@@ -75,7 +79,7 @@ function showVersion() {
 
 /* The help of what the program does not have, and what stands below its own. */
 const OWN_HELP = { view: VIEW_HELP, edit: EDIT_HELP };
-const MORE_HELP_ON = { debug: DEBUG_HELP };
+const MORE_HELP_ON = { debug: DEBUG_HELP, threads: THREADS_HELP };
 
 /* The program's help, or that of one of its words, on the output. */
 function showHelp(words) {
@@ -100,6 +104,15 @@ function announce(word, flags, files) {
     complain(`otbench: reading ${awaited.join(", a line '%%', ")} from the terminal; Ctrl-D ends it\n`);
 }
 
+/* All that is read, at once. */
+const wholeOf = (parts) => joined(parts.map((part) => (part === STDIN ? readWhole("-") : part)));
+
+/* How many workers a plan has; one where it is refused, which the program says. */
+function workersOf(module, plan) {
+  const { status } = serve(module, ["explain", "--plan"], plan);
+  return status === DONE ? JSON.parse(textOf(plan)).workers : 1;
+}
+
 function view(words) {
   const { flags, files } = split(words);
   const [unexpected] = [...flags, ...files.slice(FILES.view.length)];
@@ -108,7 +121,7 @@ function view(words) {
     return USAGE;
   }
   announce("view", flags, files);
-  const input = joined(inputOf(files).map((part) => (part === STDIN ? readWhole("-") : part)));
+  const input = wholeOf(inputOf(files));
   const bytes = engineBytes();
   const module = new WebAssembly.Module(bytes);
   const { errors, ...shown } = shownOf((given, read) => serve(module, given, read), input);
@@ -124,16 +137,21 @@ function runOnFiles(word, words) {
   if (extra.length > 0 || flags.some(isHelp)) return runOnWords([word, ...flags, ...extra], []);
   if (flags.some((flag) => !OPTIONS.has(flag)) && !files.every(isFile)) return runOnWords([word, ...flags, ...files], []);
   announce(word, flags, files);
-  const input = inputOf(files);
-  if (!isOnTerminal()) return runOnStreams(engine(), [word, ...flags], input);
-  return runWithHints(word, { flags, files }, input);
+  const module = engine();
+  const input = word === "threads" ? [wholeOf(inputOf(files))] : inputOf(files);
+  const workers = word === "threads" ? workersOf(module, input[0]) : 1;
+  if (workers > 1) {
+    complain(`otbench: this program has no threads, and the plan has ${workers} workers: give it "workers":1, or give the plan to ./otbench threads of the repository, built with the toolchain\n`);
+    return FAULT;
+  }
+  if (!isOnTerminal()) return runOnStreams(module, [word, ...flags], input);
+  return runWithHints(module, word, { flags, files }, input);
 }
 
 const hint = (text) => complain(`otbench: ${text}\n`);
 
 /* The same on a terminal, with the hints below an answer. */
-function runWithHints(word, { flags, files }, input) {
-  const module = engine();
+function runWithHints(module, word, { flags, files }, input) {
   const [read, written] = [[], []];
   const onRead = (bytes) => void read.push(bytes.slice());
   const onWrite = looksAtOutput(word) ? (bytes) => void written.push(bytes.slice()) : undefined;

@@ -39,8 +39,7 @@ const UNKNOWN = /^otbench: line (\d+): UnknownWord\n$/;
 const OF_PORT = "is a line of a port: conform wants a line '%%' in front of those";
 const NO_VALUE = "no line has a value that is counted: docs/FORMATS.md, What a port prints";
 
-/* Of this command alone: an engine has one thread, and the second file of `debug` has commands. */
-const ONE_THREAD = 'this engine has one thread: it carries out plans with "workers":1';
+/* Of this command alone: the second file of `debug` has commands. */
 const COMMANDS = "the second file has commands: docs/FORMATS.md, Debugger commands; the lines of a port stand behind --port";
 
 /* What names an instruction, which may stand far down in the output, or refuses a text: `complete` says it alone, on standard error. */
@@ -98,7 +97,6 @@ export function hintsOf(word, { flags, files }, kept, serve) {
   const kind = output === "" ? kindOf(kept.input, reads) ?? reads : reads;
   if (kind !== reads) return [ofKind(kind, word, files)];
   if (word === "debug") return files.length === 2 ? [COMMANDS] : [];
-  if (word === "threads" && serve(["explain", "--plan"], kept.input).status === 0) return [ONE_THREAD];
   const mark = markIn(kept.input);
   const schedule = mark ? kept.input.subarray(0, mark.start) : kept.input;
   const isNaming = NAMING.has(word) && reads === "schedule";

@@ -1,7 +1,7 @@
 /* Writes the events of a session, in one order, as a schedule and as the participants' own lines. */
 
-import { nameOf } from "./logs.js";
-import { Unwritable, isWellFormed, toScalars, apply } from "./scalars.js";
+import { nameOf } from "./events.js";
+import { Unwritable, isWellFormed, toScalars, apply, inUnits } from "./scalars.js";
 
 /* A name as a comment has it: as it is, or as a JSON string where it would not be one line's rest. */
 const written = (name) => (/^[^\p{C}\s"](?:[^\p{C}]*[^\p{C}\s])?$/u.test(name) ? name : JSON.stringify(name));
@@ -37,7 +37,7 @@ export class Writer {
       if (event.document !== undefined && !isWellFormed(event.document)) throw new Unwritable("leaves half of a surrogate pair");
     } catch (fault) {
       if (!(fault instanceof Unwritable)) throw fault;
-      const what = event.edit ? `edit ${JSON.stringify(event.edit)}` : event.do;
+      const what = event.edit ? `edit ${inUnits(event.edit)}` : event.do;
       this.fault = `${nameOf(event)}: ${what} ${fault.message}; a schedule cannot say that, and ends before it`;
       return false;
     }
@@ -110,8 +110,9 @@ export class Writer {
       line[key] = toScalars(operation, text);
     } catch (fault) {
       if (!(fault instanceof Unwritable)) throw fault;
-      line[key] = last && last.units === units ? last.scalars : operation;
-      this.notes.push(`${nameOf(event)}: ${key} ${units} ${fault.message}`);
+      const isKept = last && last.units === units;
+      line[key] = isKept ? last.scalars : operation;
+      this.notes.push(`${nameOf(event)}: ${key} ${inUnits(operation)} ${fault.message}; ${isKept ? "the line has what it was in scalars" : "the line has the same, in units"}`);
     }
     this.told.set(name, { units, scalars: line[key] });
   }

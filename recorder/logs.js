@@ -1,26 +1,7 @@
 /* Reads the recorder's lines, and sorts them into the logs of the participants. */
 
 import { isUtf8 } from "node:buffer";
-
-/* An event as faults name it. */
-export const nameOf = (event) => `${event.who}, event ${event.n}`;
-
-const isOperation = (value) => Array.isArray(value) && value.every((x) => typeof x === "string" || Number.isInteger(x));
-
-/* What an event has to hold, by its word. */
-const HOLDS = {
-  open: () => true,
-  edit: (event) => isOperation(event.edit),
-  deliver: (event) => isOperation(event.operation),
-  ack: () => true,
-  take: ({ given, appended, stopped }) =>
-    given && Number.isInteger(given.revision) && isOperation(given.operation) && (stopped !== undefined || isOperation(appended)),
-};
-
-function holds(event) {
-  const after = event.stopped !== undefined || (Number.isInteger(event.revision) && typeof event.document === "string");
-  return after && Object.hasOwn(HOLDS, event.do) && HOLDS[event.do](event);
-}
+import { AT, faultOf, nameOf, placeOf } from "./events.js";
 
 function isJson(bytes) {
   try {
@@ -48,7 +29,7 @@ export function decode(bytes, file) {
   throw new Error(`${file}, line ${at + 1} is no UTF-8`);
 }
 
-/* The events in a file's text. */
+/* The events in a file's text, each with its place. */
 export function readEvents(text, file) {
   const events = [];
   text.split("\n").forEach((line, i) => {
@@ -61,19 +42,34 @@ export function readEvents(text, file) {
     } catch {
       throw new Error(`${here} is no JSON: is the log cut?`);
     }
-    if (!event || typeof event.who !== "string" || !Number.isInteger(event.n)) throw new Error(`${here} is no event`);
-    if (!holds(event)) throw new Error(`${nameOf(event)} lacks what a "${event.do}" should hold`);
+    if (typeof event !== "object" || event === null || Array.isArray(event)) throw new Error(`${here} is no event`);
+    const fault = faultOf(event);
+    if (fault !== null) throw new Error(`${here}: ${fault}`);
+    event[AT] = { file, line: i + 1 };
     events.push(event);
   });
   return events;
+}
+
+const same = (one, other) => JSON.stringify(one) === JSON.stringify(other);
+
+/* That two events of a log have one number, and why that may be: a log that was given twice, or two participants of one name. */
+function doubled(first, second, log) {
+  const name = `${first.who}, event ${first.n}`;
+  if (!first[AT]) return `${name} is there twice: have two participants one name?`;
+  const [one, other] = [first, second].map((event) => log.filter((it) => it[AT].file === event[AT].file));
+  const files = [first[AT].file, second[AT].file];
+  if (files[0] !== files[1] && same(one, other)) return `${files[0]} and ${files[1]} have the same log of ${first.who}: leave one out`;
+  const why = same(first, second) ? "is the line there twice?" : "have two participants one name?";
+  return `${name} is ${placeOf(first)} and ${placeOf(second)}: ${why}`;
 }
 
 /* One participant's events, in order and with no hole. */
 function checkLog(who, log) {
   log.sort((a, b) => a.n - b.n);
   log.forEach((event, n) => {
-    if (event.n < n) throw new Error(`${nameOf(event)} is there twice: have two participants one name?`);
-    if (event.n > n) throw new Error(`the log of ${who} has no event ${n}`);
+    if (event.n < n) throw new Error(doubled(log[n - 1], event, log));
+    if (event.n > n) throw new Error(`the log of ${who} has no event ${n}${event[AT] ? `: ${placeOf(event)} is event ${event.n}` : ""}`);
     if ((event.do === "open") !== (n === 0)) throw new Error(`${nameOf(event)}: a log has one opening, at its beginning`);
     if (n > 0 && (event.do === "take") !== (log[0].role === "server"))
       throw new Error(`${nameOf(event)}: ${event.do} is no event of a ${log[0].role}`);

@@ -41,6 +41,8 @@ function main() {
     process.exitCode = 2;
     return;
   }
+  const twice = positionals.find((file, i) => positionals.indexOf(file) < i);
+  if (twice !== undefined) throw new Error(`${twice} is named twice`);
   const logs = positionals.map(readLog);
   const { schedule, lines, notes, fault } = merge(logs.flatMap(({ events }) => events), logs.flatMap(({ cut }) => cut ?? []));
   process.stdout.write((values.schedule ? schedule : [...schedule, "%%", ...lines]).join("\n") + "\n");

@@ -6,12 +6,13 @@
  * states in all of them (README.md says why). Of the events that can come next, the one with the earliest time is taken.
  */
 
-import { nameOf } from "./logs.js";
+import { nameOf } from "./events.js";
+import { inUnits } from "./scalars.js";
 
 const receives = (event) => event.do === "deliver" || event.do === "ack";
 const same = (a, b) => JSON.stringify(a) === JSON.stringify(b);
 const isGiven = (message, take) => same(message, { revision: take.given.revision, operation: take.given.operation });
-const text = (message) => `${JSON.stringify(message.operation)} at revision ${message.revision}`;
+const text = (message) => `${inUnits(message.operation)} at revision ${message.revision}`;
 
 /* What is said of an event that threw, behind what else is said of it. */
 const thrown = (event) => (event.stopped !== undefined ? `, and it stopped: ${event.stopped}` : "");
@@ -108,7 +109,7 @@ class Order {
 
   #lay({ event, client }) {
     if (event.do === "deliver" && !same(event.operation, this.appended[client.entries])) {
-      const [theirs, ours] = [event.operation, this.appended[client.entries]].map((operation) => JSON.stringify(operation));
+      const [theirs, ours] = [event.operation, this.appended[client.entries]].map(inUnits);
       this.#layChanged({ event, client }, `deliver of ${theirs}, and the server's operation ${this.first + client.entries} is ${ours}${thrown(event)}`);
       return;
     }

@@ -12,6 +12,9 @@ export function isWellFormed(text) {
   return !/[\ud800-\udbff](?![\udc00-\udfff])|(?<![\ud800-\udbff])[\udc00-\udfff]/.test(text);
 }
 
+/* An operation as faults tell it, which stand beside schedules: its lengths are UTF-16 units, and those of a schedule are not. */
+export const inUnits = (operation) => `${JSON.stringify(operation)}${operation.some((component) => typeof component === "number") ? " (UTF-16 units)" : ""}`;
+
 /* An operation over a text, its lengths in scalars. */
 export function toScalars(operation, text) {
   let place = 0;

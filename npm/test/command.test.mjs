@@ -66,6 +66,15 @@ test("files that are not there, are folders, or are too many", () => {
   assert.match(errors, /^error: unexpected argument 'b' found\n/);
 });
 
+test("a plan of several workers is refused: there are no threads", () => {
+  const plan = example("two-typists.json");
+  const said = (workers) => `otbench: this program has no threads, and the plan has ${workers} workers: give it "workers":1, or give the plan to ./otbench threads of the repository, built with the toolchain\n`;
+  for (const workers of [2, 4, 8]) assert.deepEqual(call(["threads"], plan.replace('"workers":1', `"workers":${workers}`)), [1, "", said(workers)]);
+  assert.equal(call(["threads"], plan)[0], 0);
+  assert.deepEqual(call(["threads"], plan.replace('"workers":1', '"workers":9')), [1, "", "otbench: BadNumber\n"]);
+  assert.match(call(["help", "threads"])[1], /\nThis program has no threads: it performs plans with "workers":1\. /);
+});
+
 test("a refused text, and words that are not understood", () => {
   assert.deepEqual(call(["run"], "clients 1\nbogus\n"), [1, "", "otbench: line 2: UnknownWord\n"]);
   assert.equal(call(["bogus"])[0], 2);

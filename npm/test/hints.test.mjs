@@ -106,7 +106,6 @@ test("of images, traces and plans how to ask explain", () => {
   assert.deepEqual(hints("judge", [], ["a.json"], example("reversed.json")), ["what the verdict says, in words: otbench explain --trace a.json"]);
   assert.deepEqual(hints("threads", [], [], "{}"), [`${fault}give the plan to otbench explain --plan`]);
   assert.deepEqual(hints("threads", [], ["a.json"], PLAN.replace('"workers":2', '"workers":9')), [`${fault}otbench explain --plan a.json`]);
-  assert.deepEqual(hints("threads", [], ["a.json"], PLAN), ['this engine has one thread: it carries out plans with "workers":1']);
 });
 
 test("of words that are refused what may be meant", () => {

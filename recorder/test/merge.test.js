@@ -18,6 +18,9 @@ import { LiveSession, chance, liveSession } from "./live_session.js";
 const mergeText = (text) => merge(readEvents(text, "log"));
 const eventsOf = (log) => readEvents(log, "log");
 
+/* What is said, without places in the log and the unit of lengths. */
+const bare = (said) => said.replaceAll(/ \(log, line \d+\)| \(UTF-16 units\)/g, "");
+
 /* The schedule without its last line, which says where the logs are cut, and that line's words. */
 const instructionsOf = (schedule) => schedule.filter((line) => !line.startsWith("; cut: "));
 const cutOf = (schedule) => JSON.parse(schedule.at(-1).replace("; cut: ", ""));
@@ -170,16 +173,17 @@ test("an edit that cuts a surrogate pair in two is named, and the schedule ends 
   const number = JSON.parse(session.lines.at(-1)).n;
   const after = mergeText(session.lines.join("\n"));
   assert.deepEqual(instructionsOf(after.schedule), before.schedule);
-  assert.match(after.fault, new RegExp(`^client a, event ${number}: edit \\[.*\\] cuts the surrogate pair at unit ${place - 1} in two; a schedule cannot say that, and ends before it$`));
+  assert.match(after.fault, /^client a, event \d+ \(log, line \d+\): edit \[.*\] \(UTF-16 units\) cuts /);
+  assert.match(bare(after.fault), new RegExp(`^client a, event ${number}: edit \\[.*\\] cuts the surrogate pair at unit ${place - 1} in two; a schedule cannot say that, and ends before it$`));
 });
 
 /* A session's events, changed; what the merge answers or throws. */
 function mergeChanged(change, options) {
   const events = eventsOf(liveSession({ seed: 4, clients: 2, edits: 12, ...options }).log);
   try {
-    return merge(change(events) || events).fault;
+    return bare(merge(change(events) || events).fault);
   } catch (fault) {
-    return fault.message;
+    return bare(fault.message);
   }
 }
 const find = (events, who, n) => events.find((event) => event.who === who && event.n === n);
@@ -187,12 +191,13 @@ const without = (who, n) => (events) => events.filter((event) => event.who !== w
 
 test("a log that is cut or mixed up is named", () => {
   const rows = [
-    [without("client a", 3), "the log of client a has no event 3"],
-    [without("server", 0), "the log of server has no event 0"],
+    [without("client a", 3), /^the log of client a has no event 3: log, line \d+ is event 4$/],
+    [without("server", 0), /^the log of server has no event 0: log, line \d+ is event 1$/],
     [(events) => events.filter((event) => event.who !== "server"), "no log is a server's"],
     [(events) => events.filter((event) => event.who === "server"), "no log is a client's"],
     [(events) => [...events, { ...find(events, "server", 0), who: "other" }], "server, event 0 and other, event 0: one session has one server"],
-    [(events) => [...events, find(events, "client a", 2)], "client a, event 2 is there twice: have two participants one name?"],
+    [(events) => [...events, find(events, "client a", 2)], /^client a, event 2 is log, line (\d+) and log, line \1: is the line there twice\?$/],
+    [(events) => [...events, { ...find(events, "client a", 2), time: -1 }], /^client a, event 2 is log, line \d+ and log, line \d+: have two participants one name\?$/],
     [(events) => void (find(events, "client a", 0).revision = -1), "client a, event 0 is at revision -1, before the server's log begins (0)"],
     [(events) => void (find(events, "client a", 0).outstanding = [3]), "client a, event 0: an operation is outstanding already"],
     [(events) => void (find(events, "client b", 0).revision = 99), /client b, event 0: joins at revision 99, which the server did not reach/],
@@ -210,7 +215,7 @@ test("a server's log that ends too early is named at the first event that waits"
   const last = Math.max(...events.filter((event) => event.who === "server").map((event) => event.n));
   const { fault } = merge(events.filter((event) => event.who !== "server" || event.n < last));
   const waiting = new RegExp(`client [ab], event \\d+: (deliver|ack) of operation ${last - 1}, which the server did not take`, "g");
-  assert.equal(fault.match(waiting).length, 2, fault);
+  assert.equal(bare(fault).match(waiting).length, 2, fault);
 });
 
 test("a message from elsewhere is named", () => {
@@ -305,7 +310,7 @@ test("what was thrown over an operation that the server did not take ends the sc
 test("of those that wait for what the server took, only who threw over it is named, and ends no schedule", () => {
   const taken = { who: "server", n: 2, time: 4, do: "take", given: { revision: 1, operation: [1, "b"] }, revision: 2, appended: [1, "b"], document: "ab" };
   const waiting = { n: 3, time: 5, do: "deliver", operation: [1, "b"] };
-  const unsent = 'server, event 2: take of [1,"b"] at revision 1, which no client of these logs sent: is a client\'s log missing, or cut?';
+  const unsent = 'server, event 2: take of [1,"b"] (UTF-16 units) at revision 1, which no client of these logs sent: is a client\'s log missing, or cut?';
   const handed = merge([...acknowledged, taken, { who: "ann", ...waiting, ...quiet, revision: 2, applied: [1, "b"], document: "ab" }]);
   assert.equal(handed.fault, unsent);
   const threw = merge([...acknowledged, taken, { who: "ann", ...waiting, stopped: "Error: no" }]);
@@ -341,7 +346,7 @@ test("a take that threw appended nothing: who acknowledges the next one did not 
 test("what a method threw ends the schedule, and is named", () => {
   const { log } = liveSession({ seed: 1, plant: bugs["whole-log"] });
   const { fault, lines } = mergeText(log);
-  assert.match(fault, /^server, event \d+: take stopped: Error: Both operations have to have the same base length$/);
+  assert.match(fault, /^server, event \d+ \(log, line \d+\): take stopped: Error: Both operations have to have the same base length$/);
   assert.match(lines.at(-2), /^{"at":\d+,"do":"take","client":\d,"stopped":"Error: Both operations/);
 });
 
@@ -349,14 +354,54 @@ test("lines that are no events are named", () => {
   const rows = [
     ["{", "log, line 1 is no JSON: is the log cut?"],
     ["\n[]", "log, line 2 is no event"],
-    ['{"who":"ann","n":3,"do":"edit","revision":0,"document":""}', 'ann, event 3 lacks what a "edit" should hold'],
-    ['{"who":"ann","n":3,"do":"ack","revision":0}', 'ann, event 3 lacks what a "ack" should hold'],
-    ['{"who":"s","n":3,"do":"take","revision":0,"document":"","given":{"revision":0,"operation":[1]}}', 's, event 3 lacks what a "take" should hold'],
-    ['{"who":"ann","n":3,"do":"toString","revision":0,"document":""}', 'ann, event 3 lacks what a "toString" should hold'],
+    ["null", "log, line 1 is no event"],
+    ['{"n":3,"do":"ack"}', 'log, line 1: "who" is missing'],
+    ['{"who":"ann","n":"3","do":"ack"}', 'log, line 1: "n" is "3"; wanted a whole number'],
+    ['{"who":"ann","n":3,"revision":0}', 'log, line 1: "do" is missing'],
+    ['{"who":"ann","n":3,"do":"edit","revision":0,"document":""}', 'log, line 1: "edit" is missing'],
+    ['\n{"who":"ann","n":3,"do":"ack","revision":0}', 'log, line 2: "document" is missing'],
+    ['{"who":"ann","n":3,"do":"ack","revison":0,"document":""}', 'log, line 1: "revision" is missing; "revison" is there'],
+    ['{"who":"ann","n":3,"do":"edit","edit":[1.5],"revision":0,"document":""}', 'log, line 1: "edit" is [1.5]; wanted an array of whole numbers and strings'],
+    ['{"who":"ann","n":3,"do":"ack","revision":0,"document":"","outstandin":[1]}', 'log, line 1: "outstandin" is no key; nearest: "outstanding"'],
+    ['{"who":"s","n":3,"do":"take","revision":0,"document":"","given":{"revision":0,"operation":[1]}}', 'log, line 1: "appended" is missing'],
+    ['{"who":"s","n":3,"do":"take","given":{"revision":0,"opration":[1]},"stopped":"x"}', 'log, line 1: "given.operation" is missing; "given.opration" is there'],
+    ['{"who":"s","n":3,"do":"take","given":[],"stopped":"x"}', 'log, line 1: "given" is []; wanted an object with revision and operation'],
+    ['{"who":"ann","n":0,"do":"open","role":"editor","revision":0,"document":""}', 'log, line 1: "role" is "editor"; wanted "client" or "server"'],
+    ['{"who":"ann","n":3,"do":"edti","revision":0,"document":""}', 'log, line 1: "do" is "edti"; wanted one of open, edit, deliver, ack, take; nearest: "edit"'],
+    ['{"who":"ann","n":3,"do":"toString","revision":0,"document":""}', 'log, line 1: "do" is "toString"; wanted one of open, edit, deliver, ack, take'],
+    ['{"who":"ann","n":3,"do":"ack","revision":0,"document":"","color":"red"}', null],
     ["\ufeff{}", "log, line 1 begins with a byte order mark: write the log without it"],
     ["\n\ufeff", "log, line 2 begins with a byte order mark: write the log without it"],
   ];
-  for (const [text, message] of rows) assert.throws(() => readEvents(text, "log"), { message });
+  for (const [text, message] of rows) {
+    if (message === null) assert.equal(readEvents(text, "log").length, 1);
+    else assert.throws(() => readEvents(text, "log"), { message });
+  }
+});
+
+test("the same log twice, and two participants of one name, are told apart", () => {
+  const read = (events, file) => readEvents(events.map((event) => JSON.stringify(event)).join("\n"), file);
+  const [server, ann] = [acknowledged.filter(({ who }) => who === "server"), acknowledged.filter(({ who }) => who === "ann")];
+  const other = ann.map((event) => ({ ...event, time: event.time + 1 }));
+  const said = (...logs) => {
+    try {
+      return merge(logs.flat()).fault;
+    } catch (fault) {
+      return fault.message;
+    }
+  };
+  const [first, second, third] = [read(server, "s.log"), read(ann, "a.log"), read(ann, "copy.log")];
+  assert.equal(said(first, second), null);
+  assert.equal(said(first, second, third), "a.log and copy.log have the same log of ann: leave one out");
+  assert.equal(said(first, second, read(other, "b.log")), "ann, event 0 is a.log, line 1 and b.log, line 1: have two participants one name?");
+  assert.equal(said(first, read([...ann, ann[1]], "a.log")), "ann, event 1 is a.log, line 2 and a.log, line 4: is the line there twice?");
+});
+
+test("an operation that does not fit is told with its unit", () => {
+  const misfit = { who: "ann", n: 3, time: 5, do: "edit", edit: [1, "b"], ...waits, revision: 1, outstanding: [5, "b"], document: "ab", sent: { revision: 1, operation: [1, "b"] } };
+  const { notes, lines } = merge([...acknowledged, misfit]);
+  assert.deepEqual(notes, ['ann, event 3: outstanding [5,"b"] (UTF-16 units) has base length 5 over a document of 1 units; the line has the same, in units']);
+  assert.deepEqual(JSON.parse(lines.at(-1)).outstanding, [5, "b"]);
 });
 
 test("bytes that are no UTF-8 are named by their line", () => {
@@ -386,7 +431,8 @@ test("the command line", () => {
   assert.deepEqual([call(file).status, call(file).stderr], [0, ""]);
   fs.writeFileSync(file, log.split("\n").slice(1).join("\n"));
   assert.deepEqual([call(file).status, call(file).stdout], [1, ""]);
-  assert.match(call(file).stderr, /^merge: the log of .* has no event 0\n$/);
+  assert.match(call(file).stderr, /^merge: the log of .* has no event 0: .*session\.log, line 1 is event 1\n$/);
+  assert.equal(call(file, file).stderr, `merge: ${file} is named twice\n`);
   fs.writeFileSync(file, log.split("\n").find((line) => JSON.parse(line).role === "server"));
   assert.deepEqual([call("--schedule", file).status, call(file).stdout, call(file).stderr], [1, "", "merge: no log is a client's\n"]);
   fs.writeFileSync(file, Buffer.concat([Buffer.from(`${log}\n`), Buffer.from([0xe9, 0x0a])]));

@@ -107,6 +107,7 @@ class Words(unittest.TestCase):
             self.assertIn(word, added)
         self.table([
             (["help", "run"], "", (0, "Usage: otbench run\n", "")),
+            (["help", "threads"], "", (0, "Usage: otbench threads\n\nThe program of dist/ and of the package has no threads: it performs plans with \"workers\":1.\n", "")),
             (["help", "debug"], "", (0, "Usage: otbench debug\n\nAt a terminal './otbench debug FILE [--port PORT-LINES]' has other commands: './otbench debug FILE --help' lists them.\n", "")),
             (["help", "nosuch"], "", (2, "", "error: unrecognized subcommand 'nosuch'\n")),
         ])
