@@ -1,9 +1,12 @@
 /**
  * Runs the engine: the program `otbench` as a WASI command, whose five imports stand here. The same file serves node, a page and a worker.
  *
- *     words, input ──▶ a fresh instance ──▶ status, output, errors
+ *     words, input ──▶ an instance ──▶ status, output, errors
+ *                        ▲     │
+ *                        └─────┘ its memory put back to what it was at first
  *
- * Each call has an instance and a memory of its own, which are gone when it returns.
+ * Each call finds the memory of a fresh instance. To make one takes longer than most calls, so `serve` keeps one of each module. The state of an instance is its
+ * memory and its stack pointer: nothing else of the engine changes.
  */
 
 /**
@@ -23,6 +26,8 @@ class Exit {
 
 /** How WASI numbers the faults of streams, by node's codes. Any other code is a fault of input or output. */
 const FAULTS = { EACCES: 2, EAGAIN: 6, EBADF: 8, EFBIG: 22, EINTR: 27, EIO: 29, EISDIR: 31, ENOSPC: 51, EPIPE: 64 };
+
+const ENCODER = new TextEncoder();
 
 /** What a leaf function may use below the stack pointer without moving it, in bytes. */
 const RED_ZONE = 128;
@@ -51,13 +56,10 @@ function faultOf(act) {
 
 /**
  * The five functions that the engine imports.
- * @param {() => ArrayBuffer} memory the engine's memory, which moves as it grows
- * @param {string[]} words
- * @param {Streams} streams
+ * @param {Instance} instance whose memory moves as it grows
  */
-function imports(memory, words, streams) {
-    const encoder = new TextEncoder();
-    const texts = ["otbench", ...words].map((word) => encoder.encode(`${word}\0`));
+function imports(instance) {
+    const memory = () => instance.exports.memory.buffer;
     const view = () => new DataView(memory());
     const set = (at, number) => view().setUint32(at, number, true);
     /** Calls `use` on each of the pieces of memory in the list at `at` until one is not filled; sets their bytes' count at `to`. */
@@ -74,27 +76,27 @@ function imports(memory, words, streams) {
         });
     return {
         args_sizes_get(count, size) {
-            set(count, texts.length);
+            set(count, instance.texts.length);
             set(
                 size,
-                texts.reduce((sum, text) => sum + text.length, 0),
+                instance.texts.reduce((sum, text) => sum + text.length, 0),
             );
             return 0;
         },
         args_get(at, to) {
-            for (const [i, text] of texts.entries()) {
+            for (const [i, text] of instance.texts.entries()) {
                 set(at + 4 * i, to);
                 new Uint8Array(memory(), to, text.length).set(text);
                 to += text.length;
             }
             return 0;
         },
-        fd_read: (from, at, count, to) => (from === 0 ? each(at, count, to, (room) => streams.read(room)) : FAULTS.EBADF),
+        fd_read: (from, at, count, to) => (from === 0 ? each(at, count, to, (room) => instance.streams.read(room)) : FAULTS.EBADF),
         fd_write(on, at, count, to) {
             if (on !== 1 && on !== 2) return FAULTS.EBADF;
             return each(at, count, to, (bytes) => {
-                if (on === 1) streams.write(bytes);
-                else streams.error(bytes);
+                if (on === 1) instance.streams.write(bytes);
+                else instance.streams.error(bytes);
                 return bytes.length;
             });
         },
@@ -117,6 +119,76 @@ function told(fault, exports) {
     return `the engine stopped, which is a fault of the engine: ${fault.message}`;
 }
 
+/** The most of the stack that a call has in an instance that is kept, in bytes, which are set to zero behind it. A call that needs more gets the whole stack. */
+const STACK = 128 << 10;
+
+/** The most of the heap that is kept with an instance, in bytes, which are set to zero too. */
+const HEAP = 1 << 20;
+
+/**
+ * An instance of the engine. Its memory is
+ *
+ *     0 ── stack, from its end down ── bottom ── static data ── size ── heap, which grows
+ */
+class Instance {
+    /**
+     * @param {WebAssembly.Module} module
+     * @throws {EngineFault} where there is no memory for it
+     */
+    constructor(module) {
+        try {
+            this.exports = new WebAssembly.Instance(module, { wasi_snapshot_preview1: imports(this) }).exports;
+        } catch (fault) {
+            if (fault instanceof RangeError) throw new EngineFault(`no memory for the engine: ${fault.message}`, { cause: fault });
+            throw fault;
+        }
+    }
+
+    /**
+     * Runs the program.
+     * @param {string[]} words
+     * @param {Streams} streams
+     * @returns {number} the status
+     * @throws {EngineFault} the instance is not to be used again then
+     */
+    run(words, streams) {
+        this.texts = ["otbench", ...words].map((word) => ENCODER.encode(`${word}\0`));
+        this.streams = streams;
+        try {
+            this.exports._start();
+            return 0;
+        } catch (fault) {
+            if (fault instanceof Exit) return fault.status;
+            const why = told(fault, this.exports);
+            if (why === null) throw fault;
+            throw new EngineFault(why, { cause: fault });
+        }
+    }
+}
+
+/** An instance that can be put back to what it was at first. */
+class Kept extends Instance {
+    constructor(module) {
+        super(module);
+        const { memory, __stack_pointer: pointer } = this.exports;
+        this.bottom = pointer.value;
+        this.size = memory.buffer.byteLength;
+        this.data = new Uint8Array(memory.buffer).slice(this.bottom);
+        this.stack = pointer.value = Math.min(STACK, this.bottom);
+    }
+
+    /** @returns {boolean} whether it is as at first: not where its memory has grown by too much */
+    restore() {
+        const { memory, __stack_pointer: pointer } = this.exports;
+        if (memory.buffer.byteLength > this.size + HEAP) return false;
+        const bytes = new Uint8Array(memory.buffer);
+        bytes.fill(0, 0, this.stack).fill(0, this.size).set(this.data, this.bottom);
+        pointer.value = this.stack;
+        this.texts = this.streams = null;
+        return true;
+    }
+}
+
 /**
  * Runs the engine once over streams, in constant memory of the host's.
  * @param {WebAssembly.Module} module
@@ -125,25 +197,7 @@ function told(fault, exports) {
  * @returns {number} the status
  * @throws {EngineFault}
  */
-export function serveStreams(module, words, streams) {
-    let exports;
-    const memory = () => exports.memory.buffer;
-    try {
-        ({ exports } = new WebAssembly.Instance(module, { wasi_snapshot_preview1: imports(memory, words, streams) }));
-    } catch (fault) {
-        if (fault instanceof RangeError) throw new EngineFault(`no memory for the engine: ${fault.message}`, { cause: fault });
-        throw fault;
-    }
-    try {
-        exports._start();
-        return 0;
-    } catch (fault) {
-        if (fault instanceof Exit) return fault.status;
-        const why = told(fault, exports);
-        if (why === null) throw fault;
-        throw new EngineFault(why, { cause: fault });
-    }
-}
+export const serveStreams = (module, words, streams) => new Instance(module).run(words, streams);
 
 /**
  * The pieces, one behind the other.
@@ -159,19 +213,12 @@ function joined(pieces) {
     return whole;
 }
 
-/**
- * Runs the engine once.
- * @param {WebAssembly.Module} module
- * @param {string[]} words the words behind the program's name, as ["run"]
- * @param {Uint8Array} input what the program reads
- * @returns {{status: number, output: Uint8Array, errors: Uint8Array}}
- * @throws {EngineFault}
- */
-export function serve(module, words, input) {
+/** What the program gives in an instance. */
+function answerOf(instance, words, input) {
     let at = 0;
     const output = [];
     const errors = [];
-    const status = serveStreams(module, words, {
+    const status = instance.run(words, {
         read(room) {
             const part = input.subarray(at, at + room.length);
             room.set(part);
@@ -182,4 +229,28 @@ export function serve(module, words, input) {
         error: (bytes) => void errors.push(bytes.slice()),
     });
     return { status, output: joined(output), errors: joined(errors) };
+}
+
+/** By its module an instance that is as at first, while it does not run. */
+const kept = new WeakMap();
+
+/**
+ * Runs the engine once.
+ * @param {WebAssembly.Module} module
+ * @param {string[]} words the words behind the program's name, as ["run"]
+ * @param {Uint8Array} input what the program reads
+ * @returns {{status: number, output: Uint8Array, errors: Uint8Array}}
+ * @throws {EngineFault}
+ */
+export function serve(module, words, input) {
+    const instance = kept.get(module) ?? new Kept(module);
+    kept.delete(module);
+    try {
+        const answer = answerOf(instance, words, input);
+        if (instance.restore()) kept.set(module, instance);
+        return answer;
+    } catch (fault) {
+        if (!(fault instanceof EngineFault)) throw fault;
+        return answerOf(new Instance(module), words, input); // which has the whole stack
+    }
 }

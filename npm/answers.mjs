@@ -90,8 +90,9 @@ function verdictIn([first, ...lines], text) {
 
 /* "compared clients 1 present 1 .." */
 function countsIn(line) {
-  const words = line.split(" ").slice(1);
-  return Object.fromEntries(words.flatMap((word, i) => (i % 2 ? [] : [[word, Number(words[i + 1])]])));
+  const counts = {};
+  for (const [, word, count] of line.matchAll(/ (\S+) (\d+)/g)) counts[word] = Number(count);
+  return counts;
 }
 
 /* The lines under a difference. */

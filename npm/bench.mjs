@@ -7,7 +7,7 @@
 import { readCheck, readCheckOfAll, readConform, readJudge, readRun, readSteps } from "./answers.mjs";
 import { check, OtbenchError } from "./errors.mjs";
 import { withPlace, withStop } from "./lines.mjs";
-import { bytesOf, joined, markIn, textOf, withRest } from "./text.mjs";
+import { bytesOf, markIn, textOf, withRest } from "./text.mjs";
 
 const NOTHING = new Uint8Array(0);
 
@@ -78,7 +78,7 @@ function callOf(name, ...given) {
 function linesOf(lines) {
   if (!Array.isArray(lines)) return bytesOf(lines, "what the port printed");
   const texts = lines.map((line) => (typeof line === "string" ? line : JSON.stringify(line)));
-  return joined(texts.map((line) => bytesOf(`${line}\n`, "a line of the port")));
+  return bytesOf(texts.map((line) => `${line}\n`).join(""), "the port's lines");
 }
 
 const isText = (given) => typeof given === "string" || given instanceof Uint8Array;

@@ -1,4 +1,4 @@
-/* The package under node: each call runs in an instance of its own, over one compiled module that is kept. */
+/* The package under node: over one compiled module, which is kept. */
 
 import { serve as serveIn } from "../engine/host.mjs";
 import { benchOver } from "./bench.mjs";

@@ -8,6 +8,7 @@ import { WASI } from "node:wasi";
 
 import { EngineFault, serve, serveStreams } from "../host.mjs";
 import { ENGINE, example } from "./engine.mjs";
+import { ALWAYS, moduleOf } from "./module.mjs";
 
 const engine = new WebAssembly.Module(fs.readFileSync(ENGINE));
 const bytes = (text) => new TextEncoder().encode(text);
@@ -112,35 +113,14 @@ test("five imports, and no others", () => {
     assert.deepEqual(names.sort(), ["args_get", "args_sizes_get", "fd_read", "fd_write", "proc_exit"].map((name) => `wasi_snapshot_preview1.${name}`));
 });
 
-/** A module that stops: its `_start` has this code, and its stack pointer this value. */
-function stopping(code, stackPointer) {
-    const sized = (part) => [part.length, ...part];
-    const named = (name) => sized([...bytes(name)]);
-    const section = (id, ...parts) => [id, ...sized([parts.length, ...parts.flat()])];
-    return new WebAssembly.Module(
-        Uint8Array.from([
-            ...[0, 97, 115, 109, 1, 0, 0, 0],
-            ...section(1, [0x60, 0, 0]),
-            ...section(3, [0]),
-            ...section(5, [0, 1]),
-            ...section(6, [0x7f, 1, 0x41, ...stackPointer, 0x0b]),
-            ...section(7, [...named("_start"), 0, 0], [...named("memory"), 2, 0], [...named("__stack_pointer"), 3, 0]),
-            ...section(10, sized([0, ...code, 0x0b])),
-        ]),
-    );
-}
-
 const NOTHING = { read: () => 0, write() {}, error() {} };
-const HIGH = [0x80, 0x80, 1];
-const NEGATIVE = [0x7f];
-const UNREACHABLE = [0x00];
 const CALLS_ITSELF = [0x10, 0];
 
 test("a trap is told as a fault of the engine", () => {
-    assert.throws(() => serveStreams(stopping(UNREACHABLE, HIGH), [], NOTHING), { name: "EngineFault", message: /fault of the engine: unreachable/ });
+    assert.throws(() => serveStreams(moduleOf(ALWAYS), [], NOTHING), { name: "EngineFault", message: /fault of the engine: unreachable/ });
 });
 
 test("a stack that ran out is told", () => {
-    for (const [code, pointer] of [[UNREACHABLE, NEGATIVE], [CALLS_ITSELF, HIGH]])
-        assert.throws(() => serveStreams(stopping(code, pointer), [], NOTHING), (fault) => fault instanceof EngineFault && fault.message === "the engine's stack ran out");
+    for (const module of [moduleOf(ALWAYS, { bottom: -1 }), moduleOf(CALLS_ITSELF)])
+        assert.throws(() => serveStreams(module, [], NOTHING), (fault) => fault instanceof EngineFault && fault.message === "the engine's stack ran out");
 });

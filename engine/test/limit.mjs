@@ -8,7 +8,7 @@ function written(number) {
 }
 
 /** @returns {[number, number]} the number at a byte, and where the next one stands */
-function numberAt(bytes, at) {
+export function numberAt(bytes, at) {
     for (let number = 0, shift = 0; ; shift += 7) {
         const byte = bytes[at++];
         number += (byte & 127) * 2 ** shift;

@@ -13,7 +13,8 @@ function start({ onAnswer, onFailure }) {
   const worker = new Worker(new URL("./inside.mjs", import.meta.url), { type: "module" });
   worker.onmessage = ({ data }) => onAnswer(data);
   worker.onerror = ({ message }) => onFailure(new Error(message));
-  return { post: (request) => worker.postMessage({ module, ...request }), end: () => worker.terminate() };
+  worker.postMessage(module);
+  return { post: (request) => worker.postMessage(request), end: () => worker.terminate() };
 }
 
 /** All functions over a worker of their own. */
