@@ -63,7 +63,7 @@ def shown(column, values):
     """The least and the greatest of some figures."""
     digits = '%.3f' if column.endswith(' s') else '%.0f' if column.endswith(' MiB') else '%.2f'
     ends = [digits % pick(values) for pick in (min, max)]
-    return ends[0] if ends[0] == ends[1] else ' to '.join(ends)
+    return ends[0] if ends[0] == ends[1] else '–'.join(ends)
 
 
 def table(rows):
@@ -71,7 +71,7 @@ def table(rows):
     columns = [it for it in next(iter(rows.values()))[0] if not it.endswith(' MiB') or it == 'otbench MiB']
     lines = [['Shape', *columns], ['---'] * (len(columns) + 1)]
     lines += [[shape, *(shown(column, [row[column] for row in of_seeds]) for column in columns)] for shape, of_seeds in rows.items()]
-    return ''.join('| %s |\n' % ' | '.join(line) for line in lines)
+    return ''.join('|%s|\n' % '|'.join(line) for line in lines)
 
 
 def write(rows, peers):
