@@ -187,3 +187,19 @@ test("a call behind one that stopped has an instance of its own", (t) => {
     });
     assert.equal(made.length, 4);
 });
+
+test("a call behind one that threw has an instance of its own", (t) => {
+    const module = new WebAssembly.Module(file);
+    const wanted = fresh(module, ["steps"], small);
+    const broken = {
+        subarray() {
+            throw new TypeError("mine");
+        },
+    };
+    const made = instancesOf(t, () => {
+        assert.deepEqual(serve(module, ["steps"], small), wanted);
+        assert.throws(() => serve(module, ["steps"], broken), { name: "TypeError", message: "mine" });
+        assert.deepEqual(serve(module, ["steps"], small), wanted);
+    });
+    assert.equal(made.length, 2);
+});
