@@ -9,6 +9,7 @@ import { Debugger } from "./debugger.mjs";
 import { reasonOf, writeFaultOf } from "./files.mjs";
 import { openHistory } from "./history.mjs";
 import { nearest } from "./nearest.mjs";
+import { isLong, page } from "./pager.mjs";
 import { nativeProgram } from "./program.mjs";
 import { Recording, RefusedText } from "./recording.mjs";
 import { shownOn } from "./visible.mjs";
@@ -34,7 +35,10 @@ export async function converse(session, input, output) {
     reader.close();
   });
   const colour = colouring(output);
-  const say = (lines) => lines.forEach((line) => output.write(`${colour(shownOn(output, line))}\n`));
+  const say = (lines) => {
+    const text = lines.map((line) => `${colour(shownOn(output, line))}\n`).join("");
+    if (!isLong(lines, input, output) || !page(text, input)) output.write(text);
+  };
   const prompt = () => {
     reader.setPrompt(session.prompt);
     if (shown !== undefined) reader.prompt();

@@ -1,6 +1,6 @@
 // Files that a person names, and an output that may be gone.
 
-const REASONS = { ENOENT: "there is no such file", EISDIR: "is a folder" };
+const REASONS = { ENOENT: "there is no such file", EISDIR: "is a folder", EEXIST: "is there already" };
 
 /** Why a file cannot be read or written, behind its path. @param {string} path @param {NodeJS.ErrnoException} fault */
 export const reasonOf = (path, fault) => `${path}: ${REASONS[fault.code] ?? fault.message}`;

@@ -16,7 +16,7 @@ export function nativeProgram(program) {
   const [command, ...first] = /\.[cm]?js$/.test(program) ? [process.execPath, program] : [program];
   return (words, text) => {
     const ran = spawnSync(command, [...first, ...words], { input: text, maxBuffer: 2 ** 31 - 1 });
-    if (ran.error) throw ran.error;
+    if (ran.error && !(ran.error.code === "EPIPE" && ran.status !== null)) throw ran.error; // it need not read to the end: a verdict may come before
     if (ran.signal) throw new Error(`${program} was stopped by ${ran.signal}`);
     return { status: ran.status ?? 1, output: ran.stdout.toString(), errors: ran.stderr.toString() };
   };

@@ -1,7 +1,9 @@
 // The debugger's answers, over the native program that OTBENCH names, or the repository's. The values are worked by hand from examples/weak-order.ots.
 
 import assert from "node:assert/strict";
-import { existsSync, readFileSync } from "node:fs";
+import { existsSync, mkdtempSync, readFileSync, rmSync, writeFileSync } from "node:fs";
+import { tmpdir } from "node:os";
+import path from "node:path";
 import test from "node:test";
 import { COMMANDS, commandOf } from "../commands.mjs";
 import { named, seen, withoutCut } from "../names.mjs";
@@ -139,6 +141,11 @@ test("the greeting says at which place and line a port differs, and of the first
 test("values of a port that look like ot.js' are told apart by code points", options, () => {
   const [stopped] = answers(["run"], 'clients 1\nedit 0 ["\u00e9"]\n', '{"at":1,"edit":["e\u0301"]}\n');
   assert.deepEqual(stopped.split("\n").slice(4, 7), ['found ["e\u0301"]', 'ot.js ["\u00e9"]', "points U+0065 U+0301 U+0022 U+005D | U+00E9 U+0022 U+005D"]);
+});
+
+test("a difference ahead of many lines, which the program does not read, is found", options, () => {
+  const port = `{"at":1,"client":1}\n${'{"at":1}\n'.repeat(500_000)}`;
+  assert.match(answers(["run"], WEAK, port)[0], /\ndiffers at 1: edit 0: client\nfound 1\not\.js 0/);
 });
 
 test("a port whose lines have no value is said to show nothing", options, () => {
@@ -284,4 +291,87 @@ test("what is watched already is not watched twice", options, () => {
   const [, again, stopped] = answers(["watch doc 1", "watch doc 1", "run"]);
   assert.equal(again, "already watching doc of client 1");
   assert.equal(stopped.split("\n").filter((line) => line.startsWith("client 1 doc")).length, 1);
+});
+
+test("a break behind the first words of an instruction, with a condition and a count", options, () => {
+  const [words, first, second, back] = answers(["break deliver", "run", "run", "rrun"]);
+  assert.equal(words, "break deliver: at 3 places, from 7 to 12");
+  assert.deepEqual([first, second].map((said) => said.split("\n").at(-1)), ["break at place 7: deliver", "break at place 11: deliver"]);
+  assert.equal(back.split("\n").at(-1), "break at place 7: deliver");
+  assert.equal(answers(["break deliver 1 time 2", "run"])[1].split("\n").at(-1), "break at place 12: deliver 1 time 2");
+  assert.equal(answers(["break take 1 time 2"])[0], "break take 1 time 2: it stops nowhere");
+  assert.equal(answers(['break deliver if not doc 0 contains "a"'])[0], 'break deliver if not doc 0 contains "a": it stops nowhere');
+  assert.equal(answers(["break deliver 1 if doc 1 is acz"])[0], "break deliver 1 if doc 1 is acz: at place 12");
+});
+
+test("a break where a condition begins to hold", options, () => {
+  const [begins, stopped, , state, not] = answers(['break if doc 0 contains "c"', "run", "clear", "break if state 0 is awaiting-with-buffer", 'break edit if not doc server is "x"']);
+  assert.equal(begins, 'break if doc 0 contains "c": at place 7');
+  assert.equal(stopped.split("\n").at(-1), 'break at place 7: if doc 0 contains "c"');
+  assert.equal(state, "break if state 0 is awaiting-with-buffer: at place 2");
+  assert.equal(not, 'break edit if not doc server is "x": it stops nowhere');
+});
+
+test("conditions that are none are complained of", options, () => {
+  const rows = [
+    ["break take 1 if", "a condition is a value, contains or is, and a text"],
+    ["break take 1 if doc 0", "a condition is a value, contains or is, and a text"],
+    ["break take 1 if doc 9 is x", "9 is no client: they are 0 to 1"],
+    ["break take 1 if doc 0 contains", "contains takes a text"],
+    ["break take 1 if doc 0 contains a b", "b is a word too many"],
+    ['break take 1 if doc 0 contains "\\x"', '"\\x" is no JSON string'],
+    ["break take 1 if constructor 0 is x", "constructor is no value of a client: they are doc, state, outstanding, buffer"],
+    ["break take 1 time 0", "time takes a number from 1"],
+    ["break time 2", "a place, words or a condition are missing"],
+  ];
+  const said = answers(rows.map(([row]) => row));
+  rows.forEach(([row, complaint], i) => assert.ok(said[i].startsWith(`${complaint}; break `), `${row}: ${said[i]}`));
+});
+
+test("what is displayed stands behind each move", options, () => {
+  const [first, , moved, still, all, again] = answers(["display doc 1", "display server", "goto 6", "show server", "display", "display doc 1"]);
+  assert.equal(first, 'displaying doc of client 1\nclient 1 doc: "x"');
+  assert.deepEqual(moved.split("\n").slice(-2), ['client 1 doc: "cx"', "the server's revision: 2"]);
+  assert.doesNotMatch(still, /client 1 doc/);
+  assert.equal(all, 'client 1 doc: "cx"\nthe server\'s revision: 2');
+  assert.match(again, /^already displaying doc of client 1\n/);
+});
+
+test("breaks, watches and displays are listed and removed by their numbers", options, () => {
+  const [, , , listed, removed, none, left, cleared] = answers(["break deliver", "watch doc 0", "display server", "info", "delete 2", "delete 2", "info breaks", "clear"]);
+  assert.equal(listed, "1 break deliver  (at 3 places, 0 of them up to here)\n2 watch doc 0\n3 display server");
+  assert.equal(removed, "no watch doc 0 any more");
+  assert.match(none, /^there is no break, watch or display 2; delete N: /);
+  assert.equal(left, "1 break deliver  (at 3 places, 0 of them up to here)\n3 display server");
+  assert.equal(cleared, "no breaks, no watches");
+});
+
+test("next and until, backwards", options, () => {
+  const [, back, further, forth, take, none] = answers(["goto 5", "rnext", "rnext", "next", "runtil edit 0", "runtil take 0"]);
+  assert.equal(back, "before line 9, instruction 4: take 1");
+  assert.equal(further, "before line 8, instruction 3: edit 1");
+  assert.equal(forth.split("\n")[0], "behind line 8, instruction 3: edit 1");
+  assert.match(take, /^before line \d+, instruction [12]: edit 0/);
+  assert.equal(none, "no earlier instruction begins with take 0");
+});
+
+test("what is saved is there again when it is sourced; a file is not written over", options, () => {
+  const folder = mkdtempSync(path.join(tmpdir(), "debugger-"));
+  const file = path.join(folder, "breaks");
+  const commands = ['break take 1 if doc 1 contains "c" time 1', "break 7", "watch doc server", "display buffer 0"];
+  const [saved, again] = answers([...commands, `save ${file}`, `save ${file}`]).slice(4);
+  assert.equal(saved, `4 commands in ${file}; source ${file} performs them`);
+  assert.match(again, /: is there already; save FILE: /);
+  assert.equal(readFileSync(file, "utf8"), `${commands.join("\n")}\n`);
+  const [sourced, info] = answers([`source ${file}`, "info"]);
+  assert.equal(sourced.split("\n").filter((line) => line.startsWith("> ")).length, 4);
+  assert.deepEqual(info.split("\n").map((line) => line.replace(/^\d+ |  \(.*/g, "")), commands);
+  writeFileSync(file, "; a comment\n\nstep\nbogus\nstep\n");
+  const [stopped, place] = answers([`source ${file}`, "back"]);
+  assert.match(stopped, new RegExp(`\n> bogus\n${file}, line 4: there is no bogus; `));
+  assert.equal(place, "before line 5, instruction 0: edit 0");
+  writeFileSync(file, `source ${file}\n`);
+  assert.match(answers([`source ${file}`])[0], /, line 1: a file of commands sources no other; /);
+  assert.match(answers(["source nosuch"])[0], /^nosuch: there is no such file; /);
+  rmSync(folder, { recursive: true });
 });

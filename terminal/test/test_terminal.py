@@ -6,6 +6,7 @@ import pty
 import re
 import select
 import shutil
+import struct
 import subprocess
 import tempfile
 import termios
@@ -20,9 +21,10 @@ ESCAPES = re.compile(r"\x1b\[[0-9;?]*[A-Za-z]")
 class Terminal:
     """A debugger at a terminal of its own."""
 
-    def __init__(self, *words, call=None, output=None, state=None, **more):
-        """call: what runs in place of the debugger; output: a file for its standard output; state: the folder for the state of programs."""
+    def __init__(self, *words, call=None, output=None, state=None, rows=0, **more):
+        """call: what runs in place of the debugger; output: a file for its standard output; state: the folder for the state of programs; rows: of the screen."""
         master, slave = pty.openpty()
+        fcntl.ioctl(slave, termios.TIOCSWINSZ, struct.pack("HHHH", rows, 80, 0, 0))
         self.state = tempfile.TemporaryDirectory()
         environment = {**os.environ, "OTBENCH": str(PROGRAM), "TERM": "xterm", "XDG_STATE_HOME": state or self.state.name, **more}
         self.ran = subprocess.Popen([*(call or ["node", TOP / "terminal/debug.mjs"]), *words], stdin=slave, stdout=output or slave, stderr=slave, env=environment, start_new_session=True, preexec_fn=lambda: fcntl.ioctl(slave, termios.TIOCSCTTY, 0))
@@ -160,6 +162,15 @@ class Debugging(unittest.TestCase):
             terminal = self.start(str(TOP / "examples/two-clients.ots"), **more)
             terminal.type("step\r", r"\(1/8\) $")
             self.assertEqual(b"\x1b[1mbehind line" in terminal.bytes, has_colours)
+
+    def test_what_is_longer_than_the_screen_goes_to_the_pager(self):
+        """Where there is one; what fits the screen is printed."""
+        for pager, has_pager in (("sed s/^/paged:/", True), ("", False), ("no-such-pager", False)):
+            terminal = self.start(str(TOP / "examples/two-clients.ots"), rows=10, PAGER=pager)
+            self.assertNotIn("paged:", terminal.type("step\r", r"\(1/8\) $"))
+            shown = terminal.type("help\r", r"counted from 0\.\r\n\(1/8\) $")
+            self.assertEqual("paged:step" in shown, has_pager, shown)
+            terminal.type("step\r", r"\(2/8\) $")
 
     def test_the_history_is_kept_for_the_next_session(self):
         with tempfile.TemporaryDirectory() as state:
