@@ -31,7 +31,7 @@ export const COMMANDS = {
   clear: { takes: "[P]", most: 1, does: "removes the breaks at place P, or all breaks, watches and displays" },
   list: { takes: "[P [Q]]", most: 2, does: "shows the instructions around the place, around P, or from P to Q, with their lines" },
   show: { takes: "[C|server]", most: 1, does: "shows documents, states, outstanding operations, buffers and links; what is long is cut" },
-  print: { takes: "doc|outstanding|buffer|message|link C, print doc server, print instruction [N]", most: 2, does: "shows the whole of one value" },
+  print: { takes: "doc|outstanding|buffer|message|link C, print doc server, print instruction [N], print difference", most: 2, does: "shows the whole of one value, or of what conform answers" },
   explain: { takes: "[N]", most: 1, does: "describes the instruction that was performed or undone last, or instruction N, in words" },
   source: { takes: "FILE", most: 1, does: "performs the commands of a file, line by line" },
   save: { takes: "FILE", most: 1, does: "writes breaks, watches and displays as commands to a file, which must not be there yet" },

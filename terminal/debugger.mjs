@@ -89,7 +89,7 @@ export class Debugger {
   #wordsBehind(command, count) {
     const clients = Array.from({ length: this.recording.clients }, (_, client) => String(client));
     if (command === "watch" || command === "display") return count === 1 ? [...WATCHED, "server"] : [...clients, "server"];
-    if (command === "print") return count === 1 ? [...PRINTED, "instruction"] : [...clients, "server"];
+    if (command === "print") return count === 1 ? [...PRINTED, "instruction", "difference"] : [...clients, "server"];
     if (command === "show") return [...clients, "server"];
     if (command === "help") return Object.keys(COMMANDS);
     if (command === "until" || command === "runtil") return count === 1 ? INSTRUCTIONS : clients;
@@ -236,6 +236,7 @@ export class Debugger {
   _print([what, word]) {
     const { recording, place } = this;
     if (what === "instruction") return this.#told(word);
+    if (what === "difference" && word === undefined) return recording.difference?.answer.split("\n") ?? ["none"];
     const { client } = subjectOf(word === undefined ? [what] : [what, word], recording.clients, PRINTED);
     const links = { link: () => recording.link(client, place), message: () => recording.message(client, place) };
     const found = Object.hasOwn(links, what) ? links[what]() : [recording.value({ what, client }, place)];

@@ -1,6 +1,6 @@
 // Breaks, watches and displays, by their numbers.
 
-import { Complaint, wordsIn } from "./commands.mjs";
+import { Complaint } from "./commands.mjs";
 import { conditionOf, holdingOf } from "./conditions.mjs";
 import { titleOf, wordsOf } from "./subjects.mjs";
 import { change } from "./values.mjs";
@@ -10,15 +10,26 @@ import { change } from "./values.mjs";
  * @typedef {{ number: number, kind: "watch" | "display", command: string, subject: import("./subjects.mjs").Subject }} Look
  */
 
+const isNumber = (word = "") => /^\d+$/.test(word);
+
 /** The parts of a break: what stands before `if`, its condition, and the number behind `time`. */
 function partsOf(words) {
-  const [from, time] = [words.indexOf("if"), words.lastIndexOf("time")];
-  const hasTime = time >= 0 && time === words.length - 2 && /^[1-9]\d{0,8}$/.test(words[time + 1]);
-  if (time >= 0 && time >= words.length - 2 && !hasTime) throw new Complaint("time takes a number from 1");
-  const rest = hasTime ? words.slice(0, time) : words;
-  if (from < 0) return { head: rest, condition: null, time: hasTime ? Number(words[time + 1]) : null };
-  return { head: rest.slice(0, from), condition: rest.slice(from + 1), time: hasTime ? Number(words[time + 1]) : null };
+  const at = words.lastIndexOf("time");
+  const hasTime = at >= 0 && at >= words.length - 2;
+  if (hasTime && !/^[1-9]\d{0,8}$/.test(words[at + 1] ?? "")) throw new Complaint("time takes a number from 1");
+  const rest = hasTime ? words.slice(0, at) : words;
+  const from = rest.includes("if") ? rest.indexOf("if") : rest.length;
+  return { head: rest.slice(0, from), condition: from < rest.length ? rest.slice(from + 1) : null, time: hasTime ? Number(words[at + 1]) : null };
 }
+
+/** At how many places a break stops, and where. @param {number[]} places */
+function told(places) {
+  if (places.length === 0) return "it stops nowhere";
+  return places.length === 1 ? `at place ${places[0]}` : `at ${places.length} places, from ${places[0]} to ${places.at(-1)}`;
+}
+
+/** Whether a break is of a place, without more. */
+const isPlain = ({ command, place }) => command === `break ${place}`;
 
 export class Stops {
   /** @param {import("./recording.mjs").Recording} recording */
@@ -29,12 +40,11 @@ export class Stops {
     this.count = 0; // of those that there ever were
   }
 
-  /** Adds a break, watch or display; answers the one that is there already, or null. */
+  /** Adds a break, watch or display; answers whether it was there already. */
   #add(stop) {
-    const there = this.all.find(({ command }) => command === stop.command);
-    if (there) return there;
-    this.all.push({ number: ++this.count, ...stop });
-    return null;
+    const isThere = this.all.some(({ command }) => command === stop.command);
+    if (!isThere) this.all.push({ number: ++this.count, ...stop });
+    return isThere;
   }
 
   /**
@@ -43,35 +53,38 @@ export class Stops {
    */
   addBreak(words, placeOf, placeOfLine) {
     const { head, condition, time } = partsOf(words);
-    const isPlace = /^\d+$/.test(head[0] ?? "");
     const isLine = head[0] === "line";
-    if (head.length > (isLine ? 2 : 1) && (isPlace || isLine)) throw new Complaint(`${head[isLine ? 2 : 1]} is a word too many`);
-    const place = isPlace ? placeOf(head[0]) : isLine ? placeOfLine(head[1]) : null;
-    const found = this.#placesOf(place, head, condition);
+    const count = isLine ? 2 : 1;
+    const hasPlace = isLine || isNumber(head[0]);
+    if (hasPlace && head.length > count) throw new Complaint(`${head[count]} is a word too many`);
+    const place = hasPlace ? (isLine ? placeOfLine : placeOf)(head[count - 1]) : null;
+    const all = hasPlace ? [place] : this.#placesBehind(head, condition);
+    const found = this.#whereHolds(all, head, condition);
     const places = time === null ? found : found.slice(time - 1, time);
-    const command = `break ${place === null ? words.join(" ") : [String(place), ...words.slice(head.length)].join(" ")}`;
-    const there = this.#add({ kind: "break", command, place, places, isAt: new Set(places) });
-    return [`${there ? "already: " : ""}${this.#tellBreak({ command, place, places })}`];
+    const command = ["break", ...(hasPlace ? [place] : head), ...words.slice(head.length)].join(" ");
+    const isThere = this.#add({ kind: "break", command, place, places, isAt: new Set(places) });
+    return [`${isThere ? "already: " : ""}${isPlain({ command, place }) ? `break at place ${place}` : `${command}: ${told(places)}`}`];
   }
 
-  #placesOf(place, head, condition) {
-    const { instructions, end, clients } = this.recording;
-    const holding = condition === null ? null : holdingOf(this.recording, conditionOf(condition, clients));
-    if (place === null && head.length === 0 && holding === null) throw new Complaint("a place, words or a condition are missing");
+  /** The places behind instructions with these first words; without words those behind each. */
+  #placesBehind(head, condition) {
+    if (head.length === 0 && condition === null) throw new Complaint("a place, words or a condition are missing");
     const wanted = `${head.join(" ")} `;
-    const isThere = (p) => (place !== null ? p === place : p > 0 && (head.length === 0 ? !holding[p - 1] : `${instructions[p - 1].words} `.startsWith(wanted)));
-    const places = place !== null ? [place] : Array.from({ length: end + 1 }, (_, p) => p).filter(isThere);
-    return holding === null ? places : places.filter((p) => holding[p]);
+    const { instructions, end } = this.recording;
+    const places = Array.from({ length: end }, (_, number) => number + 1);
+    return head.length === 0 ? places : places.filter((p) => `${instructions[p - 1].words} `.startsWith(wanted));
   }
 
-  #tellBreak({ command, place, places }) {
-    if (place !== null && command === `break ${place}`) return `break at place ${place}`;
-    return `${command}: ${places.length === 0 ? "it stops nowhere" : places.length === 1 ? `at place ${places[0]}` : `at ${places.length} places, from ${places[0]} to ${places.at(-1)}`}`;
+  /** Those places at which a condition holds; without words, at which it begins to. */
+  #whereHolds(places, head, condition) {
+    if (condition === null) return places;
+    const holding = holdingOf(this.recording, conditionOf(condition, this.recording.clients));
+    return places.filter((p) => holding[p] && (head.length > 0 || !holding[p - 1]));
   }
 
-  /** Watches or displays a value. @param {"watch" | "display"} kind @param {import("./subjects.mjs").Subject} subject */
+  /** Watches or displays a value; answers whether it was already. @param {"watch" | "display"} kind @param {import("./subjects.mjs").Subject} subject */
   addLook(kind, subject) {
-    return this.#add({ kind, command: `${kind} ${wordsOf(subject)}`, subject }) !== null;
+    return this.#add({ kind, command: `${kind} ${wordsOf(subject)}`, subject });
   }
 
   /** Removes one by its number. @param {number} number */
@@ -91,14 +104,14 @@ export class Stops {
 
   /** A line for each; of a break at how many places it stops, and how many of them are reached. @param {number} now */
   list(now) {
-    const told = ({ places }) => `  (at ${places.length} place${places.length === 1 ? "" : "s"}, ${places.filter((p) => p <= now).length} of them up to here)`;
-    return this.all.map((stop) => `${stop.number} ${stop.command}${stop.kind === "break" ? told(stop) : ""}`);
+    const reached = ({ places }) => `  (at ${places.length} place${places.length === 1 ? "" : "s"}, ${places.filter((p) => p <= now).length} of them up to here)`;
+    return this.all.map((stop) => `${stop.number} ${stop.command}${stop.kind === "break" ? reached(stop) : ""}`);
   }
 
   /** Why a run stops in a place, but for changes. @param {number} p */
   breaksAt(p) {
     const met = this.all.filter((stop) => stop.kind === "break" && stop.isAt.has(p));
-    return met.map(({ command, place }) => (command === `break ${place}` ? `break at place ${place}` : `break at place ${p}: ${wordsIn(command).slice(1).join(" ")}`));
+    return met.map((stop) => `break at place ${p}${isPlain(stop) ? "" : `: ${stop.command.slice("break ".length)}`}`);
   }
 
   /** What is watched and changed by the instruction that leads to a place: both values, or the change of a long one. @param {number} p */

@@ -4,6 +4,7 @@ const LONG = 72; // characters that a value may have and be shown whole
 const ENDS = 24; // characters that are shown of each end of a text that is cut
 const AROUND = 12; // characters that are shown before and behind a change
 const COMPONENTS = 4; // components that are shown of an operation that is cut
+const MANY = 4; // given values between the first and the last that are left out
 
 /** A number with its thousands apart. */
 const counted = (number) => String(number).replace(/\B(?=(\d{3})+$)/g, ",");
@@ -75,12 +76,31 @@ export function change(title, from, to) {
   return `${title}: ${shortJson(from)} -> ${shortJson(to)}`;
 }
 
-/** The lines of a verdict, of whose two long values what stands around the first difference is shown. @param {string[]} lines */
-export function shortVerdict(lines) {
-  const [found, ours] = ["found ", "ot.js "].map((head) => lines.findIndex((line) => line.startsWith(head)));
-  if (found < 0 || ours < 0 || lines[found].length + lines[ours].length <= 2 * LONG) return lines.map(shortLine);
-  const values = [lines[found], lines[ours]].map((line) => [...line.slice("found ".length)]);
+const HEAD = "found ";
+
+/** Two lines with long values, of which what stands around their first difference is left. */
+function around(lines) {
+  const values = lines.map((line) => [...line.slice(HEAD.length)]);
   const { at } = parting(...values);
-  const around = (all) => `${at > AROUND ? ".." : ""}${all.slice(Math.max(0, at - AROUND), at + LONG).join("")}${at + LONG < all.length ? ".." : ""}`;
-  return lines.map((line, i) => (i === found ? `found ${around(values[0])}` : i === ours ? `ot.js ${around(values[1])}` : shortLine(line)));
+  const [from, to] = [Math.max(0, at - AROUND), at + LONG];
+  const cut = (value) => `${from > 0 ? ".." : ""}${value.slice(from, to).join("")}${to < value.length ? ".." : ""}`;
+  return lines.map((line, i) => line.slice(0, HEAD.length) + cut(values[i]));
+}
+
+/** Lines, but of those with the same two first words, one behind the other, the first and the last if they are many. */
+function fewer(lines) {
+  const name = (line) => line?.split(" ", 2).join(" ");
+  const isWithin = (i) => name(lines[i - 1]) === name(lines[i]) && name(lines[i]) === name(lines[i + 1]);
+  const within = lines.filter((_, i) => isWithin(i)).length;
+  if (within < MANY) return lines;
+  const first = lines.findIndex((_, i) => isWithin(i));
+  return lines.flatMap((line, i) => (i === first ? [`.. ${within} more; print difference shows all`] : isWithin(i) ? [] : [line]));
+}
+
+/** The lines of a verdict: of two long values what stands around the first difference, of many given ones the first and the last. @param {string[]} lines */
+export function shortVerdict(lines) {
+  const [found, ours] = [HEAD, "ot.js "].map((head) => lines.findIndex((line) => line.startsWith(head)));
+  const isLong = found >= 0 && ours >= 0 && lines[found].length + lines[ours].length > 2 * LONG;
+  const [of, by] = isLong ? around([lines[found], lines[ours]]) : [];
+  return fewer(lines.map((line, i) => (isLong && i === found ? of : isLong && i === ours ? by : shortLine(line))));
 }

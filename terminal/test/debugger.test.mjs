@@ -143,6 +143,17 @@ test("values of a port that look like ot.js' are told apart by code points", opt
   assert.deepEqual(stopped.split("\n").slice(4, 7), ['found ["e\u0301"]', 'ot.js ["\u00e9"]', "points U+0065 U+0301 U+0022 U+005D | U+00E9 U+0022 U+005D"]);
 });
 
+test("of many given values the first and the last are shown, and print has all", options, () => {
+  const edits = Array.from({ length: 20 }, (_, i) => `edit 0 [${i ? `${i},` : ""}"x"]\ntake 0\nack 0\n`);
+  const schedule = `clients 2\nedit 1 ["y"]\n${edits.join("")}take 1\n`;
+  const port = ask(["steps"], schedule).output.replace('"appended":["y",20]', '"appended":[20,"y"]');
+  const [stopped, all] = answers(["run", "print difference"], schedule, port);
+  const given = (said) => said.split("\n").filter((line) => line.startsWith("given concurrent"));
+  assert.deepEqual(given(stopped), ['given concurrent ["x"]', 'given concurrent [19,"x"]']);
+  assert.match(stopped, /\n\.\. 18 more; print difference shows all\n/);
+  assert.equal(given(all).length, 20);
+});
+
 test("a difference ahead of many lines, which the program does not read, is found", options, () => {
   const port = `{"at":1,"client":1}\n${'{"at":1}\n'.repeat(500_000)}`;
   assert.match(answers(["run"], WEAK, port)[0], /\ndiffers at 1: edit 0: client\nfound 1\not\.js 0/);
