@@ -11,6 +11,7 @@ import { comparable, firstDifference, faultyPort } from "./lines.js";
 const ports = new Map();
 readline.createInterface({ input: process.stdin }).on("line", (line) => {
   const [name, text] = JSON.parse(line);
+  if (!Object.hasOwn(bugs, name)) throw new Error(`there is no fault ${name}`);
   if (!ports.has(name)) ports.set(name, faultyPort(bugs[name]));
   console.log(firstDifference(comparable(text), ports.get(name)));
 });

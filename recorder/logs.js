@@ -57,11 +57,12 @@ const same = (one, other) => JSON.stringify(one) === JSON.stringify(other);
 function doubled(first, second, log) {
   const name = `${first.who}, event ${first.n}`;
   if (!first[AT]) return `${name} is there twice: have two participants one name?`;
-  const [one, other] = [first, second].map((event) => log.filter((it) => it[AT].file === event[AT].file));
   const files = [first[AT].file, second[AT].file];
-  if (files[0] !== files[1] && same(one, other)) return `${files[0]} and ${files[1]} have the same log of ${first.who}: leave one out`;
-  const why = same(first, second) ? "is the line there twice?" : "have two participants one name?";
-  return `${name} is ${placeOf(first)} and ${placeOf(second)}: ${why}`;
+  if (files[0] === files[1] && same(first, second)) return `${name} is ${placeOf(first)} and ${placeOf(second)}: is the line there twice?`;
+  const [longer, shorter] = files.map((file) => log.filter((event) => event[AT].file === file)).sort((a, b) => b.length - a.length);
+  const isCopy = files[0] !== files[1] && shorter.every((event, i) => same(event, longer[i]));
+  if (!isCopy) return `${name} is ${placeOf(first)} and ${placeOf(second)}: have two participants one name?`;
+  return `${shorter[0][AT].file} has the events of ${first.who} that ${longer[0][AT].file} has: leave it out`;
 }
 
 /* One participant's events, in order and with no hole. */

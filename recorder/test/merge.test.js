@@ -392,7 +392,8 @@ test("the same log twice, and two participants of one name, are told apart", () 
   };
   const [first, second, third] = [read(server, "s.log"), read(ann, "a.log"), read(ann, "copy.log")];
   assert.equal(said(first, second), null);
-  assert.equal(said(first, second, third), "a.log and copy.log have the same log of ann: leave one out");
+  assert.equal(said(first, second, third), "copy.log has the events of ann that a.log has: leave it out");
+  assert.equal(said(first, second, read(ann.slice(0, 2), "half.log")), "half.log has the events of ann that a.log has: leave it out");
   assert.equal(said(first, second, read(other, "b.log")), "ann, event 0 is a.log, line 1 and b.log, line 1: have two participants one name?");
   assert.equal(said(first, read([...ann, ann[1]], "a.log")), "ann, event 1 is a.log, line 2 and a.log, line 4: is the line there twice?");
 });
