@@ -1,5 +1,5 @@
 -- Schedules, texts and states that differ in their letters alone.
-use Rattle.std.proofs.Common.{◌≡◌, ℕ, zero, suc, List, [], ◌∷◌, map, length, Option, Some, None, refl, sym, ap, ◌∙◌, subst, arith}
+use Rattle.std.proofs.Common.{◌≡◌, ℕ, List, [], ◌∷◌, map, length, refl, sym, ap, ◌∙◌, subst, arith}
 use Rattle.std.proofs.lemmas.List.{length-map}
 use Rattle.std.specs.Prelude.{◌↔◌, option_map}
 use Rattle.std.specs.List.{AllZip}
@@ -9,8 +9,8 @@ use Rattle.ot_codes.proofs.Mapped.{same_parts}
 use Rattle.ot_operation.specs.Operation.{Item, Old, New, Operation}
 use Rattle.ot_isa.specs.declared.instruction.Instr.{Instr}
 use Rattle.ot_isa.specs.declared.instruction.Instr.TheVariants.{Edit}
-use Rattle.ot_model.specs.Table.{State, Outcome, Place, opening, begin, step, run, performed, IsQuiet}
-use Rattle.ot_letters.specs.Letters.{mapped_instr, mapped_instrs, mapped_state, mapped_outcome, mapped_place, refusal_in}
+use Rattle.ot_model.specs.Table.{State, Place, begin, step, run, performed, IsQuiet}
+use Rattle.ot_letters.specs.Letters.{mapped_instr, mapped_instrs, mapped_state, mapped_place, refusal_in}
 use Rattle.ot_letters.specs.Alike.{blank, AreAlikeTexts, AreAlikeInstrs, AreAlike, AreAlikeStates, AreAlikeOutcomes, AreAlikePlaces}
 use Rattle.ot_letters.specs.Laws.{AreAlikeRuns}
 use Rattle.ot_letters.proofs.Steps.{step-mapped}
@@ -45,11 +45,11 @@ pub alike_is_shape : (c d : ℕ) (a b : Operation ℕ) → AreAlikeInstrs (Edit 
 unfolding zero_of
 alike_is_shape c d a b = (
   λ e.
-    let same = same_edits c d (mapped blank a) (mapped blank b) e in
-    (same.0, sym (mapped_twice shapes.blank blank a) ∙ ap shape same.1 ∙ mapped_twice shapes.blank blank b),
+      let same = same_edits c d (mapped blank a) (mapped blank b) e in
+      (same.0, sym (mapped_twice shapes.blank blank a) ∙ ap shape same.1 ∙ mapped_twice shapes.blank blank b),
   λ e.
-    ap (λ (n : ℕ). Edit n (mapped blank a)) e.0
-    ∙ ap (Edit d) (sym (mapped_twice zero_of shapes.blank a) ∙ ap (mapped zero_of) e.1 ∙ mapped_twice zero_of shapes.blank b),
+      ap (λ (n : ℕ). Edit n (mapped blank a)) e.0
+      ∙ ap (Edit d) (sym (mapped_twice zero_of shapes.blank a) ∙ ap (mapped zero_of) e.1 ∙ mapped_twice zero_of shapes.blank b),
 )
 
 same_heads : (i j : Instr) (is js : List Instr) → ◌≡◌ {A = List Instr} (i ∷ is) (j ∷ js) → (i ≡ j) × (is ≡ js)
@@ -94,16 +94,16 @@ pub runs_are_alike : (is js : List Instr) (p q : Place) → AreAlike is js → A
 runs_are_alike is js p q instrs places =
     record {
       performed =
-        sym (performed-mapped blank is p.state)
-        ∙ ap (λ (xs : List Instr). performed xs (mapped_state blank p.state)) instrs
-        ∙ ap (λ (r : Place). performed (mapped_instrs blank js) r.state) places
-        ∙ performed-mapped blank js q.state;
+          sym (performed-mapped blank is p.state)
+          ∙ ap (λ (xs : List Instr). performed xs (mapped_state blank p.state)) instrs
+          ∙ ap (λ (r : Place). performed (mapped_instrs blank js) r.state) places
+          ∙ performed-mapped blank js q.state;
       refusal =
-        sym (refusal-mapped blank is p.state)
-        ∙ ap (λ (xs : List Instr). refusal_in xs (mapped_state blank p.state)) instrs
-        ∙ ap (λ (r : Place). refusal_in (mapped_instrs blank js) r.state) places
-        ∙ refusal-mapped blank js q.state;
+          sym (refusal-mapped blank is p.state)
+          ∙ ap (λ (xs : List Instr). refusal_in xs (mapped_state blank p.state)) instrs
+          ∙ ap (λ (r : Place). refusal_in (mapped_instrs blank js) r.state) places
+          ∙ refusal-mapped blank js q.state;
       ends = λ e at.
-        let found = from_Some (mapped_place blank) (run js q) (mapped_place blank e) (sym (runs_alike is js p q instrs places) ∙ ap (option_map (mapped_place blank)) at) in
-        (found.0, found.1, sym found.2, quiet_is_alike e.state found.0.state (ap (λ (r : Place). r.state) (sym found.2)));
+          let found = from_Some (mapped_place blank) (run js q) (mapped_place blank e) (sym (runs_alike is js p q instrs places) ∙ ap (option_map (mapped_place blank)) at) in
+          (found.0, found.1, sym found.2, quiet_is_alike e.state found.0.state (ap (λ (r : Place). r.state) (sym found.2)));
     }

@@ -1,5 +1,5 @@
 -- A worked run and the run with other letters, by evaluation. A letter is its number: 97 is 'a'.
-use Rattle.std.proofs.Common.{◌≡◌, ℕ, ◌+◌, List, [], ◌∷◌, length, map, Option, Some, None, refl}
+use Rattle.std.proofs.Common.{◌≡◌, ℕ, ◌+◌, List, [], ◌∷◌, length, map, Option, Some, refl}
 use Rattle.std.specs.Prelude.{option_map}
 use Rattle.ot_operation.specs.Operation.{Operation, apply}
 use Rattle.ot_operation.specs.Run.{Run, Keep, Add, Skip, operation_of}
@@ -8,7 +8,7 @@ use Rattle.ot_operation.specs.Merge.{merge, first_after, second_after}
 use Rattle.ot_isa.specs.Program.{Program}
 use Rattle.ot_isa.specs.Tagging.{chars_of}
 use Rattle.ot_isa.specs.declared.instruction.Instr.{Instr}
-use Rattle.ot_isa.specs.declared.instruction.Instr.TheVariants.{Edit, Take, Deliver, Acknowledge, Join, Read, ReadServer}
+use Rattle.ot_isa.specs.declared.instruction.Instr.TheVariants.{Edit, Take, Deliver, Acknowledge, Read, ReadServer}
 use Rattle.ot_model.specs.declared.shown.Refusal.TheVariants.{BadBase}
 use Rattle.ot_model.specs.Table.{Place, opening}
 use Rattle.ot_model.specs.Runs.{place_at}

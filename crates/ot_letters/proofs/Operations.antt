@@ -1,5 +1,5 @@
 -- Operations over other elements: apply and invert. Compose and transform are of `ot_codes`.
-use Rattle.std.proofs.Common.{◌≡◌, ℕ, zero, suc, List, [], ◌∷◌, map, length, Option, Some, None, refl, sym, ap, ◌∙◌}
+use Rattle.std.proofs.Common.{◌≡◌, ℕ, zero, suc, List, [], ◌∷◌, map, length, Option, Some, None, refl, ap, ◌∙◌}
 use Rattle.std.proofs.lemmas.List.{length-map}
 use Rattle.std.specs.List.{filter_map, slice_get, cons_option}
 use Rattle.ot_codes.specs.Shape.{mapped_item, mapped}

@@ -1,5 +1,5 @@
 -- Runs, quiet states and the orders of machines with other letters.
-use Rattle.std.proofs.Common.{◌≡◌, ℕ, zero, suc, List, [], ◌∷◌, ◌++◌, map, take, drop, Bool, true, false, Option, Some, None, refl, sym, ap, ◌∙◌, subst}
+use Rattle.std.proofs.Common.{◌≡◌, ℕ, suc, List, [], ◌∷◌, map, take, drop, Bool, true, false, Option, Some, None, refl, sym, ap, ◌∙◌, subst}
 use Rattle.std.proofs.lemmas.List.{map-append, take-map, drop-map}
 use Rattle.std.proofs.lemmas.Option.{slice_get-map, same_Some}
 use Rattle.std.specs.Prelude.{◌↔◌, option_map, slice_get, cond}
@@ -10,7 +10,7 @@ use Rattle.ot_isa.specs.declared.instruction.Instr.{Instr}
 use Rattle.ot_isa.specs.declared.instruction.Instr.TheVariants.{Edit, Take, Deliver, Acknowledge, Read, Join, ReadServer}
 use Rattle.ot_model.specs.declared.shown.Refusal.{Refusal}
 use Rattle.ot_model.specs.declared.shown.Shown.{Shown}
-use Rattle.ot_model.specs.Table.{Entry, Message, Phase, NotJoined, Synchronized, AwaitingConfirm, AwaitingWithBuffer, is_joined, Client, State, Outcome, Performed, Refused, NoRow, Place, with_shown, step, run, performed, opening, begin, IsQuietClient, IsQuiet}
+use Rattle.ot_model.specs.Table.{Entry, Phase, NotJoined, Synchronized, AwaitingConfirm, AwaitingWithBuffer, is_joined, Client, State, Outcome, Performed, Refused, NoRow, Place, with_shown, step, run, performed, opening, begin, IsQuietClient, IsQuiet}
 use Rattle.ot_model.specs.Runs.{done, place_at}
 use Rattle.ot_model.specs.Sound.{IsInstr, AreInstrs}
 use Rattle.ot_model.specs.Orders.{Machine, ClientMachine, ServerMachine, is_at}
@@ -133,12 +133,12 @@ quiet_client-mapped f log x = (
 pub quiet-mapped : (f : ℕ → ℕ) (s : State) → IsQuiet (mapped_state f s) ↔ IsQuiet s
 quiet-mapped f s = (
   λ quiet c x at on.
-    (quiet_client-mapped f s.log x).0
-    (quiet c (mapped_client f x) (slice_get-map (mapped_client f) s.clients c ∙ ap (option_map (mapped_client f)) at) (joined-mapped f x.phase ∙ on)),
+      (quiet_client-mapped f s.log x).0
+      (quiet c (mapped_client f x) (slice_get-map (mapped_client f) s.clients c ∙ ap (option_map (mapped_client f)) at) (joined-mapped f x.phase ∙ on)),
   λ quiet c y at on.
-    let found = from_Some (mapped_client f) (slice_get s.clients c) y (sym (slice_get-map (mapped_client f) s.clients c) ∙ at) in
-    let joined : is_joined found.0.phase ≡ true = sym (joined-mapped f found.0.phase) ∙ ap (λ (z : Client). is_joined z.phase) found.2 ∙ on in
-    subst (IsQuietClient (map (mapped_entry f) s.log)) found.2 ((quiet_client-mapped f s.log found.0).1 (quiet c found.0 found.1 joined)),
+      let found = from_Some (mapped_client f) (slice_get s.clients c) y (sym (slice_get-map (mapped_client f) s.clients c) ∙ at) in
+      let joined : is_joined found.0.phase ≡ true = sym (joined-mapped f found.0.phase) ∙ ap (λ (z : Client). is_joined z.phase) found.2 ∙ on in
+      subst (IsQuietClient (map (mapped_entry f) s.log)) found.2 ((quiet_client-mapped f s.log found.0).1 (quiet c found.0 found.1 joined)),
 )
 
 -- ---- machines

@@ -1,13 +1,12 @@
 -- ot.js' client and server over other elements.
-use Rattle.std.proofs.Common.{◌≡◌, ℕ, zero, suc, ◌+◌, List, [], ◌∷◌, ◌++◌, map, length, drop, Option, Some, None, refl, sym, ap, ◌∙◌}
+use Rattle.std.proofs.Common.{◌≡◌, ℕ, suc, List, [], ◌∷◌, map, length, drop, refl, sym, ap, ◌∙◌}
 use Rattle.std.proofs.lemmas.List.{length-map, map-append, drop-map}
-use Rattle.std.specs.Prelude.{option_map, nat_lt, nat_le, not, ◌==◌, if◌then◌else◌}
+use Rattle.std.specs.Prelude.{option_map}
 use Rattle.ot_codes.specs.Shape.{mapped}
 use Rattle.ot_codes.proofs.Mapped.{compose-mapped, first_after-mapped, second_after-mapped}
-use Rattle.ot_operation.specs.Operation.{Operation, apply, news}
-use Rattle.ot_operation.specs.Compose.{compose}
+use Rattle.ot_operation.specs.Operation.{Operation}
 use Rattle.ot_operation.specs.Merge.{first_after, second_after}
-use Rattle.ot_client.specs.State.{Phase, Synchronized, AwaitingConfirm, AwaitingWithBuffer, State, Message, phase_edited, edited, phase_delivered, delivered, against_pending, phase_acknowledged, message_edited, message_acknowledged}
+use Rattle.ot_client.specs.State.{Phase, Synchronized, AwaitingConfirm, AwaitingWithBuffer, State, phase_edited, edited, phase_delivered, delivered, against_pending, phase_acknowledged, message_edited, message_acknowledged}
 use Rattle.ot_server.specs.History.{Entry, History, base_at, inserted_in, length_at, longest_at, fault_of, transform_over, with_entry, received}
 use Rattle.ot_letters.specs.Elements.{mapped_phase, mapped_client, mapped_message, mapped_entry, mapped_log, mapped_history}
 use Rattle.ot_letters.proofs.Operations.{apply-mapped, length-news-mapped}

@@ -1,9 +1,9 @@
 -- The table with other letters.
-use Rattle.std.proofs.Common.{◌≡◌, ℕ, zero, suc, ◌+◌, ◌-◌, List, [], ◌∷◌, ◌++◌, map, length, drop, set, replicate, Bool, true, false, Option, Some, None, refl, sym, ap, ◌∙◌}
+use Rattle.std.proofs.Common.{◌≡◌, ℕ, zero, suc, ◌+◌, ◌-◌, List, [], ◌∷◌, ◌++◌, map, length, drop, replicate, Bool, true, false, Option, Some, None, refl, sym, ap, ◌∙◌}
 use Rattle.std.proofs.lemmas.List.{length-map, map-append, drop-map, map-set}
 use Rattle.std.proofs.lemmas.Option.{slice_get-map}
 use Rattle.std.specs.Prelude.{option_map, slice_get, nat_lt, nat_le, not, ◌==◌, if◌then◌else◌}
-use Rattle.ot_codes.specs.Shape.{mapped_item, mapped, mapped as mapped_by}
+use Rattle.ot_codes.specs.Shape.{mapped_item, mapped}
 use Rattle.ot_codes.proofs.Mapped.{same_parts, compose-mapped, first_after-mapped, second_after-mapped}
 use Rattle.ot_operation.specs.Operation.{Item, Old, New}
 use Rattle.ot_client.specs.State as client
@@ -14,15 +14,12 @@ use Rattle.ot_isa.specs.declared.instruction.Instr.TheVariants.{Edit, Take, Deli
 use Rattle.ot_isa.specs.Tagging.{tagged_chars, tagged_items, tagged_char}
 use Rattle.ot_isa.specs.declared.tagging.TheConstants.{INSERTED_LIMIT}
 use Rattle.ot_model.specs.declared.limits.TheConstants.{STEP_LIMIT}
-use Rattle.ot_model.specs.declared.shown.Refusal.{Refusal}
 use Rattle.ot_model.specs.declared.shown.Refusal.TheVariants as refusal
 use Rattle.ot_model.specs.declared.shown.Refusal.TheVariants.{StepsFull, AlreadyJoined, BadBase, ClientFull, WrongHead}
-use Rattle.ot_model.specs.declared.shown.Reader.{Reader}
 use Rattle.ot_model.specs.declared.shown.Reader.TheVariants as reader
-use Rattle.ot_model.specs.declared.shown.Shown.{Shown}
 use Rattle.ot_model.specs.Operation.{Operation, apply, inserted}
-use Rattle.ot_model.specs.Table.{start_list, tag_operation, Entry, Message, Phase, NotJoined, Synchronized, AwaitingConfirm, AwaitingWithBuffer, is_joined, Client, State, absent, present_with, opening, Head, Ack, Op, head_for, downlink, Outcome, Performed, Refused, NoRow, with_client, phase_edited, message_edited, edited, edit_row, taken, take_row, phase_delivered, against_pending, delivered, deliver_row, acknowledged, with_row, acknowledge_row, joined, join_row, shows, if_joined, row, unless_full, at_client, step}
-use Rattle.ot_letters.specs.Letters.{with_letter, mapped_list, mapped_operation, mapped_edit, mapped_instr, mapped_message, mapped_entry, mapped_phase, mapped_client, mapped_state, mapped_head, mapped_shown, mapped_outcome}
+use Rattle.ot_model.specs.Table.{start_list, tag_operation, Entry, Message, Phase, NotJoined, Synchronized, AwaitingConfirm, AwaitingWithBuffer, is_joined, Client, State, absent, present_with, opening, Head, Ack, Op, head_for, downlink, Outcome, Performed, Refused, with_client, phase_edited, message_edited, edited, edit_row, taken, take_row, phase_delivered, against_pending, delivered, deliver_row, acknowledged, with_row, acknowledge_row, joined, join_row, shows, if_joined, row, unless_full, at_client, step}
+use Rattle.ot_letters.specs.Letters.{with_letter, mapped_list, mapped_operation, mapped_edit, mapped_instr, mapped_message, mapped_entry, mapped_phase, mapped_client, mapped_state, mapped_head, mapped_outcome}
 use Rattle.ot_letters.proofs.Operations.{apply-mapped, length-news-mapped}
 use Rattle.ot_letters.proofs.Sides.{transform_over-mapped}
 

@@ -1,5 +1,5 @@
 -- Alike: texts, schedules and states that differ in their letters alone. With one letter in the place of all, they are the same.
-use Rattle.std.specs.Prelude.{◌≡◌, ℕ, List, map, Option, option_map}
+use Rattle.std.specs.Prelude.{◌≡◌, ℕ, List, map}
 use Rattle.ot_isa.specs.declared.instruction.Instr.{Instr}
 use Rattle.ot_model.specs.Table.{State, Outcome, Place}
 use Rattle.ot_letters.specs.Letters.{mapped_instr, mapped_instrs, mapped_state, mapped_outcome, mapped_place}

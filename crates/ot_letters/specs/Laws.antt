@@ -1,5 +1,5 @@
 -- The laws of sessions with other letters: what is done with mapped letters is what is done, with its letters mapped.
-use Rattle.std.specs.Prelude.{◌≡◌, ◌↔◌, ℕ, List, length, map, Option, Some, None, option_map}
+use Rattle.std.specs.Prelude.{◌≡◌, ◌↔◌, ℕ, List, length, map, Some, option_map}
 use Rattle.std.specs.List.{filter, AllZip}
 use Rattle.ot_codes.specs.Shape.{mapped, shape}
 use Rattle.ot_operation.specs.Operation.{Operation, apply, invert}
@@ -11,7 +11,7 @@ use Rattle.ot_server.specs.History.{Entry, History, transform_over, received}
 use Rattle.ot_isa.specs.Program.{Program}
 use Rattle.ot_isa.specs.declared.instruction.Instr.{Instr}
 use Rattle.ot_isa.specs.declared.instruction.Instr.TheVariants.{Edit}
-use Rattle.ot_model.specs.Table.{State, Client, Place, opening, begin, tag_operation, downlink, step, run, performed, IsQuiet}
+use Rattle.ot_model.specs.Table.{State, Client, Place, begin, tag_operation, downlink, step, run, performed, IsQuiet}
 use Rattle.ot_model.specs.Runs.{done, place_at}
 use Rattle.ot_model.specs.Sound.{AreInstrs}
 use Rattle.ot_model.specs.Orders.{Machine, is_at}
