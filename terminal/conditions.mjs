@@ -29,11 +29,13 @@ export function conditionOf(words, clients) {
   return { isNot, subject, verb: given[at], wanted: isText ? textOf(given[at + 1]) : given[at + 1] };
 }
 
-/** Whether a condition holds in a place. A client that has not joined has no document. */
+/** Whether a condition holds in a place. A client that has not joined has no document, which has no text and is none. */
 function holdsAt(recording, { isNot, subject, verb, wanted }, place) {
   const value = recording.value(subject, place);
-  const text = subject.what === "doc" && value !== "none" ? JSON.parse(value) : value;
-  return (verb === "is" ? text === wanted : text.includes(wanted)) !== isNot;
+  const isDocument = subject.what === "doc" && value !== "none";
+  const text = isDocument ? JSON.parse(value) : value;
+  const holds = verb === "is" ? text === wanted : text.includes(wanted);
+  return (holds && (isDocument || subject.what !== "doc")) !== isNot;
 }
 
 /**

@@ -6,6 +6,7 @@ import { tmpdir } from "node:os";
 import path from "node:path";
 import test from "node:test";
 import { COMMANDS, commandOf } from "../commands.mjs";
+import { conditionOf, holdingOf } from "../conditions.mjs";
 import { named, seen, withoutCut } from "../names.mjs";
 import { Debugger } from "../debugger.mjs";
 import { nearest as nearestOf } from "../nearest.mjs";
@@ -321,6 +322,26 @@ test("a break where a condition begins to hold", options, () => {
   assert.equal(stopped.split("\n").at(-1), 'break at place 7: if doc 0 contains "c"');
   assert.equal(state, "break if state 0 is awaiting-with-buffer: at place 2");
   assert.equal(not, 'break edit if not doc server is "x": it stops nowhere');
+});
+
+test("a client that has not joined has no document that a condition could be of", options, () => {
+  const schedule = "clients 2\npresent 1\nread 0\njoin 1\n";
+  assert.equal(answers(['break read if doc 1 contains "n"'], schedule)[0], 'break read if doc 1 contains "n": it stops nowhere');
+  assert.equal(answers(['break read if not doc 1 contains "n"'], schedule)[0], 'break read if not doc 1 contains "n": at place 1');
+});
+
+test("a value changes only where the instruction may change it, and a condition holds where its value says so", options, () => {
+  for (const seed of [1, 2]) {
+    const recording = new Recording(ask, ask(["generate", "--seed", String(seed), "--clients", "3", "--present", "2", "--instructions", "200"], "").output);
+    const places = Array.from({ length: recording.end }, (_, i) => i + 1);
+    const ofClients = ["doc", "state", "outstanding", "buffer"].flatMap((what) => [0, 1, 2].map((client) => ({ what, client })));
+    for (const subject of [...ofClients, { what: "doc", client: null }, { what: "server", client: null }]) {
+      const changes = places.filter((p) => recording.value(subject, p - 1) !== recording.value(subject, p));
+      assert.deepEqual(changes.filter((p) => !recording.mayChange(subject, p)), []);
+    }
+    const holding = holdingOf(recording, conditionOf(["doc", "server", "contains", "e"], 3));
+    assert.deepEqual(holding, [0, ...places].map((p) => recording.text(null, p).includes("e")));
+  }
 });
 
 test("conditions that are none are complained of", options, () => {
