@@ -98,6 +98,18 @@ export class Recording {
     return this.session.steps[place].moved === client;
   }
 
+  /**
+   * Whether the instruction that leads to a place changes a value. A document's is a list of characters, each inserted once: an `a` in the place of another `a`
+   * is a change, as it is to the program's `debug`.
+   * @param {import("./subjects.mjs").Subject} subject @param {number} place
+   */
+  isChanged(subject, place) {
+    if (!this.mayChange(subject, place)) return false;
+    if (subject.what !== "doc") return this.value(subject, place - 1) !== this.value(subject, place);
+    const [before, after] = [place - 1, place].map((p) => documentAt(this.session, subject.client ?? SERVER, p));
+    return before.length !== after.length || before.some((element, i) => element !== after[i]);
+  }
+
   /** A document. @param {number | null} client null: the server's @param {number} place */
   text(client, place) {
     return textOf(documentAt(this.session, client ?? SERVER, place));

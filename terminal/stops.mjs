@@ -116,9 +116,8 @@ export class Stops {
 
   /** What is watched and changed by the instruction that leads to a place: both values, or the change of a long one. @param {number} p */
   changesAt(p) {
-    const watches = this.all.filter(({ kind, subject }) => kind === "watch" && this.recording.mayChange(subject, p));
-    const changes = watches.map(({ subject }) => ({ subject, from: this.recording.value(subject, p - 1), to: this.recording.value(subject, p) }));
-    return changes.filter(({ from, to }) => from !== to).map(({ subject, from, to }) => change(titleOf(subject), from, to));
+    const watches = this.all.filter(({ kind, subject }) => kind === "watch" && this.recording.isChanged(subject, p));
+    return watches.map(({ subject }) => change(titleOf(subject), this.recording.value(subject, p - 1), this.recording.value(subject, p)));
   }
 
   /** What is displayed of a place. @param {number} place */

@@ -71,6 +71,7 @@ function changeOfText(from, to) {
  * @param {string} title what the value is called @param {string} from a word or a JSON text @param {string} to
  */
 export function change(title, from, to) {
+  if (from === to) return `${title}: the same text, of other characters`;
   if (from.length + to.length <= 2 * LONG) return `${title}: ${from} -> ${to}`;
   if (from.startsWith('"') && to.startsWith('"')) return `${title} ${changeOfText(JSON.parse(from), JSON.parse(to))}`;
   return `${title}: ${shortJson(from)} -> ${shortJson(to)}`;

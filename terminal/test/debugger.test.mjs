@@ -344,6 +344,35 @@ test("a value changes only where the instruction may change it, and a condition 
   }
 });
 
+/* The places at which the program's own `debug` stands behind each of these commands: it performs what is proved of stepping. */
+function provedPlaces(schedule, commands) {
+  const { output } = ask(["debug"], `${schedule}%%\n${commands.map((command) => `${command}\nwhere\n`).join("")}`);
+  return output.split("\n").filter((line) => /^at \d+$/.test(line)).map((line) => Number(line.slice(3)));
+}
+
+/* A command that the program and the debugger at a terminal both have, of a seeded choice. */
+function commandOfBoth(choose, { clients, end }) {
+  const client = choose(clients);
+  const all = ["run", "run", "run", `step ${choose(9)}`, `back ${choose(30)}`, `break ${choose(end + 1)}`, `clear ${choose(end + 1)}`, `watch doc ${client}`, `watch state ${client}`, "watch server"];
+  return all[choose(all.length)];
+}
+
+test("the debugger stands where the program's own does, over generated commands", options, () => {
+  let state = 7;
+  const choose = (n) => (state = (state * 48271) % 2147483647) % n;
+  for (let seed = 1; seed <= 12; seed++) {
+    const generated = ask(["generate", "--seed", String(seed), "--clients", "3", "--present", "2", "--instructions", "60", ...(seed % 2 ? ["--open"] : [])], "").output;
+    const schedule = seed % 3 ? generated : `${generated}join 0\nread 0\n`;
+    const recording = new Recording(ask, schedule);
+    for (let script = 0; script < 25; script++) {
+      const commands = Array.from({ length: 20 }, () => commandOfBoth(choose, recording));
+      const session = new Debugger(recording);
+      const places = commands.map((command) => session.perform(command) && session.place);
+      assert.deepEqual(places, provedPlaces(schedule, commands), `seed ${seed}: ${commands.join("; ")}`);
+    }
+  }
+});
+
 test("conditions that are none are complained of", options, () => {
   const rows = [
     ["break take 1 if", "a condition is a value, contains or is, and a text"],
