@@ -25,14 +25,14 @@ use Rattle.ot_model.proofs.Awaiting.{run_first, sent_between}
 use Rattle.ot_model.proofs.Runs.{run-append}
 
 -- no machine performs both
-abbrev IsApart : Instr → Instr → Type 0
+abbrev pub IsApart : Instr → Instr → Type 0
 IsApart i j = (w : Machine) → is_at w i ≡ true → is_at w j ≡ false
 
 apart_by : (i j : Instr) → (is_at ServerMachine i ≡ true → is_at ServerMachine j ≡ false) → ((c : ℕ) → is_at (ClientMachine c) i ≡ true → is_at (ClientMachine c) j ≡ false) → IsApart i j
 apart_by i j server clients (ClientMachine c) = clients c
 apart_by i j server clients ServerMachine = server
 
-apart_back : (i j : Instr) → IsApart i j → IsApart j i
+pub apart_back : (i j : Instr) → IsApart i j → IsApart j i
 apart_back i j apart w on = go (is_at w i) refl
   where
     go : (b : Bool) → is_at w i ≡ b → is_at w i ≡ false
@@ -66,7 +66,7 @@ home (Read c) = inl (c, λ d. refl)
 home ReadServer = inr (λ d. refl)
 
 -- every instruction is at a machine
-some_machine : (j : Instr) → (w : Machine) × (is_at w j ≡ true)
+pub some_machine : (j : Instr) → (w : Machine) × (is_at w j ≡ true)
 some_machine (Edit c op) = (ClientMachine c, eq-eqb c c refl)
 some_machine (Take c) = (ServerMachine, refl)
 some_machine (Deliver c) = (ClientMachine c, eq-eqb c c refl)
@@ -75,7 +75,7 @@ some_machine (Join c) = (ServerMachine, refl)
 some_machine (Read c) = (ClientMachine c, eq-eqb c c refl)
 some_machine ReadServer = (ServerMachine, refl)
 
-apart_or : (i j : Instr) → IsApart i j ⊎ ((w : Machine) × (is_at w i ≡ true) × (is_at w j ≡ true))
+pub apart_or : (i j : Instr) → IsApart i j ⊎ ((w : Machine) × (is_at w i ≡ true) × (is_at w j ≡ true))
 apart_or i j = at_server (is_at ServerMachine i) refl (is_at ServerMachine j) refl
   where
     at_client : (is_at ServerMachine i ≡ true → is_at ServerMachine j ≡ false) → (c : ℕ) → ((d : ℕ) → is_at (ClientMachine d) j ≡ (c == d)) → (b : Bool) → is_at (ClientMachine c) i ≡ b → IsApart i j ⊎ ((w : Machine) × (is_at w i ≡ true) × (is_at w j ≡ true))
@@ -116,12 +116,12 @@ unfolding tail
 same_tail x y xs ys e = ap tail e
 
 -- each of these shares no machine with j
-AllApart : List Instr → Instr → Type 0
+unfoldable pub AllApart : List Instr → Instr → Type 0
 AllApart [] j = Unit {0}
 AllApart (i ∷ is) j = IsApart i j × AllApart is j
 
 -- where each machine of j has j first, j stands behind instructions that share no machine with it
-found : (is : List Instr) (j : Instr) → ((w : Machine) → is_at w j ≡ true → (zs : List Instr) × (filter (is_at w) is ≡ j ∷ zs))
+pub found : (is : List Instr) (j : Instr) → ((w : Machine) → is_at w j ≡ true → (zs : List Instr) × (filter (is_at w) is ≡ j ∷ zs))
     → (pre : List Instr) × (post : List Instr) × (is ≡ pre ++ j ∷ post) × AllApart pre j
 unfolding AllApart
 found [] j first = absurd (let m = some_machine j in let f = first m.0 m.1 in let e = f.1 in cc)
@@ -136,7 +136,7 @@ found (i ∷ is) j first = elim (apart_or i j) [
 ]
 
 -- moved to the front, it leaves each machine its order
-moved_front : (pre post : List Instr) (j : Instr) → AllApart pre j → AreSameOrders (pre ++ j ∷ post) (j ∷ (pre ++ post))
+pub moved_front : (pre post : List Instr) (j : Instr) → AllApart pre j → AreSameOrders (pre ++ j ∷ post) (j ∷ (pre ++ post))
 unfolding AllApart
 moved_front [] post j all w = refl
 moved_front (i ∷ pre) post j all w = go (moved_front pre post j all.1 w) (is_at w i) refl (is_at w j) refl
@@ -154,14 +154,14 @@ moved_front (i ∷ pre) post j all w = go (moved_front pre post j all.1 w) (is_a
         ∙ sym (filter_no (is_at w) j (i ∷ (pre ++ post)) off_j ∙ filter_no (is_at w) i (pre ++ post) off)
 
 -- without a first instruction that they share
-same_rest : (j : Instr) (is js : List Instr) → AreSameOrders (j ∷ is) (j ∷ js) → AreSameOrders is js
+pub same_rest : (j : Instr) (is js : List Instr) → AreSameOrders (j ∷ is) (j ∷ js) → AreSameOrders is js
 same_rest j is js same w = go (is_at w j) refl
   where
     go : (b : Bool) → is_at w j ≡ b → filter (is_at w) is ≡ filter (is_at w) js
     go true on = same_tail j j (filter (is_at w) is) (filter (is_at w) js) (sym (filter_yes (is_at w) j is on) ∙ same w ∙ filter_yes (is_at w) j js on)
     go false off = sym (filter_no (is_at w) j is off) ∙ same w ∙ filter_no (is_at w) j js off
 
-none_left : (is : List Instr) → AreSameOrders is [] → is ≡ []
+pub none_left : (is : List Instr) → AreSameOrders is [] → is ≡ []
 none_left [] same = refl
 none_left (i ∷ is) same = absurd (let m = some_machine i in let e = sym (filter_yes (is_at m.0) i is m.1) ∙ same m.0 in cc)
 
@@ -187,7 +187,7 @@ same_counts (j ∷ js) is same p =
 pub same_instructions : SameInstructions
 same_instructions is js = same_counts js is
 
-AreInstrs_split : (pre post : List Instr) (j : Instr) → AreInstrs (pre ++ j ∷ post) → IsInstr j × AreInstrs pre × AreInstrs (pre ++ post)
+pub AreInstrs_split : (pre post : List Instr) (j : Instr) → AreInstrs (pre ++ j ∷ post) → IsInstr j × AreInstrs pre × AreInstrs (pre ++ post)
 AreInstrs_split [] post j all = (all.0, tt, all.1)
 AreInstrs_split (i ∷ pre) post j all = let rest = AreInstrs_split pre post j all.1 in (rest.0, (all.0, rest.1), (all.0, rest.2))
 
@@ -234,11 +234,11 @@ shown_at s i t a e w l is of = elim (kind s i t a e) [
 ]
 
 -- a run goes on from its first instruction
-run_then : (i : Instr) (is : List Instr) (p : Place) (t : State) (a : Option Shown) → step p.state i ≡ Performed t a → run (i ∷ is) p ≡ run is (record { state = t; shown = with_shown p.shown a })
+pub run_then : (i : Instr) (is : List Instr) (p : Place) (t : State) (a : Option Shown) → step p.state i ≡ Performed t a → run (i ∷ is) p ≡ run is (record { state = t; shown = with_shown p.shown a })
 run_then i is p t a e = rw (run, e) refl
 
 -- a run to this state, with the same lists shown
-abbrev Arrives : List Instr → Place → Place → Type 0
+abbrev pub Arrives : List Instr → Place → Place → Type 0
 Arrives is p q = (r : Place) × (run is p ≡ Some r) × (q.state ≡ r.state) × AreSameShown q.shown r.shown
 
 run_same : (is : List Instr) (p r q : Place) → p.state ≡ r.state → AreSameShown p.shown r.shown → run is p ≡ Some q → Arrives is r q
@@ -256,7 +256,7 @@ room : (pre post : List Instr) (j : Instr) (p q : Place) → run (pre ++ j ∷ p
 room [] post j p q e = let f = run_first j post p q e in (steps_of p.state j f.0 f.1 f.2).0
 room (i ∷ pre) post j p q e = let f = run_first i (pre ++ j ∷ post) p q e in (steps_of p.state i f.0 f.1 f.2).0
 
-sound_after : (s : State) (i : Instr) (t : State) (a : Option Shown) → IsSound s → IsInstr i → step s i ≡ Performed t a → IsSound t
+pub sound_after : (s : State) (i : Instr) (t : State) (a : Option Shown) → IsSound s → IsInstr i → step s i ≡ Performed t a → IsSound t
 sound_after s i t a sound is e = subst IsOutcomeSound e (step_sound laws s i sound is)
 
 -- two instructions that share no machine show no lists of one machine
@@ -269,7 +269,7 @@ shown_apart s i j t u a b apart first second w l k is_l is_k of = go (is_of w k.
     go false off = off
 
 -- an instruction that shares no machine with those before it, and is performed at the start, can come first
-to_front : (pre post : List Instr) (j : Instr) (p q : Place) (t : State) (b : Option Shown) → IsSound p.state → AreInstrs pre → AllApart pre j → run (pre ++ j ∷ post) p ≡ Some q → step p.state j ≡ Performed t b
+pub to_front : (pre post : List Instr) (j : Instr) (p q : Place) (t : State) (b : Option Shown) → IsSound p.state → AreInstrs pre → AllApart pre j → run (pre ++ j ∷ post) p ≡ Some q → step p.state j ≡ Performed t b
     → Arrives (pre ++ post) (record { state = t; shown = with_shown p.shown b }) q
 unfolding AllApart
 to_front [] post j p q t b sound are all e first = (q, sym (run_then j post p t b first) ∙ e, refl, λ w. refl)
@@ -315,7 +315,7 @@ any_order clients present text is js q r few within short are same first second 
     any_order_from js is (begin clients present text) (begin clients present text) q r (opening_sound clients present text few within short) are same refl (λ w. refl) first second
 
 -- the place where j is performed in the first run, and what has changed there for j
-grown : (pre post : List Instr) (j : Instr) (p q : Place) → AllApart pre j → run (pre ++ j ∷ post) p ≡ Some q → (r : Place) × Grew j p.state r.state × (run (j ∷ post) r ≡ Some q) × (run pre p ≡ Some r)
+pub grown : (pre post : List Instr) (j : Instr) (p q : Place) → AllApart pre j → run (pre ++ j ∷ post) p ≡ Some q → (r : Place) × Grew j p.state r.state × (run (j ∷ post) r ≡ Some q) × (run pre p ≡ Some r)
 unfolding AllApart
 grown [] post j p q all e = (p, grew_nothing j p.state, e, refl)
 grown (i ∷ pre) post j p q all e =
