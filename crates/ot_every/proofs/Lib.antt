@@ -1,0 +1,17 @@
+pub mod Lists
+pub mod Forms
+pub mod Machines
+pub mod There
+pub mod Nexts
+pub mod Listed
+pub mod Distinct
+pub mod Least
+pub mod Quiet
+pub mod Complete
+pub mod Valid
+pub mod Parts
+pub mod Unread
+pub mod Lettered
+pub mod Bound
+pub mod Whole
+pub mod Examples
