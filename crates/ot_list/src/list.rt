@@ -164,7 +164,7 @@ impl<E: Item> List<E> {
 
     /// In a leaf, where it lies, `gone` items go from the place `at` of the leaf on, and others come there. Answers false, and changes nothing, exactly where
     /// the leaves would not be as they have to be then: 1 to `CAP` items each, two neighbours more than `CAP`. `AllocError` where the leaf's growth was
-    /// refused: nothing has changed then.
+    /// refused, which happens only where more items come than go: nothing has changed then.
     pub fn replace_in_leaf(
         &mut self,
         leaf: usize,
@@ -178,6 +178,7 @@ impl<E: Item> List<E> {
         ensures not { IfOk result (λ made. made ≡ false → self.new ≡ self.old) }
         ensures only { IfOk result (λ made. made ≡ false → AreLeaves E.CAP (replaced self.old leaf at gone items.now) → ⊥) }
         ensures err { OnErr result (self.new ≡ self.old) }
+        ensures grown { OnErr result (gone < length items.now) }
     {
         let left = self.size(leaf) - gone;
         if items.len() > E::CAP - left {

@@ -40,7 +40,7 @@ fn insert<T: Copy>(items: &mut Vec<T>, at: usize, come: &[T])
 }
 
 /// From a place on `gone` items go, and others come there. Where the list grows, it gets room for `room` items. `AllocError` where the growth was refused: the list
-/// is as it was then.
+/// is as it was then, and more items were to come than to go.
 pub fn replace<T: Copy>(
     items: &mut Vec<T>,
     at: usize,
@@ -53,6 +53,7 @@ pub fn replace<T: Copy>(
     requires fits { length items.old.items - gone + length come.now ≤ room }
     ensures ok { OnOk result (items.new.items ≡ with_run items.old.items at gone come.now) }
     ensures err { OnErr result (items.new.items ≡ items.old.items) }
+    ensures grown { OnErr result (gone < length come.now) }
 {
     if items.len() - gone + come.len() > items.capacity() {
         items.reserve_exact(room - items.len())?;

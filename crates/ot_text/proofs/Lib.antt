@@ -6,7 +6,6 @@ pub mod Inverse
 pub mod Reading
 pub mod Changed
 pub mod Writing
-pub mod Splicing
-pub mod Exchanged
+pub mod InPlace
 pub mod Examples
 pub mod Counted

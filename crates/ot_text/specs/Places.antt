@@ -11,6 +11,10 @@ rest_at leaves leaf offset = drop offset (get_or leaves leaf [])
 abbrev pub left_at : {A : Type 0} → List (List A) → ℕ → ℕ → List A
 left_at leaves leaf offset = drop offset (concatenated (drop leaf leaves))
 
+-- how many items lie before a place
+abbrev pub start_of : {A : Type 0} → List (List A) → ℕ → ℕ → ℕ
+start_of leaves leaf offset = length (concatenated (take leaf leaves)) + offset
+
 -- the offset stands on an item of its leaf, if there is such a leaf
 abbrev pub IsInside : {A : Type 0} → List (List A) → ℕ → ℕ → Type 0
 IsInside leaves leaf offset = leaf < length leaves → offset < length (get_or leaves leaf [])
@@ -24,4 +28,4 @@ pub record IsHeld {A : Type 0} (leaves : List (List A)) (count : ℕ) : Type 0 w
 pub record IsBehind {A : Type 0} (leaves : List (List A)) (leaf offset count : ℕ) : Type 0 where
   pub there : leaf < length leaves
   pub within : offset ≤ length (get_or leaves leaf [])
-  pub count_is : length (concatenated (take leaf leaves)) + offset ≡ count
+  pub count_is : start_of leaves leaf offset ≡ count

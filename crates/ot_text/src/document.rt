@@ -7,10 +7,9 @@ ghost use Rattle.ot_list.specs.Leaves.{concatenated};
 
 use crate::TextOp;
 use crate::held::Held;
-use crate::leafwise::change_leaves;
+use crate::in_place::change_in_place;
 use crate::pieces::Pieces;
 use crate::place::Place;
-use crate::splice::change_in_place;
 use crate::writer::rewrite;
 use ot_list::{Draft, Item, List};
 use ot_operation::Element;
@@ -158,8 +157,8 @@ impl<T: Element> Doc<T> {
 
     /// Makes this document what the operation makes of it, which has to fit.
     ///
-    /// Where the operation changes one place, or has few components, the leaves that change are changed alone, if each may have what it has then; else leaves that are
-    /// not touched stay as they lie. A list that other documents have in common with this one is copied first. `AllocError` where a growth was refused: the document
+    /// Where the operation has few components it is carried out where the leaves lie, if each may have what it has then; else leaves that are not touched stay as they
+    /// lie. A list that other documents have in common with this one is copied first. `AllocError` where a growth was refused: the document
     /// is then as it was.
     pub fn change(&mut self, op: &TextOp<T>) -> Result<(), AllocError>
         requires { op.now.base ≡ length self.old }
@@ -187,9 +186,6 @@ fn change_list<T: Element>(list: &mut List<T>, op: &TextOp<T>) -> Result<(), All
     // For the proof: the invariant of every operation.
     let _operation = op.base_len();
     if change_in_place(list, op)? {
-        return Ok(());
-    }
-    if change_leaves(list, op)? {
         return Ok(());
     }
     rewrite(list, op.components())

@@ -21,9 +21,9 @@
 //!
 //! - A call of the builder writes a code, and appends an insertion's elements to the text.
 //! - [`Components`] reads an operation in order and takes no memory: each insertion gives its part of the text as a slice.
-//! - [`Doc::change`] changes the leaf where it lies, if the operation changes one place in one leaf. If it has few components, each leaf that changes is written again
-//!   and exchanged, one after the other; where one may not have what it has then, those before it are put back. Otherwise a draft is written, which keeps the leaves
-//!   that do not change, and the document's leaves are exchanged for it. After a refused growth the document is as it was.
+//! - [`Doc::change`] changes the document where it lies, place by place, if the operation has few components; where a leaf may not have what it has then, the places
+//!   before are brought back. Otherwise a draft is written, which keeps the leaves that do not change, and the document's leaves are exchanged for it. After a refused
+//!   growth the document is as it was.
 //! - [`Doc::share`] lets copies of a document have one list of leaves. The first change of one of them copies it.
 //! - `apply` changes a copy of a document. `invert` reads from the document what the operation deletes.
 //!
@@ -31,8 +31,8 @@
 //! elements, and components as the runs that are left. `transform` and `compose` are in `ot_algebra`.
 //!
 //! Contracts: `Operation.antt` and `Run.antt` of `ot_operation` (an operation, the builder, its runs), `Shape.antt` of `ot_codes` (shapes, and how they are filled),
-//! `specs/Components.antt` here (codes with a text, as runs). To read: [`TextOp`] below, `components.rt`, `document.rt`, `splice.rt` (the change in place),
-//! `leafwise.rt` (leaf by leaf), `writer.rt` (the draft), `held.rt` (shared lists), `text.rt` (an operation's text).
+//! `specs/Components.antt` here (codes with a text, as runs). To read: [`TextOp`] below, `components.rt`, `document.rt`, `in_place.rt` (the change in place),
+//! `writer.rt` (the draft), `held.rt` (shared lists), `text.rt` (an operation's text).
 #![tactic(auto)]
 
 ghost use Rattle.std.specs.Prelude.{◌≡◌, ◌+◌, ◌*◌, ◌↔◌, ◌≤◌, length, max, IfOk, OnOk, OnErr, IsErrOf, IsTrue};
@@ -46,10 +46,9 @@ mod components;
 mod document;
 mod documents;
 mod held;
-mod leafwise;
+mod in_place;
 mod pieces;
 mod place;
-mod splice;
 mod text;
 mod writer;
 

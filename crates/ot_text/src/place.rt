@@ -1,8 +1,8 @@
 //! A place in a list of leaves, from which it is read.
 
-ghost use Rattle.std.specs.Prelude.{◌≡◌, ◌+◌, ◌<◌, ◌≤◌, ◌++◌, length, take, drop, IfSome, OnOk};
+ghost use Rattle.std.specs.Prelude.{◌≡◌, ◌+◌, ◌<◌, ◌≤◌, ◌++◌, [], length, take, drop, get_or, IfSome, OnOk};
 ghost use Rattle.ot_list.specs.Leaves.{concatenated};
-ghost use Rattle.ot_text.specs.Places.{rest_at, left_at, IsInside, IsBehind};
+ghost use Rattle.ot_text.specs.Places.{rest_at, left_at, start_of, IsInside, IsBehind};
 
 use ot_list::{Item, List};
 use std::alloc::AllocError;
@@ -30,15 +30,40 @@ impl Place {
         requires { count ≤ length (concatenated list.now) }
         ensures { IfSome result (λ p. IsBehind list.now p.leaf p.offset count) }
     {
-        let (leaf, offset) = list.find(0, count);
-        if leaf < list.leaf_count() {
-            return Some(Place { leaf, offset });
+        if list.leaf_count() == 0 {
+            return None;
         }
-        let last = leaf.checked_sub(1)?;
-        Some(Place {
+        let first = Place { leaf: 0, offset: 0 };
+        Some(first.ahead(list, count))
+    }
+
+    // The place behind the next items, in a leaf or at the end of the last one.
+    pub fn ahead<T: Item>(self, list: &List<T>, count: usize) -> Place
+        requires there { self.leaf < length list.now }
+        requires within { self.offset ≤ length (get_or list.now self.leaf []) }
+        requires fits { start_of list.now self.leaf self.offset + count ≤ length (concatenated list.now) }
+        ensures { IsBehind list.now result.leaf result.offset (start_of list.now self.leaf self.offset + count) }
+    {
+        let leaves = list.leaf_count();
+        let rest = list.leaf(self.leaf).len() - self.offset;
+        if count < rest {
+            return Place {
+                leaf: self.leaf,
+                offset: self.offset + count,
+            };
+        }
+        let (next, at) = list.find(self.leaf + 1, count - rest);
+        if next < leaves {
+            return Place {
+                leaf: next,
+                offset: at,
+            };
+        }
+        let last = next - 1;
+        Place {
             leaf: last,
             offset: list.leaf(last).len(),
-        })
+        }
     }
 
     // What is left of the leaf there.

@@ -9,16 +9,9 @@ returns-then-branch-clause-size g c =
     ap length (c.in_ok-change_in_place.ensures.made (rw c.if-branch.true refl))
     ∙ length-apply c.args.op.now (concatenated c.args.list.now) c.base_len-operation.ensures.operation (omega (arith, c.requires))
 
-pub returns-then-branch-2-clause-size : goal.returns-then-branch-2-clause-size
-returns-then-branch-2-clause-size g c =
-    let same = c.in_ok-change_in_place.ensures.not c.if-branch.false in
-    ap length (c.in_ok-change_leaves.ensures.made (rw c.if-branch-2.true refl))
-    ∙ length-apply c.args.op.now (concatenated c.change_in_place.new.list) c.base_len-operation.ensures.operation
-    (omega (arith, c.requires, ap (λ leaves. length (concatenated leaves)) same))
-
 pub returns-clause-size : goal.returns-clause-size
 returns-clause-size g c =
-    let same = c.in_ok-change_leaves.ensures.not c.if-branch-2.false ∙ c.in_ok-change_in_place.ensures.not c.if-branch.false in
+    let same = c.in_ok-change_in_place.ensures.not c.if-branch.false in
     let made = rw (c.components.ensures.spells, same) at c.rewrite.ensures.ok in
     on_ok_weaker c.rewrite.result
     (λ is. ap length is ∙ length-apply c.args.op.now (concatenated c.args.list.now) c.base_len-operation.ensures.operation (omega (arith, c.requires))) made
