@@ -27,7 +27,7 @@ TOP = os.path.dirname(HERE)
 # `./otbench` runs the proved program here, or none.
 os.environ['OTBENCH_NEEDS_PROVED'] = '1'
 # Between these lines the table stands in README.md.
-MARKS = '<!-- what compare.py --write puts here -->\n', '<!-- to here -->\n'
+MARKS = '<!--compare.py-->\n', '<!--end-->\n'
 
 
 def beside(path, peers, runs):
@@ -50,12 +50,12 @@ def figures(path, peers, runs, counts):
     ours = best['otbench']
     row = {f'{peer} s': seconds for peer, (seconds, _) in best.items()}
     row |= {f'{peer} MiB': mebibytes for peer, (_, mebibytes) in best.items()}
-    row['node / otbench'] = best['node'][0] / ours[0]
+    row['node/otbench'] = best['node'][0] / ours[0]
     named = [peer for peer in peers if peer not in ('node', 'otbench')]
-    row |= {f'otbench / {peer}': ours[0] / best[peer][0] for peer in named}
+    row |= {f'otbench/{peer}': ours[0] / best[peer][0] for peer in named}
     if counts and named:
         count = {peer: instructions(peers[peer], path) for peer in ('otbench', *named)}
-        row |= {f'otbench / {peer}, instructions': count['otbench'] / count[peer] for peer in named}
+        row |= {f'otbench/{peer}, instructions': count['otbench'] / count[peer] for peer in named}
     return row, well
 
 
