@@ -22,7 +22,7 @@ const HELP = `${USAGE}\n${helpOf().join("\n")}\n`;
 /**
  * A session: prompts where the input is a terminal, and answers each line. Lines are edited, and the prompt stands, on the output, or on standard error where
  * that is the terminal. Ends with the first fault of the output, or null.
- * @param {Debugger} session @param {NodeJS.ReadStream} input @param {NodeJS.WriteStream} output
+ * @param {Debugger} session @param {import("node:tty").ReadStream} input @param {import("node:tty").WriteStream} output
  * @returns {Promise<NodeJS.ErrnoException | null>}
  */
 export async function converse(session, input, output) {
@@ -67,7 +67,7 @@ export async function converse(session, input, output) {
 /**
  * Stops all of the job where a person asks for it (Ctrl-Z), and goes on, with the line that was begun, when the shell continues it. The terminal is the shell's
  * meanwhile, which may have set it otherwise. Answers what ends this.
- * @param {import("node:readline").Interface} reader @param {NodeJS.ReadStream} input
+ * @param {import("node:readline").Interface} reader @param {import("node:tty").ReadStream} input
  */
 function continueWith(reader, input) {
   const goOn = () => {

@@ -9,13 +9,13 @@ const rowsOf = (lines, columns) => lines.reduce((rows, line) => rows + Math.max(
 
 /**
  * Whether lines are longer than the screen, and a person is there to turn its pages.
- * @param {string[]} lines @param {NodeJS.ReadStream} input @param {NodeJS.WriteStream} output
+ * @param {string[]} lines @param {import("node:tty").ReadStream} input @param {import("node:tty").WriteStream} output
  */
 export const isLong = (lines, input, output) => Boolean(input.isTTY && output.isTTY && output.rows) && rowsOf(lines, output.columns) >= output.rows;
 
 /**
  * Shows a text by the pager. Answers whether there was one; `PAGER=` is none.
- * @param {string} text @param {NodeJS.ReadStream} input
+ * @param {string} text @param {import("node:tty").ReadStream} input
  */
 export function page(text, input) {
   const { PAGER = "less", LESS = "FRX" } = process.env;
