@@ -16,7 +16,7 @@ one_character = refl
 how_many : (length (forms (97 ∷ []) 1 2) ≡ 12) × (length (forms (97 ∷ []) 2 2) ≡ 17) × (length (forms (97 ∷ []) 2 1) ≡ 6)
 how_many = (refl, refl, refl)
 
-two_insertions : insertions (New 97 ∷ New 65 ∷ Old 0 ∷ New 98 ∷ []) ≡ (97 ∷ 65 ∷ []) ∷ (98 ∷ []) ∷ []
+two_insertions : insertions (record { base = 1; image = New 97 ∷ New 65 ∷ Old 0 ∷ New 98 ∷ [] }) ≡ (97 ∷ 65 ∷ []) ∷ (98 ∷ []) ∷ []
 two_insertions = refl
 
 letters : (letters_of 1 0 ≡ 97 ∷ []) × (letters_of 2 1 ≡ 98 ∷ 66 ∷ []) × (letters_of 3 0 ≡ 97 ∷ 65 ∷ 97 ∷ [])

@@ -1,9 +1,10 @@
 -- The forms of edits: which operations they are, each once, and with other letters.
-use Rattle.std.proofs.Common.{◌≡◌, ℕ, zero, suc, ◌+◌, ◌≤◌, ◌≢◌, List, [], ◌∷◌, ◌++◌, length, map, refl, sym, ap, ◌∙◌, subst, arith, inl, inr}
+use Rattle.std.proofs.Common.{◌≡◌, ℕ, zero, suc, ◌+◌, ◌-◌, ◌≤◌, ◌≢◌, List, [], ◌∷◌, ◌++◌, length, map, refl, sym, ap, ◌∙◌, subst, arith, inl, inr}
 use Rattle.std.specs.Prelude.{◌⊎◌}
 use Rattle.std.proofs.lemmas.Bool.{cases_eq}
 use Rattle.ot_operation.specs.Operation.{Item, Old, New, Operation, RisesFrom}
-use Rattle.ot_every.specs.Forms.{with_insertion, images, forms, with_new, insertions}
+use Rattle.ot_operation.specs.Run.{Run, Keep, Add, Skip, with_keep, with_new, with_skip, normal_runs_from}
+use Rattle.ot_every.specs.Forms.{with_insertion, images, forms, inserted_texts, insertions}
 use Rattle.ot_every.proofs.Lists.{IsIn, in_left, in_right, in_cases, in_map, map_cases, Pairwise, pairwise_append, pairwise_map, pairwise_weaker}
 
 -- an image that begins with no insertion, and keeps nothing before `from`
@@ -66,16 +67,75 @@ forms_differ x text most count =
 
 -- ---- the insertions of an image
 
--- each of the insertions is this text
+-- a new character in front of the insertions behind it: it begins one of its own, or the first of them
+abbrev pub with_char : ℕ → List (Item ℕ) → List (List ℕ) → List (List ℕ)
+with_char x [] texts = (x ∷ []) ∷ texts
+with_char x (Old i ∷ image) texts = (x ∷ []) ∷ texts
+with_char x (New y ∷ image) [] = (x ∷ []) ∷ []
+with_char x (New y ∷ image) (text ∷ texts) = (x ∷ text) ∷ texts
+
+-- the characters between two kept ones are one insertion
+abbrev pub new_texts : List (Item ℕ) → List (List ℕ)
+new_texts [] = []
+new_texts (Old i ∷ image) = new_texts image
+new_texts (New x ∷ image) = with_char x image (new_texts image)
+
+texts_keep : (runs : List (Run ℕ)) → inserted_texts (with_keep runs) ≡ inserted_texts runs
+texts_keep [] = refl
+texts_keep (Keep n ∷ runs) = refl
+texts_keep (Add text ∷ runs) = refl
+texts_keep (Skip n ∷ runs) = refl
+
+texts_skip : (n : ℕ) (runs : List (Run ℕ)) → inserted_texts (with_skip n runs) ≡ inserted_texts runs
+texts_skip zero runs = refl
+texts_skip (suc n) runs = refl
+
+-- behind a new character there is no insertion that it joins
+new_skip : (x n : ℕ) → inserted_texts (with_new x (with_skip n [])) ≡ (x ∷ []) ∷ []
+new_skip x zero = refl
+new_skip x (suc n) = refl
+
+new_keep : (x : ℕ) (runs : List (Run ℕ)) → inserted_texts (with_new x (with_keep runs)) ≡ (x ∷ []) ∷ inserted_texts runs
+new_keep x [] = refl
+new_keep x (Keep n ∷ runs) = refl
+new_keep x (Add text ∷ runs) = refl
+new_keep x (Skip n ∷ runs) = refl
+
+new_skip_keep : (x n : ℕ) (runs : List (Run ℕ)) → inserted_texts (with_new x (with_skip n (with_keep runs))) ≡ (x ∷ []) ∷ inserted_texts runs
+new_skip_keep x zero runs = new_keep x runs
+new_skip_keep x (suc n) runs = ap (λ (texts : List (List ℕ)). (x ∷ []) ∷ texts) (texts_keep runs)
+
+-- it joins the one that another new character begins
+new_new : (x y : ℕ) (items : List (Item ℕ)) (runs : List (Run ℕ)) → inserted_texts (with_new x (with_new y runs)) ≡ with_char x (New y ∷ items) (inserted_texts (with_new y runs))
+new_new x y items [] = refl
+new_new x y items (Keep n ∷ runs) = refl
+new_new x y items (Add text ∷ runs) = refl
+new_new x y items (Skip n ∷ runs) = refl
+
+texts_are : (from end : ℕ) (items : List (Item ℕ)) → inserted_texts (normal_runs_from from items end) ≡ new_texts items
+texts_are from end [] = texts_skip (end - from) []
+texts_are from end (Old i ∷ items) =
+    texts_skip (i - from) (with_keep (normal_runs_from (suc i) items end)) ∙ texts_keep (normal_runs_from (suc i) items end) ∙ texts_are (suc i) end items
+texts_are from end (New x ∷ []) = new_skip x (end - from)
+texts_are from end (New x ∷ Old i ∷ items) =
+    new_skip_keep x (i - from) (normal_runs_from (suc i) items end) ∙ ap (λ (texts : List (List ℕ)). (x ∷ []) ∷ texts) (texts_are (suc i) end items)
+texts_are from end (New x ∷ New y ∷ items) =
+    new_new x y items (normal_runs_from from items end) ∙ ap (with_char x (New y ∷ items)) (texts_are from end (New y ∷ items))
+
+-- those of the normal form
+pub insertions_are : (op : Operation ℕ) → insertions op ≡ new_texts op.image
+insertions_are op = texts_are 0 op.base op.image
+
+-- each of the new_texts is this text
 abbrev pub AllAre : List ℕ → List (List ℕ) → Type 0
 AllAre text [] = Unit {0}
 AllAre text (t ∷ texts) = (t ≡ text) × AllAre text texts
 
-insertions_behind : (x : ℕ) (text : List ℕ) (from : ℕ) (image : List (Item ℕ)) → StartsAt from image → insertions (map New (x ∷ text) ++ image) ≡ (x ∷ text) ∷ insertions image
-insertions_behind x [] from [] s = refl
-insertions_behind x [] from (Old i ∷ image) s = refl
-insertions_behind x [] from (New y ∷ image) s = absurd s
-insertions_behind x (y ∷ text) from image s = ap (with_new x (New y ∷ (map New text ++ image))) (insertions_behind y text from image s)
+texts_behind : (x : ℕ) (text : List ℕ) (from : ℕ) (image : List (Item ℕ)) → StartsAt from image → new_texts (map New (x ∷ text) ++ image) ≡ (x ∷ text) ∷ new_texts image
+texts_behind x [] from [] s = refl
+texts_behind x [] from (Old i ∷ image) s = refl
+texts_behind x [] from (New y ∷ image) s = absurd s
+texts_behind x (y ∷ text) from image s = ap (with_char x (New y ∷ (map New text ++ image))) (texts_behind y text from image s)
 
 rises_behind : (text : List ℕ) (low base : ℕ) (image : List (Item ℕ)) → RisesFrom low base image → RisesFrom low base (map New text ++ image)
 rises_behind [] low base image r = r
@@ -93,8 +153,8 @@ rises_from low base (New x ∷ image) r = rises_from low base image r
 -- what holds of the images that are listed
 pub record IsListed (text : List ℕ) (low base most : ℕ) (image : List (Item ℕ)) : Type 0 where
   pub rises : RisesFrom low base image
-  pub few : length (insertions image) ≤ most
-  pub are : AllAre text (insertions image)
+  pub few : length (new_texts image) ≤ most
+  pub are : AllAre text (new_texts image)
 
 with_insertion_listed : (x : ℕ) (text : List ℕ) (low base from : ℕ) (following : ℕ → List (List (Item ℕ))) (most : ℕ) → ((m : ℕ) (image : List (Item ℕ)) → IsIn image (following m) → IsListed (x ∷ text) low base m image) → ((m : ℕ) (image : List (Item ℕ)) → IsIn image (following m) → StartsAt from image)
     → (image : List (Item ℕ)) → IsIn image (with_insertion (x ∷ text) following most) → IsListed (x ∷ text) low base most image
@@ -104,7 +164,7 @@ with_insertion_listed x text low base from following (suc most) listed starts im
   | inr inserted ↦
       let r = map_cases (λ later. map New (x ∷ text) ++ later) image (following most) inserted in
       let l = listed most r.0 r.1 in
-      let are = insertions_behind x text from r.0 (starts most r.0 r.1) in
+      let are = texts_behind x text from r.0 (starts most r.0 r.1) in
       let few = l.few in
       subst (IsListed (x ∷ text) low base (suc most)) (sym r.2) (record {
         rises = rises_behind (x ∷ text) low base r.0 l.rises;
@@ -143,14 +203,14 @@ record IsRun (image : List (Item ℕ)) (x : ℕ) : Type 0 where
   pub rest : List (Item ℕ)
   pub is : New x ∷ image ≡ map New (x ∷ text) ++ rest
   pub starts : StartsAt 0 rest
-  pub insertions : insertions (New x ∷ image) ≡ (x ∷ text) ∷ insertions rest
+  pub new_texts : new_texts (New x ∷ image) ≡ (x ∷ text) ∷ new_texts rest
 
 first_run : (x : ℕ) (image : List (Item ℕ)) → IsRun image x
-first_run x [] = record { text = []; rest = []; is = refl; starts = tt; insertions = refl }
-first_run x (Old i ∷ image) = record { text = []; rest = Old i ∷ image; is = refl; starts = omega arith; insertions = refl }
+first_run x [] = record { text = []; rest = []; is = refl; starts = tt; new_texts = refl }
+first_run x (Old i ∷ image) = record { text = []; rest = Old i ∷ image; is = refl; starts = omega arith; new_texts = refl }
 first_run x (New y ∷ image) =
     let r = first_run y image in
-    record { text = y ∷ r.text; rest = r.rest; is = ap (λ (im : List (Item ℕ)). New x ∷ im) r.is; starts = r.starts; insertions = ap (with_new x (New y ∷ image)) r.insertions }
+    record { text = y ∷ r.text; rest = r.rest; is = ap (λ (im : List (Item ℕ)). New x ∷ im) r.is; starts = r.starts; new_texts = ap (with_char x (New y ∷ image)) r.new_texts }
 
 with_insertion_all : (text : List ℕ) (low base : ℕ) (following : ℕ → List (List (Item ℕ))) (most : ℕ) → ((m : ℕ) (image : List (Item ℕ)) → StartsAt 0 image → IsListed text low base m image → IsIn image (following m))
     → (image : List (Item ℕ)) → IsListed text low base most image → IsIn image (with_insertion text following most)
@@ -167,11 +227,11 @@ with_insertion_all text low base following most all (Old i ∷ image) l = withou
 with_insertion_all text low base following most all (New x ∷ image) l = go most l
   where
     go : (m : ℕ) → IsListed text low base m (New x ∷ image) → IsIn (New x ∷ image) (with_insertion text following m)
-    go zero l = let r = first_run x image in let few = rw r.insertions at l.few in absurd (omega (arith, few))
+    go zero l = let r = first_run x image in let few = rw r.new_texts at l.few in absurd (omega (arith, few))
     go (suc m) l =
         let r = first_run x image in
-        let few = rw r.insertions at l.few in
-        let are = rw r.insertions at l.are in
+        let few = rw r.new_texts at l.few in
+        let are = rw r.new_texts at l.are in
         let rises = rises_rest (x ∷ r.text) low base r.rest (subst (RisesFrom low base) r.is l.rises) in
         let rest = all m r.rest r.starts (record { rises = rises; few = omega (arith, few); are = are.1 }) in
         let is : New x ∷ image ≡ map New text ++ r.rest = r.is ∙ ap (λ (t : List ℕ). map New t ++ r.rest) are.0 in

@@ -8,11 +8,11 @@ use Rattle.ot_isa.specs.declared.instruction.Instr.{Instr}
 use Rattle.ot_isa.specs.declared.instruction.Instr.TheVariants.{Edit, Take, Deliver, Acknowledge, Join, Read, ReadServer}
 use Rattle.ot_model.specs.Table.{State, Place, run, with_shown, begin, opening}
 use Rattle.ot_model.proofs.Reordering.{run_then, filter_yes}
-use Rattle.ot_every.specs.Forms.{insertions, IsForm}
+use Rattle.ot_every.specs.Forms.{IsForm}
 use Rattle.ot_every.specs.Listing.{Earlier, texts_after, is_empty, is_settled, Space, letters_of, texts_from, sessions_of, most, sessions}
-use Rattle.ot_every.specs.Laws.{is_edit, is_read, without_reads, IsSmall, IsSpace, IsSession, Valid}
+use Rattle.ot_every.specs.Laws.{is_edit, is_read, without_reads, IsSmall, IsSpace, IsSession, Valid, InsertInTurn}
 use Rattle.ot_every.proofs.Lists.{IsIn, flat_cases, range_cases, all_in}
-use Rattle.ot_every.proofs.Forms.{AllAre, IsListed}
+use Rattle.ot_every.proofs.Forms.{AllAre, IsListed, new_texts, insertions_are}
 use Rattle.ot_every.proofs.Nexts.{IsNext, HaveLetters}
 use Rattle.ot_every.proofs.Listed.{GoesOn, listed_goes}
 use Rattle.ot_every.proofs.Quiet.{settled_is}
@@ -46,7 +46,12 @@ are_long letters text [] long are = All-nil (λ (t : List ℕ). length t ≡ let
 are_long letters text (t ∷ texts) long are = All-cons (λ (t : List ℕ). length t ≡ letters) t texts (ap (λ (w : List ℕ). length w) are.0 ∙ long) (are_long letters text texts long are.1)
 
 pub listed_form : (letters inserts : ℕ) (text : List ℕ) (op : Operation ℕ) → length text ≡ letters → IsListed text 0 op.base inserts op.image → IsForm letters inserts op.base op
-listed_form letters inserts text op long l = record { operation = l.rises; base = refl; few = l.few; long = are_long letters text (insertions op.image) long l.are }
+listed_form letters inserts text op long l = record {
+  operation = l.rises;
+  base = refl;
+  few = rw (insertions_are op) l.few;
+  long = rw (insertions_are op) (are_long letters text (new_texts op.image) long l.are);
+}
 
 next_small : (letters inserts : ℕ) (texts : List (List ℕ)) (i : Instr) → AreLong letters texts → IsNext inserts texts i → IsSmall letters inserts i × AreLong letters (texts_after i texts)
 next_small letters inserts [] (Edit c op) long next = absurd next
@@ -109,6 +114,25 @@ goes_unread inserts texts path s (i ∷ is) (t, a, e, next, late, rest) =
     filter_yes (λ j. not (is_read j)) i is (ap not (next_unread inserts texts i next))
     ∙ ap (λ (js : List Instr). i ∷ js) (goes_unread inserts (texts_after i texts) (record { before = s; instr = i } ∷ path) t is rest)
 
+all_are : (text : List ℕ) (texts : List (List ℕ)) → AllAre text texts → All (λ t. t ≡ text) texts
+all_are text [] are = All-nil (λ (t : List ℕ). t ≡ text)
+all_are text (t ∷ texts) are = All-cons (λ (t : List ℕ). t ≡ text) t texts are.0 (all_are text texts are.1)
+
+-- its edits insert the letters in turn
+goes_in_turn : (letters inserts edit edits : ℕ) (path : List Earlier) (s : State) (is : List Instr) → GoesOn inserts (texts_from letters edit edits) path s is → InsertInTurn letters edit is
+goes_in_turn letters inserts edit edits path s [] goes = tt
+goes_in_turn letters inserts edit zero path s (Edit c op ∷ is) (t, a, e, next, late, rest) = absurd next
+goes_in_turn letters inserts edit (suc edits) path s (Edit c op ∷ is) (t, a, e, next, late, rest) = (
+  rw (insertions_are op) (all_are (letters_of letters edit) (new_texts op.image) next.are),
+  goes_in_turn letters inserts (suc edit) edits (record { before = s; instr = Edit c op } ∷ path) t is rest,
+)
+goes_in_turn letters inserts edit edits path s (Take c ∷ is) (t, a, e, next, late, rest) = goes_in_turn letters inserts edit edits (record { before = s; instr = Take c } ∷ path) t is rest
+goes_in_turn letters inserts edit edits path s (Deliver c ∷ is) (t, a, e, next, late, rest) = goes_in_turn letters inserts edit edits (record { before = s; instr = Deliver c } ∷ path) t is rest
+goes_in_turn letters inserts edit edits path s (Acknowledge c ∷ is) (t, a, e, next, late, rest) = goes_in_turn letters inserts edit edits (record { before = s; instr = Acknowledge c } ∷ path) t is rest
+goes_in_turn letters inserts edit edits path s (Join c ∷ is) (t, a, e, next, late, rest) = goes_in_turn letters inserts edit edits (record { before = s; instr = Join c } ∷ path) t is rest
+goes_in_turn letters inserts edit edits path s (Read c ∷ is) (t, a, e, next, late, rest) = goes_in_turn letters inserts edit edits (record { before = s; instr = Read c } ∷ path) t is rest
+goes_in_turn letters inserts edit edits path s (ReadServer ∷ is) (t, a, e, next, late, rest) = goes_in_turn letters inserts edit edits (record { before = s; instr = ReadServer } ∷ path) t is rest
+
 pub have_letters : (letters edit edits : ℕ) → 1 ≤ letters → HaveLetters (texts_from letters edit edits)
 have_letters zero edit edits some = absurd (omega (arith, some))
 have_letters (suc letters) edit edits some = long_letters letters (texts_from (suc letters) edit edits) (texts_long (suc letters) edit edits)
@@ -132,7 +156,7 @@ is_of space is asked h =
     record { edits = f.0; count = g.0; few = omega (arith, less); listed = g.2; goes = goes.1; long = goes.0 }
 
 pub valid : Valid
-valid space asked = all_in (λ is. IsSession space space.start is × (without_reads is ≡ is)) (sessions space) (λ is h. (
+valid space asked = all_in (λ is. IsSession space space.start is × (without_reads is ≡ is) × InsertInTurn space.letters 0 is) (sessions space) (λ is h. (
     let o = is_of space is asked h in
     let texts = texts_from space.letters 0 o.edits in
     let start = begin space.clients space.present space.start in
@@ -148,5 +172,6 @@ valid space asked = all_in (λ is. IsSession space space.start is × (without_re
         small = goes_small space.letters space.inserts texts [] start.state is (texts_long space.letters 0 o.edits) o.goes;
       },
       goes_unread space.inserts texts [] start.state is o.goes,
+      goes_in_turn space.letters space.inserts 0 o.edits [] start.state is o.goes,
     )
     ))

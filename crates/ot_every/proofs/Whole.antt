@@ -18,11 +18,11 @@ use Rattle.ot_letters.specs.Letters.{mapped_instr, mapped_instrs, mapped_state, 
 use Rattle.ot_letters.specs.Alike.{blank}
 use Rattle.ot_letters.proofs.Runs.{run-mapped, begin-mapped}
 use Rattle.ot_letters.proofs.Steps.{opening-mapped}
-use Rattle.ot_every.specs.Forms.{with_new, insertions, IsForm}
+use Rattle.ot_every.specs.Forms.{IsForm}
 use Rattle.ot_every.specs.Listing.{is_settled, Space, letters_of, texts_from, sessions_from, sessions_of, most, sessions}
 use Rattle.ot_every.specs.Laws.{is_edit, is_read, without_reads, IsSmall, IsSpace, AreSameButLetters, Distinct, Complete}
 use Rattle.ot_every.proofs.Lists.{IsIn, in_map, map_cases, filter_cases, in_flat, flat_cases, in_first, contains, Pairwise, pairwise_flat, pairwise_range, all_pairs}
-use Rattle.ot_every.proofs.Forms.{AllAre, IsListed}
+use Rattle.ot_every.proofs.Forms.{with_char, new_texts, insertions_are, AllAre, IsListed}
 use Rattle.ot_every.proofs.Nexts.{HaveLetters}
 use Rattle.ot_every.proofs.Listed.{not_late, listed_goes}
 use Rattle.ot_every.proofs.Distinct.{from_distinct}
@@ -51,17 +51,17 @@ letters_replicate letters zero some = tt
 letters_replicate zero (suc edits) some = absurd (omega (arith, some))
 letters_replicate (suc letters) (suc edits) some = letters_replicate (suc letters) edits some
 
--- the insertions of an image
-new_mapped : (x : ℕ) (image : List (Item ℕ)) (texts : List (List ℕ)) → with_new (blank x) (map (mapped_item blank) image) (map (map blank) texts) ≡ map (map blank) (with_new x image texts)
+-- the new_texts of an image
+new_mapped : (x : ℕ) (image : List (Item ℕ)) (texts : List (List ℕ)) → with_char (blank x) (map (mapped_item blank) image) (map (map blank) texts) ≡ map (map blank) (with_char x image texts)
 new_mapped x [] texts = refl
 new_mapped x (Old i ∷ image) texts = refl
 new_mapped x (New y ∷ image) [] = refl
 new_mapped x (New y ∷ image) (text ∷ texts) = refl
 
-insertions_mapped : (image : List (Item ℕ)) → insertions (map (mapped_item blank) image) ≡ map (map blank) (insertions image)
-insertions_mapped [] = refl
-insertions_mapped (Old i ∷ image) = insertions_mapped image
-insertions_mapped (New x ∷ image) = ap (with_new (blank x) (map (mapped_item blank) image)) (insertions_mapped image) ∙ new_mapped x image (insertions image)
+texts_mapped_blank : (image : List (Item ℕ)) → new_texts (map (mapped_item blank) image) ≡ map (map blank) (new_texts image)
+texts_mapped_blank [] = refl
+texts_mapped_blank (Old i ∷ image) = texts_mapped_blank image
+texts_mapped_blank (New x ∷ image) = ap (with_char (blank x) (map (mapped_item blank) image)) (texts_mapped_blank image) ∙ new_mapped x image (new_texts image)
 
 all_blank : (letters : ℕ) (texts : List (List ℕ)) → All (λ text. length text ≡ letters) texts → AllAre (replicate letters 0) (map (map blank) texts)
 all_blank letters [] all = tt
@@ -72,12 +72,13 @@ all_blank letters (text ∷ texts) all = (
 
 form_blank : (letters inserts : ℕ) (op : Operation ℕ) → IsForm letters inserts op.base op → IsListed (replicate letters 0) 0 op.base inserts (map (mapped_item blank) op.image)
 form_blank letters inserts op form =
-    let few = form.few in
-    let many : length (insertions (map (mapped_item blank) op.image)) ≡ length (insertions op.image) = ap (λ (ts : List (List ℕ)). length ts) (insertions_mapped op.image) ∙ length-map (insertions op.image) (map blank) in
+    let few : length (new_texts op.image) ≤ inserts = subst (λ (texts : List (List ℕ)). length texts ≤ inserts) (insertions_are op) form.few in
+    let long : All (λ text. length text ≡ letters) (new_texts op.image) = subst (All (λ text. length text ≡ letters)) (insertions_are op) form.long in
+    let many : length (new_texts (map (mapped_item blank) op.image)) ≡ length (new_texts op.image) = ap (λ (ts : List (List ℕ)). length ts) (texts_mapped_blank op.image) ∙ length-map (new_texts op.image) (map blank) in
     record {
       rises = rises-mapped blank 0 op.base op.image form.operation;
       few = omega (arith, few, many);
-      are = subst (AllAre (replicate letters 0)) (sym (insertions_mapped op.image)) (all_blank letters (insertions op.image) form.long);
+      are = subst (AllAre (replicate letters 0)) (sym (texts_mapped_blank op.image)) (all_blank letters (new_texts op.image) long);
     }
 
 small_text : (letters inserts : ℕ) (i : Instr) → IsSmall letters inserts i → is_read i ≡ false → HasText inserts (replicate letters 0) (mapped_instr blank i)

@@ -1,5 +1,5 @@
 -- The laws of the small sessions.
-use Rattle.std.specs.Prelude.{◌≡◌, ℕ, ◌+◌, ◌*◌, ◌<◌, ◌≤◌, List, length, slice_get, count_by, Bool, true, false, not, Some}
+use Rattle.std.specs.Prelude.{◌≡◌, ℕ, suc, ◌+◌, ◌*◌, ◌<◌, ◌≤◌, List, [], ◌∷◌, length, slice_get, count_by, Bool, true, false, not, Some}
 use Rattle.std.specs.List.{All, AllPairs, Contains, filter}
 use Rattle.ot_isa.specs.declared.instruction.Instr.{Instr}
 use Rattle.ot_isa.specs.declared.instruction.Instr.TheVariants.{Edit, Take, Deliver, Acknowledge, Read, Join, ReadServer}
@@ -8,8 +8,8 @@ use Rattle.ot_model.specs.Table.{Client, State, Place, is_joined, begin, run, Is
 use Rattle.ot_model.specs.Orders.{AreSameOrders}
 use Rattle.ot_letters.specs.Alike.{blank}
 use Rattle.ot_letters.specs.Letters.{mapped_instrs}
-use Rattle.ot_every.specs.Forms.{IsForm}
-use Rattle.ot_every.specs.Listing.{Space, sessions, part_of}
+use Rattle.ot_every.specs.Forms.{insertions, IsForm}
+use Rattle.ot_every.specs.Listing.{Space, letters_of, sessions, part_of}
 
 abbrev pub is_edit : Instr → Bool
 is_edit (Edit c op) = true
@@ -62,9 +62,20 @@ pub record IsSession (space : Space) (start : List ℕ) (is : List Instr) : Type
   pub few : count_by is_edit is ≤ space.edits
   pub small : All (IsSmall space.letters space.inserts) is
 
--- each that is listed is one, and reads nothing
+-- the edits insert the letters in turn, the first of them those of the edit of this number
+abbrev pub InsertInTurn : ℕ → ℕ → List Instr → Type 0
+InsertInTurn letters edit [] = Unit {0}
+InsertInTurn letters edit (Edit c op ∷ is) = All (λ text. text ≡ letters_of letters edit) (insertions op) × InsertInTurn letters (suc edit) is
+InsertInTurn letters edit (Take c ∷ is) = InsertInTurn letters edit is
+InsertInTurn letters edit (Deliver c ∷ is) = InsertInTurn letters edit is
+InsertInTurn letters edit (Acknowledge c ∷ is) = InsertInTurn letters edit is
+InsertInTurn letters edit (Join c ∷ is) = InsertInTurn letters edit is
+InsertInTurn letters edit (Read c ∷ is) = InsertInTurn letters edit is
+InsertInTurn letters edit (ReadServer ∷ is) = InsertInTurn letters edit is
+
+-- each that is listed is one, reads nothing, and inserts the letters of the first edit, then those of the second ..
 abbrev pub Valid : Type 0
-Valid = (space : Space) → IsSpace space → All (λ is. IsSession space space.start is × (without_reads is ≡ is)) (sessions space)
+Valid = (space : Space) → IsSpace space → All (λ is. IsSession space space.start is × (without_reads is ≡ is) × InsertInTurn space.letters 0 is) (sessions space)
 
 -- both have, on each machine, the same instructions in the same order, but for their letters
 abbrev pub AreSameButLetters : List Instr → List Instr → Type 0

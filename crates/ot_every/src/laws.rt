@@ -3,7 +3,7 @@
 ghost use Rattle.ot_every.specs.Laws.{Complete, Distinct, Parts, Valid};
 
 /// Each session that is listed is performed whole by the table and ends quiet, with every client joined. It has at most so many
-/// edits, each with at most so many insertions of so many letters, and reads nothing.
+/// edits, each with at most so many insertions of so many letters, and reads nothing. Its edits insert the letters in turn.
 pub fn valid()
     ensures { Valid }
 {}
