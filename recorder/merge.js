@@ -12,7 +12,8 @@
 
 import fs from "node:fs";
 import { parseArgs } from "node:util";
-import { decode, readEvents, withoutHalf } from "./logs.js";
+import { decode, withoutHalf } from "./files.js";
+import { readEvents } from "./logs.js";
 import { merge } from "./merging.js";
 
 const USAGE = `usage: node recorder/merge.js [--schedule] LOG ..
