@@ -4,7 +4,7 @@
     python3 tests/lint.py
 
 Python is looked through by pyflakes, but for lines with `# noqa`; JavaScript by node, for its syntax, and by TypeScript's compiler, for names that are not used, not
-defined or not exported. A linter that is not there is reported and left out; `tests/set-up` installs them. The last line says how many files
+defined or not exported. In the page nothing reads a text as markup. A linter that is not there is reported and left out; `tests/set-up` installs them. The last line says how many files
 there are and how much was found; the status is 1 where something was.
 """
 import pathlib
@@ -18,6 +18,9 @@ COMPILER = "tsc --noEmit --allowJs --checkJs --noUnusedLocals --skipLibCheck --t
 # Of a name that is not known, or of a module beside the file; of one that is not exported; of one that is not used.
 NAMES = re.compile(r"error TS(?:2304|2552|2307(?=: Cannot find module '\.)|2305|2724|6133|6192|6196|6198|6199): ")
 NOT_YET_KNOWN = re.compile(r"'(?:Dec|C)ompressionStream'")  # of browsers, by the compiler of Debian 12
+
+# What reads a text as markup: the page (viewer/src, and viewer.html, which is made of it) has none of these.
+MARKUP = re.compile(r"innerHTML|outerHTML|insertAdjacentHTML|setHTML|parseHTML|DOMParser|createContextualFragment|srcdoc|document\s*\.\s*write")
 
 
 def listed(*patterns):
@@ -45,12 +48,19 @@ def has_noqa(finding):
     return at is not None and "# noqa" in (TOP / at[1]).read_text(encoding="utf-8").split("\n")[int(at[2]) - 1]
 
 
+def readers_of_markup(*names):
+    """The lines of files that would read a text as markup."""
+    lines = ((name, i, line) for name in names for i, line in enumerate((TOP / name).read_text(encoding="utf-8").split("\n"), 1))
+    return [f"{name}:{i}: a text would be read as markup: {line.strip()[:100]}" for name, i, line in lines if MARKUP.search(line)]
+
+
 def main():
     scripts = [name for name in listed("*.py") + listed(":!:*.*") if is_python(name)]
     modules = listed("*.js", "*.mjs")
     findings = [line for line in said("pyflakes3", *scripts) if not has_noqa(line)]
     findings += [line for name in modules for line in said("node --check", name)]
     findings += [line for line in said(COMPILER, *modules) if NAMES.search(line) and not NOT_YET_KNOWN.search(line)]
+    findings += readers_of_markup(*listed("viewer/src", "viewer/html.mjs", "viewer/viewer.html"))
     print("".join(f"{line}\n" for line in findings), end="")
     print(f"lint: {len(scripts)} scripts of Python, {len(modules)} of JavaScript, {len(findings)} lines of findings")
     return 1 if findings or not scripts or not modules else 0

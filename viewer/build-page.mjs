@@ -5,7 +5,8 @@ import fs from "node:fs";
 import path from "node:path";
 import { fileURLToPath } from "node:url";
 import zlib from "node:zlib";
-import { examplesOf, page } from "./html.mjs";
+import { examplesOf } from "./course.mjs";
+import { page } from "./html.mjs";
 
 const USAGE = "usage: viewer/build-page.mjs ENGINE.wasm TO.html [HOST.mjs]";
 const words = process.argv.slice(2);

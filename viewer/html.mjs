@@ -40,28 +40,12 @@ function bundle(file) {
 /* In a script element of data "<" is written so that no text ends the element. */
 const asData = (value) => JSON.stringify(value).replaceAll("<", "\\u003c");
 
-/* The first sentence of a schedule's comment. */
-function sentenceOf(text) {
-  const comment = /^(?:;.*\n)+/.exec(text);
-  const words = comment ? comment[0].replace(/^; ?/gm, "").replaceAll("\n", " ") : "";
-  return (/^.*?\.(?= |$)/.exec(words) || [words])[0].trim();
-}
-
-/* The sessions of a folder, with a sentence each. */
-export function examplesOf(folder) {
-  return fs
-    .readdirSync(folder)
-    .filter((name) => name.endsWith(".ots"))
-    .sort()
-    .map((name) => [name, fs.readFileSync(path.join(folder, name), "utf8")])
-    .map(([name, text]) => ({ name: name.replace(/\.ots$/, ""), sentence: sentenceOf(text), text }));
-}
-
 const POLICY = (script) =>
   [
     "default-src 'none'",
     `script-src 'sha256-${crypto.createHash("sha256").update(script).digest("base64")}' 'wasm-unsafe-eval'`,
     "worker-src blob:",
+    "img-src blob:",
     "style-src 'unsafe-inline'",
     "base-uri 'none'",
     "form-action 'none'",

@@ -4,7 +4,8 @@ import { spawnSync } from "node:child_process";
 import fs from "node:fs";
 import path from "node:path";
 import { fileURLToPath } from "node:url";
-import { examplesOf, page } from "../../viewer/html.mjs";
+import { examplesOf } from "../../viewer/course.mjs";
+import { page } from "../../viewer/html.mjs";
 
 export const TOP = fileURLToPath(new URL("../..", import.meta.url));
 
@@ -23,12 +24,14 @@ const HELD = [
   "oracle",
   "recorder",
   "terminal",
+  "viewer/src/characters.mjs",
   "viewer/src/document.mjs",
   "viewer/src/fold.mjs",
   "viewer/src/input.mjs",
   "viewer/src/numbering.mjs",
   "viewer/src/places.mjs",
   "viewer/src/schedule.mjs",
+  "viewer/src/values.mjs",
 ];
 
 const LEFT_OUT = new Set([

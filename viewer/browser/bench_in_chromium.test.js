@@ -4,11 +4,17 @@ import assert from "node:assert/strict";
 import { test } from "node:test";
 import { testIn } from "./bench_tests.js";
 import { openChromium } from "./chromium.js";
+import { testInputs } from "./input_tests.js";
 import { testLong } from "./long_tests.js";
 import { skip } from "./otbench.js";
+import { testSharing } from "./sharing_tests.js";
 import { User } from "./user.js";
+import { testWriting } from "./writing_tests.js";
 
 testIn("Chromium", openChromium);
+testInputs("Chromium", openChromium);
+testSharing("Chromium", openChromium);
+testWriting("Chromium", openChromium);
 testLong("Chromium", openChromium);
 
 test("what an input method composes is one edit, at its end", { skip }, async () => {

@@ -2,7 +2,13 @@
 
 import { testIn } from "./bench_tests.js";
 import { openFirefox } from "./firefox.js";
+import { testInputs } from "./input_tests.js";
 import { testLong } from "./long_tests.js";
+import { testSharing } from "./sharing_tests.js";
+import { testWriting } from "./writing_tests.js";
 
 testIn("Firefox", openFirefox);
+testInputs("Firefox", openFirefox);
+testSharing("Firefox", openFirefox);
+testWriting("Firefox", openFirefox);
 testLong("Firefox", openFirefox);

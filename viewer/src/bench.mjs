@@ -4,7 +4,7 @@
 import { followLines } from "./follow.mjs";
 import { headsAt } from "./places.mjs";
 import { Port } from "./port.mjs";
-import { documentNow, emptyState, isAnswered, reduce, shownPlace } from "./state.mjs";
+import { caretBehind, documentNow, emptyState, isAnswered, reduce, shownPlace } from "./state.mjs";
 
 /** After how many milliseconds without a change the verdicts are asked for, and how often the time of a run is added to that. */
 const STILL = 250;
@@ -12,6 +12,9 @@ const RUNS = 4;
 
 /** After how many milliseconds an answer that is of an old text is not waited for any longer. */
 const PATIENCE = 1500;
+
+/** After how many milliseconds without an answer the page says so, and how often the time of the last run is added to that. */
+const LATE = 3000;
 
 const linesIn = (bytes) => {
   const lines = new TextDecoder().decode(bytes).split("\n");
@@ -40,7 +43,7 @@ export function readRefusal(told) {
  * @property {(text: string) => Promise<object>} steps
  * @property {(words: string[], input: Uint8Array) => Promise<{ status: number, output: Uint8Array, errors: string }>} ask
  * @property {() => Asked} beside
- * @property {() => void} giveUp
+ * @property {(reason?: string) => void} giveUp
  */
 
 export class Bench {
@@ -79,7 +82,8 @@ export class Bench {
   dispatch(action) {
     if (action.do === "type" && !documentNow(this.state, action.client)) {
       this.#waiting.push(action);
-      if (!this.isBusy) this.#typeWaiting();
+      if (this.isBusy) this.dispatch({ do: "select", ...caretBehind(action), isPut: true });
+      else this.#typeWaiting();
       return;
     }
     this.state = reduce(this.state, action);
@@ -107,6 +111,11 @@ export class Bench {
   /** What the program answers to words and an input, off the state. */
   ask(words, input) {
     return this.engine.ask(words, typeof input === "string" ? new TextEncoder().encode(input) : input);
+  }
+
+  /** Ends an engine that does not answer. The next change starts it again. */
+  stop() {
+    this.engine.giveUp("it was stopped");
   }
 
   /** Lets everything through that is under way at the place, until all is quiet there. It is undone as one. */
@@ -168,12 +177,14 @@ export class Bench {
   async #steps(text) {
     await this.engine.load();
     this.#askedAt = performance.now();
+    const late = setTimeout(() => this.dispatch({ do: "late" }), LATE + RUNS * this.state.took);
     try {
       return await this.engine.steps(text);
     } catch (fault) {
       if (text === this.state.text) throw fault;
       return null;
     } finally {
+      clearTimeout(late);
       this.#askedAt = null;
     }
   }

@@ -2,11 +2,13 @@
 // colour of who inserted it. Where the page can play, a client's document is an editor, and what is at the head of its links a
 // button: each button names the instruction that it puts behind the place.
 
+import { quoted, seen } from "./characters.mjs";
 import { START, sameText, walk } from "./document.mjs";
 import { SERVER } from "./fold.mjs";
 import { documentAt, downAt, headsAt, logLengthAt, receiptsIn, stateAt, upAt, versionsOf } from "./places.mjs";
 import { colourOf } from "./theme.mjs";
-import { apart, escapeMarkup, nameOfMember, operationMarkup, quoted, seen, valueMarkup } from "./words.mjs";
+import { tree } from "./tree.mjs";
+import { apart, nameOfMember, shortName, shownOperation, shownValue } from "./words.mjs";
 
 export const authorOf = ({ maker }, names) => (maker === START ? "the start" : nameOfMember(maker, names));
 
@@ -50,84 +52,103 @@ function runsOf(shown, { picked, names }) {
   return runs;
 }
 
-const cutMark = (count) => (count > 0 ? `<span class="cut" contenteditable="false">… ${count} characters …</span>` : "");
+const cutMark = (count) => count > 0 && tree("span", { class: "cut", contenteditable: "false" }, `… ${count} characters …`);
 
-const EDITOR = 'contenteditable="true" role="textbox" aria-multiline="true" spellcheck="false" autocapitalize="off" tabindex="0"';
+const EDITOR = {
+  contenteditable: "true",
+  role: "textbox",
+  "aria-multiline": "true",
+  spellcheck: "false",
+  autocapitalize: "off",
+  tabindex: 0,
+};
 
-/* A document at a place; of a long one, what is around the change, or around where its user types. */
-function documentMarkup(session, who, view) {
-  const { canPlay, carets } = view;
-  const shown = shownCharacters(session, who, view);
-  const room = session.clients > 16 ? 160 : 600;
-  const changed = shown.findIndex(({ change }) => change !== "");
-  const centre = changed < 0 ? (carets?.get(who) ?? 0) : changed;
-  const from = Math.max(0, Math.min(centre - (room >> 1), shown.length - room));
-  const runs = runsOf(shown.slice(from, from + room), view);
-  const first = shown.slice(0, from).filter(({ index }) => index >= 0).length;
-  const spans = runs.map(({ maker, author, change, index, isPicked, text }) => {
-    const title = escapeMarkup(`${author}${change ? `, ${change} here` : ""}`);
-    const words = `class="${change}${isPicked ? " picked" : ""}" title="${title}" data-index="${index}"`;
-    const colour = maker === START ? "" : ` style="--maker:${colourOf(maker)}"`;
-    return `<span ${words}${colour}>${escapeMarkup(seen(text))}</span>`;
-  });
-  const isEditor = canPlay && who !== SERVER;
-  const empty = isEditor ? "" : '<span class="cut">empty</span>';
-  const last = runs[runs.length - 1];
-  const end = isEditor && last && last.text.endsWith("\n") ? "<br>" : "";
-  const text = cutMark(from) + (spans.join("") + end || empty) + cutMark(shown.length - from - room);
-  const words = isEditor ? ` ${EDITOR} aria-label="${escapeMarkup(`document of ${nameOfMember(who, view.names)}`)}" data-first="${first}"` : "";
-  return `<div class="document" data-who="${who}"${words}>${text}</div>${authorsMarkup(runs)}`;
+function shownRun({ maker, author, change, index, isPicked, text }) {
+  const look = `${change}${isPicked ? " picked" : ""}`;
+  const title = `${author}${change ? `, ${change} here` : ""}`;
+  const style = maker === START ? null : `--maker:${colourOf(maker)}`;
+  return tree("span", { class: look, title, "data-index": index, style }, seen(text));
 }
 
-/* The runs in words, for those who hear the page. */
-function authorsMarkup(runs) {
+/** How many characters of a document are shown: where there are few clients, and where there are many. */
+const ROOM = { few: 600, many: 160 };
+
+/** What is shown of a document that is written in begins at a multiple of this, and has as many characters at both sides of the caret. */
+const STEP = 800;
+
+/* The part that is shown of a long document: that around the caret where it is written in, else that around what the place changed. */
+function partOf(shown, who, { caret, writing }, clients) {
+  const room = who === writing ? 3 * STEP : clients > 16 ? ROOM.many : ROOM.few;
+  const changed = shown.findIndex(({ change }) => change !== "");
+  const typed = caret?.client === who ? caret.focus : 0;
+  const wanted = who === writing ? stepOf(typed) * STEP : (changed < 0 ? typed : changed) - (room >> 1);
+  const from = Math.max(0, Math.min(wanted, shown.length - room));
+  return { from, to: Math.min(shown.length, from + room) };
+}
+
+const stepOf = (index) => Math.floor(index / STEP) - 1;
+
+/* A document at a place. Of one that is written in nothing is shown that was deleted. */
+function shownDocument(session, who, view) {
+  const isEditor = view.canPlay && who !== SERVER;
+  const isThere = ({ index }) => index >= 0;
+  const all = shownCharacters(session, who, view);
+  const shown = who === view.writing ? all.filter(isThere) : all;
+  const { from, to } = partOf(shown, who, view, session.clients);
+  const runs = runsOf(shown.slice(from, to), view);
+  const empty = !isEditor && tree("span", { class: "cut" }, "empty");
+  const end = isEditor && runs.at(-1)?.text.endsWith("\n") && tree("br");
+  const first = shown.slice(0, from).filter(isThere).length;
+  const ofEditor = { ...EDITOR, "aria-label": `document of ${nameOfMember(who, view.names)}`, "data-first": first, "data-length": all.filter(isThere).length };
+  const inside = [cutMark(from), runs.length ? [runs.map(shownRun), end] : empty, cutMark(shown.length - to)];
+  return [tree("div", { class: "document", "data-who": who, ...(isEditor ? ofEditor : {}) }, inside), authors(runs)];
+}
+
+/* Who inserted and deleted what, for who does not see the page. */
+function authors(runs) {
   const inWords = ({ text, author, change }) => `${quoted(text)} ${change ? `${change} here, ` : ""}by ${author}`;
   const words = runs.slice(0, 12).map(inWords);
   const more = runs.length > 12 ? `, and ${runs.length - 12} more` : "";
-  return runs.length ? `<p class="heard">${escapeMarkup(words.join("; ") + more)}</p>` : "";
+  return runs.length > 0 && tree("p", { class: "heard" }, words.join("; ") + more);
 }
 
-const badge = (text, look = "") => `<span class="badge ${look}">${text}</span>`;
+const badge = (text, look = "") => tree("span", { class: `badge ${look}` }, text);
 
-function table(rows) {
-  const entries = rows.map(([name, value]) => `<dt>${name}</dt><dd>${value}</dd>`);
-  return entries.length ? `<dl>${entries.join("")}</dl>` : "";
-}
+const table = (rows) => rows.length > 0 && tree("dl", {}, rows.map(([name, value]) => [tree("dt", {}, name), tree("dd", {}, value)]));
 
 function portRows(port, who, place) {
   if (!port) return [];
   return port.differencesOf(who, place).map(({ key, found, ours }) => {
-    const [theirs, wanted] = apart(found, ours).map(valueMarkup);
-    return [`<span class="differs">port: ${key}</span>`, `${theirs} <span class="against">ot.js: ${wanted}</span>`];
+    const [theirs, wanted] = apart(found, ours).map(shownValue);
+    return [tree("span", { class: "differs" }, `port: ${key}`), [theirs, " ", tree("span", { class: "against" }, "ot.js: ", wanted)]];
   });
 }
 
 function card(who, { isMoved, names }, heading, body) {
   const colour = who === SERVER ? "var(--ink)" : colourOf(who);
-  const look = `class="card${who === SERVER ? " server" : ""}${isMoved ? " moved" : ""}"`;
-  const words = `${look} data-card="${who}" tabindex="-1" style="--who:${colour}" aria-label="${escapeMarkup(nameOfMember(who, names))}"`;
-  return `<section ${words}><h2>${heading}</h2>${body}</section>`;
+  const look = `card${who === SERVER ? " server" : ""}${isMoved ? " moved" : ""}`;
+  const words = { class: look, "data-card": who, tabindex: -1, style: `--who:${colour}`, "aria-label": nameOfMember(who, names) };
+  return tree("section", words, tree("h2", {}, heading), body);
 }
 
 /* A button that puts an instruction behind the place; one that was pressed waits for the engine's answer. */
-const playButton = (instruction, title, { markup = instruction, look = "", isAsked = false } = {}) =>
-  `<button class="play ${look}${isAsked ? " asked" : ""}" data-play="${instruction}" title="${title}"${isAsked ? " disabled" : ""}>${markup}</button>`;
+const playButton = (instruction, title, { words = instruction, look = "", isAsked = false } = {}) =>
+  tree("button", { class: `play ${look}${isAsked ? " asked" : ""}`, "data-play": instruction, title, disabled: isAsked }, words);
 
-const READ = { markup: "read", look: "small" };
+const READ = { words: "read", look: "small" };
 
-const acts = (buttons) => (buttons ? `<span class="acts">${buttons}</span>` : "");
+const acts = (...buttons) => buttons.some(Boolean) && tree("span", { class: "acts" }, buttons);
 
 function serverCard(session, view, isMoved) {
   const { place, port, canPlay } = view;
   const length = logLengthAt(session, place);
   const entries = session.log.slice(Math.max(0, length - 4), length).reverse();
-  const lines = entries.map(({ number, operation, maker }) => `${number}: ${operationMarkup(operation, maker)} ${escapeMarkup(nameOfMember(maker, view.names))}`);
+  const lines = entries.map(({ number, operation, maker }) => [`${number}: `, shownOperation(operation, maker), ` ${nameOfMember(maker, view.names)}`]);
   if (length > 4) lines.push(`and ${length - 4} before`);
-  const rows = length ? [["log, last first", lines.join("<br>")]] : [];
+  const rows = length ? [["log, last first", lines.map((line, i) => [i > 0 && tree("br"), line])]] : [];
   rows.push(...portRows(port, SERVER, place));
-  const read = canPlay ? playButton("read-server", "shows the server’s document here", READ) : "";
-  const heading = `server ${badge(`rev ${length}`)}${acts(read)}`;
-  return card(SERVER, { ...view, isMoved }, heading, documentMarkup(session, SERVER, view) + table(rows));
+  const heading = ["server ", badge(`rev ${length}`), acts(canPlay && playButton("read-server", "shows the server’s document here", READ))];
+  return card(SERVER, { ...view, isMoved }, heading, [shownDocument(session, SERVER, view), table(rows)]);
 }
 
 const isAsked = (instruction, { asked }) => Boolean(asked?.includes(instruction));
@@ -136,10 +157,10 @@ function linkRows(session, client, view) {
   const { place, canPlay } = view;
   const rows = [];
   const up = upAt(session, client, place);
-  const asHead = (markup, instruction, title, isAsked) =>
-    playButton(instruction, title, { markup: `${markup} <b>${instruction.split(" ")[0]}</b>`, look: "head", isAsked });
+  const asHead = (words, instruction, title, isAsked) =>
+    playButton(instruction, title, { words: [words, " ", tree("b", {}, instruction.split(" ")[0])], look: "head", isAsked });
   if (up) {
-    const message = `${operationMarkup(up.operation, client)} at revision ${up.revision}`;
+    const message = [shownOperation(up.operation, client), ` at revision ${up.revision}`];
     const take = `take ${client}`;
     rows.push(["to server", canPlay ? asHead(message, take, "the server takes it (u)", isAsked(take, view)) : message]);
   }
@@ -149,55 +170,59 @@ function linkRows(session, client, view) {
   const most = 3 + asked;
   const words = session.log.slice(from, Math.min(to, from + most)).map(({ maker, operation }, i) => {
     const isOwn = maker === client;
-    if (i > asked || !canPlay) return isOwn ? "ack" : operationMarkup(operation, maker);
-    const markup = isOwn ? "its own operation" : operationMarkup(operation, maker);
-    return asHead(markup, down[i], isOwn ? "the client has its operation confirmed (n)" : "the client takes it (n)", i < asked);
+    if (i > asked || !canPlay) return isOwn ? "ack" : shownOperation(operation, maker);
+    const shown = isOwn ? "its own operation" : shownOperation(operation, maker);
+    return asHead(shown, down[i], isOwn ? "the client has its operation confirmed (n)" : "the client takes it (n)", i < asked);
   });
   if (to - from > most) words.push(`and ${to - from - most} more`);
-  if (words.length) rows.push(["from server", words.join(", ")]);
+  if (words.length) rows.push(["from server", words.map((word, i) => [i > 0 && ", ", word])]);
   return rows;
 }
 
-const STATE_LOOKS = { synchronized: "", "awaiting-confirm": "confirm", "awaiting-with-buffer": "buffer" };
+const STATE_LOOKS = { synchronized: "", "awaiting-confirm": "confirm", "awaiting-with-buffer": "buffer", "not-joined": "" };
 
 function clientCard(session, client, view, isMoved) {
   const { place, port, canPlay, names } = view;
   const { state, revision, outstanding, buffer } = stateAt(session, client, place);
-  const called = names?.has(client) ? ` <span class="called">(${escapeMarkup(seen(names.get(client)))})</span>` : "";
-  const name = `<span class="name">client ${client}</span>${called} ${badge(state, STATE_LOOKS[state])}`;
-  const rename = canPlay ? `<button class="small" data-name="${client}" title="gives the client a name">name</button>` : "";
+  const called = names?.has(client) && [" ", tree("span", { class: "called" }, `(${shortName(names.get(client))})`)];
+  const name = [tree("span", { class: "name" }, `client ${client}`), called, " ", badge(state, STATE_LOOKS[state])];
+  const rename = canPlay && tree("button", { class: "small", "data-name": client, title: "gives the client a name" }, "name");
   if (state === "not-joined") {
-    const join = canPlay ? playButton(`join ${client}`, "the client joins with the server’s document (+)", { look: "head", isAsked: isAsked(`join ${client}`, view) }) : "";
-    return card(client, { ...view, isMoved }, name + acts(rename), join);
+    const join = `join ${client}`;
+    const asJoin = { look: "head", isAsked: isAsked(join, view) };
+    return card(client, { ...view, isMoved }, [name, acts(rename)], canPlay && playButton(join, "the client joins with the server’s document (+)", asJoin));
   }
   const rows = [];
-  if (outstanding) rows.push(["outstanding", operationMarkup(outstanding, client)]);
-  if (buffer) rows.push(["buffer", operationMarkup(buffer, client)]);
+  if (outstanding) rows.push(["outstanding", shownOperation(outstanding, client)]);
+  if (buffer) rows.push(["buffer", shownOperation(buffer, client)]);
   rows.push(...linkRows(session, client, view), ...portRows(port, client, place));
   const isSame = sameText(documentAt(session, client, place), documentAt(session, SERVER, place));
-  const heading = `${name} ${badge(`rev ${revision}`)} ${badge(isSame ? "= server" : "≠ server")}`;
-  const read = canPlay ? playButton(`read ${client}`, "shows the document here (r)", READ) : "";
-  return card(client, { ...view, isMoved }, heading + acts(read + rename), documentMarkup(session, client, view) + table(rows));
+  const read = canPlay && playButton(`read ${client}`, "shows the document here (r)", READ);
+  const heading = [name, " ", badge(`rev ${revision}`), " ", badge(isSame ? "= server" : "≠ server"), acts(read, rename)];
+  return card(client, { ...view, isMoved }, heading, [shownDocument(session, client, view), table(rows)]);
 }
 
 /* Of what a participant's card is made: where all of it is the same, the card is. */
 export function cardParts(session, who, view) {
-  const { place, port, picked, draft, canPlay, names, carets, asked } = view;
+  const { place, port, picked, draft, canPlay, names, caret, writing, asked } = view;
   const step = session.steps[place];
   const moved = step?.moved === who ? step.line : null;
-  const parts = [session.clients, moved, session.server.markAt(place), port, port && place, picked, canPlay, [...names].join(), carets.get(who)];
+  const parts = [session.clients, moved, session.server.markAt(place), port, port && place, picked, canPlay, [...names].join()];
   if (who === SERVER) return parts;
   const own = asked.filter((instruction) => instruction.endsWith(` ${who}`)).join();
   const { versions } = session.members[who];
   const up = upAt(session, who, place);
-  return [...parts, stateAt(session, who, place), versions.markAt(place), up?.operation, draft?.client === who ? draft : null, own];
+  const typed = caret?.client === who ? caret.focus : 0;
+  const part = who === writing ? stepOf(typed) : -typed;
+  return [...parts, stateAt(session, who, place), versions.markAt(place), up?.operation, draft?.client === who ? draft : null, own, who === writing, part];
 }
 
 /*
  * A participant's card at a place: view.place. Of the rest of a view `draft` is what a client's document is while that is not
- * answered, `asked` the instructions that the engine has not answered yet, `carets` where users type, `names` what clients are called, and `canPlay` says whether there is an engine.
+ * answered, `asked` the instructions that the engine has not answered yet, `caret` what is selected where the user types, `writing` the client whose document
+ * has the focus, `names` what clients are called, and `canPlay` says whether there is an engine.
  */
-export function cardMarkup(session, who, view) {
+export function cardOf(session, who, view) {
   const step = session.steps[view.place];
   const isMoved = Boolean(step) && step.moved === who;
   return who === SERVER ? serverCard(session, view, isMoved) : clientCard(session, who, view, isMoved);

@@ -1,10 +1,11 @@
 // The page's dialogs: examples, paste, save, a client's name, lanes, a judged trace.
 
-import { element } from "./dom.mjs";
+import { element, fill } from "./dom.mjs";
 import { splitInput } from "./input.mjs";
 import { shownPlace } from "./state.mjs";
-import { traceMarkup } from "./trace.mjs";
-import { escapeMarkup, nameOfMember } from "./words.mjs";
+import { traceTable } from "./trace.mjs";
+import { built, tree } from "./tree.mjs";
+import { nameOfMember } from "./words.mjs";
 
 export function openDialog(id) {
   element(id).returnValue = "";
@@ -21,7 +22,7 @@ const onClose = (id, act) => {
 export function showTrace({ trace, verdict }) {
   element("trace-verdict").textContent = verdict.words;
   element("trace-verdict").className = `verdict ${verdict.holds ? "good" : "bad"}`;
-  element("trace-events").innerHTML = traceMarkup(trace, verdict);
+  fill("trace-events", traceTable(trace, verdict));
   openDialog("judged");
 }
 
@@ -39,10 +40,11 @@ export function paste() {
 
 /** Which lanes are shown. */
 export function showLanes({ session, hidden, outline }) {
-  const boxes = session.members.map(
-    ({ number }) => `<label><input type="checkbox" value="${number}"${hidden.has(number) ? "" : " checked"}> ${escapeMarkup(nameOfMember(number, outline.names))}</label>`,
-  );
-  element("shown-lanes").innerHTML = boxes.join("");
+  const boxes = session.members.map(({ number }) => {
+    const box = tree("input", { type: "checkbox", value: number, checked: !hidden.has(number) });
+    return tree("label", {}, box, ` ${nameOfMember(number, outline.names)}`);
+  });
+  element("shown-lanes").replaceChildren(...boxes.map((box) => built(box)));
   if (!element("hiding").open) openDialog("hiding");
 }
 
@@ -57,15 +59,15 @@ function stillAround(state) {
  * Listens to the dialogs.
  * @param {import("./bench.mjs").Bench} bench
  * @param {object} to
- * @param {{ name: string, sentence: string }[]} to.choices the examples
+ * @param {{ title: string, sentence: string }[]} to.choices the examples
  * @param {(number: number) => void} to.openChoice
  * @param {(text: string) => void} to.take what was pasted
  * @param {(what: string) => void} to.save
  */
 export function watchDialogs(bench, { choices, openChoice, take, save }) {
   const act = (name, more) => bench.dispatch({ do: name, ...more });
-  const choice = ({ name, sentence }, i) => `<button value="${i}" class="choice"><b>${escapeMarkup(name)}</b> ${escapeMarkup(sentence)}</button>`;
-  element("choices").innerHTML = choices.map(choice).join("");
+  const choice = ({ title, sentence }, i) => tree("button", { value: i, class: "choice" }, tree("b", {}, title), ` ${sentence}`);
+  fill("choices", choices.map(choice));
   onClose("choosing", (value) => value !== "" && openChoice(Number(value)));
   onClose("saving", (value) => value !== "" && save(value));
   onClose("pasting", (value) => {

@@ -1,10 +1,24 @@
 // The page's elements.
 
+import { built, flat, sameTrees } from "./tree.mjs";
+
 export const element = (id) => document.getElementById(id);
 
 /** Sets an element's text where it is another. */
 export function setText(id, text) {
   if (element(id).textContent !== text) element(id).textContent = text;
+}
+
+const filled = new WeakMap();
+
+/** Shows trees and texts in an element, where they are others than it was given last. */
+export function fill(id, ...children) {
+  const parent = element(id);
+  const shown = flat(children);
+  const last = filled.get(parent);
+  if (last && sameTrees(last, shown)) return;
+  filled.set(parent, shown);
+  parent.replaceChildren(...shown.map((child) => built(child)));
 }
 
 /** Saves a file. @param {BlobPart} content */

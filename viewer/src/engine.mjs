@@ -34,7 +34,7 @@ export class Engine {
     this.#worker.onmessage = ({ data }) => this.#receive(data);
     this.#worker.onerror = (event) => {
       event.preventDefault();
-      this.#fail(event.message || "the worker did not start");
+      this.giveUp("its worker ended");
     };
     try {
       this.#module = await this.#call("load", [this.#module]);
@@ -56,11 +56,11 @@ export class Engine {
     return this.#call("steps", [text]);
   }
 
-  /** Ends it, whatever it does; its calls are not answered. `load` starts it again. */
-  giveUp() {
+  /** Ends it, whatever it does; its calls fail for this reason. `load` starts it again. */
+  giveUp(reason = "given up") {
     this.#worker?.terminate();
     this.#worker = null;
-    this.#fail("given up");
+    this.#fail(reason);
   }
 
   #call(call, given) {

@@ -2,6 +2,7 @@
 // place. A place is a number of performed instructions. Lines that do not fit one another are refused.
 
 import { START, Versions, baseLength, insertedText, insertionsIn, lastUpTo, makeElements, textOf } from "./document.mjs";
+import { checkLine } from "./values.mjs";
 
 export const SERVER = "server";
 
@@ -74,6 +75,7 @@ export class Session {
   }
 
   add(line) {
+    checkLine(line);
     if (line.end !== undefined) this.end = line.end;
     else if (line.stopped !== undefined) this.stop = line;
     else this.#step(line);
@@ -161,8 +163,17 @@ export class Session {
 
 /* A session of the opening's line, which further lines are added to. */
 export function openSession(line) {
-  if (line.at === 0 && line.clients && line.start !== undefined) return new Session(line);
+  checkLine(line);
+  if (line.at === 0 && line.clients && line.start !== undefined) return new Session({ present: line.clients, ...line });
   throw new Error("the opening is missing");
+}
+
+function readLine(text) {
+  try {
+    return JSON.parse(text);
+  } catch {
+    throw new Error("it is no JSON");
+  }
 }
 
 /* The session of the lines of `steps`; a fault names the line. */
@@ -170,7 +181,7 @@ export function fold(lines) {
   let session = null;
   lines.forEach((text, i) => {
     try {
-      const line = JSON.parse(text);
+      const line = readLine(text);
       if (session) session.add(line);
       else session = openSession(line);
     } catch (fault) {

@@ -1,6 +1,9 @@
 // What comes in, by file, paste or link: it is found out what it is, and becomes a session, a port's lines beside one, or a trace
 // that is judged. All of it is data.
 
+import { readEvents } from "../../recorder/logs.js";
+import { merge } from "../../recorder/merging.js";
+import { brief, seen } from "./characters.mjs";
 import { splitInput, trimmed } from "./input.mjs";
 import { kindOf, scheduleOf, splitSchedule, textOfSchedule } from "./reader.mjs";
 import { readVerdict } from "./trace.mjs";
@@ -11,7 +14,7 @@ const text = (bytes) => new TextDecoder().decode(bytes);
 const lineOf = (errors) => errors.trim().split(/\n */).join(": ");
 
 /* What is wrong with an input, as `explain` says it: where the fault is, what stands there and what is wanted. It has no words where memory runs out. */
-async function faultOf(bench, form, input, errors) {
+export async function faultOf(bench, form, input, errors) {
   const { errors: told } = await bench.ask(["explain", `--${form}`], input);
   return lineOf(told || errors);
 }
@@ -25,12 +28,36 @@ function isFrontOf({ instructions }, state) {
 
 const sameInstruction = (line, instruction) => line.replace(/[ \t]+/g, " ") === instruction || line.replace(/[ \t]/g, "") === instruction.replace(/[ \t]/g, "");
 
+const say = (bench, notice) => bench.dispatch({ do: "notice", notice });
+
+/* A file's name in so few characters that what is said of the file is seen. */
+const called = (name) => brief(seen(name), 80) || "This";
+
+/* The recorder's logs of one session, as its schedule with the participants' own lines beside it. */
+function takeLogs(bench, logs) {
+  try {
+    const { schedule, lines, notes } = merge(logs.flatMap(({ text: log, name }) => readEvents(log, called(name))));
+    const title = logs.length > 1 ? `${logs.length} logs` : logs[0].name;
+    bench.dispatch({ do: "open", text: `${schedule.join("\n")}\n`, port: lines, title });
+    if (notes.length) say(bench, `Of the logs: ${notes.join("; ")}.`);
+  } catch (fault) {
+    say(bench, `The recorder's logs make no session: ${fault.message}. Drop the logs of all its participants together.`);
+  }
+}
+
 const TAKERS = {
-  bad: (bench, { reason }, bytes, name) => bench.dispatch({ do: "notice", notice: `${name || "This"} cannot be opened: ${reason}.` }),
+  bad: (bench, { reason }, bytes, name) => say(bench, `${called(name)} cannot be opened: ${reason}.`),
+
+  log: (bench, { text: log }, bytes, name) => takeLogs(bench, [{ text: log, name }]),
+
+  async other(bench, { text: input }, bytes, name) {
+    const { errors } = await bench.ask(["explain"], input);
+    say(bench, `${called(name)} is no schedule: ${lineOf(errors)}.`);
+  },
 
   async image(bench, kind, bytes, name) {
     const { status, output, errors } = await bench.ask(["dis"], bytes);
-    if (status) bench.dispatch({ do: "notice", notice: `${name || "This"} is no image of a schedule: ${await faultOf(bench, "image", bytes, errors)}.` });
+    if (status) say(bench, `${called(name)} is no image of a schedule: ${await faultOf(bench, "image", bytes, errors)}.`);
     else bench.dispatch({ do: "open", text: text(output), title: name });
   },
 
@@ -42,14 +69,14 @@ const TAKERS = {
   async plan(bench, { text: input }, bytes, name) {
     const plan = JSON.stringify({ ...JSON.parse(input), workers: 1 }); // a page has one thread
     const { status, output, errors } = await bench.ask(["threads"], plan);
-    if (status) bench.dispatch({ do: "notice", notice: `The plan ${name} is not carried out: ${await faultOf(bench, "plan", plan, errors)}.` });
+    if (status) say(bench, `The plan ${called(name)} is not carried out: ${await faultOf(bench, "plan", plan, errors)}.`);
     else bench.dispatch({ do: "open", text: text(output), title: name });
   },
 
   async trace(bench, { text: input }, bytes, name) {
     const { output, errors } = await bench.ask(["explain", "--trace"], input);
     if (output.length > 0) return { trace: JSON.parse(input), verdict: readVerdict(text(output)) };
-    bench.dispatch({ do: "notice", notice: `The trace ${name} is not judged: ${lineOf(errors)}.` });
+    say(bench, `The trace ${called(name)} is not judged: ${lineOf(errors)}.`);
     return undefined;
   },
 
@@ -74,7 +101,22 @@ export async function takeIn(bench, bytes, name = "") {
   try {
     return await TAKERS[kind.kind](bench, kind, bytes, name);
   } catch (fault) {
-    bench.dispatch({ do: "notice", notice: `${name || "This"} cannot be opened: ${fault.message}.` });
+    say(bench, `${called(name)} cannot be opened: ${fault.message}.`);
     return undefined;
   }
+}
+
+/**
+ * Takes several files in: the recorder's logs of one session, or a schedule and a port's lines.
+ * @param {{ bytes: Uint8Array, name: string }[]} files
+ */
+export async function takeAll(bench, files) {
+  await bench.settled();
+  const kinds = files.map(({ bytes, name }) => ({ ...kindOf(bytes), name }));
+  const of = (kind) => kinds.filter((it) => it.kind === kind);
+  const [[schedule], [lines]] = [of("schedule"), of("lines")];
+  if (of("log").length === kinds.length) takeLogs(bench, kinds);
+  else if (kinds.length === 2 && schedule && lines)
+    bench.dispatch({ do: "open", text: splitSchedule(schedule.text).schedule, port: splitInput(lines.text).steps, title: schedule.name });
+  else say(bench, "Of several files the page takes the recorder's logs of one session, or a schedule and a port's lines.");
 }

@@ -2,6 +2,7 @@
 // participant, the server's in the middle.
 
 import { SERVER } from "./fold.mjs";
+import { tree } from "./tree.mjs";
 
 export const HEAD_HEIGHT = 30;
 const TEXT_WIDTH = { wide: 310, narrow: 150 };
@@ -54,4 +55,4 @@ export function layoutOf(session, isNarrow = false, hidden = new Set(), room = I
 /* A row for each place, one for a refused instruction, one for the end. */
 export const rowCount = (session) => session.length + 1 + (session.stop ? 1 : 0) + (session.end === null ? 0 : 1);
 
-export const svgText = (x, y, text, attributes) => `<text x="${x}" y="${y}" ${attributes}>${text}</text>`;
+export const svgText = (x, y, text, attributes) => tree("text", { x, y, ...attributes }, text);

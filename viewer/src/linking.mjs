@@ -1,29 +1,36 @@
 // A session to and from a link.
 
+import { brief, quoted } from "./characters.mjs";
+import { faultOf } from "./intake.mjs";
 import { withName } from "./schedule.mjs";
 import { addressOf, packed, readAddress, unpacked } from "./share.mjs";
 
 /** The address, behind #, of the session and its place; a text that is no schedule has none, and the fault says so. */
 export async function linkTo(bench) {
-  const { text, place, title, outline } = bench.state;
+  const { text, port, place, title, outline } = bench.state;
   const { status, output, errors } = await bench.ask(["asm"], text);
   if (status) throw new Error(errors.trim().split("\n")[0]);
-  return addressOf({ place, title, names: outline.names, image: await packed(output) });
+  const lines = port && (await packed(new TextEncoder().encode(port.join("\n"))));
+  return addressOf({ place, title, names: outline.names, image: await packed(output), port: lines });
 }
 
-/** Opens the session of an address; false where it names none. */
+/** Whether an address is a link: to a session, or to what is none. */
+export function isLink(hash) {
+  const { image, strange } = readAddress(hash);
+  return image !== null || strange !== null;
+}
+
+/** Opens the session of an address; false where it names none. Of a link that cannot be read a fault says what is wrong with it. */
 export async function openLink(bench, hash) {
-  const { image, names, title, place } = readAddress(hash);
+  const { image, port, names, title, place, strange } = readAddress(hash);
+  if (strange !== null) throw new Error(`it has ${quoted(brief(strange, 60))}, which is no part of a link`);
   if (image === null) return false;
-  try {
-    const { status, output, errors } = await bench.ask(["dis"], await unpacked(image));
-    if (status) throw new Error(errors.trim());
-    let text = new TextDecoder().decode(output);
-    for (const [client, name] of [...names].reverse()) text = withName(text, client, name);
-    bench.dispatch({ do: "open", text, title, place: place ?? 0 });
-  } catch (fault) {
-    bench.dispatch({ do: "notice", notice: `This link cannot be opened: ${fault.message}.` });
-    return false;
-  }
+  const bytes = await unpacked(image);
+  const { status, output, errors } = await bench.ask(["dis"], bytes);
+  if (status) throw new Error(`its image is none of a schedule: ${await faultOf(bench, "image", bytes, errors)}`);
+  let text = new TextDecoder().decode(output);
+  for (const [client, name] of [...names].reverse()) text = withName(text, client, name);
+  const lines = port === null ? null : new TextDecoder().decode(await unpacked(port, "port")).split("\n");
+  bench.dispatch({ do: "open", text, port: lines, title, place: place ?? 0 });
   return true;
 }

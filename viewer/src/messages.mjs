@@ -5,7 +5,8 @@ import { lastUpTo } from "./document.mjs";
 import { SERVER } from "./fold.mjs";
 import { svgText } from "./layout.mjs";
 import { colourOf } from "./theme.mjs";
-import { escapeMarkup, operationText } from "./words.mjs";
+import { tree } from "./tree.mjs";
+import { operationText } from "./words.mjs";
 
 /* Of a message that is under way for more rows only the ends are drawn, but where it is sent or received, or followed. */
 const LONG = 14;
@@ -39,11 +40,12 @@ function lookOf(message, session, { place, followed }, isOfMany) {
     isWhole,
     isNow,
     isTheirs,
+    isOther: isOther && !isNow,
     height: isNow ? 2 : isUnderWay ? 1 : 0,
     opacity: isNow ? 1 : isOther ? 0.15 : isUnderWay ? 0.85 : 0.5,
     width: isNow ? 2.6 : isUnderWay ? 1.8 : 1.2,
     colour: colourOf(message.maker),
-    dashes: kind === "ack" ? ' stroke-dasharray="5 4"' : "",
+    dashes: kind === "ack" ? { "stroke-dasharray": "5 4" } : {},
   };
 }
 
@@ -56,8 +58,8 @@ function arrow([x1, y1], [x2, y2], look, hasHead) {
   const [tipX, tipY] = [x2 - ux * gap, y2 - uy * gap];
   const line = `M${round(x1)} ${round(y1)}L${round(tipX - ux * head)} ${round(tipY - uy * head)}`;
   const point = `M${round(tipX)} ${round(tipY)}l${round(-ux * 8 - uy * 4)} ${round(-uy * 8 + ux * 4)}l${round(uy * 8)} ${round(-ux * 8)}z`;
-  const path = `<path d="${line}" stroke="${look.colour}" stroke-width="${look.width}"${look.dashes} fill="none"/>`;
-  return `<g opacity="${look.opacity}">${path}${hasHead ? `<path d="${point}" fill="${look.colour}"/>` : ""}</g>`;
+  const path = tree("path", { d: line, stroke: look.colour, "stroke-width": look.width, ...look.dashes, fill: "none" });
+  return tree("g", { opacity: look.opacity }, path, hasHead && tree("path", { d: point, fill: look.colour }));
 }
 
 function arrowsOf(message, look, layout, { from, to }) {
@@ -68,14 +70,14 @@ function arrowsOf(message, look, layout, { from, to }) {
   const start = [here, y(message.sent)];
   if (message.got === null) {
     const end = [here + reach, y(message.sent) + rowHeight * 0.7];
-    const circle = `<circle cx="${end[0]}" cy="${end[1]}" r="3.5" fill="var(--background)" stroke="${look.colour}" stroke-width="1.5"/>`;
-    return arrow(start, end, look, false) + circle;
+    const circle = tree("circle", { cx: end[0], cy: end[1], r: 3.5, fill: "var(--background)", stroke: look.colour, "stroke-width": 1.5 });
+    return [arrow(start, end, look, false), circle];
   }
   const end = [there, y(message.got)];
   if (look.isWhole) return arrow(start, end, look, true);
   const drop = rowHeight * 0.62;
-  const tail = isUp && message.sent >= from - 1 ? arrow(start, [here + reach, start[1] + drop], look, false) : "";
-  return tail + (message.got <= to + 1 ? arrow([there - reach, end[1] - drop], end, look, true) : "");
+  const tail = isUp && message.sent >= from - 1 && arrow(start, [here + reach, start[1] + drop], look, false);
+  return [tail, message.got <= to + 1 && arrow([there - reach, end[1] - drop], end, look, true)];
 }
 
 const ALONG = [0.5, 0.4, 0.6, 0.3, 0.7, 0.22, 0.78, 0.15, 0.85];
@@ -96,23 +98,21 @@ function labelOf(message, look, layout, { from, to, place }, labels) {
   const [px, py] = spots.find(isFree) || spots[0] || [];
   if (px === undefined) return null;
   const fill = Math.floor(py / rowHeight) === place ? "var(--pick)" : "var(--background)";
-  const corner = `x="${round(px - width / 2)}" y="${round(py - 7.5)}"`;
-  const box = `<rect ${corner} width="${round(width)}" height="15" rx="3" fill="${fill}" opacity=".92"/>`;
-  const weight = look.isNow ? ' font-weight="700"' : "";
-  const style = `text-anchor="middle" font-size="11" fill="${look.colour}" opacity="${Math.min(1, look.opacity + 0.25)}"${weight}`;
-  return { px, py, width, height: look.height, markup: box + svgText(round(px), round(py + 4), escapeMarkup(text), style) };
+  const box = tree("rect", { x: round(px - width / 2), y: round(py - 7.5), width: round(width), height: 15, rx: 3, fill, opacity: ".92" });
+  const style = { "text-anchor": "middle", "font-size": 11, fill: look.colour, opacity: look.isOther ? 0.4 : 1, "font-weight": look.isNow && 700 };
+  return { px, py, width, height: look.height, drawn: [box, svgText(round(px), round(py + 4), text, style)] };
 }
 
 /* Beside the server, how many messages a place has, where they are not drawn whole. */
 function manyLabel(count, layout, place) {
-  const style = 'font-size="11" font-weight="700" fill="var(--dim)"';
-  return { height: 2, markup: svgText(layout.x(SERVER) + 10, layout.y(place) + 14, `${count} messages`, style) };
+  const style = { "font-size": 11, "font-weight": 700, fill: "var(--dim)" };
+  return { height: 2, drawn: svgText(layout.x(SERVER) + 10, layout.y(place) + 14, `${count} messages`, style) };
 }
 
-const raised = (parts) => parts.sort((a, b) => a.height - b.height).map((part) => part.markup).join("");
+const raised = (parts) => parts.sort((a, b) => a.height - b.height).map(({ drawn }) => drawn);
 
 /* { arrows, labels } of the rows that are drawn. */
-export function messagesMarkup(session, layout, view) {
+export function drawnMessages(session, layout, view) {
   const arrows = [];
   const labels = [];
   const messages = messagesIn(session, layout, view);
@@ -120,7 +120,7 @@ export function messagesMarkup(session, layout, view) {
   for (const message of messages) {
     const look = lookOf(message, session, view, now > MANY);
     if (!look) continue;
-    arrows.push({ height: look.height, markup: arrowsOf(message, look, layout, view) });
+    arrows.push({ height: look.height, drawn: arrowsOf(message, look, layout, view) });
     const label = labelOf(message, look, layout, view, labels);
     if (label) labels.push(label);
   }

@@ -1,21 +1,24 @@
 // Keys, clicks and files.
 
 import { Bench } from "./bench.mjs";
+import { withEscapes } from "./characters.mjs";
 import { askName, openDialog, paste, showLanes, showTrace, watchDialogs } from "./dialogs.mjs";
 import { element } from "./dom.mjs";
 import { Engine, wanted } from "./engine.mjs";
 import { SERVER, fold } from "./fold.mjs";
 import { splitInput, unescapeLine } from "./input.mjs";
-import { takeIn } from "./intake.mjs";
+import { takeAll, takeIn } from "./intake.mjs";
 import { Keeper, tabStorage } from "./keeping.mjs";
-import { linkTo, openLink } from "./linking.mjs";
+import { isLink, linkTo, openLink } from "./linking.mjs";
 import { otherEnd, sameMember, towards } from "./moves.mjs";
 import { documentAt } from "./places.mjs";
 import { choose, played, watchCards } from "./playing.mjs";
 import { Port } from "./port.mjs";
 import { scheduleOf, textOfSchedule } from "./reader.mjs";
-import { savePicture, saveSession } from "./saving.mjs";
-import { deck, isNarrow, setSplit, setTheme, show, showEmpty, showLegend, themeNow, timeline, viewOf } from "./screen.mjs";
+import { reportOf } from "./report.mjs";
+import { savePicture, savePoints, saveSession } from "./saving.mjs";
+import { deck, isNarrow, setSplit, setTheme, show, showEmpty, showLegend, shownVerdicts, themeNow, timeline, toPaper, viewOf } from "./screen.mjs";
+import { lineOfPlace } from "./schedule.mjs";
 import { readAddress } from "./share.mjs";
 import { Sheet } from "./sheet.mjs";
 import { shownPlace } from "./state.mjs";
@@ -41,7 +44,8 @@ function changed(action) {
   const place = shownPlace(state);
   const isOther = place !== shown || ["go", "answer", "resize"].includes(action.do);
   shown = place;
-  show(state, { canPlay, isOther, isTyped: action.do === "type", sheet });
+  const isPut = ["type", "undo", "redo"].includes(action.do) || action.isPut === true;
+  show(state, { canPlay, isOther, isPut, sheet });
   if (!isOther || action.do !== "go") return;
   clearTimeout(naming);
   naming = setTimeout(showAddress, 200); // browsers allow it now and then
@@ -49,9 +53,9 @@ function changed(action) {
 
 /* Puts the place into the address; a link to the session stays there while that is the same. */
 function showAddress() {
-  const { text } = bench.state;
+  const { text, port } = bench.state;
   const at = `at=${shownPlace(bench.state)}`;
-  history.replaceState(null, "", linked?.text === text ? linked.hash.replace(/at=\d+/, at) : `#${at}`);
+  history.replaceState(null, "", linked?.text === text && linked.port === port ? linked.hash.replace(/at=\d+/, at) : `#${at}`);
 }
 
 const say = (notice) => act("notice", { notice });
@@ -78,21 +82,42 @@ const letThrough = () => (bench.state.fault?.line ? play() : bench.quiet());
 function writeInDocument() {
   const { chosen } = bench.state;
   const editor = chosen === null ? null : deck.editorOf(chosen);
-  if (editor) editor.focus();
-  else say("Choose a client that has joined: by its number’s key, or by a click on its card.");
+  if (!editor) return say("Choose a client that has joined: by its number’s key, or by a click on its card.");
+  editor.focus();
+  deck.enter(editor);
+  const { caret } = bench.state;
+  const end = Number(editor.dataset.length);
+  const index = caret?.client === chosen ? Math.min(caret.focus, end) : end;
+  return act("select", { client: chosen, anchor: index, focus: index, isPut: true });
 }
 
 /* Files. */
 
-async function takeFile(file) {
-  if (file) await takeBytes(new Uint8Array(await file.arrayBuffer()), file.name);
+/* The bytes of files; null, and a notice, where one cannot be read. */
+async function bytesOf(files) {
+  const found = [];
+  for (const file of files) {
+    try {
+      found.push({ name: file.name, bytes: new Uint8Array(await file.arrayBuffer()) });
+    } catch {
+      say(`${file.name} cannot be read: it is a folder, or the browser may not read it.`);
+      return null;
+    }
+  }
+  return found;
+}
+
+async function takeFiles(files) {
+  const found = await bytesOf([...files]);
+  if (!found || found.length === 0) return;
+  if (found.length > 1 && canPlay) await takeAll(bench, found);
+  else await takeBytes(found[0].bytes, found[0].name);
 }
 
 async function takeBytes(bytes, name) {
   if (!canPlay) return load(new TextDecoder().decode(bytes), { name });
   const judged = await takeIn(bench, bytes, name);
-  if (judged) showTrace(judged);
-  return undefined;
+  return judged && showTrace(judged);
 }
 
 const takeText = (text, name = "") => takeBytes(new TextEncoder().encode(text), name);
@@ -105,7 +130,7 @@ function load(input, { name = "", place = null, isGiven = false }) {
     session = fold(steps);
   } catch (fault) {
     element("refused").textContent = fault.message;
-    if (bench.state.session) alert(fault.message);
+    if (bench.state.session) say(fault.message);
     return;
   }
   const told = scheduleOf(steps);
@@ -117,33 +142,72 @@ function load(input, { name = "", place = null, isGiven = false }) {
   go(bench.state.place);
 }
 
-async function copyLink() {
+/* A link to the session, which the address has from now on; null, and a notice, where there is none. */
+async function addressed() {
   await bench.settled();
-  let link;
   try {
-    const { text } = bench.state;
-    linked = { text, hash: await linkTo(bench) };
-    link = location.href.replace(/#.*$/, "") + linked.hash;
+    const { text, port } = bench.state;
+    linked = { text, port, hash: await linkTo(bench) };
   } catch (fault) {
-    return say(`No link: ${fault.message}.`);
+    say(`No link: ${fault.message}.`);
+    return null;
   }
   clearTimeout(naming);
+  const link = location.href.replace(/#.*$/, "") + linked.hash;
   history.replaceState(null, "", link);
+  return link;
+}
+
+const isOfFile = () => location.protocol === "file:";
+
+async function copyLink() {
+  const link = await addressed();
+  if (link === null) return;
+  const where = isOfFile() ? " It opens only where this file is." : "";
+  const isCopied = await copied(link);
+  say(`${isCopied ? "The link is copied" : "The address of this page is the link now"}: ${link.length} characters.${where}${isCopied ? "" : " The browser did not let the page copy it."}`);
+}
+
+/* The session as Markdown. Where the browser does not let the page copy it, it is shown to be copied. */
+async function copyReport() {
+  const link = await addressed();
+  if (link === null || !bench.state.session) return;
+  const report = reportOf(bench.state, shownVerdicts(), link, isOfFile());
+  if (await copied(report)) return say("The session is copied as Markdown, with its link.");
+  element("reported").value = report;
+  openDialog("reporting");
+  element("reported").select();
+}
+
+/* Whether the browser lets the page copy a text. */
+async function copied(text) {
   try {
-    await navigator.clipboard.writeText(link);
-    say(`The link is copied: ${link.length} characters. The address has it too.`);
+    await navigator.clipboard.writeText(text);
+    return true;
   } catch {
-    say(`The address of this page is the link now: ${link.length} characters. The browser did not let the page copy it.`);
+    return false;
   }
-  return undefined;
 }
 
 /* Dialogs. */
 
 const choices = JSON.parse(element("choices-given").textContent);
-const openChoice = (number, place) => choices[number] && act("open", { text: choices[number].text, title: choices[number].name, place });
-const save = (what) => (what === "svg" ? savePicture(viewOf(bench.state, canPlay)) : saveSession(bench, what));
-const askToSave = () => (canPlay ? openDialog("saving") : save("svg"));
+
+/* Opens an example at its place, and says what to look for. */
+function openChoice(number) {
+  if (!choices[number]) return;
+  const { text, name, place, port, sentence } = choices[number];
+  act("open", { text, title: name, place, port });
+  say(sentence);
+}
+
+function save(what) {
+  if (what === "svg") return savePicture(viewOf(bench.state, canPlay));
+  if (what === "png") return savePoints(viewOf(bench.state, canPlay)).catch((fault) => say(`No picture: ${fault.message}.`));
+  return saveSession(bench, what);
+}
+
+const askToSave = () => openDialog("saving");
 
 /* Keys. */
 
@@ -193,6 +257,7 @@ const KEYS_OF_PLAY = {
   q: letThrough,
   l: () => openDialog("choosing"),
   c: copyLink,
+  i: copyReport,
   Enter: writeInDocument,
   Delete: () => act("takeOut"),
 };
@@ -237,17 +302,25 @@ const CLICKS = {
   undo: () => act("undo"),
   redo: () => act("redo"),
   new: () => act("open", { text: "clients 2\n" }),
+  "new-instead": () => act("open", { text: "clients 2\n" }),
+  "examples-instead": () => openDialog("choosing"),
   examples: () => openDialog("choosing"),
   open: openFile,
   "open-first": openFile,
   paste,
   link: copyLink,
+  report: copyReport,
   save: askToSave,
   theme: turnTheme,
   help: () => openDialog("keys"),
+  guide: () => openDialog("guiding"),
+  "guide-first": () => openDialog("guiding"),
   lanes: () => showLanes(bench.state),
   "text-shown": () => turnText(),
+  menu: () => element("menu").setAttribute("aria-expanded", String(document.body.classList.toggle("with-menu"))),
   quiet: letThrough,
+  stop: () => bench.stop(),
+  escapes: () => act("write", { text: withEscapes(bench.state.text), line: lineOfPlace(bench.state.outline, shownPlace(bench.state)), tag: null }),
   "leave-out": () => act("leaveOut"),
   "to-fault": () => {
     const { fault, refusal } = bench.state;
@@ -290,6 +363,10 @@ new ResizeObserver(([{ contentRect }]) => {
   if (isNarrow() && contentRect.width !== width) resized();
   width = contentRect.width;
 }).observe(element("time"));
+
+addEventListener("beforeprint", () => {
+  if (bench.state.session) addEventListener("afterprint", toPaper(bench.state), { once: true });
+});
 
 element("rows").onclick = (event) => go(timeline.placeAt(event.clientY));
 element("heads").onclick = (event) => {
@@ -345,7 +422,7 @@ element("grip").onkeydown = (event) => {
 };
 
 element("file").onchange = (event) => {
-  takeFile(event.target.files[0]);
+  takeFiles(event.target.files);
   event.target.value = "";
 };
 addEventListener("paste", (event) => {
@@ -367,22 +444,37 @@ addEventListener("dragleave", (event) => {
 addEventListener("drop", (event) => {
   event.preventDefault();
   document.body.classList.remove("dragging");
-  const [file] = event.dataTransfer.files;
-  if (file) takeFile(file);
+  const { files } = event.dataTransfer;
+  if (files.length) takeFiles(files);
   else if (event.dataTransfer.getData("text")) takeText(event.dataTransfer.getData("text"));
 });
 
 /* The address can name a place, a theme and a session: session.html#at=7;theme=dark. */
 addEventListener("hashchange", async () => {
-  const { place, image } = readAddress(location.hash);
-  if (image !== null && canPlay) await followLink(location.hash);
-  else if (bench.state.session && place !== null && place !== shownPlace(bench.state)) go(place);
+  const { place } = readAddress(location.hash);
+  if (isLink(location.hash)) {
+    const fault = await followLink(location.hash);
+    if (fault) say(`This link cannot be opened: ${fault}.`);
+  } else if (bench.state.session && place !== null && place !== shownPlace(bench.state)) go(place);
 });
 
+/* Opens a link's session; what is wrong with the link where it cannot be. */
 async function followLink(hash) {
-  const isOpen = await openLink(bench, hash);
-  if (isOpen) linked = { text: bench.state.text, hash };
-  return isOpen;
+  if (!canPlay) return "the engine, which reads it, does not run in this page";
+  try {
+    if (await openLink(bench, hash)) linked = { text: bench.state.text, port: bench.state.port, hash };
+    return "";
+  } catch (fault) {
+    return fault.message;
+  }
+}
+
+/* A link that cannot be read: what is wrong with it, and nothing else. */
+function showBroken(fault) {
+  element("starting").hidden = element("empty").hidden = true;
+  element("broken").hidden = false;
+  element("broken-why").textContent = `${fault[0].toUpperCase()}${fault.slice(1)}.`;
+  isStarted = true;
 }
 
 /* What stands in the page's elements of data. */
@@ -432,24 +524,28 @@ async function startEngine() {
 }
 
 async function start() {
-  const { theme, place } = readAddress(location.hash);
-  const hash = location.hash;
+  const { hash } = location;
+  const { theme, place } = readAddress(hash);
   setTheme(theme ?? (matchMedia("(prefers-color-scheme: dark)").matches ? "dark" : "light"));
   showLegend();
   element("text").readOnly = true;
   const lines = given("lines");
-  if (lines.trim() !== "") load(lines, { place, isGiven: true });
+  if (lines.trim() !== "" && !isLink(hash)) load(lines, { place, isGiven: true });
   await startEngine();
+  if (canPlay) turnText(innerWidth > 1100);
+  if (isLink(hash)) {
+    const fault = await followLink(hash);
+    return fault ? showBroken(fault) : takeBack();
+  }
   if (!canPlay) return undefined;
-  turnText(innerWidth > 1100);
-  const isLink = await followLink(hash);
-  if (isLink || bench.state.session) {
+  if (bench.state.session) {
     changed({ do: "go" });
     return takeBack();
   }
-  openChoice(choices.findIndex(({ name }) => name === "two-clients"), 2);
-  if (!takeBack())
-    say("Two people have typed at one place, and their messages are under way. Step on with → or click a message to let it through; type into a document to change what happens.");
+  openChoice(0);
+  if (takeBack()) return undefined;
+  const notice = "Two users have typed at one place, and their messages are under way. Click a message to let it through, step on with →, or type into a document.";
+  act("notice", { notice, isWelcome: true });
   return undefined;
 }
 

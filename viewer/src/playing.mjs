@@ -4,6 +4,7 @@ import { element } from "./dom.mjs";
 import { SERVER } from "./fold.mjs";
 import { headsAt, receiptsIn, stateAt } from "./places.mjs";
 import { deck } from "./screen.mjs";
+import { selectionNow } from "./selection.mjs";
 import { documentNow, shownPlace } from "./state.mjs";
 import { watchTyping } from "./typing.mjs";
 
@@ -24,12 +25,28 @@ export function played(state, name) {
   return instruction ? { instruction } : { reason };
 }
 
+/* What is selected of an editor's document, which the state has from now on. */
+function selected(bench, editor) {
+  deck.enter(editor);
+  const selection = selectionNow(editor, bench.state.caret);
+  if (selection) keepSelected(bench, { client: Number(editor.dataset.who), ...selection });
+  return selection;
+}
+
+function keepSelected(bench, selection) {
+  const { caret } = bench.state;
+  if (caret && Object.keys(selection).every((key) => caret[key] === selection[key])) return;
+  bench.dispatch({ do: "select", ...selection });
+}
+
 /** Listens to the cards: their documents are editors, and the client whose card is in use is the one that keys play. */
 export function watchCards(bench) {
   const act = (name, more) => bench.dispatch({ do: name, ...more });
   watchTyping(element("cards"), {
     type: (change) => act("type", change),
     textAt: (client, from, to) => (documentNow(bench.state, client) ?? []).slice(from, to).map(({ character }) => character).join(""),
+    selected: (editor) => selected(bench, editor),
+    select: (client, selection) => act("select", { client, ...selection, isPut: true }),
     undo: () => act("undo"),
     redo: () => act("redo"),
     compose: (client) => {
@@ -37,12 +54,23 @@ export function watchCards(bench) {
       deck.composing = client;
     },
   });
+  document.addEventListener("selectionchange", () => {
+    if (deck.writing !== null && deck.composing === null) selected(bench, document.activeElement);
+  });
   for (const name of ["focusin", "click"])
     element("cards").addEventListener(name, (event) => {
       const word = event.target.closest("[data-card]")?.dataset.card ?? SERVER;
       const client = word === SERVER ? null : Number(word);
       if (client !== null && client !== bench.state.chosen) act("choose", { client });
     });
+  element("cards").addEventListener("focusin", ({ target }) => {
+    if (!target.matches(".document[contenteditable]")) return;
+    setTimeout(() => {
+      if (target !== document.activeElement) return;
+      selected(bench, target);
+      act("choose", { client: Number(target.dataset.who) });
+    });
+  });
 }
 
 /** Chooses a client, and puts the focus on its card. */

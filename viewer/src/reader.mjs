@@ -1,6 +1,7 @@
-// What a file or a paste is: a schedule, its image, lines of `otbench steps` or of a port, a trace, or a plan.
+// What a file or a paste is: a schedule, its image, lines of `otbench steps` or of a port, a log of the recorder, a trace, or a plan.
 
 import { splitInput, trimmed } from "./input.mjs";
+import { outlineOf } from "./schedule.mjs";
 
 const isObject = (value) => Boolean(value) && typeof value === "object" && !Array.isArray(value);
 
@@ -14,7 +15,7 @@ function asJson(text) {
 
 /**
  * @param {Uint8Array} bytes
- * @returns {{ kind: "image" } | { kind: "bad", reason: string } | { kind: "trace" | "plan" | "schedule" | "lines", text: string }}
+ * @returns {{ kind: "image" } | { kind: "bad", reason: string } | { kind: "trace" | "plan" | "schedule" | "other" | "lines" | "log", text: string }}
  */
 export function kindOf(bytes) {
   const magic = String.fromCharCode(...bytes.subarray(0, 4));
@@ -27,11 +28,14 @@ export function kindOf(bytes) {
   }
   const first = text.trimStart()[0];
   if (first === undefined) return { kind: "bad", reason: "it is empty" };
-  if (first !== "{") return { kind: "schedule", text };
+  if (first !== "{") return outlineOf(text.replace(/^\ufeff/, "")).opening ? { kind: "schedule", text } : { kind: "other", text };
   const whole = asJson(text);
   if (isObject(whole) && "events" in whole) return { kind: "trace", text };
   if (isObject(whole) && "typing" in whole) return { kind: "plan", text };
-  return { kind: "lines", text };
+  const line = asJson(splitInput(text).steps[0] ?? "");
+  if (isObject(line) && Number.isInteger(line.at)) return { kind: "lines", text };
+  if (isObject(line) && typeof line.who === "string" && Number.isInteger(line.n)) return { kind: "log", text };
+  return { kind: "bad", reason: "it begins as JSON does, and is no trace, no plan, no log of the recorder, and no lines of otbench steps or of a port" };
 }
 
 /** A schedule's text, and what stands behind its first line %%: { schedule, port }, port null where there is no such line. */

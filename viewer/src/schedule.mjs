@@ -1,6 +1,7 @@
 // The text of a schedule by its lines: which line has which instruction, and the text with instructions put in or taken out.
 // Whether a line is right is the engine's to say. Lines and instructions are counted from 0, places as elsewhere.
 
+import { quoted } from "./characters.mjs";
 import { trimmed } from "./input.mjs";
 
 const OPENING = /^(clients|present|start)(?![^ \t])/;
@@ -18,7 +19,7 @@ function unquoted(words) {
 }
 
 /* A name as a comment has it: as it is, or as a JSON string where it would not be one line's rest. */
-const written = (name) => (/^[^\p{C}\s"](?:[^\p{C}]*[^\p{C}\s])?$/u.test(name) ? name : JSON.stringify(name));
+const written = (name) => (/^[^\p{C}\s"](?:[^\p{C}]*[^\p{C}\s])?$/u.test(name) ? name : quoted(name));
 
 /**
  * @typedef {object} Outline

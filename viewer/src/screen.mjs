@@ -1,16 +1,18 @@
 // What the page shows of its state.
 
 import { authorOf } from "./cards.mjs";
+import { brief, seen } from "./characters.mjs";
 import { Deck } from "./deck.mjs";
-import { element, setText } from "./dom.mjs";
+import { element, fill, setText } from "./dom.mjs";
 import { SERVER } from "./fold.mjs";
-import { legendMarkup } from "./legend.mjs";
+import { legend } from "./legend.mjs";
 import { namedIn, numberNamed } from "./numbering.mjs";
 import { quietAt } from "./places.mjs";
 import { isAnswered, shownPlace } from "./state.mjs";
 import { variablesOf } from "./theme.mjs";
 import { Timeline } from "./timeline.mjs";
-import { apart, escapeMarkup, instructionOf, nameOfMember, seen, sentence, valueMarkup, verdictOn } from "./words.mjs";
+import { tree } from "./tree.mjs";
+import { apart, instructionOf, nameOfMember, sentence, shownValue, verdictOn } from "./words.mjs";
 
 /** Of a session of so many instructions, above how many milliseconds of the engine's the page says that the picture comes later. */
 const LONG = 1000;
@@ -24,38 +26,38 @@ export const isNarrow = () => innerWidth <= 800;
 /** What is drawn of a state. */
 export function viewOf(state, canPlay) {
   const { session, beside, followed, picked, hidden, draft, chosen, caret, outline, asked } = state;
-  const place = shownPlace(state);
-  const carets = caret ? new Map([[caret.client, caret.index]]) : new Map();
-  return { session, port: beside, place, followed, picked, hidden, draft, asked, chosen, carets, names: outline.names, canPlay };
+  const { writing } = deck;
+  return { session, port: beside, place: shownPlace(state), followed, picked, hidden, draft, asked, chosen, caret, writing, names: outline.names, canPlay };
 }
 
 /* Of what the picture is made: where nothing of it is another one, the picture is the same. */
 let pictured = [];
 function isPictured(state, view, isOther) {
-  const parts = [state.draft, [...state.outline.names].join(), ...Object.values({ ...view, names: null, carets: null, draft: null })];
+  const parts = [state.draft, [...state.outline.names].join(), ...Object.values({ ...view, names: null, draft: null })];
   const isSame = !isOther && parts.every((part, i) => part === pictured[i]);
   pictured = parts;
   return isSame;
 }
 
-/** Shows a state; `isOther` where it has another place. */
-export function show(state, { canPlay, isOther, isTyped, sheet }) {
+/** Shows a state; `isOther` where it has another place, `isPut` where what is selected is what the page has selected. */
+export function show(state, { canPlay, isOther, isPut, sheet }) {
   const { session } = state;
   element("refused").textContent = session ? "" : faultWords(state);
   if (!session && state.fault) showEmpty();
   if (!session) return;
   const isFirst = element("main").hidden;
-  element("starting").hidden = element("empty").hidden = true;
+  element("starting").hidden = element("empty").hidden = element("broken").hidden = true;
   element("header").hidden = element("main").hidden = false;
   document.body.classList.toggle("long", session.length >= LONG);
-  document.body.classList.toggle("of-text-before", state.fault !== null);
+  document.body.classList.toggle("of-text-before", state.fault !== null || state.isLate);
+  element("late").hidden = !state.isLate;
   const view = viewOf(state, canPlay);
   showHeader(state, view);
   if (!isPictured(state, view, isOther)) {
     if (isFirst) timeline.measure();
-    timeline.show(view, { isNarrow: isNarrow() || !element("writing").hidden, isFitted: isNarrow(), isOther });
+    timeline.show(view, { isNarrow: isNarrow() || !element("writing").hidden, isOther });
     if (isFirst) setSplit();
-    deck.show(view, isTyped ? state.caret : null);
+    deck.show(view, isPut);
   }
   sheet.show(state, view.place);
   if (isFirst) sheet.measure();
@@ -85,15 +87,15 @@ function followCard(view, frames) {
 function showHeader(state, view) {
   const { session, title, past, future, notice } = state;
   const { place, followed } = view;
-  setText("name", title || "otbench");
-  const words = title ? `${title}: otbench session` : "otbench session";
+  const called = brief(seen(title), 40);
+  setText("name", called || "otbench");
+  const words = title ? `${called}: otbench session` : "otbench session";
   if (document.title !== words) document.title = words;
   showMembers(session, view.names);
   element("slider").max = element("place").max = session.length;
   setText("length", `of ${session.length}`);
   element("slider").value = element("place").value = place;
-  const said = wordsAt(state, view);
-  if (element("sentence").innerHTML !== said) element("sentence").innerHTML = said;
+  fill("sentence", wordsAt(state, view));
   element("slider").setAttribute("aria-valuetext", `${place} of ${session.length}: ${element("sentence").textContent}`);
   element("first").disabled = element("back").disabled = place === 0;
   element("next").disabled = element("last").disabled = place === session.length;
@@ -102,16 +104,14 @@ function showHeader(state, view) {
   element("redo").disabled = future.length === 0;
   setText("notice", notice);
   element("notice").hidden = notice === "";
+  element("about").hidden = notice === "" || !state.isWelcome;
   showVerdicts(state);
 }
 
-let members = "";
-function showMembers({ members: { length } }, names) {
-  const all = [SERVER, ...Array(length).keys()].map((who) => [who, nameOfMember(who, names)]);
-  if (members === all.join()) return;
-  members = all.join();
-  const options = all.map(([who, name]) => `<option value="${who}">${escapeMarkup(name)}</option>`);
-  element("followed").innerHTML = `<option value="">all instructions</option>${options.join("")}`;
+function showMembers({ members }, names) {
+  const option = (value, words) => tree("option", { value }, words);
+  const all = [SERVER, ...members.keys()].map((who) => option(who, nameOfMember(who, names)));
+  fill("followed", option("", "all instructions"), all);
 }
 
 function showVerdicts(state) {
@@ -124,22 +124,27 @@ function showVerdicts(state) {
   setText("stop", front + stop);
   setText("end", end + more);
   element("verdict").className = `verdict ${look}`;
-  const lists = { holds: "the weak list property holds", "trace full": "too long to judge its lists" };
+  const lists = new Map([["holds", "the weak list property holds"], ["trace full", "too long to judge its lists"]]);
   element("list-verdict").hidden = list === "";
-  setVerdict("list-verdict", lists[list] ?? list, list === "holds" ? "good" : "");
+  const isNow = front === "";
+  setVerdict("list-verdict", front + (lists.get(list) ?? list), list === "holds" && isNow ? "good" : "");
   const cut = state.outline.cut ?? beside?.cut ?? null;
   element("cut").hidden = cut === null;
-  setVerdict("cut", `ends before its logs: ${seen(cut ?? "")}`, "bad");
+  setVerdict("cut", `ends before its logs: ${brief(seen(cut ?? ""), 80)}`, "bad");
   element("conformance").hidden = element("answer").hidden = !beside;
   if (!beside) return;
   const [first] = beside.answer;
   const conforms = first === undefined ? beside.first === null : first === "conforms";
   const marked = beside.first === null ? "the port's lines agree" : `the port's lines differ at ${beside.first}`;
   const named = namedIn(beside.answer) ?? { at: (beside.first ?? 0) - 1 };
-  setVerdict("conformance", (first || marked) + lineOf(state, numberNamed(named, wordsIn(session))), conforms ? "good" : "bad");
+  setVerdict("conformance", front + (first || marked) + lineOf(state, numberNamed(named, wordsIn(session))), !conforms ? "bad" : isNow ? "good" : "");
   element("answer").hidden = conforms || first === undefined;
   setText("answer", answerOf(beside.answer).join("\n"));
 }
+
+/** What the page says of the session, in its words. */
+export const shownVerdicts = () =>
+  [...document.querySelectorAll("#verdict, #list-verdict, #conformance, #cut")].filter(({ hidden }) => !hidden).map(({ textContent }) => textContent);
 
 /* The line of an instruction, behind what is said of it; nothing where there is none of this number, or the text is another one by now. */
 function lineOf(state, number) {
@@ -169,15 +174,17 @@ function setVerdict(id, words, look) {
 /* What the line above the diagram says. */
 function wordsAt(state, { session, place, picked, port, followed, names }) {
   const now = state.asked.length && state.took > SLOW ? waits(state.asked) : nowAt(state, place);
-  const parts = [sentence(session, place, names), `<span class="now">${escapeMarkup(now)}</span>`];
-  for (const { key, found, ours } of port ? port.differencesAt(place) : [])
-    parts.push(`<span class="differs">The port: ${key} ${apart(found, ours).map(valueMarkup).join(", ot.js: ")}.</span>`);
-  if (followed !== null) parts.push(`<span class="now">Stepping through ${escapeMarkup(nameOfMember(followed, names))}.</span>`);
+  const parts = [sentence(session, place, names), tree("span", { class: "now" }, now)];
+  for (const { key, found, ours } of port ? port.differencesAt(place) : []) {
+    const [theirs, wanted] = apart(found, ours).map(shownValue);
+    parts.push(tree("span", { class: "differs" }, `The port: ${key} `, theirs, ", ot.js: ", wanted, "."));
+  }
+  if (followed !== null) parts.push(tree("span", { class: "now" }, `Stepping through ${nameOfMember(followed, names)}.`));
   if (picked) {
     const when = picked.born ? `inserted by ${authorOf(picked, names)} at ${picked.born}` : "of the start text";
-    parts.push(`<span class="badge">${escapeMarkup(`“${picked.character}” ${when}`)}</span>`);
+    parts.push(tree("span", { class: "badge" }, `“${seen(picked.character)}” ${when}`));
   }
-  return parts.join(" ");
+  return parts.flatMap((part, i) => (i ? [" ", part] : [part]));
 }
 
 const waits = (asked) => `${asked[0]}${asked.length > 1 ? ` and ${asked.length - 1} more` : ""}: not answered yet.`;
@@ -223,7 +230,7 @@ function scrollToCard({ place, port }) {
 }
 
 /** The width of the diagram, which is that of its lanes where no other is asked for. */
-export function setSplit(width = Math.min(timeline.layout.width + 24, (innerWidth - element("writing").offsetWidth) * 0.55)) {
+export function setSplit(width = Math.min(timeline.wanted + 24, (innerWidth - element("writing").offsetWidth) * 0.55)) {
   element("main").style.setProperty("--split", `${Math.round(width)}px`);
   timeline.measure();
 }
@@ -233,6 +240,19 @@ export function setTheme(theme) {
   for (const [name, value] of Object.entries(variablesOf(theme))) document.documentElement.style.setProperty(name, value);
 }
 
+/** Makes the page as it is printed: all rows, the whole text, in the light theme. Gives what makes it again as it was. */
+export function toPaper(state) {
+  const theme = themeNow();
+  setTheme("light");
+  element("printed").textContent = state.text.split("\n").slice(0, 2000).join("\n");
+  timeline.print();
+  return () => {
+    element("printed").textContent = "";
+    setTheme(theme);
+    timeline.measure();
+  };
+}
+
 export const themeNow = () => document.documentElement.dataset.theme;
 
-export const showLegend = () => (element("legend").innerHTML = legendMarkup());
+export const showLegend = () => fill("legend", legend());

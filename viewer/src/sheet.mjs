@@ -1,9 +1,10 @@
 // The schedule as text: line numbers, the line of the place, and marks where something is wrong. Only the lines in sight are drawn.
 // Of a long text the field has a part, around the place: browsers lay out all of a field of 10,000 lines at each keystroke.
 
-import { element, setText } from "./dom.mjs";
+import { unseenIn } from "./characters.mjs";
+import { element, fill, setText } from "./dom.mjs";
 import { lineOfPlace, placeOfLine } from "./schedule.mjs";
-import { escapeMarkup } from "./words.mjs";
+import { tree } from "./tree.mjs";
 
 const LINE = 19; // pixels, as in style.css
 const PAD = 6;
@@ -89,8 +90,15 @@ export class Sheet {
     const top = (line - this.#part.from) * LINE + PAD;
     const box = this.#box;
     if (top >= box.top + LINE && top <= box.top + box.height - 3 * LINE) return;
-    box.top = Math.max(0, top - box.height / 2);
-    this.area.scrollTop = box.top;
+    this.#scrollTo(top - box.height / 2);
+  }
+
+  /* Scrolls as far as the field can be scrolled. What came of it is asked at the next frame: a text that was put just now is not laid out yet. */
+  #scrollTo(top) {
+    const most = (this.#part.to - this.#part.from) * LINE + 2 * PAD - this.#box.height;
+    this.#box.top = Math.max(0, Math.min(top, most));
+    this.area.scrollTop = this.#box.top;
+    requestAnimationFrame(() => this.measure());
   }
 
   /** Puts the caret to a line and column, from 0. */
@@ -147,7 +155,7 @@ export class Sheet {
     const isUsed = document.activeElement === this.area;
     this.#part = part;
     this.area.value = this.#joined(part);
-    this.area.scrollTop = this.#box.top;
+    this.#scrollTo(this.#box.top);
     if (isUsed) {
       const end = this.#lines.slice(part.from, Math.max(part.from, line) + 1).join("\n").length;
       this.area.setSelectionRange(end, end);
@@ -214,22 +222,26 @@ export class Sheet {
     const last = Math.min(to - 1, from + Math.ceil((top + height) / LINE));
     const numbers = [];
     const marks = [];
+    let unseen = null; // the first character in sight that is not seen
     for (let line = first; line <= last; line++) {
       const y = PAD + (line - from) * LINE - top;
-      const look = `${line === now ? " now" : ""}${bad.has(line) ? " bad" : ""}`;
-      numbers.push(`<span class="number${look}" data-line="${line}" style="top:${y}px">${line + 1}</span>`);
-      if (look) marks.push(`<div class="line${look}" style="top:${y}px">${this.#markIn(line, fault, left)}</div>`);
+      const found = unseenIn(this.#lines[line]);
+      if (found) unseen ??= { line, ...found };
+      const look = `${line === now ? " now" : ""}${bad.has(line) ? " bad" : ""}${found ? " unseen" : ""}`;
+      numbers.push(tree("span", { class: `number${look}`, "data-line": line, style: `top:${y}px` }, line + 1));
+      if (look) marks.push(tree("div", { class: `line${look}`, style: `top:${y}px` }, this.#markIn(line, fault, left)));
     }
-    element("numbers").innerHTML = numbers.join("");
-    element("marks").innerHTML = marks.join("");
+    fill("numbers", numbers);
+    fill("marks", marks);
+    element("unseen").hidden = unseen === null;
+    if (unseen) setText("unseen-where", `Line ${unseen.line + 1}, column ${unseen.column}: ${unseen.code} is not seen, and the line may look otherwise than it is.`);
   }
 
   /* The character at which a fault is. */
   #markIn(line, fault, left) {
-    if (!fault || fault.line - 1 !== line || fault.column === 0) return "";
+    if (!fault || fault.line - 1 !== line || fault.column === 0) return null;
     const characters = [...this.#lines[line]];
-    const front = escapeMarkup(characters.slice(0, fault.column - 1).join(""));
-    const at = escapeMarkup(characters[fault.column - 1] ?? " ");
-    return `<span style="margin-left:${-left}px">${front}<mark>${at}</mark></span>`;
+    const front = characters.slice(0, fault.column - 1).join("");
+    return tree("span", { style: `margin-left:${-left}px` }, front, tree("mark", {}, characters[fault.column - 1] ?? " "));
   }
 }

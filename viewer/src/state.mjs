@@ -1,6 +1,7 @@
 // What the page knows, and how each action changes it. The text of the schedule is the session: who plays puts instructions into
 // it. What the engine answers stands beside it until the text is another one.
 
+import { quoted } from "./characters.mjs";
 import { insertedText, makeElements, patched } from "./document.mjs";
 import { editOf, wellFormed } from "./edits.mjs";
 import { documentAt } from "./places.mjs";
@@ -15,22 +16,24 @@ import { outlineOf, placeOfLine, withInstructions, withName, withoutInstruction 
  * @property {number} place the place that is looked at
  * @property {string[]} asked the instructions that were played and that the engine has not answered yet
  * @property {number | null} stood the place that is shown until it has, the one that they were played at
- * @property {object[]} past what undo restores: { text, port, place, title, tag }
+ * @property {object[]} past what undo restores: { text, port, place, title, caret, tag }
  * @property {object[]} future what redo leads on to
  * @property {string | null} answered the text that the session is of
  * @property {import("./fold.mjs").Session | null} session
  * @property {import("./port.mjs").Port | null} beside the port's lines beside the session
  * @property {{ line: number, column: number, kind: string, cause: string } | null} fault of the text; line and column from 1
  * @property {{ line: number, reason: string } | null} refusal of an instruction; line from 1
+ * @property {boolean} isLate whether the engine has not answered for long
  * @property {string[]} verdicts what check answered
  * @property {{ client: number, place: number, elements: object[] } | null} draft a client's document while its edits are not answered
  * @property {number} took how long the engine took for the last text, in milliseconds
  * @property {number | string | null} followed the participant that is stepped through
  * @property {object | null} picked the element that is marked
  * @property {number | null} chosen the client that keys play
- * @property {{ client: number, index: number } | null} caret where a user typed last
+ * @property {{ client: number, anchor: number, focus: number } | null} caret what is selected of the document that a user typed into last
  * @property {Set<number>} hidden the clients whose lanes are not shown
  * @property {string} notice what the page has to say
+ * @property {boolean} isWelcome whether that is said to who comes for the first time
  */
 
 /** @typedef {{ do: string, [key: string]: any }} Action the name of what is done, as below, and what it is done with */
@@ -51,6 +54,7 @@ export const emptyState = () => ({
   beside: null,
   fault: null,
   refusal: null,
+  isLate: false,
   verdicts: [],
   draft: null,
   took: 0,
@@ -60,13 +64,14 @@ export const emptyState = () => ({
   caret: null,
   hidden: new Set(),
   notice: "",
+  isWelcome: false,
 });
 
 /** How many steps back are kept, and how many characters their texts may have together. */
 const DEPTH = 1000;
 const ROOM = 1 << 26;
 
-const snapshot = ({ text, port, place, title }, tag) => ({ text, port, place, title, tag });
+const snapshot = ({ text, port, place, title, caret }, tag) => ({ text, port, place, title, caret, tag });
 
 /* Nothing that was played waits for the engine. */
 const NOT_ASKED = { asked: [], stood: null, draft: null };
@@ -85,9 +90,9 @@ function changed(state, { text, port = state.port, place = state.place, title = 
 function restored(state, from, to) {
   const list = state[from];
   if (list.length === 0) return state;
-  const { text, port, place, title, tag } = list[list.length - 1];
+  const { text, port, place, title, caret, tag } = list[list.length - 1];
   const lists = { [from]: list.slice(0, -1), [to]: [...state[to], snapshot(state, tag)] };
-  return { ...state, ...lists, text, port, place, title, outline: outlineOf(text), ...NOT_ASKED, beside: null, notice: "" };
+  return { ...state, ...lists, text, port, place, title, caret, outline: outlineOf(text), ...NOT_ASKED, beside: null, notice: "" };
 }
 
 /** Whether the session is that of the text. */
@@ -105,13 +110,20 @@ export function documentNow(state, client) {
 
 function typed(state, { client, from, to, text }) {
   const elements = documentNow(state, client);
-  const edit = elements && editOf(elements.map(({ character }) => character), from, to, text);
-  if (!edit) return state;
+  const edit = elements && editOf(elements.map(({ character }) => character), from, Math.min(to, elements.length), text);
+  const caret = caretBehind({ client, from, text });
+  if (!edit) return elements ? { ...state, caret } : state;
   const place = state.draft ? state.place : shownPlace(state);
   const { asked } = state;
-  const next = { ...played({ ...state, place }, { instructions: [`edit ${client} ${JSON.stringify(edit)}`] }), asked };
+  const next = { ...played({ ...state, place }, { instructions: [`edit ${client} ${quoted(edit)}`] }), asked };
   const after = patched(elements, edit, makeElements(insertedText(edit), client, place + 1));
-  return { ...next, draft: { client, place: next.place, elements: after }, caret: { client, index: from + [...wellFormed(text)].length }, chosen: client };
+  return { ...next, draft: { client, place: next.place, elements: after }, caret, chosen: client };
+}
+
+/** Where the caret stands behind what was typed. */
+export function caretBehind({ client, from, text }) {
+  const index = from + [...wellFormed(text)].length;
+  return { client, anchor: index, focus: index };
 }
 
 function played(state, { instructions, tag }) {
@@ -158,16 +170,19 @@ const REDUCERS = {
   go: (state, { place }) => ({ ...state, stood: null, place: Math.max(0, Math.min(place, state.session ? state.session.length : 0)) }),
   follow: (state, { who }) => ({ ...state, followed: who }),
   choose: (state, { client }) => ({ ...state, chosen: client }),
+  /* What is selected of a client's document: { client, anchor, focus }. */
+  select: (state, { client, anchor, focus }) => ({ ...state, caret: { client, anchor, focus } }),
   pick: (state, { element }) => ({ ...state, picked: element === state.picked ? null : element }),
   hide: (state, { hidden }) => ({ ...state, hidden: new Set(hidden) }),
-  notice: (state, { notice }) => ({ ...state, notice }),
+  notice: (state, { notice, isWelcome = false }) => ({ ...state, notice, isWelcome }),
   /* What the engine said of a text: a session, or a fault. */
   answer: (state, { text, session, refusal, took }) => {
     const isNow = text === state.text;
     const place = isNow ? Math.max(0, Math.min(state.place, session.length)) : state.place;
-    return { ...state, answered: text, session, refusal, took, place, fault: null, beside: null, verdicts: [], ...(isNow ? NOT_ASKED : {}) };
+    return { ...state, answered: text, session, refusal, took, place, fault: null, isLate: false, beside: null, verdicts: [], ...(isNow ? NOT_ASKED : {}) };
   },
-  fault: (state, { fault, took }) => ({ ...state, fault, took, refusal: null, ...NOT_ASKED }),
+  fault: (state, { fault, took }) => ({ ...state, fault, took, refusal: null, isLate: false, ...NOT_ASKED }),
+  late: (state) => ({ ...state, isLate: true }),
   verdicts: (state, { text, verdicts }) => (text === state.answered && isAnswered(state) ? { ...state, verdicts } : state),
   beside: (state, { text, beside }) => (text === state.answered && isAnswered(state) ? { ...state, beside } : state),
 };

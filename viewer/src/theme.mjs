@@ -1,4 +1,6 @@
-// Colours. Markup names them as variables; the page sets the variables, and a saved picture has the values in their place.
+// Colours. Trees name them as variables; the page sets the variables, and a saved picture has the values in their place.
+
+import { Tree } from "./tree.mjs";
 
 const PALETTES = {
   light: {
@@ -7,7 +9,7 @@ const PALETTES = {
     line: "#d8dce2",
     ink: "#1c2128",
     dim: "#5f6875",
-    faint: "#7d8693",
+    faint: "#646b76",
     pick: "#fff3c9",
     "pick-line": "#c99700",
     bad: "#c4162a",
@@ -16,7 +18,7 @@ const PALETTES = {
     "good-soft": "#e6f5eb",
     badge: "#eef1f5",
     accent: "#1d6fd1",
-    clients: ["#1d6fd1", "#d1481f", "#1a8a4a", "#8e3fc0", "#a67c00", "#cf2f7b", "#0e8a94", "#7a5c3e"],
+    clients: ["#1c6ac8", "#bd411c", "#177a41", "#8e3fc0", "#876500", "#c32c74", "#0c767f", "#7a5c3e"],
     lightness: 42,
   },
   dark: {
@@ -25,7 +27,7 @@ const PALETTES = {
     line: "#343b46",
     ink: "#e4e8ee",
     dim: "#9ba5b3",
-    faint: "#838d9b",
+    faint: "#939dab",
     pick: "#3a3213",
     "pick-line": "#d9ae2b",
     bad: "#ff7b86",
@@ -50,18 +52,55 @@ function fromHue(hue, lightness) {
   return `#${channel(0)}${channel(8)}${channel(4)}`;
 }
 
+/* The relative luminance of a colour, as WCAG 2 defines it. */
+function luminance(colour) {
+  const [red, green, blue] = [1, 3, 5].map((at) => {
+    const part = parseInt(colour.slice(at, at + 2), 16) / 255;
+    return part <= 0.04045 ? part / 12.92 : ((part + 0.055) / 1.055) ** 2.4;
+  });
+  return 0.2126 * red + 0.7152 * green + 0.0722 * blue;
+}
+
+/** The contrast of two colours, from 1 to 21. */
+export function contrast(a, b) {
+  const [dark, light] = [luminance(a), luminance(b)].sort((x, y) => x - y);
+  return (light + 0.05) / (dark + 0.05);
+}
+
+/** The contrast that text needs. */
+export const LEGIBLE = 4.5;
+
+/** The variables of a theme that texts in clients' colours stand on. */
+export const GROUNDS = ["background", "soft", "pick", "bad-soft"];
+
+/* The colour of a hue, so dark in the light theme, and so light in the dark one, that it is read on all grounds. */
+function ofHue(hue, palette) {
+  const step = palette.lightness < 50 ? -1 : 1;
+  for (let { lightness } = palette; ; lightness += step) {
+    const colour = fromHue(hue, lightness);
+    if (GROUNDS.every((ground) => contrast(colour, palette[ground]) >= LEGIBLE)) return colour;
+  }
+}
+
 /* The values of all variables of a theme, those of 64 clients too. */
 export function variablesOf(theme) {
-  const { clients, lightness, ...colours } = PALETTES[theme];
+  const { clients, lightness: _, ...colours } = PALETTES[theme];
   const variables = Object.fromEntries(Object.entries(colours).map(([name, value]) => [`--${name}`, value]));
-  for (let c = 0; c < 64; c++) variables[`--client-${c}`] = clients[c] || fromHue((c * 137.508) % 360, lightness);
+  for (let c = 0; c < 64; c++) variables[`--client-${c}`] = clients[c] || ofHue((c * 137.508) % 360, PALETTES[theme]);
   return variables;
 }
 
 /* The colour of who made something: a client's number, or another for what is no client's. */
 export const colourOf = (maker) => (Number.isInteger(maker) && maker >= 0 ? `var(--client-${maker})` : "var(--dim)");
 
-export const withValues = (markup, theme) => {
+/** A tree in which the colours that its attributes name have their values. */
+export function withValues(shown, theme) {
   const variables = variablesOf(theme);
-  return markup.replace(/var\((--[a-z0-9-]+)\)/g, (_, name) => variables[name]);
-};
+  const valued = (value) => (typeof value === "string" ? value.replace(/^var\((--[a-z0-9-]+)\)$/, (_, name) => variables[name]) : value);
+  const inside = (child) => {
+    if (typeof child === "string") return child;
+    const attributes = Object.fromEntries(Object.entries(child.attributes).map(([name, value]) => [name, valued(value)]));
+    return new Tree(child.name, attributes, child.children.map(inside));
+  };
+  return inside(shown);
+}

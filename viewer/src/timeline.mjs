@@ -1,32 +1,50 @@
 // The diagram on the page: the rows in sight, and the lanes' heads above them.
 
 import { diagram } from "./diagram.mjs";
-import { element } from "./dom.mjs";
-import { headMarkup, headTexts } from "./lanes.mjs";
+import { element, fill } from "./dom.mjs";
+import { headTexts, laneHeads } from "./lanes.mjs";
 import { GAP, HEAD_HEIGHT, layoutOf, rowCount } from "./layout.mjs";
+import { tree } from "./tree.mjs";
+
+/** How wide a printed diagram is, in pixels: a page of A4 in its height. And how many rows are printed. */
+const PAPER = 700;
+const PRINTED = 2000;
 
 export class Timeline {
   layout = null;
   #view = null;
   #drawn = ""; // the rows that are drawn
-  #heads = "";
   #of = []; // of what they are drawn
-  #isFitted = false; // the lanes to the width of what is seen
+  #isNarrow = false; // the texts are the instructions alone
   #size = "";
   #box = { top: 0, left: 0, width: 0, height: 0 }; // how it is scrolled: asked of it after each change it would be slow
 
-  /** Asks how it is scrolled, and draws. */
+  /** Asks how it is scrolled and how wide it is, and draws. */
   measure() {
     const { scrollTop, scrollLeft, clientWidth, clientHeight } = element("time");
+    const isOther = clientWidth !== this.#box.width;
     this.#box = { top: scrollTop, left: scrollLeft, width: clientWidth, height: clientHeight };
-    this.draw();
+    if (isOther && this.#view) this.show(this.#view, { isNarrow: this.#isNarrow, isOther: false });
+    else this.draw();
   }
 
-  /** Shows the rows of a view, where it has another place those around it. */
-  show(view, { isNarrow, isFitted, isOther }) {
+  /** Draws all rows, as wide as paper is; `measure` draws again what is in sight. */
+  print() {
+    const height = Math.min(rowCount(this.#view.session), PRINTED) * this.layout.rowHeight;
+    this.#box = { top: 0, left: 0, width: PAPER, height };
+    this.show(this.#view, { isNarrow: false, isOther: false });
+  }
+
+  /** How wide the diagram is where its lanes have all the room that they want. */
+  get wanted() {
+    return layoutOf(this.#view.session, this.#isNarrow, this.#view.hidden).width;
+  }
+
+  /** Shows the rows of a view, where it has another place those around it. Lanes are fitted to the width of what is seen. */
+  show(view, { isNarrow, isOther }) {
     this.#view = view;
-    this.#isFitted = isFitted;
-    this.layout = layoutOf(view.session, isNarrow, view.hidden, isFitted ? this.#box.width : Infinity);
+    this.#isNarrow = isNarrow;
+    this.layout = layoutOf(view.session, isNarrow, view.hidden, this.#box.width);
     const { rowHeight, laneWidth, width } = this.layout;
     const { session, place, port, followed, hidden } = view;
     const of = [session, place, port, followed, hidden, isNarrow, laneWidth];
@@ -56,21 +74,18 @@ export class Timeline {
     const { graph, texts } = diagram(session, layout, { ...this.#view, from, to });
     const top = from * layout.rowHeight;
     const height = Math.max(0, (to - from + 1) * layout.rowHeight);
-    const box = (width) => `style="top:${top}px" width="${width}" height="${height}" viewBox="0 ${top} ${width} ${height}"`;
-    const label = `role="img" aria-label="space-time diagram, places ${from} to ${Math.min(to, session.length)}"`;
-    const words = `<div class="texts" aria-hidden="true"><svg ${box(layout.textWidth - GAP)}>${texts}</svg></div>`;
-    element("rows").innerHTML = `<svg ${label} ${box(layout.width)}>${graph}</svg>${words}`;
+    const box = (width) => ({ style: `top:${top}px`, width, height, viewBox: `0 ${top} ${width} ${height}` });
+    const label = { role: "img", "aria-label": `space-time diagram, places ${from} to ${Math.min(to, session.length)}` };
+    const words = tree("div", { class: "texts", "aria-hidden": "true" }, tree("svg", box(layout.textWidth - GAP), texts));
+    fill("rows", tree("svg", { ...label, ...box(layout.width) }, graph), words);
   }
 
   #showHeads() {
     const { layout } = this;
     const { followed, names } = this.#view;
-    const box = (width) => `width="${width}" height="${HEAD_HEIGHT}" aria-hidden="true"`;
-    const heads = `<svg ${box(layout.width)}>${headMarkup(layout, followed, names)}</svg>`;
-    const corner = `<svg ${box(layout.textWidth - GAP)} style="top:-${HEAD_HEIGHT}px">${headTexts(layout)}</svg>`;
-    const markup = `${heads}<div class="texts">${corner}</div>`;
-    if (markup !== this.#heads) element("heads").innerHTML = markup;
-    this.#heads = markup;
+    const box = (width) => ({ width, height: HEAD_HEIGHT, "aria-hidden": "true" });
+    const corner = tree("svg", { ...box(layout.textWidth - GAP), style: `top:-${HEAD_HEIGHT}px` }, headTexts(layout));
+    fill("heads", tree("svg", box(layout.width), laneHeads(layout, followed, names)), tree("div", { class: "texts" }, corner));
   }
 
   /* Scrolls to a place, and to the lane of who moved there. */
@@ -87,9 +102,8 @@ export class Timeline {
     if (moved === undefined || !layout.members.has(moved)) return;
     const lane = layout.x(moved);
     const [from, to] = [lane - layout.laneWidth / 2, lane + layout.laneWidth / 2];
-    const gap = this.#isFitted ? GAP : 0;
-    const whole = (left) => (this.#isFitted ? layout.leftOf(Math.max(0, Math.round((left - GAP) / layout.laneWidth))) : left);
-    const isInSight = from >= box.left + layout.textWidth - gap && to <= box.left + box.width;
+    const whole = (left) => layout.leftOf(Math.max(0, Math.round((left - GAP) / layout.laneWidth)));
+    const isInSight = from >= box.left + layout.textWidth - GAP && to <= box.left + box.width;
     if (isInSight && Math.abs(whole(box.left) - box.left) < 1) return;
     box.left = whole(Math.max(0, lane - (box.width + layout.textWidth) / 2));
     element("time").scrollLeft = box.left;

@@ -1,8 +1,11 @@
 // A trace that was judged, and the violation in its lists.
 
-import { escapeMarkup } from "./words.mjs";
+import { tree } from "./tree.mjs";
 
-const tagOf = ([origin, serial]) => `${origin}:${serial}`;
+/* The parts of a pair as texts: of a trace that the program judged they are numbers. */
+const textsOf = (pair) => [].concat(pair).map((part) => (typeof part === "object" ? JSON.stringify(part) : String(part)));
+
+const tagOf = (pair) => textsOf(pair).slice(0, 2).join(":");
 
 /** What `otbench explain --trace` prints, the verdict's line and words below it: { holds, words, events, tags }. */
 export function readVerdict(printed) {
@@ -15,40 +18,36 @@ export function readVerdict(printed) {
 
 const ROOM = 300;
 
-function listMarkup(list, tags) {
-  const shown = list.slice(0, ROOM).map((pair) => {
-    const tag = escapeMarkup(tagOf(pair));
-    return tags.includes(tagOf(pair)) ? `<mark>${tag}</mark>` : `<span>${tag}</span>`;
-  });
+function shownList(list, tags) {
+  const shown = list.slice(0, ROOM).map((pair) => tree(tags.includes(tagOf(pair)) ? "mark" : "span", {}, tagOf(pair)));
   if (list.length > ROOM) shown.push(`… ${list.length - ROOM} more`);
-  return shown.join(" ") || '<span class="cut">empty</span>';
+  return shown.length ? shown.map((part, i) => [i > 0 && " ", part]) : tree("span", { class: "cut" }, "empty");
 }
 
-function rowMarkup(event, number, { events, tags }) {
+function shownEvent(event, number, { events, tags }) {
   const { replica, kind, insert = [], delete: deleted = [], list } = event;
-  const what = [kind, ...insert.map((pair) => `inserts ${tagOf(pair)} at ${pair[2]}`), ...deleted.map((pair) => `deletes ${tagOf(pair)}`)];
-  const seen = event.seen.join(", ");
-  const look = events.includes(number) ? ' class="at-fault"' : "";
-  const cells = [number, replica, what.slice(0, 20).join("; "), seen].map((cell) => `<td>${escapeMarkup(cell)}</td>`).join("");
-  return `<tr${look}>${cells}<td>${listMarkup(list, events.includes(number) ? tags : [])}</td></tr>`;
+  const what = [...textsOf(kind), ...insert.map((pair) => `inserts ${tagOf(pair)} at ${textsOf(pair)[2]}`), ...deleted.map((pair) => `deletes ${tagOf(pair)}`)];
+  const isFault = events.includes(number);
+  const cells = [number, replica, what.slice(0, 20).join("; "), textsOf(event.seen).join(", "), shownList(list, isFault ? tags : [])];
+  return tree("tr", { class: isFault && "at-fault" }, cells.map((cell) => tree("td", {}, cell)));
 }
 
 /** The events of a trace as a table; of many those of the verdict and some around them. */
-export function traceMarkup({ events }, verdict) {
+export function traceTable({ events }, verdict) {
   const centres = verdict.events.length ? verdict.events : [0];
   const isShown = (number) => events.length <= 200 || centres.some((centre) => Math.abs(number - centre) <= 20);
   const rows = [];
   let left = 0;
   const gap = () => {
-    if (left) rows.push(`<tr><td colspan="5" class="cut">… ${left} events …</td></tr>`);
+    if (left) rows.push(tree("tr", {}, tree("td", { colspan: 5, class: "cut" }, `… ${left} events …`)));
     left = 0;
   };
   events.forEach((event, number) => {
     if (!isShown(number)) return void left++;
     gap();
-    rows.push(rowMarkup(event, number, verdict));
+    rows.push(shownEvent(event, number, verdict));
   });
   gap();
-  const heads = ["event", "replica", "what", "sees", "list"].map((head) => `<th scope="col">${head}</th>`).join("");
-  return `<table><thead><tr>${heads}</tr></thead><tbody>${rows.join("")}</tbody></table>`;
+  const heads = ["event", "replica", "what", "sees", "list"].map((head) => tree("th", { scope: "col" }, head));
+  return tree("table", {}, tree("thead", {}, tree("tr", {}, heads)), tree("tbody", {}, rows));
 }

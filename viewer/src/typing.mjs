@@ -2,44 +2,7 @@
 // the document anew. An input method writes into the element itself, and what became of it is read when it is done.
 
 import { changeBetween } from "./edits.mjs";
-
-const runsIn = (node) => [...node.querySelectorAll("span[data-index]")].filter((run) => Number(run.dataset.index) >= 0);
-
-/** The place in a document of a point in its element: how many characters stand in front. */
-export function indexOfPoint(editor, node, offset) {
-  const range = editor.ownerDocument.createRange();
-  range.setStart(editor, 0);
-  range.setEnd(node, offset);
-  const runs = runsIn(range.cloneContents());
-  const last = runs[runs.length - 1];
-  return last ? Number(last.dataset.index) + [...last.textContent].length : Number(editor.dataset.first);
-}
-
-/** Where the user types in an editor, as characters: { from, to }, null where the caret is elsewhere. */
-export function caretIn(editor) {
-  const selection = editor.ownerDocument.getSelection();
-  if (!selection.rangeCount || !editor.contains(selection.anchorNode)) return null;
-  const range = selection.getRangeAt(0);
-  return {
-    from: indexOfPoint(editor, range.startContainer, range.startOffset),
-    to: indexOfPoint(editor, range.endContainer, range.endOffset),
-  };
-}
-
-function pointAt(editor, index) {
-  const runs = runsIn(editor);
-  for (const run of runs) {
-    const characters = [...run.textContent];
-    const before = index - Number(run.dataset.index);
-    if (before >= 0 && before <= characters.length) return [run.firstChild, characters.slice(0, before).join("").length];
-  }
-  return [editor, runs.length ? editor.childNodes.length : 0];
-}
-
-/** Puts the caret in front of a character. */
-export function putCaret(editor, { from, to }) {
-  editor.ownerDocument.getSelection().setBaseAndExtent(...pointAt(editor, from), ...pointAt(editor, to));
-}
+import { indexOfPoint, ordered } from "./selection.mjs";
 
 /* The characters that an editor shows, whatever an input method did to its element. */
 function charactersIn(node) {
@@ -72,14 +35,27 @@ const HALF = /[\ud800-\udbff]$/;
 
 const plain = (text) => text.replace(/\r\n?/g, "\n");
 
-/* The characters that an event is about; where it shows what is deleted, its neighbour. */
-function rangeOf(editor, event) {
+/* The characters that an event is about: those that are selected, else the word that it names, or of a deletion the neighbour. */
+function rangeOf(editor, event, { from, to }) {
   const [target] = event.getTargetRanges();
-  if (!target) return caretIn(editor);
-  const from = indexOfPoint(editor, target.startContainer, target.startOffset);
-  const to = indexOfPoint(editor, target.endContainer, target.endOffset);
-  if (from < to || !event.inputType.startsWith("delete")) return { from, to };
+  if (from < to || !target) return { from, to };
+  const start = indexOfPoint(editor, target.startContainer, target.startOffset);
+  const end = indexOfPoint(editor, target.endContainer, target.endOffset);
+  if (start < end) return { from: start, to: end };
+  if (!event.inputType.startsWith("delete")) return { from, to };
   return event.inputType.endsWith("Forward") ? { from, to: to + 1 } : { from: Math.max(0, from - 1), to };
+}
+
+/* Where a key leads of which the browser knows only what is shown: { anchor, focus } of a document of so many characters, or null. */
+function selectedByKey({ key, shiftKey, ctrlKey, metaKey, altKey }, { anchor }, length) {
+  const isMac = navigator.platform.startsWith("Mac");
+  if (!(isMac ? metaKey : ctrlKey) || altKey) return null;
+  if (key.toLowerCase() === "a" && !shiftKey) return { anchor: 0, focus: length };
+  const isStart = key === (isMac ? "ArrowUp" : "Home");
+  const isEnd = key === (isMac ? "ArrowDown" : "End");
+  if (!isStart && !isEnd) return null;
+  const focus = isStart ? 0 : length;
+  return { anchor: shiftKey ? anchor : focus, focus };
 }
 
 /**
@@ -88,6 +64,8 @@ function rangeOf(editor, event) {
  * @param {object} to
  * @param {(change: { client: number, from: number, to: number, text: string }) => void} to.type
  * @param {(client: number, from: number, to: number) => string} to.textAt the characters of a document
+ * @param {(editor: HTMLElement) => { anchor: number, focus: number } | null} to.selected what is selected of its document, as the state has it from now on
+ * @param {(client: number, selection: { anchor: number, focus: number }) => void} to.select
  * @param {() => void} to.undo
  * @param {() => void} to.redo
  * @param {(client: number | null) => void} to.compose a client whose document an input method writes into, null when it is done
@@ -95,15 +73,23 @@ function rangeOf(editor, event) {
 export function watchTyping(parent, to) {
   const editorOf = (event) => (event.target instanceof Element ? event.target : event.target.parentElement)?.closest?.(".document[contenteditable]");
   const clientOf = (editor) => Number(editor.dataset.who);
-  let before = null;
+  let before = null; // what an input method found: { characters, selection }
   let half = "";
   const listen = (name, act) =>
     parent.addEventListener(name, (event) => {
       const editor = editorOf(event);
-      if (editor) act(event, editor, clientOf(editor));
+      const selection = editor && (before || to.selected(editor));
+      if (selection) act(event, editor, clientOf(editor), selection);
     });
 
-  listen("beforeinput", (event, editor, client) => {
+  listen("keydown", (event, editor, client, selection) => {
+    if (before || event.isComposing) return;
+    const next = selectedByKey(event, selection, Number(editor.dataset.length));
+    if (!next) return;
+    event.preventDefault();
+    to.select(client, next);
+  });
+  listen("beforeinput", (event, editor, client, selection) => {
     if (before || event.isComposing || event.inputType === "insertCompositionText") return;
     event.preventDefault();
     if (event.inputType === "historyUndo") return to.undo();
@@ -111,33 +97,36 @@ export function watchTyping(parent, to) {
     const given = textOf(event);
     const text = given === null ? null : half + given;
     half = text !== null && HALF.test(text) ? text : "";
-    const range = text === null || half ? null : rangeOf(editor, event);
+    const range = text === null || half ? null : rangeOf(editor, event, ordered(selection));
     if (range) to.type({ client, ...range, text: plain(text) });
   });
-  listen("paste", (event, editor, client) => {
+  listen("paste", (event, editor, client, selection) => {
     event.preventDefault();
     event.stopPropagation();
-    const range = caretIn(editor);
-    if (range) to.type({ client, ...range, text: plain(event.clipboardData.getData("text/plain")) });
+    to.type({ client, ...ordered(selection), text: plain(event.clipboardData.getData("text/plain")) });
   });
   for (const name of ["copy", "cut"])
-    listen(name, (event, editor, client) => {
-      const range = caretIn(editor);
-      if (!range || range.from === range.to) return;
+    listen(name, (event, editor, client, selection) => {
+      const range = ordered(selection);
+      if (range.from === range.to) return;
       event.preventDefault();
       event.clipboardData.setData("text/plain", to.textAt(client, range.from, range.to));
       if (name === "cut") to.type({ client, ...range, text: "" });
     });
   listen("dragstart", (event) => event.preventDefault());
-  listen("compositionstart", (event, editor, client) => {
-    before = charactersIn(editor);
+  listen("compositionstart", (event, editor, client, selection) => {
+    before = { characters: charactersIn(editor), ...selection };
     to.compose(client);
   });
   listen("compositionend", (event, editor, client) => {
-    const change = changeBetween(before, charactersIn(editor), shownBefore(editor));
-    const first = Number(editor.dataset.first);
+    if (!before) return;
+    const { characters, ...selection } = before;
+    const change = changeBetween(characters, charactersIn(editor), shownBefore(editor));
+    const [first, last] = [Number(editor.dataset.first), Number(editor.dataset.first) + characters.length];
+    const { from, to: end } = ordered(selection);
     before = null;
     to.compose(null);
-    to.type({ client, from: first + change.from, to: first + change.to, text: change.text });
+    const isOfPart = from >= first && end <= last; // else more is replaced than the part that is shown
+    to.type({ client, ...(isOfPart ? { from: first + change.from, to: first + change.to } : { from, to: end }), text: change.text });
   });
 }

@@ -6,9 +6,13 @@ import { Desk } from "./desk.mjs";
 /* The module: a compiled one, or the base64 of its gzip. */
 async function unpack(module) {
   if (typeof module !== "string") return module;
-  const packed = Uint8Array.from(atob(module), (character) => character.charCodeAt(0));
-  const stream = new Blob([packed]).stream().pipeThrough(new DecompressionStream("gzip"));
-  return WebAssembly.compile(await new Response(stream).arrayBuffer());
+  try {
+    const packed = Uint8Array.from(atob(module), (character) => character.charCodeAt(0));
+    const stream = new Blob([packed]).stream().pipeThrough(new DecompressionStream("gzip"));
+    return await WebAssembly.compile(await new Response(stream).arrayBuffer());
+  } catch {
+    throw new Error("its module in this page is cut or damaged");
+  }
 }
 
 let desk = null;
@@ -25,6 +29,6 @@ onmessage = async ({ data: { id, call, given } }) => {
       postMessage({ id, answer: { ...answer, took: performance.now() - began } });
     }
   } catch (fault) {
-    postMessage({ id, fault: String(fault) });
+    postMessage({ id, fault: fault.message });
   }
 };

@@ -4,13 +4,19 @@ import assert from "node:assert/strict";
 import fs from "node:fs";
 import { test } from "node:test";
 import { bugs } from "../../examples/port/bugs.js";
-import { cardMarkup, cardParts } from "../src/cards.mjs";
+import { cardOf, cardParts } from "../src/cards.mjs";
+import { quoted, seen, unseenIn, withEscapes } from "../src/characters.mjs";
 import { picture } from "../src/diagram.mjs";
 import { SERVER, fold } from "../src/fold.mjs";
 import { layoutOf, rowCount } from "../src/layout.mjs";
 import { Port } from "../src/port.mjs";
-import { apart, operationText, quoted, seen, sentence, verdictOn } from "../src/words.mjs";
+import { markupOf } from "../src/tree.mjs";
+import * as words from "../src/words.mjs";
 import { example, linesOf, portLinesOf, seededSchedule } from "./sessions.mjs";
+
+const { apart, operationText, verdictOn } = words;
+const sentence = (...given) => markupOf(words.sentence(...given));
+const cardMarkup = (...given) => markupOf([cardOf(...given)]);
 
 const ENTITIES = { "&lt;": "<", "&gt;": ">", "&quot;": '"', "&amp;": "&" };
 const wordsOf = (markup) => markup.replace(/<[^>]*>/g, "").replace(/&\w+;/g, (entity) => ENTITIES[entity]);
@@ -174,7 +180,7 @@ test("so it is in a session with other instructions behind a place, and those ca
 
 test("what was played and is not answered yet is marked, and what is behind it on the link can be played", () => {
   const session = fold(linesOf('clients 2\nedit 0 ["a"]\ntake 0\nedit 0 [1,"b"]\nack 0\ntake 0\nedit 1 ["c"]\n'));
-  const button = (markup, instruction) => [...markup.matchAll(new RegExp(`<button class="([^"]*)" data-play="${instruction}"[^>]*?( disabled)?>`, "g"))].map(([, look, off]) => [look, Boolean(off)]);
+  const button = (markup, instruction) => [...markup.matchAll(new RegExp(`<button class="([^"]*)" data-play="${instruction}"[^>]*?( disabled="")?>`, "g"))].map(([, look, off]) => [look, Boolean(off)]);
   const idle = cardMarkup(session, 1, { ...base, place: 6 });
   assert.deepEqual([button(idle, "deliver 1"), button(idle, "take 1")], [[["play head", false]], [["play head", false]]]);
   const asked = cardMarkup(session, 1, { ...base, place: 6, asked: ["deliver 1", "take 1"] });
@@ -222,6 +228,15 @@ test("characters that are not seen have a sign, one for one", () => {
   assert.equal(seen(text), "a␀␉\n␡␦␦\u{e0041}👩‍👦");
   assert.equal(quoted("\u202e\u007f\n<"), '"\\u202e\\u007f\\n<"');
   assert.equal(JSON.parse(quoted(text)), text);
+});
+
+test("characters that are not seen are found in lines, and written as escapes", () => {
+  assert.equal(unseenIn('start "a\tb"\r'), null);
+  assert.equal(unseenIn("👩‍👦"), null);
+  assert.deepEqual(unseenIn("𝒳a\u202eb"), { column: 3, code: "U+202E" });
+  assert.deepEqual(unseenIn("a\rb"), { column: 2, code: "U+000D" });
+  assert.deepEqual(unseenIn("\u{e0041}"), { column: 1, code: "U+E0041" });
+  assert.equal(withEscapes("a\tb\r\nc\u202e\rd\u{e0041}\n\r"), "a\tb\r\nc\\u202e\\u000dd\\udb40\\udc41\n\r");
 });
 
 test("a lane that is hidden is not drawn, and many messages of one place are no wedge", () => {

@@ -13,18 +13,41 @@ test("an image is packed and unpacked", async () => {
     assert.match(text, /^[A-Za-z0-9_-]*$/);
     assert.deepEqual(await unpacked(text), image);
   }
-  await assert.rejects(unpacked("AAAA"));
+});
+
+test("an image that is none is refused, in the page's own words", async () => {
+  const rows = [
+    ["AAAA", "its image is cut or damaged"],
+    ["", "its image is cut"],
+    ["abcde", "its image is cut"],
+    ["<script>", 'its image has the character "<"'],
+    ["ab%20", 'its image has the character "%"'],
+    [(await packed(new Uint8Array(1000).map((_, i) => (i * 7919) >> 3))).slice(0, -12), "its image is cut or damaged"],
+  ];
+  for (const [text, message] of rows) await assert.rejects(unpacked(text), { message });
+  await assert.rejects(unpacked("AAAA", "port"), { message: "its port is cut or damaged" });
 });
 
 test("an address is written and read", () => {
-  const address = { place: 7, theme: null, image: "a-_9", title: 'a;b=&#<"', names: new Map([[0, "Ann; & <b>"], [12, "Ü"]]) };
+  const address = { place: 7, theme: null, image: "a-_9", port: "b-_8", title: 'a;b=&#<"', names: new Map([[0, "Ann; & <b>"], [12, "Ü"]]), strange: null };
   assert.deepEqual(readAddress(addressOf(address)), address);
-  assert.deepEqual(readAddress("#at=7;theme=dark"), { place: 7, theme: "dark", image: null, title: "", names: new Map() });
+  assert.deepEqual(readAddress("#at=7;theme=dark"), { place: 7, theme: "dark", image: null, port: null, title: "", names: new Map(), strange: null });
 });
 
-test("an address that is none is no fault", () => {
-  const nothing = { place: null, theme: null, image: null, title: "", names: new Map() };
-  for (const hash of ["", "#", "#at=-1", "#at=x;theme=blue", "#image=<script>", "#;;&=", "#c999=x"]) assert.deepEqual(readAddress(hash), nothing, hash);
+test("the first part of an address that is none of a link is named", () => {
+  const rows = [
+    ["", null],
+    ["#", null],
+    ["#;;&", null],
+    ["#at=-1", "at=-1"],
+    ["#at=x;theme=blue", "at=x"],
+    ["#c999=x", "c999=x"],
+    ["#at=7;ima", "ima"],
+    ["#%3Cscript%3E", "<script>"],
+    ["#__proto__=1;constructor=2", "__proto__=1"],
+  ];
+  for (const [hash, strange] of rows) assert.equal(readAddress(hash).strange, strange, hash);
+  assert.equal(readAddress("#image=<script>").image, "<script>");
   assert.equal(readAddress("#title=%").title, "%");
 });
 

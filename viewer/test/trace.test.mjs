@@ -3,9 +3,11 @@
 import assert from "node:assert/strict";
 import fs from "node:fs";
 import { test } from "node:test";
-import { readVerdict, traceMarkup } from "../src/trace.mjs";
+import { readVerdict, traceTable } from "../src/trace.mjs";
+import { markupOf } from "../src/tree.mjs";
 import { serveProgram, skip } from "./engines.mjs";
 
+const traceMarkup = (...given) => markupOf([traceTable(...given)]);
 const file = (name) => fs.readFileSync(new URL(`../../examples/${name}.json`, import.meta.url), "utf8");
 
 test("each verdict, and the words below it", () => {

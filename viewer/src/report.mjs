@@ -1,0 +1,57 @@
+// The session as Markdown, for an issue: the schedule, the verdict, what each document is at the place, what a port has otherwise, and the link.
+
+import { brief, quoted, seen } from "./characters.mjs";
+import { SERVER } from "./fold.mjs";
+import { documentAt, quietAt, stateAt } from "./places.mjs";
+import { textOf } from "./document.mjs";
+import { shownPlace } from "./state.mjs";
+import { nameOfMember } from "./words.mjs";
+
+/* The longest run of backticks in a text. */
+const ticksIn = (text) => Math.max(0, ...(text.match(/`+/g) ?? []).map((run) => run.length));
+
+/* A text as a block of code, which no line of it ends. */
+function block(text, language = "") {
+  const fence = "`".repeat(Math.max(3, ticksIn(text) + 1));
+  return `${fence}${language}\n${text.replace(/\n*$/, "\n")}${fence}`;
+}
+
+/* A text in a line. */
+function inline(text) {
+  const words = seen(text).replace(/\n/g, "\u240a");
+  const fence = "`".repeat(ticksIn(words) + 1);
+  return /^`|`$/.test(words) ? `${fence} ${words} ${fence}` : `${fence}${words}${fence}`;
+}
+
+/** What a report has of a schedule or of a document at most, in characters. */
+const MOST = { schedule: 20000, document: 2000 };
+
+function shortened(text) {
+  if (text.length <= MOST.schedule) return text;
+  return `${text.slice(0, text.lastIndexOf("\n", MOST.schedule))}\n; .. ${text.length} characters in all; the link has the whole\n`;
+}
+
+/* The documents at a place, as the diagram's cards show them. */
+function documentsAt(session, place, names) {
+  const text = (who) => inline(quoted(brief(textOf(documentAt(session, who, place)), MOST.document)));
+  const joined = [...session.members.keys()].filter((client) => stateAt(session, client, place).state !== "not-joined");
+  return [SERVER, ...joined].map((who) => `- ${who === SERVER ? "server" : inline(nameOfMember(who, names))}: ${text(who)}`);
+}
+
+/**
+ * @param {import("./state.mjs").State} state one with a session
+ * @param {string[]} verdicts what the page says of the session, in its words
+ * @param {string} link @param {boolean} isOfFile whether the link is to a file of this machine
+ */
+export function reportOf(state, verdicts, link, isOfFile) {
+  const { session, text, title, beside, outline } = state;
+  const place = shownPlace(state);
+  const parts = [
+    `**otbench**${title ? ` ${inline(brief(title, 80))}` : ""}: ${verdicts.map((words) => inline(brief(words, 300))).join("; ")}`,
+    block(shortened(text)),
+    `At place ${place} of ${session.length} (${inline(quietAt(session, place))}):\n\n${documentsAt(session, place, outline.names).join("\n")}`,
+  ];
+  if (beside?.answer.length) parts.push(`What the port printed, beside ot.js:\n\n${block(beside.answer.join("\n"))}`);
+  parts.push(isOfFile ? `The session opens only where the page's file is: ${inline(link)}` : `[Open the session](<${link}>)`);
+  return `${parts.join("\n\n")}\n`;
+}
