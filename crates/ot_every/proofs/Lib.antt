@@ -15,3 +15,9 @@ pub mod Lettered
 pub mod Bound
 pub mod Whole
 pub mod Examples
+mod Growing
+mod Late
+mod Lettering
+mod Settling
+mod Stepping
+mod Visiting

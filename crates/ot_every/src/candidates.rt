@@ -1,0 +1,104 @@
+//! What may come next.
+
+ghost use Rattle.std.specs.Prelude.{◌≡◌, ◌≢◌, ◌<◌, ◌++◌, ◌∷◌, [], drop, filter, length, map, not, vec_items, Err, List, IfOk, OnOk, false, true};
+ghost use Rattle.ot_isa.specs.declared.instruction.Instr.TheVariants.{Acknowledge, Deliver, Join};
+ghost use Rattle.ot_machine.specs.Readers.{ClientHas};
+ghost use Rattle.ot_every.specs.Listing.{candidates, comes_late, edits, takes, Earlier};
+ghost use Rattle.ot_every.specs.Walking.{unless, AreMarks};
+ghost use Rattle.ot_every.specs.declared.visitor.Stop.TheVariants.{WriteFault};
+ghost use Rattle.ot_every.specs.Walking as walking;
+
+use crate::edits::push_edits;
+use crate::marks::{Mark, is_late};
+use crate::visitor::Stop;
+use ot_isa::Instr;
+use ot_machine::Machine;
+use ot_text::LIMIT;
+use std::alloc::{AllocError, Global};
+
+// Adds the client's edits with the next text, if one is left, unless they come late; `TooLong` where one might pass the limit of operations.
+fn push_edits_in_time(
+    alloc: Global,
+    machine: &Machine,
+    marks: &[Mark],
+    client: u16,
+    texts: &[Vec<char>],
+    made: usize,
+    inserts: usize,
+    next: &mut Vec<Instr>,
+) -> Result<(), Stop>
+    requires { client < length machine.now.clients }
+    ensures edits { (path : List Earlier) → AreMarks path (length marks.now) marks.now → OnOk result (ClientHas machine.now client (λ x. next.old.items ++ unless (walking.is_late client false false path) (edits inserts (drop made (map vec_items texts.now)) client (length x.list))) next.new.items) }
+    ensures cause { result ≢ Err WriteFault }
+{
+    if made >= texts.len() {
+        return Ok(());
+    }
+    if is_late(marks, marks.len(), client, false, false) {
+        return Ok(());
+    }
+    let text = &texts[made];
+    let count = machine.document(client).len();
+    if inserts > 8 || text.len() > 8 || count + inserts * text.len() > LIMIT {
+        return Err(Stop::TooLong);
+    }
+    push_edits(alloc, next, client, text.as_slice(), inserts, count)?;
+    Ok(())
+}
+
+// Adds the receipts of the client, unless they come late.
+fn push_receipts(marks: &[Mark], client: u16, next: &mut Vec<Instr>) -> Result<(), AllocError>
+    ensures { (path : List Earlier) → AreMarks path (length marks.now) marks.now → OnOk result (next.new.items ≡ next.old.items ++ unless (walking.is_late client false true path) (Deliver client ∷ Acknowledge client ∷ [])) }
+{
+    if is_late(marks, marks.len(), client, false, true) {
+        return Ok(());
+    }
+    next.push(Instr::Deliver(client))?;
+    next.push(Instr::Acknowledge(client))?;
+    Ok(())
+}
+
+// Adds the join of the client, unless it comes late.
+fn push_join(marks: &[Mark], client: u16, next: &mut Vec<Instr>) -> Result<(), AllocError>
+    ensures { (path : List Earlier) → AreMarks path (length marks.now) marks.now → OnOk result (next.new.items ≡ next.old.items ++ unless (walking.is_late client true false path) (Join client ∷ [])) }
+{
+    if is_late(marks, marks.len(), client, true, false) {
+        return Ok(());
+    }
+    next.push(Instr::Join(client))?;
+    Ok(())
+}
+
+// Adds the takes of the messages of all clients.
+fn push_takes(machine: &Machine, next: &mut Vec<Instr>) -> Result<(), AllocError>
+    ensures { OnOk result (next.new.items ≡ next.old.items ++ takes 0 machine.now.clients) }
+{
+    for client in 0..machine.clients() {
+        next.push(Instr::Take(client))?;
+    }
+    Ok(())
+}
+
+/// What may come next and does not come late, in order; some of it the table refuses.
+pub fn candidates(
+    alloc: Global,
+    machine: &Machine,
+    marks: &[Mark],
+    texts: &[Vec<char>],
+    made: usize,
+    inserts: usize,
+) -> Result<Vec<Instr>, Stop>
+    ensures left { (path : List Earlier) → AreMarks path (length marks.now) marks.now → IfOk result (λ next. next.items ≡ filter (λ i. not (comes_late path i)) (candidates inserts (drop made (map vec_items texts.now)) machine.now)) }
+    ensures cause { result ≢ Err WriteFault }
+{
+    let mut next = Vec::new(alloc);
+    for client in 0..machine.clients() {
+        push_edits_in_time(
+            alloc, machine, marks, client, texts, made, inserts, &mut next,
+        )?;
+        push_receipts(marks, client, &mut next)?;
+        push_join(marks, client, &mut next)?;
+    }
+    push_takes(machine, &mut next)?;
+    Ok(next)
+}
