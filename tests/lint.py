@@ -20,7 +20,7 @@ NAMES = re.compile(r"error TS(?:2304|2552|2307(?=: Cannot find module '\.)|2305|
 NOT_YET_KNOWN = re.compile(r"'(?:Dec|C)ompressionStream'")  # of browsers, by the compiler of Debian 12
 
 # What reads a text as markup: the page (viewer/src, and viewer.html, which is made of it) has none of these.
-MARKUP = re.compile(r"innerHTML|outerHTML|insertAdjacentHTML|setHTML|parseHTML|DOMParser|createContextualFragment|srcdoc|document\s*\.\s*write")
+MARKUP = re.compile(r"innerHTML|outerHTML|insertAdjacentHTML|setHTML|parseHTML|DOMParser|createContextualFragment|srcdoc|execCommand|document\s*\.\s*write")
 
 
 def listed(*patterns):

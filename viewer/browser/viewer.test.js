@@ -253,6 +253,8 @@ test("the diagram is saved as an SVG file", async () => {
     HTMLAnchorElement.prototype.click = () => {};
   })()`);
   await page.key("s");
+  await page.click(...(await middle('#saving button[value="svg"]')));
+  await until(() => page.run("window.saved !== undefined"));
   const saved = await page.run("window.saved.text()");
   assert.equal(saved, fs.readFileSync(new URL("../../docs/session.svg", import.meta.url), "utf8"));
   const read = `new DOMParser().parseFromString(${JSON.stringify(saved)}, "image/svg+xml")`;

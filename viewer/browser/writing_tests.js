@@ -55,6 +55,11 @@ export function testWriting(name, openBrowser) {
         await user.until(`document.getElementById("length").textContent === "of ${count + 2}"`, "the session");
         await page.drawn();
         assert.deepEqual(await shifts(), [0]);
+        await user.press("Escape", "k", "End");
+        await user.settled(count + 2);
+        await page.drawn();
+        assert.deepEqual(await shifts(), [0], "where the field is scrolled to its end already");
+        await user.click("#text");
         await user.press("Control+Home");
         await page.drawn();
         await user.press("Control+End");
