@@ -4,6 +4,7 @@ pub mod Examples
 pub mod Keeping
 pub mod Leaved
 pub mod Merging
+pub mod Moved
 pub mod Replacing
 pub mod Through
 pub mod Reversed

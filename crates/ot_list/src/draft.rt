@@ -5,7 +5,7 @@ ghost use Rattle.ot_list.specs.Leaves.{concatenated, AreLeaves, MayEnd, last_lea
 ghost use Rattle.ot_list.specs.Change.{patched, IsOf};
 ghost use Rattle.ot_list.specs.Written.{written, front_of, place_of, IsDraft, Continues, IsWithoutLast, IsWithLeaf, HasClosed, HasHalved, HasFlushed, MayFollow, IsAt};
 
-use crate::replace::remove;
+use crate::blocks::move_down;
 use crate::{Item, List, Patch, Span};
 use std::alloc::{AllocError, Global};
 
@@ -36,8 +36,20 @@ fn take_front<T: Copy>(items: &mut Vec<T>, count: usize) -> Result<Vec<T>, Alloc
         return Ok(std::mem::replace(items, Vec::new(alloc)));
     }
     let front = Vec::from_slice(alloc, &items[..count])?;
-    remove(items, 0, count);
+    drop_front(items, count);
     Ok(front)
+}
+
+// Removes the first items.
+fn drop_front<T: Copy>(items: &mut Vec<T>, count: usize)
+    requires { count ≤ length items.old.items }
+    ensures { items.new.items ≡ drop count items.old.items }
+{
+    let left = items.len() - count;
+    if left > 0 {
+        move_down(items.as_mut_slice(), count, 0, left);
+    }
+    items.truncate(left);
 }
 
 impl<E: Item> Draft<E> {
@@ -172,7 +184,7 @@ impl<E: Item> Draft<E> {
         leaf.extend_from_slice(&pending[..count])?;
         self.drop_last(old);
         self.add(old, leaf)?;
-        remove(&mut self.pending, 0, count);
+        drop_front(&mut self.pending, count);
         Ok(())
     }
 

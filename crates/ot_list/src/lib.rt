@@ -28,6 +28,7 @@
 //! - `taken_back` says that a patch carried out and undone is nothing; `leaves_are_few` bounds the number of leaves by that of items.
 #![tactic(auto)]
 
+mod blocks;
 mod draft;
 mod item;
 mod laws;

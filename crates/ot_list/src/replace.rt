@@ -1,18 +1,23 @@
-//! Items of a list in the place of others, where the list lies. They move by `rotate_left` and `rotate_right`, which the compiler makes block moves.
+//! Items of a list in the place of others, where the list lies.
 
 ghost use Rattle.std.specs.Prelude.{◌≡◌, ◌+◌, ◌-◌, ◌<◌, ◌≤◌, ◌++◌, length, take, drop, OnOk, OnErr, vec_capacity};
 ghost use Rattle.ot_list.specs.Leaves.{with_run};
 
+use crate::blocks::{move_down, move_up};
 use std::alloc::AllocError;
 
-/// Takes items out.
-pub fn remove<T: Copy>(items: &mut Vec<T>, at: usize, count: usize)
+// Takes items out.
+fn remove<T: Copy>(items: &mut Vec<T>, at: usize, count: usize)
     requires { at + count ≤ length items.old.items }
     ensures items { items.new.items ≡ take at items.old.items ++ drop (at + count) items.old.items }
     ensures capacity { vec_capacity items.new ≡ vec_capacity items.old }
 {
+    if count == 0 {
+        return;
+    }
+    let end = at + count;
     let length = items.len();
-    items.slice_mut(at..length).rotate_left(count);
+    move_down(items.as_mut_slice(), end, at, length - end);
     items.truncate(length - count);
 }
 
@@ -22,11 +27,16 @@ fn insert<T: Copy>(items: &mut Vec<T>, at: usize, come: &[T])
     requires room { length items.old.items + length come.now ≤ vec_capacity items.old }
     ensures { items.new.items ≡ take at items.old.items ++ come.now ++ drop at items.old.items }
 {
+    if come.is_empty() {
+        return;
+    }
+    let length = items.len();
     if items.extend_from_slice(come).is_err() {
         unreachable!();
     }
-    let length = items.len();
-    items.slice_mut(at..length).rotate_right(come.len());
+    let end = at + come.len();
+    move_up(items.as_mut_slice(), at, end, length - at);
+    items.slice_mut(at..end).copy_from_slice(come);
 }
 
 /// From a place on `gone` items go, and others come there. Where the list grows, it gets room for `room` items. `AllocError` where the growth was refused: the list

@@ -1,4 +1,4 @@
-use Rattle.std.proofs.Common.{◌≡◌, ◌≤◌, ◌++◌, length, take, drop, length-append, refl, ap, ◌∙◌, arith}
+use Rattle.std.proofs.Common.{◌≡◌, ◌≤◌, ◌++◌, length, take, length-append, refl, arith}
 use Rattle.ot_list.specs.Leaves.{last_leaf}
 use Rattle.ot_list.specs.Written.{front_of}
 use Rattle.ot_list.proofs.Drafted.{closed_joined, may_join}
@@ -14,4 +14,4 @@ returns g c =
     let d = c.args.self.now in
     let is : c.extend_from_slice-2.new.self.items ≡ last_leaf (front_of c.args.old.now d) ++ take c.args.count d.pending.items = rw (c.in_ok-extend_from_slice-2.ensures.items, c.in_ok-extend_from_slice.ensures.items, c.in_ok-leaf.ensures.items, c.last_items-last.ensures, c.as_slice-pending.ensures.value) refl in
     closed_joined g.E.Item.CAP g.E.Item.total c.args.old.now d c.drop_last.new.self c.add.new.self _ c.extend_from_slice-2.new.self.items c.args.count c.requires.draft c.drop_last.ensures c.in_ok-add.ensures is c.requires.enough
-    (record { spans = refl; leaves = refl; sums = refl; first = refl; kept = refl; place = refl }) (c.remove.ensures.items ∙ ap (λ n. drop n c.add.new.self.pending.items) (omega arith))
+    (record { spans = refl; leaves = refl; sums = refl; first = refl; kept = refl; place = refl }) c.drop_front.ensures
