@@ -18,7 +18,7 @@ from utf16 import Translation
 
 TROUBLE = re.compile(r"the driver (ended with status \d+|was ended by signal \d+|was ended: it (?:took|printed) more than [\d.,]+ \w+|ended before the line %%)")
 
-AGREES = ("conforms\n", "nothing counted\n")  # no difference; whether what is needed was compared is reported of all sessions together
+AGREES = ("conforms\n", "nothing compared\n")  # no difference; whether what is needed was compared is reported of all sessions together
 
 
 class Refused(Exception):

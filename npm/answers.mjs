@@ -71,17 +71,30 @@ const DIFFERENCE = /^differs at (\d+): ([^:]*): (.*)$/s;
 
 const CUT = /^the schedule ends before its logs(?:: (.*))?$/s;
 
-/** What `conform` prints. Where the schedule is cut, nothing conforms, and `cut` has the words of the last line. */
+const UNKNOWN = /^unknown (.*) in line (\d+)$/s;
+
+/* A key that `steps` does not have, and the line of the input that has it, or null. */
+function unknownIn(line) {
+  const unknown = UNKNOWN.exec(line);
+  return unknown && { key: unknown[1].startsWith('"') ? JSON.parse(unknown[1]) : unknown[1], line: Number(unknown[2]) };
+}
+
+/**
+ * What `conform` prints. `unknown` has the keys that `steps` does not have. Where the schedule is cut, nothing conforms, and `cut` has the
+ * words of the last line.
+ */
 export function readConform(text) {
   const lines = linesOf(text);
   const cut = CUT.exec(lines.at(-1));
-  if (!cut) return verdictIn(lines, text);
-  return { ...verdictIn(lines.slice(0, -1), text), conforms: false, cut: cut[1] ?? "" };
+  if (cut) lines.pop();
+  const unknown = lines.map(unknownIn).filter(Boolean);
+  const answer = { ...verdictIn(lines.slice(0, lines.length - unknown.length), text), unknown };
+  return cut ? { ...answer, conforms: false, cut: cut[1] ?? "" } : answer;
 }
 
 function verdictIn([first, ...lines], text) {
   if (first === "conforms") return { verdict: "conforms", conforms: true, compared: countsIn(lines[0]), text };
-  if (first === "nothing counted") return { verdict: "nothing", conforms: false, compared: countsIn(lines[0]), text };
+  if (first === "nothing compared") return { verdict: "nothing", conforms: false, compared: countsIn(lines[0]), text };
   const stopped = stopIn(first);
   if (stopped) return { verdict: "stopped", conforms: false, ...stopped, text };
   const [, at, what, field] = DIFFERENCE.exec(first);

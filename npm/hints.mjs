@@ -55,7 +55,7 @@ function lineOf(answer, text) {
 
 /* What may be wrong with a port's lines, by what conform answered. */
 function faultOfLines([first, second]) {
-  if (first === "nothing counted") return NO_VALUE;
+  if (first === "nothing compared") return NO_VALUE;
   const { at, what, field } = namedIn([first]) ?? {};
   if (what === "after the end" || (what === "end" && field === "at")) return MORE_LINES;
   if (field === "line" && second === "found nothing") return at === 1 ? NO_LINE : LINES_END;

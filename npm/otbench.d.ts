@@ -144,20 +144,28 @@ export type ComparedKey =
   | "document"
   | "end";
 
+/** A key that `steps` does not have, in the port's lines or behind `sent.` or `message.`, and the first line of the input that has it. */
+export interface UnknownKey {
+  key: string;
+  line: number;
+}
+
 /** The port conforms: how often each value was printed and equal. */
 export interface Conforms {
   verdict: "conforms";
   conforms: true;
   compared: Record<ComparedKey, number>;
+  unknown: UnknownKey[];
   /** The answer as it is printed. */
   text: string;
 }
 
-/** Nothing differs, and no value was counted: the port printed places alone, perhaps. */
+/** Nothing differs, and no value beside `at` and `client` was compared: the port printed places alone, perhaps. */
 export interface NothingCounted {
   verdict: "nothing";
   conforms: false;
   compared: Record<ComparedKey, number>;
+  unknown: UnknownKey[];
   text: string;
 }
 
@@ -184,6 +192,7 @@ export interface Differs {
   given: { name: string; value: string }[];
   /** A true sentence about what was found. */
   note: string | null;
+  unknown: UnknownKey[];
   text: string;
 }
 
@@ -191,6 +200,7 @@ export interface Differs {
 export interface NotCompared extends Stop {
   verdict: "stopped";
   conforms: false;
+  unknown: UnknownKey[];
   text: string;
 }
 

@@ -44,7 +44,7 @@ function conformOf(ask, schedule, port, instructions) {
   const { output, errors } = ask(["conform"], Buffer.concat([Buffer.from(schedule.replace(/\n?$/, "\n%%\n")), Buffer.from(port)]));
   if (errors) throw new RefusedText(errors);
   const difference = output.startsWith("differs at ") ? differenceIn(withoutCut(output).trimEnd(), instructions) : null;
-  return { difference, showsNothing: output.startsWith("nothing counted\n") };
+  return { difference, showsNothing: output.startsWith("nothing compared\n") };
 }
 
 /** A run, with the state at each place. Place p is the one where p instructions are performed. */

@@ -158,6 +158,14 @@ test("conform: nothing conforms where the schedule is cut", () => {
   assert.deepEqual([differs.field, differs.place, differs.cut], ["client 0 (ann) document", 0, '"ann, event 9: ack"']);
   assert.equal(readConform("stopped at 3: ClientFull\nthe schedule ends before its logs\n").cut, "");
   assert.ok(!("cut" in readConform("conforms\ncompared at 1\n")));
+  const unknown = [
+    { key: "docment", line: 4 },
+    { key: "a b", line: 5 },
+  ];
+  const rows = 'unknown docment in line 4\nunknown "a b" in line 5\n';
+  assert.deepEqual(readConform(`conforms\ncompared at 1 document 2\n${rows}${cut}`).unknown, unknown);
+  const found = readConform(`differs at 1: edit 0: client 0 document\nfound "b"\not.js "a"\nplace 0\n${rows}`);
+  assert.deepEqual([found.unknown, found.place, found.note], [unknown, 0, null]);
 });
 
 test("conform: where a limit of otbench ends the schedule", () => {

@@ -242,7 +242,7 @@ class Terminal(unittest.TestCase):
             "differs at 1: after the end: line\nfound {}\not.js nothing": "the port has more lines than the schedule has instructions",
             "differs at 1: end: at\nfound 2\not.js 1": "the port has more lines than the schedule has instructions",
             "differs at 1: edit 0: at\nfound 0\not.js 1": "at counts performed instructions, and is 1 in the first one's line; conform --sparse skips instructions without a line",
-            "nothing counted\ncompared clients 0": "no line has a value that is counted: docs/FORMATS.md, What a port prints",
+            "nothing compared\ncompared clients 0": "no line has a value that is counted: docs/FORMATS.md, What a port prints",
         }
         for answer, hint in rows.items():
             self.assertEqual(self.said_on_terminal("conform", "a.ots", "port", FAKE_ANSWER=answer).splitlines()[0], f"otbench: {hint}", answer)
@@ -284,7 +284,7 @@ class Terminal(unittest.TestCase):
             ("differs at 1: end: end", "place 1 is behind line 3, instruction 0: edit 0"),
             ("stopped at 1: ClientFull", "instruction 1 is line 7: edit 0"),
             ("differs at 0: opening: start", None),
-            ("nothing counted\ncompared clients 0", None),
+            ("nothing compared\ncompared clients 0", None),
         ]
         self.assertEqual(self.said_on_terminal("conform", "told", "a.ots", FAKE_ANSWER="conforms\ncompared clients 0\nthe schedule ends before its logs"), "")
         for answer, line in rows:

@@ -33,7 +33,7 @@ test("where ot.js refuses what differs, the place is before it", () => {
 });
 
 test("no instruction, no sentence", () => {
-  for (const answer of [["conforms"], ["nothing counted"], ["quiet"], []]) assert.equal(namedIn(answer), null);
+  for (const answer of [["conforms"], ["nothing compared"], ["quiet"], []]) assert.equal(namedIn(answer), null);
   assert.equal(told("differs at 0: opening: start", "found 1", 'ot.js "a"'), null);
   assert.equal(told("differs at 0: end: end"), null);
   assert.equal(told("stopped at 9: Memory"), null, "of another text");

@@ -10,19 +10,22 @@ use Rattle.ot_asm.specs.declared.fault.AsmFault.{AsmFault}
 use Rattle.ot_asm.specs.Comments.{Said, comments_of}
 use Rattle.ot_commands.specs.Faults.{IsLineFault, line_fault}
 use Rattle.streams.specs.Outcomes.{Refuses, Streams, OutOfMemory}
-use Rattle.ot_conform.specs.Compared.{IsVerdictOf, StopsBehind}
+use Rattle.ot_conform.specs.Compared.{IsVerdictOf, NamesKeys, StopsBehind}
 use Rattle.ot_conform.specs.Ports.{counted_lines}
-use Rattle.ot_conform.specs.declared.comparison.Verdict.{Verdict}
+use Rattle.ot_conform.specs.Unknown.{all_named}
+use Rattle.ot_conform.specs.declared.reading.Compared.{Compared}
 use Rattle.ot_conform.specs.declared.reading.CompareStop.{CompareStop}
 use Rattle.ot_commands.specs.Conformed.{Compares, MayJudge, MayWrite, TellsStop}
 
 -- the verdict on the lines that are left is written
-pub judged : (sparse : Bool) (said : Said) (schedule : Program) (earlier : ℕ) (input : Option (List ℕ)) (verdict : Verdict) (status : ℕ) (streams : Streams)
-    → IfSome input (λ text. IsVerdictOf sparse schedule (counted_lines (lines_of text)) verdict) → MayWrite said schedule verdict status streams
+pub judged : (sparse : Bool) (said : Said) (schedule : Program) (earlier : ℕ) (input : Option (List ℕ)) (compared : Compared) (status : ℕ) (streams : Streams)
+    → IfSome input (λ text. IsVerdictOf sparse schedule (counted_lines (lines_of text)) compared.verdict)
+    → IfSome input (λ text. NamesKeys sparse schedule earlier (lines_of text) compared.verdict (all_named compared.unknown.items))
+    → MayWrite said schedule compared status streams
     → IfSome input (λ text. MayJudge sparse said schedule (lines_of text) earlier status streams)
-judged sparse said schedule earlier None verdict status streams is wrote = tt
-judged sparse said schedule earlier (Some text) verdict status streams is (inl answers) = inl (record { verdict = verdict; is = is; answers = answers })
-judged sparse said schedule earlier (Some text) verdict status streams is (inr wants) = inr (inr wants)
+judged sparse said schedule earlier None compared status streams is names wrote = tt
+judged sparse said schedule earlier (Some text) compared status streams is names (inl answers) = inl (record { compared = compared; is = is; unknown = names; answers = answers })
+judged sparse said schedule earlier (Some text) compared status streams is names (inr wants) = inr (inr wants)
 
 -- the comparison broke off
 pub broke_off : (sparse : Bool) (said : Said) (schedule : Program) (earlier : ℕ) (input : Option (List ℕ)) (stop : CompareStop) (streams : Streams)

@@ -10,11 +10,13 @@ use Rattle.ot_asm.specs.Comments.{Said, comments_among, cut_text}
 use Rattle.ot_asm.specs.Named.{named}
 use Rattle.ot_commands.specs.Faults.{RefusesLines, line_fault}
 use Rattle.streams.specs.Outcomes.{Streams, Complains, Gives, OutOfMemory}
-use Rattle.ot_conform.specs.Compared.{IsVerdictOf, StopsBehind, verdict_status}
+use Rattle.ot_conform.specs.Compared.{IsVerdictOf, NamesKeys, StopsBehind, verdict_status}
 use Rattle.ot_conform.specs.Ports.{counted_lines}
 use Rattle.ot_conform.specs.Ruled.{IsAnswer}
+use Rattle.ot_conform.specs.Unknown.{all_named, unknown_rows}
 use Rattle.ot_conform.specs.declared.comparison.Verdict.{Verdict}
 use Rattle.ot_conform.specs.declared.comparison.Verdict.TheVariants.{Conforms, Differs, Stopped}
+use Rattle.ot_conform.specs.declared.reading.Compared.{Compared}
 use Rattle.ot_conform.specs.declared.reading.CompareStop.{CompareStop}
 use Rattle.ot_conform.specs.declared.reading.CompareStop.TheVariants.{ReadFault, Memory}
 
@@ -28,27 +30,28 @@ with_names said (Conforms counts) text = text
 with_names said (Differs difference) text = named said.names text
 with_names said (Stopped place refusal) text = text
 
--- these lines, and what tells of the cut
-pub record IsTold (said : Said) (schedule : Program) (verdict : Verdict) (bytes : List ℕ) : Type 0 where
+-- these lines, the unknown keys, and what tells of the cut
+pub record IsTold (said : Said) (schedule : Program) (compared : Compared) (bytes : List ℕ) : Type 0 where
   pub text : List ℕ
-  pub answer : IsAnswer schedule verdict text
-  pub is : bytes ≡ with_names said verdict text ++ cut_text said.cut
+  pub answer : IsAnswer schedule compared.verdict text
+  pub is : bytes ≡ with_names said compared.verdict text ++ (unknown_rows (all_named compared.unknown.items) ++ cut_text said.cut)
 
 -- these lines are written, with the status
-pub record Answers (said : Said) (schedule : Program) (verdict : Verdict) (status : ℕ) (streams : Streams) : Type 0 where
+pub record Answers (said : Said) (schedule : Program) (compared : Compared) (status : ℕ) (streams : Streams) : Type 0 where
   pub bytes : List ℕ
-  pub is : IsTold said schedule verdict bytes
-  pub gives : Gives (answer_status said verdict) bytes status streams
+  pub is : IsTold said schedule compared bytes
+  pub gives : Gives (answer_status said compared.verdict) bytes status streams
 
 -- or memory for them ran out
-abbrev pub MayWrite : Said → Program → Verdict → ℕ → Streams → Type 0
-MayWrite said schedule verdict status streams = Answers said schedule verdict status streams ⊎ OutOfMemory status streams
+abbrev pub MayWrite : Said → Program → Compared → ℕ → Streams → Type 0
+MayWrite said schedule compared status streams = Answers said schedule compared status streams ⊎ OutOfMemory status streams
 
--- the verdict on the port's lines is written; `sparse` allows lines for some instructions alone
-pub record Judges (sparse : Bool) (said : Said) (schedule : Program) (lines : List (List ℕ)) (status : ℕ) (streams : Streams) : Type 0 where
-  pub verdict : Verdict
-  pub is : IsVerdictOf sparse schedule (counted_lines lines) verdict
-  pub answers : Answers said schedule verdict status streams
+-- the verdict on the port's lines, behind so many, is written with their unknown keys; `sparse` allows lines for some instructions alone
+pub record Judges (sparse : Bool) (said : Said) (schedule : Program) (lines : List (List ℕ)) (earlier : ℕ) (status : ℕ) (streams : Streams) : Type 0 where
+  pub compared : Compared
+  pub is : IsVerdictOf sparse schedule (counted_lines lines) compared.verdict
+  pub unknown : NamesKeys sparse schedule earlier lines compared.verdict (all_named compared.unknown.items)
+  pub answers : Answers said schedule compared status streams
 
 -- the line of a comparison that broke off
 abbrev pub TellsStop : CompareStop → Option (List ℕ) → Option (List ℕ) → Type 0
@@ -67,7 +70,7 @@ pub record BreaksOff (sparse : Bool) (schedule : Program) (lines : List (List �
 -- the verdict, a comparison that breaks off, or out of memory for the verdict's text
 abbrev pub MayJudge : Bool → Said → Program → List (List ℕ) → ℕ → ℕ → Streams → Type 0
 MayJudge sparse said schedule lines earlier status streams =
-    Judges sparse said schedule lines status streams ⊎ BreaksOff sparse schedule lines earlier status streams ⊎ OutOfMemory status streams
+    Judges sparse said schedule lines earlier status streams ⊎ BreaksOff sparse schedule lines earlier status streams ⊎ OutOfMemory status streams
 
 -- how many lines stand before those behind the mark: the schedule's, and the mark
 abbrev pub lines_up_to_mark : List (List ℕ) → ℕ

@@ -20,7 +20,7 @@ ghost use Rattle.ot_commands.specs.Conformed.{Compares, IsTold, MayJudge, MayWri
 use crate::faults::complain_of_line;
 use crate::part::read_part;
 use ot_asm::{AsmFault, Comments, Kind, comments_of, named, push_cut};
-use ot_conform::{CompareStop, Verdict, compare_lines, print_verdict};
+use ot_conform::{CompareStop, Compared, Verdict, compare_lines, print_unknown, print_verdict};
 use ot_isa::Schedule;
 use std::alloc::{AllocError, Global};
 use std::io::{Read, Write};
@@ -89,34 +89,39 @@ fn with_names(
     Ok(bytes)
 }
 
-// These lines, and behind them what tells of the cut.
+// These lines, behind them the unknown keys, and what tells of the cut.
 fn answer_text(
     alloc: Global,
     comments: &Comments,
     schedule: &Schedule,
-    verdict: &Verdict,
+    compared: &Compared,
 ) -> Result<Vec<u8>, AllocError>
-    ensures { IfOk result (λ v. IsTold comments.now schedule.now verdict.now v.items) }
+    ensures { IfOk result (λ v. IsTold comments.now schedule.now compared.now v.items) }
 {
-    let text = print_verdict(alloc, schedule, verdict)?;
-    let mut bytes = with_names(alloc, comments, verdict, text.as_bytes())?;
+    let text = print_verdict(alloc, schedule, &compared.verdict)?;
+    let mut bytes = with_names(alloc, comments, &compared.verdict, text.as_bytes())?;
+    let unknown = print_unknown(alloc, compared.unknown.as_slice())?;
+    bytes.extend_from_slice(unknown.as_bytes())?;
     push_cut(&mut bytes, comments)?;
     Ok(bytes)
 }
 
-// Writes a verdict on lines for the schedule.
+// Writes what came of comparing lines for the schedule.
 fn write_verdict<O: Sink, F: Write>(
     alloc: Global,
     comments: &Comments,
     schedule: &Schedule,
-    verdict: &Verdict,
+    compared: &Compared,
     output: &mut O,
     faults: &mut F,
 ) -> u8
-    ensures { MayWrite comments.now schedule.now verdict.now result (record { output = O.contents output.old; output' = O.contents output.new; broken = O.failed output.new; faults = F.contents faults.old; faults' = F.contents faults.new }) }
+    ensures { MayWrite comments.now schedule.now compared.now result (record { output = O.contents output.old; output' = O.contents output.new; broken = O.failed output.new; faults = F.contents faults.old; faults' = F.contents faults.new }) }
 {
-    match answer_text(alloc, comments, schedule, verdict) {
-        Ok(bytes) => give(bytes.as_slice(), answer_status(comments, verdict), output),
+    match answer_text(alloc, comments, schedule, compared) {
+        Ok(bytes) => {
+            let status = answer_status(comments, &compared.verdict);
+            give(bytes.as_slice(), status, output)
+        }
         Err(_) => {
             complain_of_memory(faults);
             1
@@ -139,7 +144,7 @@ fn judge<I: Read, O: Sink, F: Write>(
     ensures { IfSome (before ahead.old (I.remaining input.old)) (λ rest. MayJudge sparse comments.now schedule.now (lines_of rest) earlier result (record { output = O.contents output.old; output' = O.contents output.new; broken = O.failed output.new; faults = F.contents faults.old; faults' = F.contents faults.new })) }
 {
     match compare_lines(alloc, schedule, sparse, ahead, input, earlier) {
-        Ok(verdict) => write_verdict(alloc, comments, schedule, &verdict, output, faults),
+        Ok(compared) => write_verdict(alloc, comments, schedule, &compared, output, faults),
         Err(stop) => {
             complain_of_stop(alloc, stop, faults);
             1
@@ -148,9 +153,9 @@ fn judge<I: Read, O: Sink, F: Write>(
 }
 
 /// Reads a schedule's lines as far as the first line `%%`, compares the port's lines behind it with the schedule's run as they come, writes
-/// the answer, and gives the status. Where it is `sparse`, instructions without a line are passed over. The answer has the names that the
+/// the answer with the unknown keys of these lines, and gives the status. Where it is `sparse`, instructions without a line are passed over. The answer has the names that the
 /// schedule's comments give the clients; where the schedule is cut, its last line says so. The status is 0 where the port conforms; 1 where
-/// it differs, where no value is counted, where the schedule is cut, where nothing can be compared for a limit of the bench, for a refused
+/// it differs, where nothing but places and clients is compared, where the schedule is cut, where nothing can be compared for a limit of the bench, for a refused
 /// schedule, and for a fault of reading, writing or memory.
 pub fn run_conform<I: Read, O: Sink, F: Write>(
     alloc: Global,

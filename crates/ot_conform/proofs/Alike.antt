@@ -20,6 +20,7 @@ use Rattle.ot_conform.specs.Laws.{Says, data_of}
 use Rattle.ot_conform.specs.Ports.{PortLine}
 use Rattle.ot_conform.specs.Received.{Received, receives}
 use Rattle.ot_conform.specs.Standing.{IsStanding}
+use Rattle.ot_conform.specs.Unknown.{with_unknown}
 use Rattle.ot_steps.specs.Text.{value_at}
 use Rattle.ot_conform.specs.declared.comparison.Comparison.{Comparison}
 use Rattle.ot_conform.specs.declared.counts.Counts.{Counts}
@@ -31,6 +32,7 @@ use Rattle.ot_conform.proofs.Going.{running}
 use Rattle.ot_conform.proofs.LineSays.{says}
 use Rattle.ot_conform.proofs.LineTrees.{IsLineFormed, line_data}
 use Rattle.ot_conform.proofs.PrintedLines.{line_told}
+use Rattle.ot_conform.proofs.KnownKeys.{steps_known}
 
 -- no value of a line is `null`
 value_told : (v : Value) → is_told (Some (data_of v)) ≡ true
@@ -64,6 +66,8 @@ stands due printed shows formed =
       counts = λ bytes c is.
           ap (with_port_line c) (line_told printed bytes formed (saying.under key.At) is)
           ∙ same_counts (λ k. tells k (line_data printed)) (λ k. has k printed) c (tells_has printed (line_data printed) saying);
+      known = λ bytes number ns is.
+          ap (λ (port : PortLine). with_unknown number port ns) (line_told printed bytes formed (saying.under key.At) is) ∙ steps_known number printed ns;
     }
 
 -- the line of the instruction at the place where a comparison stands

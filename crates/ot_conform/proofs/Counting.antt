@@ -6,7 +6,7 @@ use Rattle.serde_json.specs.Data.{Data}
 use Rattle.ot_isa.specs.Program.{Program}
 use Rattle.ot_steps.specs.Lines.{Line}
 use Rattle.ot_steps.specs.Steps.{opening_line}
-use Rattle.ot_conform.specs.Counted.{are_zero, count_each, counted, counted_keys, is_nothing, no_counts, one_more, tells, with_line, with_port_line}
+use Rattle.ot_conform.specs.Counted.{are_nothing, count_each, counted, counted_keys, is_nothing, no_counts, one_more, tells, with_line, with_port_line}
 use Rattle.ot_conform.specs.Keys.{is_told}
 use Rattle.ot_conform.specs.Laws.{PlacesAreNotCounted, Say, Says, SaysLine, StepsAreCounted, place_with}
 use Rattle.ot_conform.specs.Ports.{PortLine, Told, OtherForm, NoText, Nothing}
@@ -45,7 +45,7 @@ not_zero : (n : ℕ) (b : Bool) → (n == 0) ≡ b → 1 ≤ n → b ≡ false
 not_zero n true zero some = absurd (omega (arith, eqb-true n 0 zero, some))
 not_zero n false zero some = refl
 
-not_all_zero : (ns : List ℕ) → 1 ≤ first ns → are_zero ns ≡ false
+not_all_zero : (ns : List ℕ) → 1 ≤ first ns → are_nothing counted_keys ns ≡ false
 not_all_zero [] some = absurd (omega (arith, some))
 not_all_zero (n ∷ ns) some = let there : (n == 0) ≡ false = not_zero n (n == 0) refl some in rw there refl
 
@@ -70,13 +70,27 @@ run_counts s others (port ∷ ports) say = not_all_zero (counted no_counts (port
 pub steps_are_counted : StepsAreCounted
 steps_are_counted documents s stopped lines ports are say = run_counts s _ ports (subst (λ (ls : List Line). Say ls ports) are.are say)
 
--- ---- places, with messages or without
+-- ---- places, with clients and messages or without
 
-place_not_counted : (n : ℕ) (message : Option Data) → with_port_line no_counts (place_with n message) ≡ no_counts
-place_not_counted n None = refl
-place_not_counted n (Some message) = refl
+-- so many clients and nothing else
+abbrev clients_alone : ℕ → Counts
+clients_alone n = record { values = 0 ∷ 0 ∷ 0 ∷ 0 ∷ n ∷ 0 ∷ 0 ∷ 0 ∷ 0 ∷ 0 ∷ 0 ∷ 0 ∷ 0 ∷ 0 ∷ 0 ∷ [] }
+
+abbrev one_client : Option ℕ → ℕ → ℕ
+one_client None n = n
+one_client (Some c) n = one_more true n
+
+place_not_counted : (at n : ℕ) (client : Option ℕ) (message : Option Data) → with_port_line (clients_alone n) (place_with at client message) ≡ clients_alone (one_client client n)
+place_not_counted at n None None = refl
+place_not_counted at n None (Some message) = refl
+place_not_counted at n (Some c) None = refl
+place_not_counted at n (Some c) (Some message) = refl
+
+none_counted : (n : ℕ) (lines : List (ℕ × Option ℕ × Option Data)) → is_nothing (counted (clients_alone n) (map (λ (l : ℕ × Option ℕ × Option Data). place_with l.0 l.1 l.2) lines)) ≡ true
+none_counted n [] = refl
+none_counted n (line ∷ lines) =
+    ap (λ (c : Counts). is_nothing (counted c (map (λ (l : ℕ × Option ℕ × Option Data). place_with l.0 l.1 l.2) lines))) (place_not_counted line.0 n line.1 line.2)
+    ∙ none_counted (one_client line.1 n) lines
 
 pub places_are_not_counted : PlacesAreNotCounted
-places_are_not_counted [] = refl
-places_are_not_counted (line ∷ lines) =
-    ap (λ (c : Counts). is_nothing (counted c (map (λ (l : ℕ × Option Data). place_with l.0 l.1) lines))) (place_not_counted line.0 line.1) ∙ places_are_not_counted lines
+places_are_not_counted lines = none_counted 0 lines

@@ -1,5 +1,5 @@
 -- Lines that agree, one after the other.
-use Rattle.std.proofs.Common.{◌≡◌, ℕ, suc, ◌+◌, ◌==◌, List, [], ◌∷◌, ◌++◌, length, length-append, Bool, true, false, Option, Some, None, refl, sym, ap, ◌∙◌, subst, append_assoc, append-nil, inl, inr, arith}
+use Rattle.std.proofs.Common.{◌≡◌, ℕ, suc, ◌+◌, ◌==◌, List, [], ◌∷◌, ◌++◌, length, Bool, true, false, Option, Some, None, refl, sym, ap, ◌∙◌, subst, append_assoc, append-nil, inl, inr, arith}
 use Rattle.std.proofs.lemmas.Bool.{eqb-true}
 use Rattle.std.specs.Prelude.{◌-◌, ◌^◌, min, IfSome, ⊤}
 use Rattle.std.specs.Str.{is_utf8}
@@ -133,36 +133,16 @@ pub record IsUnderWay (sparse : Bool) (s : Program) (c : Comparison) (count : �
   pub count_is : length lines ≡ count
   pub leads : Leads s (begun sparse s) (counted_lines lines) c
 
-nothing_taken : (input : Option (List ℕ)) → TakesLines input input []
+pub nothing_taken : (input : Option (List ℕ)) → TakesLines input input []
 nothing_taken None = tt
 nothing_taken (Some text) = refl
 
-pub is_begun : (sparse : Bool) (s : Program) (c : Comparison) (input : Option (List ℕ)) → c ≡ begun sparse s → IsUnderWay sparse s c 0 input input
-is_begun sparse s c input is =
-    subst (λ (x : Comparison). IsUnderWay sparse s x 0 input input) (sym is)
-    (record {
-      lines = [];
-      taken = nothing_taken input;
-      count_is = refl;
-      leads = stays s (begun sparse s) (record { shown = []; at = refl; opening = refl });
-    })
-
-takes_more : (input left next : Option (List ℕ)) (lines : List (List ℕ)) (line : List ℕ) → TakesLines input left lines → TakesLine left next true line → TakesLines input next (lines ++ line ∷ [])
+pub takes_more : (input left next : Option (List ℕ)) (lines : List (List ℕ)) (line : List ℕ) → TakesLines input left lines → TakesLine left next true line → TakesLines input next (lines ++ line ∷ [])
 takes_more None left next lines line taken more = tt
 takes_more (Some text) None next lines line taken more = absurd taken
 takes_more (Some text) (Some rest) None lines line taken more = absurd more
 takes_more (Some text) (Some rest) (Some behind) lines line taken more =
     taken ∙ ap (λ ls. lines ++ ls) more ∙ sym (append_assoc lines (line ∷ []) (lines_of behind))
-
-pub goes_further : (sparse : Bool) (s : Program) (c c' : Comparison) (count : ℕ) (input left next : Option (List ℕ)) (line : List ℕ) → IsUnderWay sparse s c count input left → TakesLine left next true line → Leads s c (counted_lines (line ∷ [])) c'
-    → IsUnderWay sparse s c' (count + 1) input next
-goes_further sparse s c c' count input left next line way more leads =
-    record {
-      lines = way.lines ++ line ∷ [];
-      taken = takes_more input left next way.lines line way.taken more;
-      count_is = length-append way.lines (line ∷ []) ∙ ap (λ n. n + 1) way.count_is;
-      leads = subst (λ (ls : List PortLine). Leads s (begun sparse s) ls c') (sym (counted-append way.lines (line ∷ []))) (leads_on s (begun sparse s) c c' (counted_lines way.lines) (counted_lines (line ∷ [])) way.leads leads);
-    }
 
 -- ---- verdicts
 
@@ -183,7 +163,7 @@ unfolding lines_of
 no_lines bytes e = ap lines_of e
 
 -- no line is left
-all_taken : (text rest : List ℕ) (lines : List (List ℕ)) → lines_of text ≡ lines ++ lines_of rest → rest ≡ [] → lines_of text ≡ lines
+pub all_taken : (text rest : List ℕ) (lines : List (List ℕ)) → lines_of text ≡ lines ++ lines_of rest → rest ≡ [] → lines_of text ≡ lines
 all_taken text rest lines taken none = taken ∙ ap (λ ls. lines ++ ls) (no_lines rest none) ∙ append-nil lines
 
 pub finished : (sparse : Bool) (s : Program) (c : Comparison) (count : ℕ) (input left next : Option (List ℕ)) (line : List ℕ) (v : Verdict) → IsUnderWay sparse s c count input left → TakesLine left next false line
@@ -252,8 +232,12 @@ stops_behind sparse s c count earlier (Some text) left stop way number = go left
         }
 
 -- nothing was compared
+none_way : (sparse : Bool) (s : Program) (input : Option (List ℕ)) → IsUnderWay sparse s (begun sparse s) 0 input input
+none_way sparse s input =
+    record { lines = []; taken = nothing_taken input; count_is = refl; leads = stays s (begun sparse s) (record { shown = []; at = refl; opening = refl }) }
+
 none_compared : (sparse : Bool) (s : Program) (earlier : ℕ) (input : Option (List ℕ)) (stop : CompareStop) → IsNumber stop (earlier + 0) → IfSome input (λ text. StopsBehind sparse s stop earlier (lines_of text))
-none_compared sparse s earlier input stop number = stops_behind sparse s (begun sparse s) 0 earlier input input stop (is_begun sparse s (begun sparse s) input refl) number
+none_compared sparse s earlier input stop number = stops_behind sparse s (begun sparse s) 0 earlier input input stop (none_way sparse s input) number
 
 -- if memory runs out
 pub memory_at_first : (sparse : Bool) (s : Program) (earlier number : ℕ) (input : Option (List ℕ)) → number ≡ min (earlier + 1) (2 ^ 64 - 1) → IfSome input (λ text. StopsBehind sparse s (Memory number) earlier (lines_of text))

@@ -6,6 +6,7 @@ pub mod Fronts
 pub mod Going
 pub mod Settling
 pub mod Leading
+pub mod Naming
 pub mod Conforming
 pub mod Selecting
 pub mod Scalars
@@ -14,6 +15,7 @@ pub mod FormedLines
 pub mod LineTrees
 pub mod LineMembers
 pub mod LineSays
+pub mod KnownKeys
 pub mod PrintedLines
 pub mod Printed
 pub mod DueLines

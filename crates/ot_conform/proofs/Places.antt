@@ -1,10 +1,10 @@
 -- Keys and their counts, from a place on.
-use Rattle.std.proofs.Common.{◌≡◌, ℕ, ◌+◌, ◌<◌, ◌≤◌, List, [], ◌∷◌, ◌++◌, length, take, drop, get_or, Bool, refl, sym, ap, ◌∙◌, inl, inr, arith, add-one, append_assoc, drop-cons}
-use Rattle.std.specs.Prelude.{◌⊎◌, slice_set}
+use Rattle.std.proofs.Common.{◌≡◌, ℕ, ◌+◌, ◌<◌, ◌≤◌, List, [], ◌∷◌, ◌++◌, length, take, drop, get_or, Bool, true, refl, sym, ap, ◌∙◌, inl, inr, arith, add-one, append_assoc, drop-cons}
+use Rattle.std.specs.Prelude.{◌⊎◌, ◌&&◌, slice_set}
 use Rattle.std.proofs.lemmas.Bool.{cases_lt}
 use Rattle.std.proofs.lemmas.List.{drop-set-lt, drop_all, set_past, take-append-drop, take_more_set}
 use Rattle.ot_conform.specs.Answers.{count_name, count_text, counts_text}
-use Rattle.ot_conform.specs.Counted.{count_each, one_more}
+use Rattle.ot_conform.specs.Counted.{are_nothing, count_each, one_more, shows_nothing}
 use Rattle.ot_steps.specs.declared.key.Key.{Key}
 
 pub at_place : {A : Type 0} (xs : List A) (i : ℕ) (x : A) → i < length xs → drop i xs ≡ get_or xs i x ∷ drop (i + 1) xs
@@ -58,3 +58,17 @@ text_next ks ns i k d in_ks in_ns =
 
 pub text_done : (ks : List Key) (ns : List ℕ) (i : ℕ) → length ks ≤ i → counts_text (drop i ks) (drop i ns) ≡ []
 text_done ks ns i past = ap (λ (xs : List Key). counts_text xs (drop i ns)) (drop_all i ks past)
+
+-- whether the counts from there on are nothing
+nothing_next : (ks : List Key) (ns : List ℕ) (i : ℕ) (k : Key) (d : ℕ) → i < length ks → i < length ns
+    → are_nothing (drop i ks) (drop i ns) ≡ (shows_nothing (get_or ks i k) (get_or ns i d) && are_nothing (drop (i + 1) ks) (drop (i + 1) ns))
+nothing_next ks ns i k d in_ks in_ns =
+    ap (λ (xs : List Key). are_nothing xs (drop i ns)) (at_place ks i k in_ks)
+    ∙ ap (are_nothing (get_or ks i k ∷ drop (i + 1) ks)) (at_place ns i d in_ns)
+
+pub nothing_goes : (ks : List Key) (ns : List ℕ) (i : ℕ) (k : Key) (d : ℕ) (b : Bool) → i < length ks → i < length ns → shows_nothing (get_or ks i k) (get_or ns i d) ≡ b
+    → are_nothing (drop i ks) (drop i ns) ≡ (b && are_nothing (drop (i + 1) ks) (drop (i + 1) ns))
+nothing_goes ks ns i k d b in_ks in_ns is = nothing_next ks ns i k d in_ks in_ns ∙ ap (λ (c : Bool). c && are_nothing (drop (i + 1) ks) (drop (i + 1) ns)) is
+
+pub nothing_done : (ks : List Key) (ns : List ℕ) (i : ℕ) → length ks ≤ i → are_nothing (drop i ks) (drop i ns) ≡ true
+nothing_done ks ns i past = ap (λ (xs : List Key). are_nothing xs (drop i ns)) (drop_all i ks past)

@@ -1,9 +1,10 @@
 -- What is answered.
-use Rattle.std.specs.Prelude.{◌≡◌, ℕ, suc, ◌-◌, ◌==◌, List, [], ◌∷◌, ◌++◌, Bool, true, false, MatchBool, Option, Some, None, codes, decimal, string_bytes, ◌||◌, unwrap_or, option_map, option_and_then, if◌then◌else◌}
+use Rattle.std.specs.Prelude.{◌≡◌, ℕ, suc, ◌-◌, ◌==◌, List, [], ◌∷◌, ◌++◌, Bool, true, false, MatchBool, Option, Some, None, is_some, codes, decimal, string_bytes, ◌||◌, unwrap_or, option_map, option_and_then, if◌then◌else◌}
 use Rattle.std.specs.Str.{chars}
 use Rattle.json.specs.Print.{quoted}
 use Rattle.serde_json.specs.Data.{Data}
-use Rattle.serde_json.specs.Find.{as_str, get}
+use Rattle.serde_json.specs.Find.{as_object, as_str, get}
+use Rattle.serde_json.specs.Read.{read}
 use Rattle.serde_json.specs.Written.{compact_text, has_float, IsInOrder}
 use Rattle.ot_isa.specs.Program.{client_of}
 use Rattle.ot_isa.specs.declared.instruction.Instr.{Instr}
@@ -20,6 +21,8 @@ use Rattle.ot_conform.specs.Ports.{PortLine, Told, OtherForm, NoText, Nothing}
 use Rattle.ot_conform.specs.Counted.{counted_keys, is_nothing, tells}
 use Rattle.ot_conform.specs.Received.{received_value}
 use Rattle.ot_conform.specs.declared.answers.Difference.{Difference}
+use Rattle.ot_conform.specs.declared.malformed.Malformed.{Malformed}
+use Rattle.ot_conform.specs.declared.malformed.Malformed.TheVariants as form
 use Rattle.ot_conform.specs.declared.counts.Counts.{Counts}
 use Rattle.ot_steps.specs.declared.key.Key.{Key}
 use Rattle.ot_steps.specs.declared.key.Key.TheVariants as key
@@ -154,6 +157,24 @@ number_of (Instruction i) None at = number_before at
 number_of (Instruction i) (Some refusal) at = None
 number_of End stopped at = None
 
+-- a line of another form has no instruction
+abbrev pub number_told : PortLine → Option ℕ → Option ℕ
+number_told (Told d) number = number
+number_told (OtherForm bytes) number = None
+number_told NoText number = None
+number_told Nothing number = number
+
+-- what is wrong with a text that is no object with a place
+abbrev pub form_of : Option Data → Malformed
+form_of None = form.NoObject
+form_of (Some d) = if is_some (as_object d) then (if is_some (get (codes "at") d) then form.BadPlace else form.NoPlace) else form.NoObject
+
+abbrev pub malformed : PortLine → Option Malformed
+malformed (Told d) = None
+malformed (OtherForm bytes) = Some (form_of (read bytes))
+malformed NoText = None
+malformed Nothing = None
+
 -- a line that differs at a field
 pub record IsDifference (due : DueLine) (f : Field) (line : PortLine) (d : Difference) : Type 0 where
   pub place : d.place ≡ due.line.at
@@ -164,7 +185,8 @@ pub record IsDifference (due : DueLine) (f : Field) (line : PortLine) (d : Diffe
   pub wanted : string_bytes d.wanted ≡ wanted_text f due
   pub front : d.front ≡ front_at f due.line line
   pub operation : d.tells_operation ≡ tells_operation line
-  pub number : d.number ≡ number_of due.what due.line.stopped due.line.at
+  pub number : d.number ≡ number_told line (number_of due.what due.line.stopped due.line.at)
+  pub malformed : d.malformed ≡ malformed line
 
 -- a line differs from the one that is due, and this is the difference
 abbrev pub IsCompared : DueLine → PortLine → Difference → Type 0
@@ -181,6 +203,7 @@ pub record IsLeftOver (last : ℕ) (left : PortLine) (d : Difference) : Type 0 w
   pub front : d.front ≡ None
   pub operation : d.tells_operation ≡ false
   pub number : d.number ≡ None
+  pub malformed : d.malformed ≡ malformed left
 
 abbrev pub IsDifferenceOf : Outcome → Difference → Type 0
 IsDifferenceOf Conforms d = ⊥
@@ -195,6 +218,16 @@ wanted_row f text = codes "ot.js " ++ line text
 abbrev pub front_rows : Option ℕ → List ℕ
 front_rows None = []
 front_rows (Some n) = codes "place " ++ line (decimal n)
+
+-- what is wrong with the line, as a note
+abbrev pub malformed_sentence : Malformed → List ℕ
+malformed_sentence form.NoObject = codes "the line is no JSON object"
+malformed_sentence form.NoPlace = codes "the line has no \"at\""
+malformed_sentence form.BadPlace = codes "\"at\" is no whole number from 0 on"
+
+abbrev pub malformed_rows : Option Malformed → List ℕ
+malformed_rows None = []
+malformed_rows (Some m) = codes "note " ++ line (malformed_sentence m)
 
 abbrev pub found_row : List ℕ → List ℕ
 found_row found = codes "found " ++ line found
@@ -218,9 +251,9 @@ counts_text [] ns = []
 counts_text (k ∷ ks) [] = []
 counts_text (k ∷ ks) (n ∷ ns) = count_text (count_name k) n ++ counts_text ks ns
 
--- where no value is counted, the port does not conform
+-- where nothing is counted, the port does not conform
 abbrev pub agreement_head : Bool → List ℕ
-agreement_head true = codes "nothing counted\ncompared"
+agreement_head true = codes "nothing compared\ncompared"
 agreement_head false = codes "conforms\ncompared"
 
 abbrev pub agreement_text : Counts → List ℕ

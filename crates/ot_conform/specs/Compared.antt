@@ -1,5 +1,5 @@
 -- What comes of comparing the lines of an input.
-use Rattle.std.specs.Prelude.{◌≡◌, ◌⊎◌, ◌+◌, ◌-◌, ◌^◌, min, ℕ, Bool, List, ◌++◌, length, if◌then◌else◌}
+use Rattle.std.specs.Prelude.{◌≡◌, ◌⊎◌, ◌+◌, ◌-◌, ◌^◌, min, ℕ, Bool, false, List, [], ◌∷◌, ◌++◌, length, take, if◌then◌else◌}
 use Rattle.ot_isa.specs.Program.{Program}
 use Rattle.ot_model.specs.declared.shown.Refusal.{Refusal}
 use Rattle.ot_model.specs.declared.shown.Refusal.TheVariants.{Memory}
@@ -7,8 +7,10 @@ use Rattle.ot_conform.specs.Answers.{IsDifferenceOf}
 use Rattle.ot_conform.specs.Counted.{counted, is_nothing, no_counts}
 use Rattle.ot_conform.specs.Differences as differences
 use Rattle.ot_conform.specs.Differences.{outcome}
-use Rattle.ot_conform.specs.Ports.{PortLine, counted_lines, front}
-use Rattle.ot_conform.specs.Standing.{IsPassed, IsStanding, begun, rest}
+use Rattle.ot_asm.specs.Words.{trimmed}
+use Rattle.ot_conform.specs.Ports.{PortLine, Nothing, counted_lines, front, is_empty, port_line}
+use Rattle.ot_conform.specs.Standing.{IsPassed, IsStanding, IsVerdict, begun, rest}
+use Rattle.ot_conform.specs.Unknown.{Named, with_unknown_lines}
 use Rattle.ot_conform.specs.declared.comparison.Comparison.{Comparison}
 use Rattle.ot_conform.specs.declared.comparison.Verdict.{Verdict}
 use Rattle.ot_conform.specs.declared.comparison.Verdict.TheVariants.{Conforms, Differs, Stopped}
@@ -54,6 +56,22 @@ pub record StopsBehind (sparse : Bool) (s : Program) (stop : CompareStop) (earli
   pub here : Comparison
   pub leads : Leads s (begun sparse s) (counted_lines lines) here
   pub number : IsNumber stop (earlier + length lines)
+
+-- what is next decides: there is no line, or it is one that counts, whatever stands behind it
+abbrev pub DecidesAt : Program → Comparison → List (List ℕ) → Verdict → Type 0
+DecidesAt s here [] verdict = IsVerdict here Nothing (rest s here []) verdict
+DecidesAt s here (line ∷ behind) verdict =
+    (is_empty (trimmed line) ≡ false) × ((more : List (List ℕ)) → IsVerdict here (port_line (trimmed line)) (rest s here (counted_lines (line ∷ more))) verdict)
+
+-- the first of these lines agree, and the next one, or that there is none, decides; the keys are those of all of them, behind so many lines
+pub record NamesKeys (sparse : Bool) (s : Program) (earlier : ℕ) (all : List (List ℕ)) (verdict : Verdict) (keys : List Named) : Type 0 where
+  pub lines : List (List ℕ)
+  pub behind : List (List ℕ)
+  pub are : all ≡ lines ++ behind
+  pub here : Comparison
+  pub leads : Leads s (begun sparse s) (counted_lines lines) here
+  pub decides : DecidesAt s here behind verdict
+  pub keys_are : keys ≡ with_unknown_lines earlier (lines ++ take 1 behind) []
 
 -- the verdict's status: that nothing differs is none of conforming where no value is counted
 abbrev pub verdict_status : Verdict → ℕ

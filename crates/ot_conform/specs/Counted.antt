@@ -1,5 +1,5 @@
 -- How much of a port's lines was compared.
-use Rattle.std.specs.Prelude.{ℕ, ◌+◌, ◌-◌, ◌^◌, ◌==◌, ◌&&◌, min, List, [], ◌∷◌, map, Bool, true, is_some, if◌then◌else◌}
+use Rattle.std.specs.Prelude.{ℕ, ◌+◌, ◌-◌, ◌^◌, ◌==◌, ◌&&◌, ◌||◌, min, List, [], ◌∷◌, map, Bool, true, false, not, is_some, if◌then◌else◌}
 use Rattle.serde_json.specs.Data.{Data}
 use Rattle.ot_steps.specs.Lines.{Line}
 use Rattle.ot_conform.specs.Keys.{found_at, is_told}
@@ -68,10 +68,19 @@ abbrev pub counted : Counts → List PortLine → Counts
 counted c [] = c
 counted c (line ∷ lines) = counted (with_port_line c line) lines
 
--- no value is counted
-abbrev pub are_zero : List ℕ → Bool
-are_zero [] = true
-are_zero (n ∷ ns) = n == 0 && are_zero ns
+-- the client says of which instruction a line is, as its place does, and no more
+abbrev pub says_more : Key → Bool
+says_more key.Client = false
+says_more _ = true
+
+abbrev pub shows_nothing : Key → ℕ → Bool
+shows_nothing k n = not (says_more k) || n == 0
+
+-- no value is counted that says more
+abbrev pub are_nothing : List Key → List ℕ → Bool
+are_nothing [] ns = true
+are_nothing (k ∷ ks) [] = true
+are_nothing (k ∷ ks) (n ∷ ns) = shows_nothing k n && are_nothing ks ns
 
 abbrev pub is_nothing : Counts → Bool
-is_nothing c = are_zero c.values
+is_nothing c = are_nothing counted_keys c.values

@@ -1,7 +1,7 @@
 -- What comes of the lines of `steps` themselves.
 use Rattle.std.specs.Prelude.{◌≡◌, ◌≢◌, ◌||◌, ℕ, List, [], ◌∷◌, map, Bool, false, true, Option, Some, None, codes, is_some, option_map, if◌then◌else◌}
 use Rattle.std.specs.Str.{encode_utf8_all}
-use Rattle.serde_json.specs.Data.{Data, null, boolean, number, unsigned, string, array, object, no_members, member, put}
+use Rattle.serde_json.specs.Data.{Data, null, boolean, number, unsigned, string, array, object, Members, no_members, member, put}
 use Rattle.serde_json.specs.Find.{get}
 use Rattle.streams.specs.Lines.{lines_of}
 use Rattle.ot_operation.specs.Run.{normal_runs}
@@ -151,15 +151,22 @@ StepsAreCounted =
     (documents : Bool) (s : Program) (stopped : Option (ℕ × Refusal)) (lines : List Line) (ports : List PortLine)
     → AreRunLines documents s stopped lines → Say lines ports → is_nothing (counted no_counts ports) ≡ false
 
--- an object with a place alone
+-- an object with a place, and a client and a message where they are given
+abbrev pub message_member : Option Data → Members
+message_member None = no_members
+message_member (Some message) = member (codes "message") message no_members
+
+abbrev pub client_member : Option ℕ → Members → Members
+client_member None ms = ms
+client_member (Some c) ms = member (codes "client") (number (unsigned c)) ms
+
+abbrev pub place_with : ℕ → Option ℕ → Option Data → PortLine
+place_with n client message = Told (object (member (codes "at") (number (unsigned n)) (client_member client (message_member message))))
+
+-- a place alone
 abbrev pub place_alone : ℕ → PortLine
-place_alone n = Told (object (member (codes "at") (number (unsigned n)) no_members))
+place_alone n = place_with n None None
 
--- an object with a place, and a message where one is given
-abbrev pub place_with : ℕ → Option Data → PortLine
-place_with n None = place_alone n
-place_with n (Some message) = Told (object (member (codes "at") (number (unsigned n)) (member (codes "message") message no_members)))
-
--- of lines with places and messages alone nothing is counted
+-- of lines with places, clients and messages alone nothing is counted
 abbrev pub PlacesAreNotCounted : Type 0
-PlacesAreNotCounted = (lines : List (ℕ × Option Data)) → is_nothing (counted no_counts (map (λ (l : ℕ × Option Data). place_with l.0 l.1) lines)) ≡ true
+PlacesAreNotCounted = (lines : List (ℕ × Option ℕ × Option Data)) → is_nothing (counted no_counts (map (λ (l : ℕ × Option ℕ × Option Data). place_with l.0 l.1 l.2) lines)) ≡ true

@@ -1,5 +1,6 @@
 pub mod Keys
 pub mod Ports
+pub mod Unknown
 pub mod Read
 pub mod Counted
 pub mod Received

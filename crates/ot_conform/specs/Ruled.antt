@@ -4,7 +4,7 @@ use Rattle.ot_isa.specs.Program.{Program}
 use Rattle.ot_report.specs.Printed.{stop_line}
 use Rattle.ot_rules.specs.Explained.{Explains}
 use Rattle.ot_rules.specs.Notes as notes
-use Rattle.ot_conform.specs.Answers.{agreement_text, difference_text}
+use Rattle.ot_conform.specs.Answers.{agreement_text, difference_text, malformed_rows}
 use Rattle.ot_conform.specs.Points.{difference_points}
 use Rattle.ot_conform.specs.declared.answers.Difference.{Difference}
 use Rattle.ot_conform.specs.declared.comparison.Verdict.{Verdict}
@@ -30,11 +30,11 @@ abbrev pub AreRules : Program → Option ℕ → Field → Difference → List �
 AreRules s None f d text = text ≡ []
 AreRules s (Some number) f d text = AreFieldRules s number f d text
 
--- the rows of a difference, the code points of what may look alike, and behind them what the rules say
+-- the rows of a difference, the code points of what may look alike, what is wrong with the port's line, and behind them what the rules say
 pub record IsDifferenceText (s : Program) (d : Difference) (text : List ℕ) : Type 0 where
   pub rules : List ℕ
   pub said : AreRules s d.number d.field d rules
-  pub is : text ≡ difference_text d ++ (difference_points d ++ rules)
+  pub is : text ≡ difference_text d ++ (difference_points d ++ (malformed_rows d.malformed ++ rules))
 
 -- the lines of the answer
 abbrev pub IsAnswer : Program → Verdict → List ℕ → Type 0

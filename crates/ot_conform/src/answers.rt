@@ -4,7 +4,7 @@ ghost use Rattle.std.specs.Prelude.{◌≡◌, IfOk, codes, option_and_then, opt
 ghost use Rattle.std.specs.Str.{chars};
 ghost use Rattle.serde_json.specs.Find.{as_str};
 ghost use Rattle.serde_json.specs.View.{view};
-ghost use Rattle.ot_conform.specs.Answers.{IsDifference, IsFoundText, IsLeftOver, IsToldText, IsValueText, field_name, field_text, front_at, instr_text, is_theirs, same_front, tells_operation, told_front, wanted_text, what_text, with_owner};
+ghost use Rattle.ot_conform.specs.Answers.{IsDifference, IsFoundText, IsLeftOver, IsToldText, IsValueText, field_name, field_text, front_at, instr_text, is_theirs, number_told, same_front, tells_operation, told_front, wanted_text, what_text, with_owner};
 ghost use Rattle.json.specs.Print.{quoted};
 ghost use Rattle.ot_steps.specs.Held.{IsHeld, value_of};
 ghost use Rattle.ot_steps.specs.Text.{value_text};
@@ -15,6 +15,7 @@ ghost use Rattle.ot_conform.specs.Read.{read_as};
 use crate::due::Due;
 use crate::keys::{found, tells};
 use crate::lines::PortLine;
+use crate::malformed::{Malformed, malformed_line};
 use crate::meeting::Field;
 use ot_isa::Instr;
 use ot_steps::{Key, Line, Value as LineValue, key_text, placed_client, word};
@@ -40,8 +41,10 @@ pub struct Difference {
     pub front: Option<usize>,
     /// Whether the port's line has the operation that the instruction applied.
     pub tells_operation: bool,
-    /// The number of the instruction that was performed there, counted from 0.
+    /// The number of the instruction that was performed there, counted from 0; none where the port's line is malformed.
     pub number: Option<usize>,
+    /// What is wrong with the port's line, where it is a text that is no object with a place.
+    pub malformed: Option<Malformed>,
 }
 
 // The instruction's word, and its client.
@@ -138,8 +141,8 @@ fn told_text(alloc: Global, line: &Value, field: Field) -> Result<String, AllocE
     }
 }
 
-// A text as a JSON string.
-fn quoted(alloc: Global, text: &str) -> Result<String, AllocError>
+/// A text as a JSON string.
+pub(crate) fn quoted(alloc: Global, text: &str) -> Result<String, AllocError>
     ensures { IfOk result (λ s. string_bytes s ≡ quoted text.now) }
 {
     let text = String::from_str(alloc, text)?;
@@ -261,6 +264,17 @@ fn tells_operation(line: &PortLine<'_>) -> bool
     }
 }
 
+// A line of another form has no instruction.
+fn number_told(line: &PortLine<'_>, number: Option<usize>) -> Option<usize>
+    ensures { result ≡ number_told (read_as line.now) number }
+{
+    match line {
+        PortLine::OtherForm(_) => None,
+        PortLine::NoText => None,
+        _ => number,
+    }
+}
+
 /// The difference of a port's line from the one that is due, at a field.
 pub fn differs(
     alloc: Global,
@@ -280,7 +294,8 @@ pub fn differs(
         wanted: wanted_text(alloc, due, field)?,
         front: front(alloc, line, due, field)?,
         tells_operation: tells_operation(line),
-        number: due.number(),
+        number: number_told(line, due.number()),
+        malformed: malformed_line(alloc, line)?,
     })
 }
 
@@ -298,5 +313,6 @@ pub fn left_over(alloc: Global, place: usize, line: &PortLine<'_>) -> Result<Dif
         front: None,
         tells_operation: false,
         number: None,
+        malformed: malformed_line(alloc, line)?,
     })
 }

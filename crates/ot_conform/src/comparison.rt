@@ -1,21 +1,23 @@
 //! A port's lines against a run, one line after the other.
 
-ghost use Rattle.std.specs.Prelude.{◌≡◌, Bool, IfOk};
+ghost use Rattle.std.specs.Prelude.{◌≡◌, Bool, IfOk, List, OnOk, ℕ};
 ghost use Rattle.ot_steps.specs.Held.{IsHeld, printed_of};
 ghost use Rattle.ot_conform.specs.Alike.{IsJudged, StandsFor};
 ghost use Rattle.ot_conform.specs.Counted.{with_port_line};
 ghost use Rattle.ot_conform.specs.Differences.{is_limit};
 ghost use Rattle.ot_conform.specs.Due.{due_of};
-ghost use Rattle.ot_conform.specs.Read.{given_as, read_as};
+ghost use Rattle.ot_conform.specs.Read.{given_as, notes_given, read_as};
+ghost use Rattle.ot_conform.specs.Unknown.{Named, all_named, with_unknown};
 
 use crate::answers::{Difference, differs, left_over};
 use crate::counts::Counts;
 use crate::due::Due;
-use crate::lines::{Given, PortLine, is_opening_line, read_line};
+use crate::lines::{Given, PortLine, is_opening_line, read_noted};
 use crate::meeting::meet;
 use crate::passing::{passes_step, passes_stop};
 use crate::received::Received;
 use crate::same_bytes::printed_form;
+use crate::unknown::UnknownKey;
 use ot_isa::{Instr, Schedule};
 use ot_machine::{Machine, Refusal};
 use ot_steps::{Line, Stop};
@@ -90,11 +92,14 @@ fn judge_given(
     alloc: Global,
     counts: &mut Counts,
     line: Given<'_>,
+    number: u64,
+    keys: &mut Vec<UnknownKey>,
     due: &Due<'_>,
 ) -> Result<Option<Verdict>, AllocError>
     requires there { IsHeld due.now.line }
     requires printed { (documents : Bool) → StandsFor (due_of due.now) (printed_of documents due.now.line) }
-    ensures { IfOk result (IsJudged counts.old counts.new (due_of due.now) (given_as line.entry)) }
+    ensures judged { IfOk result (IsJudged counts.old counts.new (due_of due.now) (given_as line.entry)) }
+    ensures noted { OnOk result (all_named keys.new.items ≡ notes_given number line.entry (all_named keys.old.items)) }
 {
     if let Given::Bytes(bytes) = &line {
         if let Some(documents) = printed_form(alloc, &due.line, bytes) {
@@ -102,7 +107,7 @@ fn judge_given(
             return Ok(None);
         }
     }
-    let line = line.read(alloc)?;
+    let line = line.read(alloc, number, keys)?;
     judge(alloc, counts, &line, due)
 }
 
@@ -117,7 +122,7 @@ fn is_limit(refusal: Refusal) -> bool
 }
 
 impl Comparison {
-    ghost use Rattle.std.specs.Prelude.{◌≡◌, ◌+◌, ◌^◌, ◌<◌, ◌≤◌, ◌&&◌, [], List, IfOk, IfSome, IsSome, None, Some, true, false, length, slice_get};
+    ghost use Rattle.std.specs.Prelude.{◌≡◌, ◌+◌, ◌^◌, ◌<◌, ◌≤◌, ◌&&◌, [], List, IfOk, IfSome, IsSome, None, OnOk, Some, true, false, length, slice_get};
     ghost use Rattle.ot_machine.specs.Answers.{IsRefusal};
     ghost use Rattle.ot_model.specs.Table.{step};
     ghost use Rattle.ot_conform.specs.Differences.{ending, over};
@@ -125,7 +130,8 @@ impl Comparison {
     ghost use Rattle.ot_steps.specs.Steps.{is_quiet};
     ghost use Rattle.ot_conform.specs.Due.{end_due};
     ghost use Rattle.ot_conform.specs.Ports.{PortLine as Printed, Nothing, front, is_nothing, is_opening_line, port_line};
-    ghost use Rattle.ot_conform.specs.Read.{given_as, read_as};
+    ghost use Rattle.ot_conform.specs.Read.{given_as, notes_given, read_as};
+    ghost use Rattle.ot_conform.specs.Unknown.{all_named, with_unknown};
     ghost use Rattle.ot_conform.specs.Standing.{AgreesAt, Goes, IsStanding, IsVerdict, Passes, begun, rest};
 
     /// A comparison with the schedule's run that stands at its opening; or out of memory, for the machine. Where it is `sparse`, an instruction
@@ -218,6 +224,8 @@ impl Comparison {
         instr: &Instr,
         refusal: Refusal,
         line: Given<'_>,
+        number: u64,
+        keys: &mut Vec<UnknownKey>,
     ) -> Result<Option<Verdict>, AllocError>
         requires standing { IsStanding schedule.now (record self.old { stage = Stage.Running }) }
         requires here { slice_get schedule.now.instrs self.old.place ≡ Some instr.now }
@@ -226,14 +234,15 @@ impl Comparison {
         ensures goes { IfOk result (λ v. v ≡ None → Goes schedule.now (record self.old { stage = Stage.Running }) (given_as line.entry) self.new) }
         ensures decided { IfOk result (λ v. IfSome v (λ verdict. (lines : List Printed) → IsVerdict self.old (given_as line.entry) (rest schedule.now (record self.old { stage = Stage.Running }) (front (given_as line.entry) lines)) verdict)) }
         ensures nothing { IfOk result (λ v. given_as line.entry ≡ Nothing → IsSome v) }
+        ensures noted { OnOk result (all_named keys.new.items ≡ notes_given number line.entry (all_named keys.old.items)) }
     {
+        let line = line.read(alloc, number, keys)?;
         if is_limit(refusal) {
             return Ok(Some(Verdict::Stopped {
                 place: self.place,
                 refusal,
             }));
         }
-        let line = line.read(alloc)?;
         if self.passes_refused(&line) {
             return self.take_end(alloc, &line);
         }
@@ -253,6 +262,8 @@ impl Comparison {
         schedule: &Schedule,
         instr: &Instr,
         line: Given<'_>,
+        number: u64,
+        keys: &mut Vec<UnknownKey>,
     ) -> Result<Option<Verdict>, AllocError>
         requires standing { IsStanding schedule.now (record self.old { stage = Stage.Running }) }
         requires here { slice_get schedule.now.instrs self.old.place ≡ Some instr.now }
@@ -261,13 +272,16 @@ impl Comparison {
         ensures goes { IfOk result (λ v. v ≡ None → Goes schedule.now (record self.old { stage = Stage.Running }) (given_as line.entry) self.new) }
         ensures decided { IfOk result (λ v. IfSome v (λ verdict. (lines : List Printed) → IsVerdict self.old (given_as line.entry) (rest schedule.now (record self.old { stage = Stage.Running }) (front (given_as line.entry) lines)) verdict)) }
         ensures nothing { IfOk result (λ v. given_as line.entry ≡ Nothing → IsSome v) }
+        ensures noted { OnOk result (all_named keys.new.items ≡ notes_given number line.entry (all_named keys.old.items)) }
     {
         // For the proof: the invariant of every schedule.
         let _clients = schedule.clients();
         let received = Received::of(&self.machine, instr)?;
         let effect = match self.machine.perform::<false>(instr) {
             Ok(effect) => effect,
-            Err(refusal) => return self.take_refused(alloc, schedule, instr, refusal, line),
+            Err(refusal) => {
+                return self.take_refused(alloc, schedule, instr, refusal, line, number, keys);
+            }
         };
         self.stage = Stage::Running;
         self.place += 1;
@@ -277,7 +291,7 @@ impl Comparison {
             line: step,
             received: &received,
         };
-        judge_given(alloc, &mut self.counts, line, &due)
+        judge_given(alloc, &mut self.counts, line, number, keys, &due)
     }
 
     // Performs the instructions at the place that the line passes over, up to one that is refused, and says why.
@@ -319,9 +333,13 @@ impl Comparison {
             return self.take_end(alloc, &line);
         };
         let line = Given::Read(line);
+        // A line that was read has its keys named already.
+        let mut none = Vec::new(alloc);
         match refusal {
-            Some(refusal) => self.take_refused(alloc, schedule, instr, refusal, line),
-            None => self.take_step(alloc, schedule, instr, line),
+            Some(refusal) => {
+                self.take_refused(alloc, schedule, instr, refusal, line, 0, &mut none)
+            }
+            None => self.take_step(alloc, schedule, instr, line, 0, &mut none),
         }
     }
 
@@ -359,24 +377,27 @@ impl Comparison {
         }
     }
 
-    /// The same of the bytes of the port's next counted line, which are read only where they are not those of the line that `steps` prints
-    /// of the instruction at the place.
+    /// The same of the bytes of the port's next counted line, the one of this number, whose unknown keys are named. They are read only where
+    /// they are not those of the line that `steps` prints of the instruction at the place.
     pub fn take_bytes(
         &mut self,
         alloc: Global,
         schedule: &Schedule,
         bytes: &[u8],
+        number: u64,
+        keys: &mut Vec<UnknownKey>,
     ) -> Result<Option<Verdict>, AllocError>
         requires { IsStanding schedule.now self.old }
         ensures goes { IfOk result (λ v. v ≡ None → Goes schedule.now self.old (port_line bytes.now) self.new) }
         ensures decided { IfOk result (λ v. IfSome v (λ verdict. (lines : List Printed) → IsVerdict self.old (port_line bytes.now) (rest schedule.now self.old (front (port_line bytes.now) lines)) verdict)) }
+        ensures noted { OnOk result (all_named keys.new.items ≡ with_unknown number (port_line bytes.now) (all_named keys.old.items)) }
     {
         match (self.stage, schedule.get(self.place)) {
             (Stage::Running, Some(instr)) if !self.sparse => {
-                self.take_step(alloc, schedule, instr, Given::Bytes(bytes))
+                self.take_step(alloc, schedule, instr, Given::Bytes(bytes), number, keys)
             }
             _ => {
-                let line = read_line(alloc, bytes)?;
+                let line = read_noted(alloc, number, keys, bytes)?;
                 self.take(alloc, schedule, line)
             }
         }

@@ -1,7 +1,7 @@
 //! How much of a port's lines was compared.
 
 ghost use Rattle.std.specs.Prelude.{◌≡◌};
-ghost use Rattle.ot_conform.specs.Counted.{has, one_more};
+ghost use Rattle.ot_conform.specs.Counted.{has, one_more, says_more, shows_nothing};
 ghost use Rattle.ot_steps.specs.Held.{IsHeld, printed_of};
 
 use crate::keys::tells;
@@ -38,6 +38,20 @@ fn one_more(told: bool, count: u64) -> u64
     ensures { result ≡ one_more told count }
 {
     if told { count.saturating_add(1) } else { count }
+}
+
+// Whether a value under the key says more than of which instruction the line is.
+fn says_more(key: Key) -> bool
+    ensures { result ≡ says_more key }
+{
+    !matches!(key, Key::Client)
+}
+
+// Whether a key's count shows nothing.
+fn shows_nothing(key: Key, count: u64) -> bool
+    ensures { result ≡ shows_nothing key count }
+{
+    !says_more(key) || count == 0
 }
 
 // Whether the line that `steps` prints has something under a key.
@@ -82,12 +96,12 @@ impl Counts {
         self
     }
 
-    /// Whether no value is counted: a port that printed places alone, whose lines agree and show nothing.
+    /// Whether no value is counted but clients: a port that printed places and clients alone, whose lines agree and show nothing.
     pub fn is_nothing(&self) -> bool
         ensures { result ≡ is_nothing self.now }
     {
-        for count in &self.values {
-            if *count != 0 {
+        for (place, key) in COUNTED.iter().enumerate() {
+            if !shows_nothing(*key, self.values[place]) {
                 return false;
             }
         }

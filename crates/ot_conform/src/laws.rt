@@ -30,7 +30,7 @@ pub fn steps_are_counted()
     ensures { StepsAreCounted }
 {}
 
-/// A port whose lines are places, with messages or without, gets that answer, wherever they agree.
+/// A port whose lines are places, with clients and messages or without, gets that answer, wherever they agree.
 pub fn places_are_not_counted()
     ensures { PlacesAreNotCounted }
 {}

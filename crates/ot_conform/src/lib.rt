@@ -16,6 +16,7 @@
 //!   a message that was changed on its way is not held against a method.
 //! - *Lines of `steps`* (`specs/Alike.antt`): where the port's bytes are those of the line that `steps` prints of an instruction, nothing is read
 //!   as JSON. That the answer is the same then is proved of each such line (`step_stands` in proofs/Alike.antt).
+//! - *Unknown keys* (`specs/Unknown.antt`): what stands under a key that no line of `steps` has is not compared, and the answer names the key.
 //! - *The first difference* (`specs/Differences.antt`): `field_of` of one line, `outcome` of all.
 //! - *Lines for some instructions* (`specs/Passed.antt`): a sparse comparison passes over what is due until a line's place; each line that is
 //!   there is compared as ever.
@@ -26,7 +27,7 @@
 //! - *Laws* (`specs/Laws.antt`): [`steps_conform`], that a port with the lines of `steps` conforms, and [`printed_steps_conform`], the same of
 //!   the bytes that `steps` prints; [`chosen_steps_conform`] and [`printed_chosen_steps_conform`], the same of any selection of those lines
 //!   where the comparison is sparse. [`steps_are_counted`] and [`places_are_not_counted`]: those lines are never said to show nothing, and
-//!   lines with places and messages alone always are. [`messages_conform`]: a port that conforms does so too where it prints the messages.
+//!   lines with places, clients and messages alone always are. [`messages_conform`]: a port that conforms does so too where it prints the messages.
 //! - *A comparison under way* (`specs/Standing.antt`, `specs/Compared.antt`): [`Comparison`] is a machine that goes along; no run is kept
 //!   whole, so memory is bounded by a line. [`compare_lines`] compares the lines of a reader as they come.
 //!
@@ -41,6 +42,7 @@ mod due;
 mod keys;
 mod laws;
 mod lines;
+mod malformed;
 mod meeting;
 mod passing;
 mod points;
@@ -49,6 +51,7 @@ mod reading;
 mod received;
 mod ruling;
 mod same_bytes;
+mod unknown;
 
 pub use answers::{Difference, differs, left_over};
 pub use comparison::{Comparison, Stage, Verdict};
@@ -60,7 +63,9 @@ pub use laws::{
     printed_steps_conform, steps_are_counted, steps_conform,
 };
 pub use lines::{PortLine, is_opening_line, read_line};
+pub use malformed::{Malformed, malformed_sentence};
 pub use meeting::{Field, meet};
 pub use printing::print_verdict;
-pub use reading::{CompareStop, compare_lines};
+pub use reading::{CompareStop, Compared, compare_lines};
 pub use received::Received;
+pub use unknown::{Part, UnknownKey, print_unknown};

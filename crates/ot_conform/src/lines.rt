@@ -1,10 +1,12 @@
 //! The lines that a port prints.
 
-ghost use Rattle.std.specs.Prelude.{◌≡◌, IfOk};
+ghost use Rattle.std.specs.Prelude.{◌≡◌, IfOk, OnOk};
 ghost use Rattle.ot_conform.specs.Ports.{is_opening_line, port_line};
-ghost use Rattle.ot_conform.specs.Read.{given_as, read_as};
+ghost use Rattle.ot_conform.specs.Read.{given_as, notes_given, read_as};
+ghost use Rattle.ot_conform.specs.Unknown.{all_named, with_unknown};
 
 use crate::keys::tells;
+use crate::unknown::{UnknownKey, note_line};
 use ot_asm::read_text;
 use ot_json::number_at;
 use ot_steps::Key;
@@ -49,13 +51,34 @@ pub fn read_line<'a>(alloc: Global, bytes: &'a [u8]) -> Result<PortLine<'a>, All
     Ok(PortLine::Told(value))
 }
 
+/// The line of this number, and its unknown keys are named; out of memory for its JSON value, or for them.
+pub(crate) fn read_noted<'a>(
+    alloc: Global,
+    number: u64,
+    keys: &mut Vec<UnknownKey>,
+    bytes: &'a [u8],
+) -> Result<PortLine<'a>, AllocError>
+    ensures read { IfOk result (λ line. read_as line ≡ port_line bytes.now) }
+    ensures noted { OnOk result (all_named keys.new.items ≡ with_unknown number (port_line bytes.now) (all_named keys.old.items)) }
+{
+    let line = read_line(alloc, bytes)?;
+    note_line(alloc, keys, &line, number)?;
+    Ok(line)
+}
+
 impl<'a> Given<'a> {
-    /// The line; out of memory only for its JSON value.
-    pub(crate) fn read(self, alloc: Global) -> Result<PortLine<'a>, AllocError>
-        ensures { IfOk result (λ line. read_as line ≡ given_as self.entry) }
+    /// The line, whose unknown keys are named where it is read here; out of memory as `read_noted`.
+    pub(crate) fn read(
+        self,
+        alloc: Global,
+        number: u64,
+        keys: &mut Vec<UnknownKey>,
+    ) -> Result<PortLine<'a>, AllocError>
+        ensures read { IfOk result (λ line. read_as line ≡ given_as self.entry) }
+        ensures noted { OnOk result (all_named keys.new.items ≡ notes_given number self.entry (all_named keys.old.items)) }
     {
         match self {
-            Given::Bytes(bytes) => read_line(alloc, bytes),
+            Given::Bytes(bytes) => read_noted(alloc, number, keys, bytes),
             Given::Read(line) => Ok(line),
         }
     }

@@ -3,11 +3,12 @@
 ghost use Rattle.std.specs.Prelude.{◌≡◌, ◌++◌, IfOk, OnOk, string_bytes};
 ghost use Rattle.ot_conform.specs.Counted.{counted_keys};
 ghost use Rattle.ot_conform.specs.Ruled.{IsAnswer, IsDifferenceText};
-ghost use Rattle.ot_conform.specs.Answers.{agreement_head, agreement_text, count_name, count_text, counts_text, difference_text, found_row, front_rows, head_row, wanted_row};
+ghost use Rattle.ot_conform.specs.Answers.{agreement_head, agreement_text, count_name, count_text, counts_text, difference_text, found_row, front_rows, head_row, malformed_rows, wanted_row};
 
 use crate::answers::Difference;
 use crate::comparison::Verdict;
 use crate::counts::{COUNTED, Counts};
+use crate::malformed::{Malformed, malformed_sentence};
 use crate::meeting::Field;
 use crate::points::points_rows;
 use crate::ruling::rules_of;
@@ -71,7 +72,7 @@ fn agreement_head(is_nothing: bool) -> &'static str
     ensures { result.now ≡ agreement_head is_nothing }
 {
     if is_nothing {
-        "nothing counted\ncompared"
+        "nothing compared\ncompared"
     } else {
         "conforms\ncompared"
     }
@@ -116,7 +117,21 @@ fn print_agreement(alloc: Global, counts: &Counts) -> Result<String, AllocError>
     Ok(text)
 }
 
-// The lines of a difference, the code points of what may look alike, and behind them what the rules of ot.js say of it.
+// What is wrong with the port's line, as a note.
+fn malformed_rows(alloc: Global, malformed: Option<Malformed>) -> Result<String, AllocError>
+    ensures { IfOk result (λ s. string_bytes s ≡ malformed_rows malformed) }
+{
+    match malformed {
+        Some(malformed) => {
+            let sentence = malformed_sentence(malformed);
+            format!(in alloc; "note {sentence}\n")
+        }
+        None => Ok(String::new(alloc)),
+    }
+}
+
+// The lines of a difference, the code points of what may look alike, and behind them what is wrong with the port's line, or what the
+// rules of ot.js say of it.
 fn print_explained(
     alloc: Global,
     schedule: &Schedule,
@@ -126,13 +141,15 @@ fn print_explained(
 {
     let mut text = print_difference(alloc, difference)?;
     let points = points_rows(alloc, difference.found.as_str(), difference.wanted.as_str())?;
+    let malformed = malformed_rows(alloc, difference.malformed)?;
     let rules = rules_of(alloc, schedule, difference)?;
     text.push_str(points.as_str())?;
+    text.push_str(malformed.as_str())?;
     text.push_str(rules.as_str())?;
     Ok(text)
 }
 
-/// The lines of a verdict on a port's lines for the schedule: `conforms` with how much was compared, or `nothing counted` where no value
+/// The lines of a verdict on a port's lines for the schedule: `conforms` with how much was compared, or `nothing compared` where no value
 /// was; the first difference with what was
 /// found, what ot.js has, for two texts how much of them is equal, the code points of what may look alike, and where an instruction was
 /// performed which rule of ot.js makes the value, if one does, what that is given, and the first note that is true of what was found; or

@@ -1,14 +1,16 @@
 //! A comparison over the lines of a reader.
 
-ghost use Rattle.std.specs.Prelude.{◌≡◌, ◌∷◌, [], ℕ, false, IfErr, IfOk, IfSome, List, None};
+ghost use Rattle.std.specs.Prelude.{◌≡◌, ◌∷◌, [], ℕ, false, IfErr, IfOk, IfSome, List, None, OnOk};
 ghost use Rattle.streams.specs.Lines.{lines_of};
 ghost use Rattle.streams.specs.Taken.{before};
-ghost use Rattle.ot_conform.specs.Compared.{IsVerdictOf, Leads, StopsBehind};
+ghost use Rattle.ot_conform.specs.Compared.{IsVerdictOf, Leads, NamesKeys, StopsBehind};
 ghost use Rattle.ot_asm.specs.Words.{trimmed};
 ghost use Rattle.ot_conform.specs.Ports.{Nothing, counted_lines, is_empty, port_line};
 ghost use Rattle.ot_conform.specs.Standing.{IsStanding, IsVerdict, rest};
+ghost use Rattle.ot_conform.specs.Unknown.{all_named, with_unknown_bytes};
 
 use crate::comparison::{Comparison, Verdict};
+use crate::unknown::UnknownKey;
 use ot_asm::trimmed;
 use ot_isa::Schedule;
 use std::alloc::{AllocError, Global};
@@ -24,22 +26,33 @@ pub enum CompareStop {
     Memory(u64),
 }
 
-// Compares one line; an empty one is passed over.
+/// What comes of comparing a port's lines.
+#[derive(Drop)]
+pub struct Compared {
+    pub verdict: Verdict,
+    /// The keys of the lines up to where that is decided which no line of `steps` has; the first sixteen of them.
+    pub unknown: Vec<UnknownKey>,
+}
+
+// Compares the line of this number, and names its unknown keys; an empty one is passed over.
 fn take_bytes(
     alloc: Global,
     schedule: &Schedule,
     comparison: &mut Comparison,
     line: &[u8],
+    number: u64,
+    keys: &mut Vec<UnknownKey>,
 ) -> Result<Option<Verdict>, AllocError>
     requires { IsStanding schedule.now comparison.old }
     ensures goes { IfOk result (λ v. v ≡ None → Leads schedule.now comparison.old (counted_lines (line.now ∷ [])) comparison.new) }
     ensures decided { IfOk result (λ v. IfSome v (λ verdict. (is_empty (trimmed line.now) ≡ false) × ((lines : List (List ℕ)) → IsVerdict comparison.old (port_line (trimmed line.now)) (rest schedule.now comparison.old (counted_lines (line.now ∷ lines))) verdict))) }
+    ensures noted { OnOk result (all_named keys.new.items ≡ with_unknown_bytes number line.now (all_named keys.old.items)) }
 {
     let text = trimmed(line);
     if text.is_empty() {
         return Ok(None);
     }
-    comparison.take_bytes(alloc, schedule, text)
+    comparison.take_bytes(alloc, schedule, text, number, keys)
 }
 
 // What comes of it where no line is left; this would be the next line's number.
@@ -60,7 +73,7 @@ fn finish(
 }
 
 /// Compares the lines that `ahead` and the reader have left with the schedule's run, as they come, and says what comes of it: what stands
-/// behind the first difference is not read. Where it is `sparse`, instructions without a line are passed over. `earlier` lines stand before these; the number of a line where the comparison stops counts
+/// behind the first difference is not read. The keys of these lines that no line of `steps` has are named. Where it is `sparse`, instructions without a line are passed over. `earlier` lines stand before these; the number of a line where the comparison stops counts
 /// them too.
 pub fn compare_lines<R: Read>(
     alloc: Global,
@@ -69,8 +82,9 @@ pub fn compare_lines<R: Read>(
     ahead: &mut ReadAhead,
     reader: &mut R,
     earlier: u64,
-) -> Result<Verdict, CompareStop>
-    ensures ok { IfOk result (λ verdict. IfSome (before ahead.old (R.remaining reader.old)) (λ text. IsVerdictOf sparse schedule.now (counted_lines (lines_of text)) verdict)) }
+) -> Result<Compared, CompareStop>
+    ensures ok { IfOk result (λ c. IfSome (before ahead.old (R.remaining reader.old)) (λ text. IsVerdictOf sparse schedule.now (counted_lines (lines_of text)) c.verdict)) }
+    ensures unknown { IfOk result (λ c. IfSome (before ahead.old (R.remaining reader.old)) (λ text. NamesKeys sparse schedule.now earlier (lines_of text) c.verdict (all_named c.unknown.items))) }
     ensures err { IfErr result (λ stop. IfSome (before ahead.old (R.remaining reader.old)) (λ text. StopsBehind sparse schedule.now stop earlier (lines_of text))) }
 {
     let Ok(mut comparison) = Comparison::new(alloc, schedule, sparse) else {
@@ -79,18 +93,30 @@ pub fn compare_lines<R: Read>(
     // For the proof: the invariant of every reader.
     let _most = ahead.may_take();
     let mut line = Vec::new(alloc);
+    let mut unknown = Vec::new(alloc);
     let mut taken = 0u64;
     'taking: loop {
         let number = earlier.saturating_add(taken + 1);
         match ahead.next_line(reader, &mut line) {
             Ok(true) => {}
-            Ok(false) => return finish(alloc, schedule, &mut comparison, number),
+            Ok(false) => {
+                let verdict = finish(alloc, schedule, &mut comparison, number)?;
+                return Ok(Compared { verdict, unknown });
+            }
             Err(LineFault::ReadFault) => return Err(CompareStop::ReadFault(number)),
             Err(LineFault::Memory) => return Err(CompareStop::Memory(number)),
         }
-        match take_bytes(alloc, schedule, &mut comparison, line.as_slice()) {
+        let bytes = line.as_slice();
+        match take_bytes(
+            alloc,
+            schedule,
+            &mut comparison,
+            bytes,
+            number,
+            &mut unknown,
+        ) {
             Ok(None) => taken += 1,
-            Ok(Some(verdict)) => return Ok(verdict),
+            Ok(Some(verdict)) => return Ok(Compared { verdict, unknown }),
             Err(_) => return Err(CompareStop::Memory(number)),
         }
     }

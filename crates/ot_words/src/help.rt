@@ -86,10 +86,10 @@ refused, or the input was, or a fault of reading, writing or memory. The words: 
 pub const CONFORM: &str = "\
 Reads a schedule's text, a line '%%', and the lines that a port of ot.js printed while it performed the schedule, in the form of
 'otbench steps'. Says that the port conforms and how much was compared, or the first difference: where, whose, which value, what
-was found and what ot.js has. A key that the port does not print is not compared. With --sparse an instruction without a line is passed
-over too, so that a line for one instruction is enough; its place says which.
+was found and what ot.js has. A key that the port does not print is not compared; one that 'otbench steps' does not have is named.
+With --sparse an instruction without a line is passed over too, so that a line for one instruction is enough; its place says which.
 Example:  printf 'clients 1\\nedit 0 [\"a\"]\\n%%%%\\n{\"at\":1,\"document\":\"a\"}\\n' | otbench conform
-Status 0: conforms. 1: differs, or no value was counted, or nothing can be compared for a limit of otbench, or the schedule was
+Status 0: conforms. 1: differs, or nothing was compared, or nothing can be compared for a limit of otbench, or the schedule was
 refused, or a fault of reading, writing or memory. The lines and the answer: docs/FORMATS.md, 'Conform'.";
 
 /// Of `threads`.

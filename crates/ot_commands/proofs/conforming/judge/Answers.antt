@@ -5,7 +5,7 @@ use Rattle.ot_commands.proofs.conforming.judge.Goals as goal
 
 pub returns-in-Ok : goal.returns-in-Ok
 returns-in-Ok g c =
-    judged c.args.sparse c.args.comments.now c.args.schedule.now c.args.earlier (before c.args.ahead.now (g.I.Read.remaining c.args.input.now)) c.in-Ok.verdict c.write_verdict.result _ c.in-Ok.ensures.ok c.write_verdict.ensures
+    judged c.args.sparse c.args.comments.now c.args.schedule.now c.args.earlier (before c.args.ahead.now (g.I.Read.remaining c.args.input.now)) c.in-Ok.compared c.write_verdict.result _ c.in-Ok.ensures.ok c.in-Ok.ensures.unknown c.write_verdict.ensures
 
 pub returns-in-Err : goal.returns-in-Err
 returns-in-Err g c =

@@ -1,14 +1,15 @@
 use Rattle.std.proofs.Common.{◌≤◌, ◌+◌}
 use Rattle.streams.specs.Taken.{may_take, before}
-use Rattle.ot_conform.proofs.Leading.{IsUnderWay}
+use Rattle.ot_conform.specs.Unknown.{all_named}
+use Rattle.ot_conform.proofs.Naming.{IsNaming}
 use Rattle.ot_conform.proofs.reading.compare_lines.Given as goal
 
--- the lines that were taken agree
+-- the lines that were taken agree, and their unknown keys are named
 abbrev pub invariant-taking : goal.invariant-taking
 invariant-taking g l =
     let remaining = g.R.Read.remaining in
     record {
-      way : IsUnderWay l.sparse l.schedule l.comparison l.taken (before l.fn.ahead (remaining l.fn.reader)) (before l.ahead (remaining l.reader));
+      naming : IsNaming l.sparse l.schedule l.comparison l.taken (before l.fn.ahead (remaining l.fn.reader)) (before l.ahead (remaining l.reader)) l.earlier (all_named l.unknown.items);
       few : l.taken + may_take l.ahead ≤ may_take l.fn.ahead;
     }
 

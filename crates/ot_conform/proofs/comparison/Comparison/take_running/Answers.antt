@@ -22,7 +22,7 @@ returns-in-Some-refusal-clause-decided c =
     if_ok c.take_refused.result _ _
     (λ v. if_some v _ _ (λ verdict. verdict_past c.args.schedule.now c.args.self.now c.pass_over-refusal.new.self (read_as c.args.line) verdict c.pass_over-refusal.ensures.passes)) c.take_refused.ensures.decided
 
-pub returns-in-None-clause-decided : goal.returns-in-None-clause-decided
-returns-in-None-clause-decided c =
+pub returns-clause-decided : goal.returns-clause-decided
+returns-clause-decided c =
     if_ok c.take_step.result _ _
     (λ v. if_some v _ _ (λ verdict. verdict_past c.args.schedule.now c.args.self.now c.pass_over-refusal.new.self (read_as c.args.line) verdict c.pass_over-refusal.ensures.passes)) c.take_step.ensures.decided

@@ -1,4 +1,4 @@
-use Rattle.std.proofs.Common.{◌≡◌, ◌+◌, ap, sym, subst, ◌∙◌}
+use Rattle.std.proofs.Common.{◌≡◌, ap, sym, subst, ◌∙◌}
 use Rattle.std.specs.Option.{option_copied}
 use Rattle.ot_steps.specs.Held.{IsHeld, operations, printed_of}
 use Rattle.ot_steps.specs.declared.line.Line.{Line}
@@ -57,7 +57,7 @@ returns-clause-goes c =
     ∙ due_is here.place i c.in-Ok.effect.sent (operations c.operation-delivered.result) (received_in t received) here.machine t c.in-Ok.ensures.effect.sent (did_apply here.machine i t c.in-Ok.effect (option_copied c.operation-delivered.result) c.in-Ok.ensures.effect c.operation-delivered.ensures)
     (still_held i here.machine t performed.0 received performed.1 c.in_ok-received.ensures) in
     if_ok c.judge_given.result _ _
-    (λ v. step_goes c.args.schedule.now here c.judge_given.new.counts line i t performed.0 due v c.requires.standing c.requires.here performed.1 is c.requires.kept) c.judge_given.ensures
+    (λ v. step_goes c.args.schedule.now here c.judge_given.new.counts line i t performed.0 due v c.requires.standing c.requires.here performed.1 is c.requires.kept) c.judge_given.ensures.judged
 
 pub returns-clause-decided : goal.returns-clause-decided
 returns-clause-decided c =
@@ -72,9 +72,9 @@ returns-clause-decided c =
     ∙ due_is here.place i c.in-Ok.effect.sent (operations c.operation-delivered.result) (received_in t received) here.machine t c.in-Ok.ensures.effect.sent (did_apply here.machine i t c.in-Ok.effect (option_copied c.operation-delivered.result) c.in-Ok.ensures.effect c.operation-delivered.ensures)
     (still_held i here.machine t performed.0 received performed.1 c.in_ok-received.ensures) in
     if_ok c.judge_given.result _ _
-    (λ v. step_decides c.args.schedule.now here c.judge_given.new.counts line i t performed.0 due v c.requires.here performed.1 is c.requires.there c.requires.kept) c.judge_given.ensures
+    (λ v. step_decides c.args.schedule.now here c.judge_given.new.counts line i t performed.0 due v c.requires.here performed.1 is c.requires.there c.requires.kept) c.judge_given.ensures.judged
 
 pub returns-clause-nothing : goal.returns-clause-nothing
 returns-clause-nothing c =
     if_ok c.judge_given.result _ _
-    (λ v. nothing_judged c.args.self.now.counts c.judge_given.new.counts (due_with c.step-step.result c.in_ok-received.received) (given_as c.args.line) v) c.judge_given.ensures
+    (λ v. nothing_judged c.args.self.now.counts c.judge_given.new.counts (due_with c.step-step.result c.in_ok-received.received) (given_as c.args.line) v) c.judge_given.ensures.judged
