@@ -3,13 +3,20 @@
 import { readSchedule } from "./schedule.js";
 import { Session } from "./session.js";
 
+/* The message of what a port throws, which may be any value. */
+export const messageOf = (thrown) => (thrown instanceof Error ? thrown.message : String(thrown));
+
+/* The lines beside those of instructions that were performed. */
+export const opening = ({ clients, present, start }) => ({ at: 0, clients, present, start });
+export const stop = (at, { word, client }, { message }, thrown) => ({ at, do: word, client, message, stopped: messageOf(thrown) });
+export const end = (at, session) => ({ at, end: session.isQuiet() ? "quiet" : "not quiet" });
+
 /* The lines of a schedule's text on a port. */
 export function drive(text, port, { short = false } = {}) {
   const lines = [];
   const print = (values) => lines.push(JSON.stringify(values));
   const schedule = readSchedule(text);
-  const { clients, present, start } = schedule;
-  print({ at: 0, clients, present, start });
+  print(opening(schedule));
   const session = new Session(port, schedule);
   let at = 0;
   for (const instruction of schedule.instructions) {
@@ -19,10 +26,10 @@ export function drive(text, port, { short = false } = {}) {
       print({ at: at + 1, ...values });
       at++;
     } catch (fault) {
-      print({ at, do: instruction.word, client: instruction.client, message: session.message, stopped: fault.message });
+      print(stop(at, instruction, session, fault));
       break;
     }
   }
-  print({ at, end: session.isQuiet() ? "quiet" : "not quiet" });
+  print(end(at, session));
   return lines;
 }

@@ -4,75 +4,124 @@
  *     client ── up: at most one message {revision, operation} ──▶ server
  *            ◀── down: operations of others, null for an acknowledgement ──
  *
- * The port is an object with ot.js' TextOperation, Client and Server. Everything else that a session needs is here; to
- * drive a port in another language, write this file again in it.
+ * The port is an object with ot.js' TextOperation, Client and Server. Everything else that a session needs is here, beside
+ * the port's objects; to drive a port in another language, write this file again in it.
  */
 
 /* A value as it is now: the port may change the object later, and with it what was printed. */
 const asItIs = (value) => JSON.parse(JSON.stringify(value));
 
+/* Where ot.js has the values that a session reads. A port that has them elsewhere is given with functions of its own. */
+export const ACCESSORS = {
+  revision: (client) => client.revision,
+  outstanding: (client) => client.state.outstanding,
+  buffer: (client) => client.state.buffer,
+  document: (server) => server.document,
+  operations: (server) => server.operations,
+};
+
+/* An operation of the port, by `fromJSON` or by the builder. */
+export function operationOf({ TextOperation }, components) {
+  if (typeof TextOperation.fromJSON === "function") return TextOperation.fromJSON(components);
+  const operation = new TextOperation();
+  for (const component of components) {
+    if (typeof component === "string") operation.insert(component);
+    else if (component > 0) operation.retain(component);
+    else operation.delete(-component);
+  }
+  return operation;
+}
+
+/* What is wrong with a call of `sendOperation`, or null. `client` is the one that calls. */
+function faultOfSending(client, acting, shown) {
+  if (client !== acting) return "sendOperation was called when its client had nothing to do";
+  if (shown.sent) return "sendOperation was called twice in one instruction";
+  return client.awaits ? "sendOperation was called before the message under way was acknowledged" : null;
+}
+
 export class Session {
-  constructor(port, { clients, present, start }) {
+  constructor(port, { clients, present, start }, accessors = ACCESSORS) {
     this.port = port;
+    this.read = accessors;
     this.server = new port.Server(start);
     this.clients = Array(clients).fill(null);
     this.message = undefined; // what the last instruction was handed: from a client, or to a client
+    this.acting = null; // the client of the instruction that is performed
+    this.shown = {}; // what its line shows
+    this.fault = null; // what the port did at a wrong time
     for (let number = 0; number < present; number++) this.#join(number);
   }
 
   /* Performs an instruction and gives the values that its line shows. It throws where the port does, or the session. */
-  perform({ word, client: number, edit }) {
+  perform(instruction) {
+    return this.finish(instruction, this.begin(instruction));
+  }
+
+  /* The first half of an instruction: the call of the port's method, and what that returned, a promise maybe. */
+  begin({ word, client: number, edit }) {
     this.message = undefined;
-    if (word === "read-server") return { do: word, document: this.server.document };
+    this.acting = null;
+    if (word === "read-server") return undefined;
     if (word === "join") {
       if (this.clients[number]) throw new Error("has joined already");
       this.#join(number);
     }
     const client = this.clients[number];
     if (!client) throw new Error("has not joined");
-    client.shown = { do: word, client: number };
+    this.acting = client;
+    this.shown = { do: word, client: number };
     if (word === "take") return this.#take(client);
-    if (word === "edit") this.#edit(client, this.port.TextOperation.fromJSON(edit));
-    if (word === "deliver" || word === "ack") this.#receive(client, word);
-    return Object.assign(client.shown, stateOf(client));
+    if (word === "edit") return this.#edit(client, operationOf(this.port, edit));
+    return word === "deliver" || word === "ack" ? this.#receive(client, word) : undefined;
+  }
+
+  /* The second half, with what the port's method returned. */
+  finish({ word, client: number }, returned) {
+    if (this.fault) throw this.fault;
+    if (word === "read-server") return { do: word, document: this.read.document(this.server) };
+    const client = this.clients[number];
+    if (word === "take") return this.#taken(client, returned);
+    return Object.assign(this.shown, this.#stateOf(client));
   }
 
   isQuiet() {
-    return this.clients.every((client) => !client || (!client.state.outstanding && !client.up && !client.down.length));
+    return this.clients.every((client) => !client || (!this.read.outstanding(client.own) && !client.up && !client.down.length));
   }
 
   #join(number) {
-    const client = new this.port.Client(this.server.operations.length);
-    client.number = number;
-    client.document = this.server.document;
-    client.up = null;
-    client.down = [];
-    client.shown = {};
-    client.sendOperation = (revision, operation) => {
+    const own = new this.port.Client(this.read.operations(this.server).length);
+    const client = { number, own, document: this.read.document(this.server), up: null, down: [], awaits: false };
+    own.sendOperation = (revision, operation) => {
+      const fault = faultOfSending(client, this.acting, this.shown);
+      if (fault) this.fault ??= new Error(fault);
       client.up = { revision, operation };
-      client.shown.sent = { revision, operation };
+      client.awaits = true;
+      this.shown.sent = { revision, operation };
     };
-    client.applyOperation = (operation) => {
+    own.applyOperation = (operation) => {
       client.document = operation.apply(client.document);
-      client.shown.applied = operation;
+      this.shown.applied = operation;
     };
     this.clients[number] = client;
   }
 
   #edit(client, operation) {
-    client.shown.edit = operation;
+    this.shown.edit = operation;
     client.document = operation.apply(client.document);
-    client.applyClient(operation);
+    return client.own.applyClient(operation);
   }
 
   #take(client) {
     if (!client.up) throw new Error("no message under way");
-    client.shown.message = this.message = asItIs(client.up);
-    const appended = this.server.receiveOperation(client.up.revision, client.up.operation);
+    this.shown.message = this.message = asItIs(client.up);
+    return this.server.receiveOperation(client.up.revision, client.up.operation);
+  }
+
+  #taken(client, appended) {
     client.up = null;
     for (const other of this.clients) if (other) other.down.push(other === client ? null : appended);
-    const { operations, document } = this.server;
-    return Object.assign(client.shown, { revision: operations.length, appended, document });
+    const revision = this.read.operations(this.server).length;
+    return Object.assign(this.shown, { revision, appended, document: this.read.document(this.server) });
   }
 
   #receive(client, word) {
@@ -81,21 +130,18 @@ export class Session {
     if ((operation === null) !== (word === "ack")) throw new Error("another message is at the head");
     client.down.shift();
     if (word === "ack") {
-      client.serverAck();
-      return;
+      client.awaits = false;
+      return client.own.serverAck();
     }
-    client.shown.message = this.message = asItIs(operation);
-    client.applyServer(operation);
+    this.shown.message = this.message = asItIs(operation);
+    return client.own.applyServer(operation);
   }
-}
 
-/* The client's values. `null` says that there is none, and is compared; what is left out is not. */
-function stateOf({ revision, state, document }) {
-  return {
-    revision,
-    state: state.buffer ? "awaiting-with-buffer" : state.outstanding ? "awaiting-confirm" : "synchronized",
-    outstanding: state.outstanding || null,
-    buffer: state.buffer || null,
-    document,
-  };
+  /* The client's values. `null` says that there is none, and is compared; what is left out is not. */
+  #stateOf({ own, document }) {
+    const outstanding = this.read.outstanding(own) || null;
+    const buffer = this.read.buffer(own) || null;
+    const state = buffer ? "awaiting-with-buffer" : outstanding ? "awaiting-confirm" : "synchronized";
+    return { revision: this.read.revision(own), state, outstanding, buffer, document };
+  }
 }
