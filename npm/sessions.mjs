@@ -1,6 +1,7 @@
 /* The sessions that a port is tried over. */
 
 import { readdirSync, readFileSync } from "node:fs";
+import { randomOptions } from "./options.mjs";
 import { generate } from "./otbench.mjs";
 
 const CORPUS = new URL("../conformance/sessions/", import.meta.url);
@@ -18,7 +19,9 @@ export function* corpus() {
 }
 
 /** Sessions made at random: that of the seed and those of the seeds behind it. */
-export function* random({ sessions = 100, seed = 1, ...options } = {}) {
+export const random = (options = {}) => made(randomOptions(options));
+
+function* made({ sessions = 100, seed = 1, ...options }) {
   for (let number = seed; number < seed + sessions; number++)
     yield { name: `session of seed ${number % SEEDS}`, schedule: generate({ seed: number % SEEDS, ...options }) };
 }

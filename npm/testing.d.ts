@@ -1,10 +1,60 @@
 import type { ComparedKey, Conformance, PortLines } from "./otbench.js";
 
-/** ot.js' three classes, by a port: each may have more than what ot.js has. */
+/** A component of an operation: a text that is inserted, a length above 0 that is retained, or one below 0 that is deleted. */
+export type Component = string | number;
+
+/** What the harness uses of an operation. None of these gives a promise. */
+export interface PortOperation {
+  baseLength: number;
+  targetLength: number;
+  toJSON(): Component[];
+  apply(document: string): string;
+  compose(second: PortOperation): PortOperation;
+  /** The operation that takes this one back, which was applied to the document. A port that declines the law `invert` needs none. */
+  invert?(document: string): PortOperation;
+}
+
+/** The operation's class: `fromJSON`, or on its objects the builder `retain`, `insert` and `delete`, which the harness calls for their effect. */
+export interface PortTextOperation {
+  new (): any;
+  fromJSON?(components: Component[]): PortOperation;
+  transform(first: any, second: any): any;
+}
+
+/** What the harness calls on a client. It awaits what is given, and what is left to microtasks. */
+export interface PortClient {
+  applyClient(operation: any): void | Promise<void>;
+  applyServer(operation: any): void | Promise<void>;
+  serverAck(): void | Promise<void>;
+}
+
+/** What the harness calls on a server; the operation as it stands in the log then is given. */
+export interface PortServer {
+  receiveOperation(revision: number, operation: any): any | Promise<any>;
+}
+
+/**
+ * A port: ot.js' three classes, each with this at least. The harness assigns `sendOperation(revision, operation)` and
+ * `applyOperation(operation)` to each client, and keeps nothing else on the port's objects. A message is sent at most once in an
+ * instruction, and after the one before it was acknowledged. A client's `revision`, `state.outstanding` and `state.buffer` and a
+ * server's `document` and `operations` are read, or what `accessors` gives in their place. Missing parts are a TypeError that names each.
+ */
 export interface Port {
-  TextOperation: Function;
-  Client: Function;
-  Server: Function;
+  TextOperation: PortTextOperation;
+  Client: new (revision: number) => PortClient;
+  Server: new (document: string, operations?: any[]) => PortServer;
+}
+
+/** Where a port has the values that are read, if it is not where ot.js has them. What is left out is read as of ot.js. */
+export interface Accessors {
+  revision?(client: any): number;
+  /** The operation that was sent and not yet acknowledged; null or undefined where there is none. */
+  outstanding?(client: any): PortOperation | null | undefined;
+  /** What the user has edited since; null or undefined where there is none. */
+  buffer?(client: any): PortOperation | null | undefined;
+  document?(server: any): string;
+  /** The log, of which the length is read. */
+  operations?(server: any): { length: number };
 }
 
 /** Performs a schedule's text on a port, and gives its lines: docs/FORMATS.md, "What a port prints". */
@@ -19,17 +69,22 @@ export interface DriveOptions {
    * UTF-16 units, and a driver counts Unicode scalar values, as a schedule does.
    */
   utf16?: boolean;
+  accessors?: Accessors;
 }
 
 export interface RandomOptions {
-  /** How many; 100 where it is left out. */
+  /** How many, 1 at least; 100 where it is left out. */
   sessions?: number;
   /** The seed of the first, 0 to 999,999,999; each further one has the next. 1 where it is left out. */
   seed?: number;
   /** 1 to 64; 4 where it is left out. */
   clients?: number;
+  /** How many of them are there from the beginning; all where it is left out. */
+  present?: number;
   /** How many in a session, before the reads at its end: 0 to 100,000; 60 where it is left out. */
   instructions?: number;
+  /** The document at the beginning. */
+  start?: string;
   /** Whether sessions end there, whatever is under way. */
   open?: boolean;
 }
@@ -54,12 +109,18 @@ export interface ConformanceError extends Error {
   schedule: string;
   /** What `conform` says of it; null where the driver threw. */
   answer: Conformance | null;
+  /** What the port or the driver threw, with its stack; left out where it threw nothing. */
+  cause?: unknown;
 }
 
 export interface Session {
   name: string;
   schedule: string;
 }
+
+/*
+ * Options that are not understood are refused before anything runs, with an OtbenchError of the kind `Usage` that names the option.
+ */
 
 /**
  * Tries a port over the corpus and over sessions made at random. Rejected with a ConformanceError at the first session that fails, and

@@ -8,58 +8,49 @@
 
 import { AssertionError } from "node:assert";
 import { setImmediate } from "node:timers/promises";
-import { drive as drivePort } from "../examples/port/drive.js";
 import { lineTold } from "../viewer/src/numbering.mjs";
+import { driverOf } from "./driving.mjs";
+import { conformsOptions, driveOptions, ofRandom } from "./options.mjs";
 import { conform } from "./otbench.mjs";
+import { checkPort } from "./port.mjs";
 import { reduced } from "./reduce.mjs";
 import { valuesOf, withOneUnitEach } from "./schedule.mjs";
 import { corpus, random } from "./sessions.mjs";
-import { translation } from "./units.mjs";
 
 export { corpus, random };
 
-/* Whether the lines of a port or of a driver count UTF-16 units: a port does as ot.js, unless it is said otherwise. */
-const countsUnits = (subject, { utf16 = typeof subject !== "function" }) => utf16;
-
-/* A driver itself, or that of a port. */
-function driverOf(subject) {
-  if (typeof subject === "function") return subject;
-  for (const part of ["TextOperation", "Client", "Server"])
-    if (typeof subject?.[part] !== "function")
-      throw new TypeError(`a port with TextOperation, Client and Server, or a function that drives one: ${part} is not there`);
-  return (schedule) => drivePort(schedule, subject); // lengths go to the port as they stand
-}
-
-/* A driver whose lines count scalars, as a schedule does. */
-function inScalars(subject, options) {
-  const driver = driverOf(subject);
-  if (!countsUnits(subject, options)) return driver;
-  return async (schedule) => {
-    const { inUnits, inScalars: back } = translation(schedule);
-    return back(await driver(inUnits));
-  };
+/* The driver of a subject, whose parts and options are looked at before it runs. */
+function checkedDriver(subject, options) {
+  checkPort(subject, options);
+  return driverOf(subject, options);
 }
 
 /** Performs a schedule on a port, and gives its lines, in scalars. */
-export const drive = async (subject, schedule, options = {}) => inScalars(subject, options)(schedule);
+export async function drive(subject, schedule, options = {}) {
+  const { lines } = await checkedDriver(subject, driveOptions("drive", options))(schedule);
+  return lines;
+}
 
 /** Compares a port, or what a driver makes of it, over one schedule with ot.js. */
-export const compare = async (subject, schedule, options = {}) => conform(schedule, await drive(subject, schedule, options));
+export async function compare(subject, schedule, options = {}) {
+  const { lines } = await checkedDriver(subject, driveOptions("compare", options))(schedule);
+  return conform(schedule, lines);
+}
 
-/* What came of a session: conform's answer, or what the driver threw. */
+/* What came of a session: conform's answer, null where the driver itself threw; and what was thrown, as { value }. */
 async function judge(driver, schedule) {
-  let lines;
+  let driven;
   try {
-    lines = await driver(schedule);
-  } catch (thrown) {
-    return { fails: true, thrown, answer: null };
+    driven = await driver(schedule);
+  } catch (value) {
+    return { fails: true, thrown: { value }, answer: null };
   }
-  const answer = conform(schedule, lines);
-  return { fails: answer.verdict === "differs", thrown: null, answer };
+  const answer = conform(schedule, driven.lines);
+  return { fails: answer.verdict === "differs", thrown: driven.thrown, answer };
 }
 
 /* Whether both fail, and in the same manner. */
-const failsAs = (one, other) => one.fails && other.fails && (one.thrown === null) === (other.thrown === null);
+const failsAs = (one, other) => one.fails && other.fails && (one.answer === null) === (other.answer === null);
 
 /* How many instructions it takes to fail. */
 const neededOf = ({ answer }, { instructions }) => (answer ? answer.at : instructions.length);
@@ -93,22 +84,23 @@ async function failure(driver, name, schedule, verdict, seconds) {
     `${name}: ${countOf(schedule)} instructions, here reduced to ${countOf(found.schedule)}`,
     "",
     found.schedule,
-    answer ? toldOf(answer, found.schedule) : `the driver threw ${thrown}\n`,
+    answer ? toldOf(answer, found.schedule) : `the driver threw ${thrown.value}\n`,
   ];
   if (!found.isSteady) lines.push("the driver did not do this each time\n");
   const error = new AssertionError({ message: lines.join("\n"), actual: answer?.found, expected: answer?.otjs, operator: "conforms" });
-  return Object.assign(error, { session: name, schedule: found.schedule, answer, ...(thrown && { cause: thrown }) });
+  return Object.assign(error, { session: name, schedule: found.schedule, answer, ...(thrown && { cause: thrown.value }) });
 }
 
 /* The values by which a port can leave ot.js; without one of them nothing was compared. */
 const VALUES = ["edit", "revision", "state", "outstanding", "buffer", "sent", "applied", "appended", "document"];
 
 /** Tries a port over the corpus and over sessions made at random; the promise is rejected at the first that fails. */
-export async function conforms(subject, { corpus: withCorpus = true, utf16, reduceSeconds = 10, ...options } = {}) {
-  const driver = inScalars(subject, { utf16 });
+export async function conforms(subject, options = {}) {
+  const { corpus: withCorpus = true, reduceSeconds = 10 } = conformsOptions(options);
+  const driver = checkedDriver(subject, options);
   const compared = {};
   let sessions = 0;
-  for (const source of withCorpus ? [corpus(), random(options)] : [random(options)])
+  for (const source of withCorpus ? [corpus(), random(ofRandom(options))] : [random(ofRandom(options))])
     for (const { name, schedule } of source) {
       await setImmediate();
       const verdict = await judge(driver, schedule);

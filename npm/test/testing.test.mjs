@@ -89,7 +89,7 @@ test("a driver by which nothing can be compared does not conform", async () => {
 });
 
 test("no port, no such option", async () => {
-  await assert.rejects(conforms({ TextOperation() {}, Client() {} }), { name: "TypeError", message: /Server is not there$/ });
+  await assert.rejects(conforms({ TextOperation() {}, Client() {} }), { name: "TypeError", message: /^ {4}Server$/m });
   await assert.rejects(conforms(undefined), TypeError);
   await assert.rejects(conforms(makePort(), { corpus: false, session: 5 }), (error) => error instanceof OtbenchError && error.kind === "Usage");
 });
