@@ -12,6 +12,9 @@ import { translation } from "./units.mjs";
  * @typedef {(schedule: string, onInstruction?: (at: number) => void) => Promise<Driven>} Driver
  */
 
+/* The words at which a client may leave something to microtasks. */
+const OF_CLIENTS = ["edit", "deliver", "ack"];
+
 /* A port's lines. What its methods return is awaited, and so is what they left to microtasks. */
 async function drivenPort(port, accessors, text, onInstruction) {
   const schedule = readSchedule(text);
@@ -22,7 +25,7 @@ async function drivenPort(port, accessors, text, onInstruction) {
     onInstruction(at + 1);
     try {
       const returned = await session.begin(instruction);
-      await setImmediate();
+      if (OF_CLIENTS.includes(instruction.word)) await setImmediate();
       lines.push(JSON.stringify({ at: at + 1, ...session.finish(instruction, returned) }));
       at++;
     } catch (value) {

@@ -1,6 +1,7 @@
 /* The options of otbench/testing, each checked by its name before anything runs. */
 
 import { OtbenchError } from "./errors.mjs";
+import { LAW_NAMES } from "./laws.mjs";
 
 const whole = (least, most) => ({
   takes: `a whole number from ${least} to ${most.toLocaleString("en")}`,
@@ -35,7 +36,10 @@ const CONFORMS = {
   ...DRIVE,
   ...RANDOM,
   corpus: TRUTH,
+  seconds: { takes: "a number of seconds above 0, to 1,000,000", has: (value) => Number.isFinite(value) && value > 0 && value <= 1_000_000 },
   reduceSeconds: { takes: "a number of seconds, 0 or more", has: (value) => Number.isFinite(value) && value >= 0 },
+  known: { takes: `a list of laws, of ${LAW_NAMES.join(", ")}`, has: (value) => Array.isArray(value) && value.every(isOneOf(LAW_NAMES)) },
+  saveTo: { takes: "the path of a file", has: (value) => typeof value === "string" && value !== "" },
 };
 
 /* A value for the eye: text in quotes, the rest as it is written. */

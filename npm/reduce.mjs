@@ -11,6 +11,13 @@ import { Session } from "../examples/port/session.js";
 /* ot.js, to perform what is left. */
 const otjs = makePort();
 
+const LONG = 60; // a session of more instructions, or with more components in an edit, is gone through once, and without trying each component
+const MANY = 8; // of an edit of more components runs of them are left out
+const PATIENCE = 32; // there a way ends behind so many candidates in a row of which none shows it
+const MOST_START = 40_000; // characters of a start
+
+const isLong = ({ instructions }) => instructions.length > LONG || instructions.some(({ edit }) => edit?.length > LONG);
+
 /* The schedule with edits fitted and without what cannot be performed. */
 function repaired(schedule) {
   const session = new Session(otjs, schedule);
@@ -65,12 +72,20 @@ function isLess(one, other) {
   return at >= 0 && one[at] < other[at];
 }
 
-/* Without a run of instructions, long runs first; a short schedule also without two or three that stand apart. */
+/* A list without a run of its elements, long runs first; where there are not many the runs overlap. */
+function* withoutRuns(list) {
+  for (let length = Math.ceil(list.length / 2); length > 0; length = Math.floor(length / 2))
+    for (let at = 0; at + length <= list.length; at += list.length > LONG ? length : Math.max(Math.floor(length / 2), 1)) yield list.toSpliced(at, length);
+}
+
+/* Without a run of instructions. */
 function* fewerInstructions(schedule) {
+  for (const instructions of withoutRuns(schedule.instructions)) yield { ...schedule, instructions };
+}
+
+/* A short schedule without two or three instructions that stand apart. There are many of these, and each leaves out little. */
+function* withoutSomeApart(schedule) {
   const { instructions } = schedule;
-  for (let length = Math.ceil(instructions.length / 2); length > 0; length = Math.floor(length / 2))
-    for (let at = 0; at + length <= instructions.length; at += Math.max(Math.floor(length / 2), 1))
-      yield { ...schedule, instructions: instructions.toSpliced(at, length) };
   for (const [count, most] of [[2, 24], [3, 12]])
     if (count <= instructions.length && instructions.length <= most)
       for (const kept of without(instructions, count)) yield { ...schedule, instructions: kept };
@@ -87,7 +102,7 @@ function* longerStart(schedule) {
   const { start, instructions } = schedule;
   for (const [at, { edit = [] }] of instructions.entries()) {
     const text = edit.filter((component) => typeof component === "string").join("");
-    if (text === "") continue;
+    if (text === "" || text.length + start.length > MOST_START) continue;
     for (const longer of [text + start, start + text])
       yield { ...schedule, start: longer, instructions: instructions.toSpliced(at, 1) };
   }
@@ -120,10 +135,32 @@ function* noTexts(schedule) {
   yield { ...schedule, instructions };
 }
 
+/* With a run of its edits empty, long runs first. */
+function* fewerTexts(schedule) {
+  const { instructions } = schedule;
+  const edits = instructions.flatMap(({ edit }, at) => (edit?.length ? [at] : []));
+  for (const list of withoutRuns(edits)) {
+    const kept = new Set(list);
+    yield { ...schedule, instructions: instructions.map((it, at) => (it.edit && !kept.has(at) ? { ...it, edit: [] } : it)) };
+  }
+}
+
+const withEdit = (schedule, at, edit) => ({ ...schedule, instructions: schedule.instructions.with(at, { ...schedule.instructions[at], edit }) });
+
+/* Without a run of the components of an edit that has many. */
+function* fewerComponents(schedule) {
+  for (const [at, { edit = [] }] of schedule.instructions.entries())
+    if (edit.length > MANY) for (const kept of withoutRuns(edit)) yield withEdit(schedule, at, kept);
+}
+
 /* Shorter texts, and one of plain letters. */
-function shorter(text) {
-  const half = Math.floor(text.length / 2);
-  return [text.slice(0, half), text.slice(half), text.slice(1), text.slice(0, -1), "a".repeat(text.length)];
+function* shorter(text) {
+  yield "";
+  yield "a".repeat(text.length);
+  for (let half = Math.floor(text.length / 2); half > 0; half = Math.floor(half / 2)) {
+    yield text.slice(0, -half);
+    yield text.slice(half);
+  }
 }
 
 /* What may stand for a component of an edit. */
@@ -135,34 +172,80 @@ function simpler(component) {
 
 /* With a shorter start, or one component of one edit simpler. */
 function* shorterTexts(schedule) {
-  const { instructions } = schedule;
   for (const start of shorter(schedule.start)) yield { ...schedule, start };
-  for (const [at, instruction] of instructions.entries())
-    for (const [place, component] of (instruction.edit ?? []).entries())
-      for (const other of simpler(component)) {
-        const edit = instruction.edit.with(place, other);
-        yield { ...schedule, instructions: instructions.with(at, { ...instruction, edit }) };
-      }
+  for (const [at, { edit = [] }] of isLong(schedule) ? [] : schedule.instructions.entries())
+    for (const [place, component] of edit.entries()) for (const other of simpler(component)) yield withEdit(schedule, at, edit.with(place, other));
 }
 
-/* What may stand for a schedule, each one smaller than it and none twice. */
-function* smaller(schedule) {
-  const least = size(schedule);
-  const seen = new Set();
-  for (const way of [fewerInstructions, longerStart, fewerClients, noTexts, shorterTexts])
-    for (const given of way(schedule)) {
-      const candidate = repaired(given);
-      const key = JSON.stringify(candidate);
-      if (seen.has(key) || !isLess(size(candidate), least)) continue;
-      seen.add(key);
-      yield candidate;
+const WAYS = [fewerInstructions, longerStart, fewerClients, noTexts, fewerTexts, fewerComponents, withoutSomeApart, shorterTexts];
+
+/* The smallest schedule so far, and what was tried. */
+class Reduction {
+  constructor(schedule, shows, isOver) {
+    this.schedule = schedule;
+    this.shows = shows;
+    this.isOver = isOver;
+    this.seen = new Set();
+  }
+
+  /* Takes a candidate if it shows it, cut behind where it does if that shows it too. */
+  async take(candidate) {
+    const needed = await this.shows(candidate);
+    if (needed === null) return false;
+    this.schedule = candidate;
+    await this.cut(needed);
+    return true;
+  }
+
+  async cut(needed) {
+    const { instructions } = this.schedule;
+    if (needed < instructions.length && !this.isOver()) await this.take({ ...this.schedule, instructions: instructions.slice(0, needed) });
+  }
+
+  /* What a way makes of the schedule, fitted, if it is smaller and was not tried; null otherwise. */
+  candidate(given) {
+    const candidate = repaired(given);
+    if (!isLess(size(candidate), size(this.schedule))) return null;
+    const key = JSON.stringify(candidate);
+    if (this.seen.has(key)) return null;
+    this.seen.add(key);
+    return candidate;
+  }
+
+  /* Takes the first candidate of a way behind those that were passed, and answers its number; -1 where none shows it. */
+  async first(way, passed) {
+    const most = isLong(this.schedule) ? passed + PATIENCE : Infinity;
+    let number = -1;
+    for (const given of way(this.schedule)) {
+      if (++number < passed) continue;
+      if (number >= most || this.isOver()) break;
+      const candidate = this.candidate(given);
+      if (candidate && !this.isOver() && (await this.take(candidate))) return number;
     }
-}
+    return -1;
+  }
 
-/* The schedule up to where it shows it, and then what may stand for it. */
-function* candidates(schedule, needed) {
-  if (needed < schedule.instructions.length) yield { ...schedule, instructions: schedule.instructions.slice(0, needed) };
-  yield* smaller(schedule);
+  /* Goes one way until nothing on it shows it any more. Behind a success it goes on from there, and then begins again. */
+  async exhaust(way) {
+    let [hasMoved, passed] = [false, 0];
+    while (!this.isOver()) {
+      const number = await this.first(way, passed);
+      if (number < 0 && (passed === 0 || isLong(this.schedule))) break;
+      hasMoved ||= number >= 0;
+      passed = Math.max(number, 0);
+    }
+    return hasMoved;
+  }
+
+  /* All ways, as long as one of them makes it smaller. */
+  async run() {
+    let hasMoved = true;
+    while (hasMoved && !this.isOver()) {
+      hasMoved = false;
+      for (const way of WAYS) hasMoved = (await this.exhaust(way)) || hasMoved;
+      if (isLong(this.schedule)) break;
+    }
+  }
 }
 
 /**
@@ -171,14 +254,12 @@ function* candidates(schedule, needed) {
  * @param {Schedule} schedule
  * @param {number} needed how many of its instructions it takes to show it
  * @param {(candidate: Schedule) => Promise<number | null>} shows how many it takes in a candidate, or null where it does not show it
- * @param {number} until when to end, as performance.now() tells the time
+ * @param {() => boolean} isOver whether the time for it is over
  * @returns {Promise<Schedule>}
  */
-export async function reduced(schedule, needed, shows, until) {
-  for (const candidate of candidates(schedule, needed)) {
-    if (performance.now() > until) break;
-    const its = await shows(candidate);
-    if (its !== null) return reduced(candidate, its, shows, until);
-  }
-  return schedule;
+export async function reduced(schedule, needed, shows, isOver) {
+  const reduction = new Reduction(schedule, shows, isOver);
+  await reduction.cut(needed);
+  await reduction.run();
+  return reduction.schedule;
 }

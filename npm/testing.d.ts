@@ -63,6 +63,21 @@ export type Driver = (schedule: string) => PortLines | Promise<PortLines>;
 /** A port, which is then driven as `drive` does, or a driver of one. */
 export type Subject = Port | Driver;
 
+/** A law of ot.js that no session shows. */
+export type Law =
+  | "invert"
+  | "isNoop"
+  | "equals"
+  | "apply-of-another-length"
+  | "compose-of-unfit-operations"
+  | "transform-of-unfit-operations"
+  | "revision-not-in-the-log"
+  | "acknowledgement-when-synchronized"
+  | "server-with-operations";
+
+/** The names of all laws. */
+export const laws: Law[];
+
 export interface DriveOptions {
   /**
    * Whether lengths count UTF-16 units, as ot.js does. They are then given so and turned back. Where it is left out, a port counts
@@ -92,11 +107,20 @@ export interface RandomOptions {
 export interface ConformsOptions extends DriveOptions, RandomOptions {
   /** Whether the sessions of the corpus are tried first; they are where it is left out. */
   corpus?: boolean;
-  /** About how long a session that fails is made smaller; 10 where it is left out. */
+  /** How long a session may take, and twice that if it has more than 8,192 characters; 10 where it is left out. */
+  seconds?: number;
+  /** How long a session that fails is made smaller; 3 where it is left out. */
   reduceSeconds?: number;
+  /** Laws that the port declines; none where it is left out. */
+  known?: Law[];
+  /** The file into which the reduced schedule of a failure is written. */
+  saveTo?: string;
 }
 
-/** A session over which the port fails: an `AssertionError` of node's. The message has the schedule, reduced, and what `conform` says of it. */
+/**
+ * A session over which the port fails: an `AssertionError` of node's. The message has 60 lines at most: the schedule, reduced, without the middle
+ * of a long one, what `conform` says of it, what was thrown, and how to replay it.
+ */
 export interface ConformanceError extends Error {
   name: "AssertionError";
   code: "ERR_ASSERTION";
@@ -107,9 +131,18 @@ export interface ConformanceError extends Error {
   session: string;
   /** The schedule, reduced. */
   schedule: string;
-  /** What `conform` says of it; null where the driver threw. */
+  /** What `conform` says of it; null where the driver threw, or the session did not end in time. */
   answer: Conformance | null;
   /** What the port or the driver threw, with its stack; left out where it threw nothing. */
+  cause?: unknown;
+}
+
+/** Laws that the port breaks: an `AssertionError` of node's. */
+export interface LawsError extends Error {
+  name: "AssertionError";
+  code: "ERR_ASSERTION";
+  /** What is wrong, by the law. */
+  laws: Partial<Record<Law, string>>;
   cause?: unknown;
 }
 
@@ -123,13 +156,17 @@ export interface Session {
  */
 
 /**
- * Tries a port over the corpus and over sessions made at random. Rejected with a ConformanceError at the first session that fails, and
- * with an AssertionError where no value was compared at all. Resolved with how often each value was compared.
+ * Tries a port over the corpus, over sessions made at random, and over the laws. Rejected with a ConformanceError at the first session that fails,
+ * with an AssertionError where no value was compared at all, and with a LawsError where laws are broken. Resolved with how often each value
+ * was compared, and the laws that were tried; a driver has none.
+ *
+ * A port that may not end is given as the URL of a module that exports `TextOperation`, `Client` and `Server`, and `accessors` where it needs them,
+ * or a driver as `default`. It is tried in a worker, which is ended `seconds` after a session began.
  */
 export function conforms(
-  subject: Subject,
+  subject: Subject | URL,
   options?: ConformsOptions,
-): Promise<{ sessions: number; compared: Partial<Record<ComparedKey, number>> }>;
+): Promise<{ sessions: number; compared: Partial<Record<ComparedKey, number>>; laws: Law[] }>;
 
 /** Compares over one schedule. */
 export function compare(subject: Subject, schedule: string, options?: DriveOptions): Promise<Conformance>;

@@ -1,0 +1,3 @@
+// A port in CommonJS, with no Server.
+
+module.exports = { TextOperation: class {}, Client: class {} };

@@ -1,0 +1,46 @@
+/* The worker in which a port is tried. */
+
+import { parentPort, workerData } from "node:worker_threads";
+import { tried } from "./trying.mjs";
+
+const { module, options, at } = workerData;
+
+/* What a module exports; of one in CommonJS, what it gives to `require`. */
+async function subjectOf() {
+  const { default: own, ...named } = await import(module);
+  if (typeof own === "function" && named.TextOperation === undefined) return { subject: own, accessors: named.accessors };
+  return { subject: { ...own, ...named }, accessors: named.accessors ?? own?.accessors };
+}
+
+/* A value as it can be sent: itself, or its text. */
+function sendable(value) {
+  try {
+    return structuredClone(value);
+  } catch {
+    return String(value?.stack ?? value);
+  }
+}
+
+/* An error as it can be sent, with its own fields. */
+function told(error) {
+  const { name, message, session, schedule, answer, laws, actual, expected } = error;
+  const given = { session, schedule, answer, laws, ...("cause" in error && { cause: sendable(error.cause) }) };
+  const fields = Object.fromEntries(Object.entries(given).filter(([, value]) => value !== undefined));
+  return { name, message, fields, actual, expected };
+}
+
+const watcher = {
+  onSession(name, schedule) {
+    Atomics.store(at, 0, 0);
+    parentPort.postMessage({ session: { name, schedule } });
+  },
+  onInstruction: (its) => Atomics.store(at, 0, its),
+  onFailure: (error) => parentPort.postMessage({ failure: told(error) }),
+};
+
+try {
+  const { subject, accessors } = await subjectOf();
+  parentPort.postMessage({ result: await tried(subject, { ...options, ...(accessors && { accessors }) }, watcher) });
+} catch (error) {
+  parentPort.postMessage({ error: told(error) });
+}

@@ -1,0 +1,56 @@
+/*
+ * A port in a worker, which is ended where a session does not:
+ *
+ *     conforms(new URL("./my-port.js", import.meta.url))
+ *
+ *     worker ── the session under way ──▶ here, with a clock ── over ──▶ the worker ends, and the error names the session
+ */
+
+import { AssertionError } from "node:assert";
+import { Worker } from "node:worker_threads";
+import { OtbenchError } from "./errors.mjs";
+import { hangOf, limitOf } from "./trying.mjs";
+
+const INSIDE = new URL("./watched.mjs", import.meta.url);
+const SLACK = 500; // milliseconds in which the worker ends a session itself, where it can
+
+/* The error that the worker has told of. */
+function errorOf({ name, message, fields, actual, expected }) {
+  const error = name === "AssertionError" ? new AssertionError({ message, actual, expected, operator: "conforms" }) : name === "TypeError" ? new TypeError(message) : new Error(message);
+  return Object.assign(error, fields);
+}
+
+/**
+ * Tries the port of a module.
+ * @param {URL} module it exports TextOperation, Client and Server, and `accessors` where the port needs them; or a driver as `default`
+ * @param {import("./testing.mjs").ConformsOptions} options checked ones
+ */
+export async function triedInWorker(module, options) {
+  if (options.accessors) throw new OtbenchError("Usage", "accessors are exported by the module of a port that is given by its URL");
+  const at = new Int32Array(new SharedArrayBuffer(4));
+  const worker = new Worker(INSIDE, { workerData: { module: module.href, options, at }, execArgv: [] });
+  let timer = null;
+  try {
+    return await new Promise((resolve, reject) => {
+      let failed = null; // the session that fails, while it is reduced
+      let under = ""; // the session under way
+      const clock = (name, schedule) => {
+        under = name;
+        clearTimeout(timer);
+        timer = setTimeout(() => reject(failed ?? hangOf(name, schedule, Atomics.load(at, 0), options)), limitOf(schedule, options) + SLACK);
+      };
+      clock("before the first session", "clients 1\n");
+      worker.on("message", ({ session, failure, error, result }) => {
+        if (session) clock(session.name, session.schedule);
+        else if (failure) failed = errorOf(failure);
+        else if (error) reject(errorOf(error));
+        else resolve(result);
+      });
+      worker.on("error", reject);
+      worker.on("exit", (status) => reject(failed ?? new Error(`the port has ended the worker, with status ${status} in ${under}`)));
+    });
+  } finally {
+    clearTimeout(timer);
+    await worker.terminate();
+  }
+}
