@@ -162,8 +162,9 @@ test("a difference ahead of many lines, which the program does not read, is foun
 
 test("a port whose lines have no value is said to show nothing", options, () => {
   const greeting = (port) => new Debugger(new Recording(ask, "clients 1\nread 0\n", port)).greeting().slice(1, -1);
-  assert.deepEqual(greeting('{"at":1}\n'), ["the port's lines have no value that can be compared"]);
-  assert.deepEqual(greeting('{"at":1,"client":0}\n'), []);
+  for (const line of ['{"at":1}\n', '{"at":1,"client":0}\n'])
+    assert.deepEqual(greeting(line), ["the port's lines have no value that can be compared"]);
+  assert.deepEqual(greeting('{"at":1,"client":0,"revision":0}\n'), []);
   assert.deepEqual(greeting(null), []);
 });
 
