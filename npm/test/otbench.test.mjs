@@ -108,6 +108,7 @@ test("conform: the first difference", () => {
       { name: "operation", value: '["c",1]' },
     ],
     note: "that is the buffer as it was, not transformed",
+    unknown: [],
     text:
       'differs at 7: deliver 0: client 0 buffer\nfound ["a",-1,1]\not.js ["a",1,-1,1]\nrule AwaitingWithBuffer.applyServer\n' +
       'given outstanding [1,"z"]\ngiven buffer ["a",-1,1]\ngiven operation ["c",1]\n' +
