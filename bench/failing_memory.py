@@ -119,6 +119,8 @@ def program(shim):
 
 
 def main():
+    if sys.argv[1:]:
+        sys.exit("bench/failing_memory.py takes no words")
     with tempfile.TemporaryDirectory() as room:
         shim = f"{room}/failing_memory.so"
         subprocess.run(["gcc", "-O2", "-shared", "-fPIC", "-o", shim, f"{ROOT}/bench/failing_memory.c", "-ldl"], check=True)

@@ -7,4 +7,9 @@
 
 import { coverage, page } from "./finders.js";
 
+if (process.argv.length > 2) {
+  console.error("usage: node conformance/coverage.js, which takes no words");
+  process.exit(2);
+}
+
 process.stdout.write(page(coverage()));

@@ -56,7 +56,8 @@ const EDITS = [
   ["buffer-ack-forgets-the-buffer", "AwaitingWithBuffer.serverAck", "return new AwaitingConfirm(this.buffer);", "return synchronized_;"],
   ["ack-keeps-revision", "Client.serverAck", "this.revision++;", ""],
   ["buffer-replaced", "AwaitingWithBuffer.applyClient", "this.buffer.compose(operation)", "operation"],
-  ["buffer-up-to-32-edits", "AwaitingWithBuffer.applyClient", "this.buffer.compose(operation)", "upTo32(this.buffer, operation)"],
+  ["buffer-up-to-32-edits", "AwaitingWithBuffer.applyClient", "this.buffer.compose(operation)", "upTo(32, this.buffer, operation)"],
+  ["buffer-up-to-200-edits", "AwaitingWithBuffer.applyClient", "this.buffer.compose(operation)", "upTo(200, this.buffer, operation)"],
 
   ["receive-first-alone", "Server.receiveOperation", "slice(revision)", "slice(revision, revision + 1)"],
   ["receive-skips-one", "Server.receiveOperation", "slice(revision)", "slice(revision + 1)"],
@@ -76,6 +77,8 @@ const EDITS = [
   ["texts-with-straight-quotes", "insert", "this.targetLength += str.length;", "str = str.replace(/[\\u201c\\u201d]/g, '\"'); this.targetLength += str.length;"],
   ["texts-without-blanks-in-front", "insert", "this.targetLength += str.length;", "str = str.replace(/^ +/, ''); this.targetLength += str.length;"],
   ["texts-without-spaces-of-no-width", "insert", "this.targetLength += str.length;", "str = str.replace(/[\\u200b\\u2060]/g, ''); this.targetLength += str.length;"],
+  ["texts-without-joiners", "insert", "this.targetLength += str.length;", "str = str.replace(/[\\u200c\\u200d]/g, ''); this.targetLength += str.length;"],
+  ["texts-with-one-line-end", "insert", "this.targetLength += str.length;", "str = str.replace(/\\u2029/g, '\\n'); this.targetLength += str.length;"],
   ["text-12-is-a-retain", "retain", "isRetain(this.ops[this.ops.length - 1])", "this.ops[this.ops.length - 1] > 0"],
   ["text-minus-1-is-a-deletion", "delete", "isDelete(this.ops[this.ops.length - 1])", "this.ops[this.ops.length - 1] < 0"],
   ["text-0-is-empty", "insert", "if (str === '') {", "if (str === '' || str === '0') {"],
@@ -84,11 +87,13 @@ const EDITS = [
   ["lengths-of-8-bits", "retain", "if (n === 0) {", "n = n & 255; if (n === 0) {"],
   ["lengths-of-15-bits", "retain", "if (n === 0) {", "n = n & 32767; if (n === 0) {"],
   ["lengths-of-16-bits", "retain", "if (n === 0) {", "n = n & 65535; if (n === 0) {"],
+  ["lengths-up-to-100000", "retain", "if (n === 0) {", "n = Math.min(n, 100000); if (n === 0) {"],
   ["components-up-to-1000", "retain", "this.ops.push(n);", "if (this.ops.length === 1000) { throw new Error('too many components'); } this.ops.push(n);"],
   ["log-cut-at-40", "Server.receiveOperation", "slice(revision)", "slice(Math.max(revision, this.operations.length - 40))"],
   ["log-cut-at-100", "Server.receiveOperation", "slice(revision)", "slice(Math.max(revision, this.operations.length - 100))"],
   ["log-cut-at-1000", "Server.receiveOperation", "slice(revision)", "slice(Math.max(revision, this.operations.length - 1000))"],
   ["log-cut-at-1024", "Server.receiveOperation", "slice(revision)", "slice(Math.max(revision, this.operations.length - 1024))"],
+  ["log-cut-at-3000", "Server.receiveOperation", "slice(revision)", "slice(Math.max(revision, this.operations.length - 3000))"],
 
   ["message-changed-by-a-receiver", "AwaitingConfirm.applyServer", "client.applyOperation(pair[1]);", "client.applyOperation(Object.assign(operation, pair[1]));"],
   ["message-changed-by-its-sender", "AwaitingConfirm.applyServer", "new AwaitingConfirm(pair[0])", "new AwaitingConfirm(Object.assign(this.outstanding, pair[0]))"],
@@ -114,10 +119,10 @@ function inPieces(operation) {
   return operation.constructor.fromJSON(JSON.parse(text));
 }
 
-/* A buffer that takes 32 edits, and forgets the further ones. */
-function upTo32(buffer, operation) {
+/* A buffer that takes so many edits, and forgets the further ones. */
+function upTo(most, buffer, operation) {
   const { edits = 1 } = buffer;
-  return edits === 32 ? buffer : Object.assign(buffer.compose(operation), { edits: edits + 1 });
+  return edits === most ? buffer : Object.assign(buffer.compose(operation), { edits: edits + 1 });
 }
 
 /* Results of `transform` are kept under the components, joined into one text, in which a length and a text can be alike. */
@@ -173,7 +178,7 @@ function edit(port, method, from, to) {
     isDelete: (component) => typeof component === "number" && component < 0,
     synchronized_: new port.Client(0).state,
     inPieces,
-    upTo32,
+    upTo,
     ...waitingStates(port),
   };
   owner[name] = new Function(...Object.keys(names), `return ${source.replace(from, () => to)};`)(...Object.values(names));

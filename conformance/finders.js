@@ -1,16 +1,18 @@
 /* Which sessions of the corpus find which faults. */
 
-import fs from "node:fs";
 import { bugs, leaks } from "./faults.js";
+import { large } from "../npm/large.mjs";
+import { storedSessions } from "../npm/stored.mjs";
 import { comparable, firstDifference, faultyPort } from "./lines.js";
 
-const FOLDER = new URL("sessions/", import.meta.url);
 export const TOGETHER = "several sessions in one process";
 
-export function readCorpus() {
-  const names = fs.readdirSync(FOLDER).filter((name) => name.endsWith(".ots")).map((name) => name.slice(0, -4)).sort();
-  return names.map((name) => ({ name, text: fs.readFileSync(new URL(`${name}.ots`, FOLDER), "utf8") }));
-}
+const named = ({ name, schedule }) => ({ name, text: schedule });
+
+/* The sessions that are stored, and those that are made too. */
+export const storedCorpus = () => storedSessions().map(named);
+
+export const readCorpus = () => [...storedSessions(), ...large()].map(named);
 
 /* The sessions that find a fault, each on a port of its own where the fault leaks from one to the next. */
 function findersOf(fault, corpus) {

@@ -32,6 +32,10 @@ function times(count, module, words) {
 }
 
 let words = process.argv.slice(2);
+if (words.length === 0 || (words[0].startsWith("-") && !(words[0] === "--times" && words.length > 2 && Number(words[1]) > 0))) {
+    console.error("usage: node engine/run.mjs [--times N] ENGINE [WORD..]");
+    process.exit(2);
+}
 const count = words[0] === "--times" ? Number(words[1]) : 0;
 if (count > 0) words = words.slice(2);
 const module = new WebAssembly.Module(fs.readFileSync(words[0]));

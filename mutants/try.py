@@ -103,10 +103,13 @@ def try_all(room, names):
 
 
 def main():
+    if any(word in ("-h", "--help") for word in sys.argv[1:]):
+        print(__doc__.strip())
+        return 0
     names = sys.argv[1:] or crates()
     absent = [name for name in names if name not in crates() or not (TOP / "crates" / name).is_dir()]
     if absent:
-        print(f"no such crate, or no mutants of it here: {', '.join(absent)}")
+        print(f"no such crate, or no mutants of it here: {', '.join(absent)}", file=sys.stderr)
         return 2
     with tempfile.TemporaryDirectory(prefix="mutants-") as place:
         room = pathlib.Path(place)

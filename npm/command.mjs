@@ -1,211 +1,166 @@
-/* The command `otbench`: the program's words, files as further words, `view`, and help on the output. */
+/*
+ * The command `otbench`: words, files, help and hints around a program, which is the engine of the package or one of the system.
+ *
+ *     words ──▶ a subcommand of this command: view, edit, debug, merge, completion, help, version
+ *          └──▶ a subcommand of the program: its files are read, it runs, and hints follow on standard error
+ *
+ * A module that most calls do not need is read when it is wanted, so that a call of the program begins soon.
+ */
 
-import { isatty } from "node:tty";
-import { EngineFault, serve } from "../engine/host.mjs";
-import { debug } from "../terminal/debugging.mjs";
-import { edit, USAGE as EDIT_HELP } from "../terminal/editing.mjs";
-import { writeFaultOf } from "../terminal/files.mjs";
-import { visible } from "../terminal/visible.mjs";
-import { FILES, formOf, inputOf, isFile, OPTIONS, readWhole, split, STDIN, Unreadable } from "./files.mjs";
-import { hintsOf, looksAtOutput } from "./hints.mjs";
-import { engineBytes, release, viewer } from "./parts.mjs";
-import { runOnStreams, writeAll } from "./streams.mjs";
+import { EngineFault } from "../engine/host.mjs";
+import { announce, ANSWERING_EACH, asksForHelp, FILES, inputOf, isFile, OPTIONS, split, Unreadable } from "./files.mjs";
+import { fileWord, quoted } from "./shell.mjs";
+import { complain, print, STDIN } from "./streams.mjs";
 import { bytesOf, joined, textOf } from "./text.mjs";
-import { meant, similarTo } from "./usage.mjs";
-import { pageOf, shownOf } from "./view.mjs";
 
-const [STDOUT, STDERR] = [1, 2];
 const [DONE, FAULT, USAGE] = [0, 1, 2];
 
-const engine = () => new WebAssembly.Module(engineBytes());
+const NOTHING = new Uint8Array(0);
 
-const asks = (module) => (words, input) => serve(module, words, input);
-
-const utf8 = (text) => bytesOf(text, "the text");
-
-const MORE_HELP = `
-Files can be named in the place of standard input, and '-' is standard input:
-${Object.entries(FILES)
-  .map(([word, files]) => `  otbench ${word} ${files.map((file) => `[${file}]`).join(" ")}\n`)
-  .join("")}  otbench debug SCHEDULE [--port LINES]           at a terminal, forth and back
-  otbench edit SCHEDULE C AT DELETED INSERTED    appends the edit with which client C changes its document so
-COMMANDS and LINES stand behind the schedule and a line '%%'. 'view' prints a page for a browser with the session in it, and
-beside it what a port printed, its LINES. 'help' and 'version' print on the output, with status 0; so do '--version', '-V' and '-v'.
-'threads' performs plans of one worker: this program has no threads.
-`;
-
-const DEBUG_HELP = `
-At a terminal 'otbench debug SCHEDULE [--port LINES]' has other commands: 'otbench debug SCHEDULE --help' lists them.
-`;
-
-const THREADS_HELP = `
-This program has no threads: it performs plans with "workers":1. './otbench threads' of the repository, built with the toolchain, performs all.
-`;
-
-const VIEW_HELP = `usage: otbench view [SCHEDULE [LINES]] > PAGE
-Reads a schedule's text, and the lines that a port printed, if any: as files, or on standard input with a line '%%' between them.
-Prints a page for a browser with the session in it.
-`;
-
-/* What cannot be written on standard error is lost, and the status tells. */
-function complain(text) {
-  try {
-    writeAll(STDERR, utf8(isatty(STDERR) ? visible(text) : text));
-  } catch {
-    return;
-  }
-}
-
-/* Writes on the output; whether it could. What cannot be written is complained of, but where nobody reads it any more. */
-function print(bytes) {
-  try {
-    writeAll(STDOUT, bytes);
-    return true;
-  } catch (fault) {
-    complain(writeFaultOf(fault));
-    return false;
-  }
-}
-
-const VERSION = new Set(["version", "--version", "-V", "-v"]);
-
-const isHelp = (word) => word === "-h" || word === "--help";
-
-function showVersion() {
-  const { version, commit, proved } = release();
-  const said = `otbench ${version} (${commit === null ? "no release" : `commit ${commit}`}, ${proved ? "proved" : "not proved"})\n`;
-  return print(utf8(said)) ? DONE : FAULT;
-}
-
-/* The help of what the program does not have, and what stands below its own. */
-const OWN_HELP = { view: VIEW_HELP, edit: EDIT_HELP };
-const MORE_HELP_ON = { debug: DEBUG_HELP, threads: THREADS_HELP };
-
-/* The program's help, or that of one of its words, on the output. */
-function showHelp(words) {
-  const [word] = words;
-  if (words.length === 1 && Object.hasOwn(OWN_HELP, word)) return print(utf8(OWN_HELP[word])) ? DONE : FAULT;
-  const ask = asks(engine());
-  const said = textOf(ask(["help", ...words], new Uint8Array(0)).errors);
-  const more = word === undefined ? MORE_HELP : (words.length === 1 && Object.hasOwn(MORE_HELP_ON, word) ? MORE_HELP_ON[word] : "");
-  if (!said.startsWith("error:")) return print(utf8(said + more)) ? DONE : FAULT;
-  complain(said);
-  if (words.length === 1 && isatty(STDERR)) hint(similarTo(word, ask));
-  return USAGE;
-}
-
-const isOnTerminal = () => isatty(STDOUT) && isatty(STDERR);
-
-/* Says what is awaited where somebody has to type it. */
-function announce(word, flags, files) {
-  const all = [formOf(word, flags).toUpperCase(), ...FILES[word].slice(1)];
-  const awaited = files.length === 0 ? all : all.filter((_, i) => files[i] === "-");
-  if (awaited.length > 0 && isatty(STDIN) && isatty(STDERR))
-    complain(`otbench: reading ${awaited.join(", a line '%%', ")} from the terminal; Ctrl-D ends it\n`);
-}
-
-/* All that is read, at once. */
-const wholeOf = (parts) => joined(parts.map((part) => (part === STDIN ? readWhole("-") : part)));
-
-/* How many workers a plan has; one where it is refused, which the program says. */
-function workersOf(module, plan) {
-  const { status } = serve(module, ["explain", "--plan"], plan);
-  return status === DONE ? JSON.parse(textOf(plan)).workers : 1;
-}
-
-function view(words) {
-  const { flags, files } = split(words);
-  const [unexpected] = [...flags, ...files.slice(FILES.view.length)];
-  if (unexpected !== undefined) {
-    complain(flags.some(isHelp) ? VIEW_HELP : `error: unexpected argument '${unexpected}' found\n${VIEW_HELP}`);
-    return USAGE;
-  }
-  announce("view", flags, files);
-  const input = wholeOf(inputOf(files));
-  const bytes = engineBytes();
-  const module = new WebAssembly.Module(bytes);
-  const { errors, ...shown } = shownOf((given, read) => serve(module, given, read), input);
-  complain(textOf(errors));
-  if (shown.lines === null) return FAULT;
-  return print(pageOf(viewer(), shown, bytes)) ? DONE : FAULT;
-}
-
-/* Runs a word of the program that takes files. A file too many, and what may be an unknown option's value, is refused by the program. */
-function runOnFiles(word, words) {
-  const { flags, files } = split(words);
-  const extra = files.slice(FILES[word].length);
-  if (extra.length > 0 || flags.some(isHelp)) return runOnWords([word, ...flags, ...extra], []);
-  if (flags.some((flag) => !OPTIONS.has(flag)) && !files.every(isFile)) return runOnWords([word, ...flags, ...files], []);
-  announce(word, flags, files);
-  const module = engine();
-  const input = word === "threads" ? [wholeOf(inputOf(files))] : inputOf(files);
-  const workers = word === "threads" ? workersOf(module, input[0]) : 1;
-  if (workers > 1) {
-    complain(`otbench: this program has no threads, and the plan has ${workers} workers: give it "workers":1, or give the plan to ./otbench threads of the repository, built with the toolchain\n`);
-    return FAULT;
-  }
-  if (!isOnTerminal()) return runOnStreams(module, [word, ...flags], input);
-  return runWithHints(module, word, { flags, files }, input);
-}
+/**
+ * @typedef {object} Context
+ * @property {import("./programs.mjs").Program} program
+ * @property {string} name what the command is called, for the shell
+ * @property {string} more what stands below the help
+ */
 
 const hint = (text) => complain(`otbench: ${text}\n`);
 
-/* The same on a terminal, with the hints below an answer. */
-function runWithHints(module, word, { flags, files }, input) {
-  const [read, written] = [[], []];
-  const onRead = (bytes) => void read.push(bytes.slice());
-  const onWrite = looksAtOutput(word) ? (bytes) => void written.push(bytes.slice()) : undefined;
-  const status = runOnStreams(module, [word, ...flags], input, { onRead, onWrite });
-  if (status === USAGE) meant([word, ...flags], asks(module)).forEach(hint);
-  if (status === FAULT) hintsOf(word, { flags, files }, { input: joined(read), output: joined(written) }, asks(module)).forEach(hint);
+function showVersion({ program }) {
+  const said = program.version ?? `${textOf(program.ask(["--version"], NOTHING).errors).trim()} (${program.about})`;
+  return print(`${said}\n`) ? DONE : FAULT;
+}
+
+/* The bytes among what is read. */
+const bytesIn = (parts) => joined(parts.filter((part) => typeof part !== "number"));
+
+/* How many workers a plan has; one where it is refused, which the program says. */
+function workersOf({ program }, plan) {
+  const { status } = program.ask(["explain", "--plan"], plan);
+  return status === DONE ? JSON.parse(textOf(plan)).workers : 1;
+}
+
+/* Whether a program without threads is to start some. */
+function lacksThreads({ program }, word, parts) {
+  if (program.hasThreads || word !== "threads") return false;
+  const workers = workersOf({ program }, bytesIn(parts));
+  if (workers > 1) hint(`this program has no threads, and the plan has ${workers} workers: give it "workers":1, or give the plan to ./otbench threads of the repository, built with the toolchain`);
+  return workers > 1;
+}
+
+/* The subcommands whose hints are also by what was printed. */
+const LOOKED_AT = new Set(["judge", "conform"]);
+
+/* Says what may be meant by words that the program refuses. */
+async function hintAtWords({ program, name }, words) {
+  const { meant } = await import("./usage.mjs");
+  meant(words, { name, ask: program.ask }).forEach(hint);
+}
+
+const CUT = Buffer.from("cut:");
+
+/* Whether a recorded schedule may end before its logs do, which is told with each status. */
+const isCut = (input) => Buffer.from(input.buffer, input.byteOffset, input.length).includes(CUT);
+
+/* Runs a subcommand of the program on a file, or two; with the hints below its answer. */
+async function answer(context, word, flags, files) {
+  const { program, name } = context;
+  announce(word, flags, files);
+  const parts = inputOf(word, flags, files);
+  if (lacksThreads(context, word, parts)) return FAULT;
+  const [output, errors] = [[], []];
+  const onWrite = LOOKED_AT.has(word) ? (bytes) => void output.push(bytes.slice()) : undefined;
+  const { status, isWritten } = await program.run([word, ...flags], parts, { onWrite, onError: (bytes) => void errors.push(bytes.slice()) });
+  if (!isWritten) return status;
+  const input = bytesIn(parts);
+  if (status === USAGE) await hintAtWords(context, [word, ...flags]);
+  else if (status === FAULT ? input.length > 0 : isCut(input)) {
+    const { hintsOf } = await import("./hints.mjs");
+    const call = { word, flags, files, name, ask: program.ask };
+    hintsOf(call, status, { input, output: joined(output), errors: joined(errors) }).forEach((line) => complain(`${line}\n`));
+  }
   return status;
 }
 
-/* Runs the program on words without files; on a terminal with what may be meant by those that it refuses. */
-function runOnWords(words, input) {
-  const module = engine();
-  const status = runOnStreams(module, words, input);
-  if (status === USAGE && isOnTerminal()) meant(words, asks(module)).forEach(hint);
+/* The same of several files, each below its name. The status is the worst one. */
+async function answerEach(context, word, flags, files) {
+  let worst = DONE;
+  for (const [i, file] of files.entries()) {
+    if (!print(`${i > 0 ? "\n" : ""}==> ${file === "-" ? "standard input" : fileWord(file)} <==\n`)) return FAULT;
+    try {
+      worst = Math.max(worst, await answer(context, word, flags, [file]));
+    } catch (fault) {
+      if (!(fault instanceof Unreadable)) throw fault;
+      hint(fault.message);
+      worst = Math.max(worst, FAULT);
+    }
+  }
+  return worst;
+}
+
+/* Runs a subcommand that takes files. A file too many, and what may be an unknown option's value, is refused by the program. */
+function runOnFiles(context, word, words) {
+  const { flags, files } = split(words);
+  const isUnknown = flags.some((flag) => !OPTIONS.has(flag)) && !files.every((file) => file === "-" || isFile(file));
+  if (isUnknown) return runOnWords(context, [word, ...flags, ...files]);
+  const extra = files.slice(FILES[word].length);
+  if (extra.length > 0 && ANSWERING_EACH.has(word)) return answerEach(context, word, flags, files);
+  return extra.length > 0 ? runOnWords(context, [word, ...flags, ...extra]) : answer(context, word, flags, files);
+}
+
+/* Runs the program on words without files, with what may be meant by those that it refuses. */
+async function runOnWords(context, words) {
+  const { status } = await context.program.run(words, [STDIN]);
+  if (status === USAGE) await hintAtWords(context, words);
   return status;
 }
 
-/* What the scripts of terminal/ ask: the engine, by words and a text. */
-function asker() {
-  const module = engine();
-  return (words, text) => {
-    const { status, output, errors } = serve(module, words, utf8(text));
-    return { status, output: textOf(output), errors: textOf(errors) };
-  };
+/* What the scripts of terminal/ ask: the program, by words and a text. */
+const asker = ({ program }) => (words, text) => {
+  const { status, output, errors } = program.ask(words, bytesOf(text, "the text"));
+  return { status, output: textOf(output), errors: textOf(errors) };
+};
+
+/* Whether the words behind `debug` ask for the debugger at a terminal: a schedule alone, or with options, which the program's `debug` does not have. */
+function isDebugging(words) {
+  const { flags, files } = split(words);
+  return files.length > 0 && files[0] !== "-" && (files.length === 1 || flags.length > 0);
 }
 
-/* Whether the words ask for the debugger at a terminal: a schedule alone, or with the lines of a port; or for its help. */
-const isDebugging = ([word, file, ...more]) =>
-  word === "debug" && file !== undefined && !file.startsWith("-") && (more.length === 0 || more[0] === "--port" || more.some(isHelp));
+/* The subcommands that are not the program's; of `debug` that at a terminal. */
+const SUBCOMMANDS = {
+  completion: async ({ program }, words) => (await import("./completion.mjs")).completion(words, program.ask),
+  debug: async (context, words) => (await import("../terminal/debugging.mjs")).debug(words, asker(context)),
+  edit: async (context, words) => (await import("../terminal/editing.mjs")).edit(words, asker(context)),
+  help: async (context, words) => (await import("./help.mjs")).showHelp(context, words),
+  merge: async (_, words) => (await import("../recorder/merge.js")).mergeLogs(words),
+  port: async ({ program }, words) => (await import("./porting.mjs")).port(words, program.ask),
+  view: async ({ program }, words) => (await import("./view.mjs")).view(program.ask, words),
+};
 
-function run(words) {
-  const [word, ...rest] = words;
-  if (isDebugging(words)) return debug(rest, asker());
-  if (word === "edit") return edit(rest, asker());
-  if (word === "view") return view(rest);
-  if (word === "help") return showHelp(rest);
-  if (words.length === 1 && VERSION.has(word)) return showVersion();
-  if (Object.hasOwn(FILES, word ?? "")) return runOnFiles(word, rest);
-  const status = runOnWords(words, [STDIN]);
-  if (words.length === 1 && isHelp(word)) complain(MORE_HELP);
-  return status;
+const VERSION = new Set(["version", "--version", "-V", "-v"]);
+
+function run(context, words) {
+  const [word = "", ...rest] = words;
+  const isOwn = word === "debug" ? isDebugging(rest) : Object.hasOwn(SUBCOMMANDS, word);
+  if (asksForHelp(words) && !(word === "debug" && isOwn)) return SUBCOMMANDS.help(context, word.startsWith("-") || word === "help" ? [] : [word]);
+  if (isOwn) return SUBCOMMANDS[word](context, rest);
+  if (words.length === 1 && VERSION.has(word)) return showVersion(context);
+  return Object.hasOwn(FILES, word) ? runOnFiles(context, word, rest) : runOnWords(context, words);
 }
 
 /**
  * Runs the command.
  * @param {string[]} words behind the command's name
+ * @param {{ program: import("./programs.mjs").Program, name?: string, more?: string }} how
  * @returns {Promise<number>} the status
  */
-export async function main(words) {
+export async function main(words, { program, name = "otbench", more = "" }) {
   try {
-    return await run(words);
+    return await run({ program, name: quoted(name), more }, words);
   } catch (fault) {
     if (!(fault instanceof Unreadable || fault instanceof EngineFault)) throw fault;
-    complain(`otbench: ${fault.message}\n`);
+    hint(fault.message);
     return FAULT;
   }
 }

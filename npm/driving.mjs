@@ -8,8 +8,14 @@ import { accessorsOf } from "./port.mjs";
 import { translation } from "./units.mjs";
 
 /**
- * @typedef {{ lines: import("./otbench.mjs").PortLines, thrown?: { value: unknown } }} Driven the lines, and what a port threw
- * @typedef {(schedule: string, onInstruction?: (at: number) => void) => Promise<Driven>} Driver
+ * @typedef {object} Driven
+ * @property {import("./otbench.mjs").PortLines} lines
+ * @property {{ value: unknown }} [thrown] what the port threw
+ * @property {string} [trouble] how the process of a driver ended, if otherwise than it should
+ * @property {boolean} [isEnded] it was ended by a limit
+ * @typedef {{ onInstruction?: (at: number) => void, signal?: AbortSignal }} Watch is called with the number of each instruction that begins, from 1; says that nobody waits any more
+ * @typedef {(schedule: string, watch: Watch) => Promise<Driven>} Perform
+ * @typedef {{ perform: Perform, isProcess: boolean, performed: string[], close: (seconds: number) => Promise<string | null> }} Driver
  */
 
 /* The words at which a client may leave something to microtasks. */
@@ -39,22 +45,34 @@ async function drivenPort(port, accessors, text, onInstruction) {
 }
 
 /* Whether lengths count UTF-16 units: those of a port do as ot.js', unless it is said otherwise. */
-const countsUnits = (subject, { utf16 = typeof subject !== "function" }) => utf16;
+const countsUnits = (subject, { utf16 = typeof subject === "object" }) => utf16;
+
+/* The same of what counts UTF-16 units: it is given a schedule so, and its lines are turned back. */
+function inUnits(perform, steps) {
+  return async (schedule, watch) => {
+    const { inUnits: given, inScalars } = translation(schedule, steps);
+    const { lines, ...rest } = await perform(given, watch);
+    return { ...rest, lines: inScalars(lines) };
+  };
+}
 
 /**
- * What drives a port, or a driver, over schedules; its lines count scalars.
+ * What drives a port, or a driver that is a function, over schedules; its lines count scalars.
  * @param {import("./testing.mjs").Subject} subject
  * @param {import("./testing.mjs").DriveOptions} options
+ * @param {import("./otbench.mjs").Bench["steps"]} steps
  * @returns {Driver}
  */
-export function driverOf(subject, options) {
+export function driverOf(subject, options, steps) {
   const accessors = accessorsOf(options.accessors);
-  const driven = async (schedule, onInstruction) =>
+  const perform = async (schedule, { onInstruction = () => {} } = {}) =>
     typeof subject === "function" ? { lines: await subject(schedule) } : drivenPort(subject, accessors, schedule, onInstruction);
-  if (!countsUnits(subject, options)) return (schedule, onInstruction = () => {}) => driven(schedule, onInstruction);
-  return async (schedule, onInstruction = () => {}) => {
-    const { inUnits, inScalars } = translation(schedule);
-    const { lines, thrown } = await driven(inUnits, onInstruction);
-    return { lines: inScalars(lines), thrown };
-  };
+  return { isProcess: false, performed: [], perform: countsUnits(subject, options) ? inUnits(perform, steps) : perform, close: async () => null };
+}
+
+/** The same of a driver that is a process. @param {Driver} driver */
+export function translatedDriver(driver, { utf16 = false }, steps) {
+  if (!utf16) return driver;
+  const perform = inUnits((schedule, watch) => driver.perform(schedule, watch), steps);
+  return { ...driver, perform, get performed() { return driver.performed; } };
 }

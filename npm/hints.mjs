@@ -1,21 +1,31 @@
 /*
- * What the command says on a terminal below an answer of status 1, as ./otbench of the repository does (scripts/hints):
+ * What the command says below an answer of status 1, on standard error:
  *
  *     stopped at 3: LinkEmpty                                   the program
  *     otbench: instruction 3 is line 7: deliver 0               the line of what it has named
  *     otbench: what happened, in words: otbench explain a.ots   how to ask on
  */
 
+import { seen } from "../terminal/names.mjs";
 import { lineTold, namedIn } from "../viewer/src/numbering.mjs";
+import { outlineOf } from "../viewer/src/schedule.mjs";
 import { formOf } from "./files.mjs";
 import { kindOf } from "./kinds.mjs";
+import { below } from "./pointing.mjs";
+import { fileWord } from "./shell.mjs";
 import { markIn, textOf } from "./text.mjs";
 
-/* What `explain` tells of a refused input, and of an answer. */
-const FAULT = "where the fault is";
-const TOLD = { run: "what happened", check: "what happened", steps: "what happened", complete: "what happened" };
-const READERS = new Set([...Object.keys(TOLD), "asm", "dis", "judge", "threads", "conform"]);
-const TOLD_OF_OUTPUT = { judge: "what the verdict says", conform: "what ot.js does there" };
+/**
+ * @typedef {object} Call words that were run
+ * @property {string} word
+ * @property {string[]} flags
+ * @property {string[]} files
+ * @property {string} name what the command is called, for the shell
+ * @property {(words: string[], input: Uint8Array) => import("./otbench.mjs").Answer} ask the program
+ */
+
+/* What `explain` tells of an answer. */
+const TOLD = { run: "what happened", check: "what happened", steps: "what happened", complete: "what happened", judge: "what the verdict says", conform: "what ot.js does there" };
 
 /* The commands over a schedule's text whose answer names an instruction. */
 const NAMING = new Set(["run", "check", "steps", "complete", "conform"]);
@@ -42,8 +52,8 @@ const NO_VALUE = "no line has a value that is counted: docs/FORMATS.md, What a p
 /* Of this command alone: the second file of `debug` has commands. */
 const COMMANDS = "the second file has commands: docs/FORMATS.md, Debugger commands; the lines of a port stand behind --port";
 
-/* What names an instruction, which may stand far down in the output, or refuses a text: `complete` says it alone, on standard error. */
-const stopOf = (serve, schedule) => textOf(serve(["complete"], schedule).errors);
+/* What names an instruction, which may stand far down in the output: `complete` says it alone, on standard error. */
+const stopOf = (ask, schedule) => textOf(ask(["complete"], schedule).errors);
 
 /* The line of what was named in a schedule's text; of a port's line among those of the schedule what is missing. */
 function lineOf(answer, text) {
@@ -64,45 +74,59 @@ function faultOfLines([first, second]) {
 }
 
 /* Words for the first file, or for what came otherwise. One file that `conform` reads has a line '%%' in it, and is no schedule. */
-function asking(kind, word, files) {
-  const words = `otbench explain${kind === "schedule" ? "" : ` --${kind}`}`;
+function asking(kind, { word, files, name }) {
+  const words = `${name} explain${kind === "schedule" ? "" : ` --${kind}`}`;
   const [file = "-"] = word === "conform" && kind === "schedule" && files.length < 2 ? [] : files;
-  return file === "-" ? `give the ${kind} to ${words}` : `${words} ${file}`;
+  return file === "-" ? `give the ${kind} to ${words}` : `${words} ${fileWord(file)}`;
 }
 
-const ofKind = (kind, word, files) => (kind === "lines" ? LINES : `${KINDS[kind]}; in words: ${asking(kind, word, files)}`);
+const ofKind = (kind, call) => (kind === "lines" ? LINES : `${KINDS[kind]}; in words: ${asking(kind, call)}`);
 
-/* How to ask on; `explain` itself has said it. */
-function pointerOf(word, reads, files, { isRefused, output }) {
-  if (!READERS.has(word)) return null;
-  const told = isRefused ? FAULT : (output.length > 0 && TOLD_OF_OUTPUT[word]) || (TOLD[word] ?? FAULT);
-  return `${told}, in words: ${asking(reads, word, files)}`;
+/* That a recorded schedule ends before its logs do, and where; `explain` and `conform` say it themselves. */
+function cutOf({ word, flags, files: [file = "-"] }, input) {
+  if (!["run", "check", "complete"].includes(word) || formOf(word, flags) !== "schedule") return [];
+  const { cut } = outlineOf(textOf(input));
+  return cut === null ? [] : [`${file === "-" ? "the schedule" : fileWord(file)} ends before its logs: ${seen(cut)}`];
 }
 
-/** Whether the hints are also by what was printed. */
-export const looksAtOutput = (word) => Object.hasOwn(TOLD_OF_OUTPUT, word);
+/* Of an input that was refused: where its fault is. */
+function refused({ word, ask }, reads, input, errors) {
+  const told = word === "explain" ? errors : textOf(ask(reads === "schedule" ? ["explain"] : ["explain", `--${reads}`], input).errors);
+  return below(told, reads === "schedule" ? textOf(input) : null, word === "explain");
+}
+
+/* Of a schedule that was run, or whose lines were compared. */
+function answered(call, reads, schedule, output) {
+  const { word, ask } = call;
+  const answer = word === "conform" ? output : NAMING.has(word) && reads === "schedule" ? stopOf(ask, schedule) : "";
+  const line = answer === "" ? null : lineOf(answer, textOf(schedule));
+  const fault = word === "conform" ? faultOfLines(output.split("\n", 2)) : null;
+  return [line, fault, Object.hasOwn(TOLD, word) ? `${TOLD[word]}, in words: ${asking(reads, call)}` : null].filter(Boolean);
+}
+
+const said = (lines) => lines.map((line) => `otbench: ${line}`);
+
+/* The hints to an answer of status 1. */
+function ofFault(call, kept) {
+  const { word, flags, files } = call;
+  const [output, errors] = [textOf(kept.output), textOf(kept.errors)];
+  if (word === "conform" && output.startsWith("conforms\n")) return []; // of a schedule that is cut
+  const reads = formOf(word, flags);
+  const kind = output === "" ? (kindOf(kept.input, reads) ?? reads) : reads;
+  if (kind !== reads) return said([ofKind(kind, call)]);
+  if (word === "debug") return files.length === 2 ? said([COMMANDS]) : [];
+  const mark = reads === "schedule" ? markIn(kept.input) : null;
+  const schedule = mark ? kept.input.subarray(0, mark.start) : kept.input;
+  if (errors === "" || errors.startsWith("stopped at ")) return said(answered(call, reads, schedule, output));
+  const ofPort = reads === "schedule" ? lineOf(errors, textOf(schedule)) : null;
+  return [...refused(call, reads, schedule, errors), ...said(ofPort ? [ofPort] : [])];
+}
 
 /**
  * The hints, a line each.
- * @param {string} word
- * @param {{ flags: string[], files: string[] }} words
- * @param {{ input: Uint8Array, output: Uint8Array }} kept what it read; what it printed, where `looksAtOutput`
- * @param {(words: string[], input: Uint8Array) => import("./otbench.mjs").Answer} serve
+ * @param {Call} call
+ * @param {number} status
+ * @param {{ input: Uint8Array, output: Uint8Array, errors: Uint8Array }} kept what it read; what `judge` or `conform` printed; and what it said on standard error
  * @returns {string[]}
  */
-export function hintsOf(word, { flags, files }, kept, serve) {
-  const output = textOf(kept.output);
-  if (word === "conform" && output.startsWith("conforms\n")) return []; // of a schedule that is cut
-  const reads = formOf(word, flags);
-  const kind = output === "" ? kindOf(kept.input, reads) ?? reads : reads;
-  if (kind !== reads) return [ofKind(kind, word, files)];
-  if (word === "debug") return files.length === 2 ? [COMMANDS] : [];
-  const mark = markIn(kept.input);
-  const schedule = mark ? kept.input.subarray(0, mark.start) : kept.input;
-  const isNaming = NAMING.has(word) && reads === "schedule";
-  const answer = word === "conform" && output !== "" ? output : isNaming ? stopOf(serve, schedule) : "";
-  const isRefused = reads === "image" ? serve(["dis"], kept.input).status !== 0 : /^otbench: line /.test(answer);
-  const line = isNaming ? lineOf(answer, textOf(schedule)) : null;
-  const fault = word === "conform" ? faultOfLines(output.split("\n", 2)) : null;
-  return [line, fault, pointerOf(word, reads, files, { isRefused, output })].filter(Boolean);
-}
+export const hintsOf = (call, status, kept) => [...(status === 1 ? ofFault(call, kept) : []), ...said(status > 1 ? [] : cutOf(call, kept.input))];

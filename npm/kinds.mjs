@@ -8,6 +8,8 @@ const OWN_KEY = { plan: /"(?:workers|typing)"[ \t]*:/, trace: /"(?:replicas|even
 
 const SCHEDULE = /^(?:[ \t\r]*(?:;[^\n]*)?\n)*[ \t]*clients[ \t]/;
 
+const MOST = 1 << 28; // bytes that are looked at
+
 /**
  * What an input is; what is read where it may be that.
  * @param {Uint8Array} input
@@ -15,7 +17,7 @@ const SCHEDULE = /^(?:[ \t\r]*(?:;[^\n]*)?\n)*[ \t]*clients[ \t]/;
  * @returns {string | null} one of these, lines (of a port), or null where it cannot be told
  */
 export function kindOf(input, reads) {
-  const text = textOf(input);
+  const text = textOf(input.subarray(0, MOST));
   if (/^OTS[12]/.test(text)) return "image";
   if (SCHEDULE.test(text)) return "schedule";
   if (!/^\s*\{/.test(text)) return null;

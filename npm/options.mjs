@@ -1,5 +1,6 @@
 /* The options of otbench/testing, each checked by its name before anything runs. */
 
+import { NEEDED_KEYS } from "./compared.mjs";
 import { OtbenchError } from "./errors.mjs";
 import { LAW_NAMES } from "./laws.mjs";
 
@@ -32,14 +33,28 @@ const RANDOM = {
   open: TRUTH,
 };
 
+const isKind = (value) => typeof value === "string" && /^.+: ./.test(value);
+const listOf = (isOne) => (value) => Array.isArray(value) && value.every(isOne);
+const FUNCTION = { has: (value) => typeof value === "function" };
+const FILE = { takes: "the path of a file", has: (value) => typeof value === "string" && value !== "" };
+
 const CONFORMS = {
   ...DRIVE,
   ...RANDOM,
   corpus: TRUTH,
   seconds: { takes: "a number of seconds above 0, to 1,000,000", has: (value) => Number.isFinite(value) && value > 0 && value <= 1_000_000 },
-  reduceSeconds: { takes: "a number of seconds, 0 or more", has: (value) => Number.isFinite(value) && value >= 0 },
-  known: { takes: `a list of laws, of ${LAW_NAMES.join(", ")}`, has: (value) => Array.isArray(value) && value.every(isOneOf(LAW_NAMES)) },
-  saveTo: { takes: "the path of a file", has: (value) => typeof value === "string" && value !== "" },
+  reduceSeconds: { takes: "a number of seconds, 0 to 1,000,000", has: (value) => Number.isFinite(value) && value >= 0 && value <= 1_000_000 },
+  all: TRUTH,
+  known: {
+    takes: `a list of laws, of ${LAW_NAMES.join(", ")}, and of kinds of failures, as the option all names them`,
+    has: listOf((value) => isOneOf(LAW_NAMES)(value) || isKind(value)),
+  },
+  need: { takes: `a list of keys, of ${NEEDED_KEYS.join(", ")}`, has: listOf(isOneOf(NEEDED_KEYS)) },
+  saveTo: FILE,
+  onSession: { ...FUNCTION, takes: "a function of what became of a session" },
+  signal: { takes: "an AbortSignal", has: (value) => value instanceof AbortSignal },
+  tap: { ...FUNCTION, takes: "a function of a line" },
+  junit: FILE,
 };
 
 /* A value for the eye: text in quotes, the rest as it is written. */
@@ -60,6 +75,9 @@ function check(name, table, options) {
 export const driveOptions = (name, options) => check(name, DRIVE, options);
 export const randomOptions = (options) => check("random", RANDOM, options);
 export const conformsOptions = (options) => check("conforms", CONFORMS, options);
+
+/** What an option of `conforms` takes, and whether a value is that. @param {string} name */
+export const optionOf = (name) => CONFORMS[name];
 
 /** Those of the options that `random` takes. */
 export const ofRandom = (options) => Object.fromEntries(Object.keys(RANDOM).flatMap((name) => (options[name] === undefined ? [] : [[name, options[name]]])));

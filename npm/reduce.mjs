@@ -1,8 +1,10 @@
 /*
- * Makes a schedule smaller as long as it still shows what it showed: fewer instructions, fewer clients, shorter texts.
+ * Makes sessions smaller as long as the last of them still shows what it showed: fewer sessions before it, fewer instructions, fewer
+ * clients, shorter texts.
  *
- * Whatever is left out, the rest is fitted to it: an edit to the length that its client's document has then, and what cannot be
- * performed any more goes too. So every schedule that is tried is performed whole. Its texts have one unit for each character.
+ * What is reduced is a list of schedules, as one process of a port is given them; mostly it is one schedule. Whatever is left out,
+ * the rest is fitted to it: an edit to the length that its client's document has then, and what cannot be performed any more goes too.
+ * So every schedule that is tried is performed whole. Its texts have one unit for each character.
  */
 
 import { makePort } from "../oracle/otjs.js";
@@ -42,17 +44,26 @@ function fitted(instruction, client) {
   return instruction;
 }
 
-/* An edit cut, or led on by a retain, to a document's length. */
+const kindOf = (component) => (typeof component === "string" ? "insert" : Math.sign(component));
+
+/* Adds a component that is not empty, to the last one where both are of one kind. */
+function append(edit, component) {
+  if (component === "" || component === 0) return;
+  const last = edit.at(-1);
+  if (last !== undefined && kindOf(last) === kindOf(component)) edit[edit.length - 1] = last + component;
+  else edit.push(component);
+}
+
+/* An edit cut, or led on by a retain, to a document's length. An insertion behind a deletion stays there. */
 function fittedEdit(edit, length) {
-  const operation = new otjs.TextOperation();
+  const fitted = [];
   for (const component of edit) {
-    const step = Math.min(Math.abs(component), length);
-    if (typeof component === "string") operation.insert(component);
-    else if (component > 0) operation.retain(step);
-    else operation.delete(step);
-    if (typeof component !== "string") length -= step;
+    const step = typeof component === "string" ? 0 : Math.min(Math.abs(component), length);
+    append(fitted, typeof component === "string" ? component : Math.sign(component) * step);
+    length -= step;
   }
-  return operation.retain(length).toJSON();
+  append(fitted, length);
+  return fitted;
 }
 
 const sum = (numbers) => numbers.reduce((total, number) => total + number, 0);
@@ -116,7 +127,7 @@ function withoutClient(schedule, gone, heir) {
     return [client > gone ? { ...instruction, client: client - 1 } : { ...instruction, client }];
   });
   const present = schedule.present - (gone < schedule.present ? 1 : 0);
-  return { ...schedule, clients: schedule.clients - 1, present, instructions };
+  return { ...schedule, clients: schedule.clients - 1, present, instructions, names: schedule.names.filter((_, client) => client !== gone) };
 }
 
 /* Without a client, or with its instructions given to a neighbour; and with a joiner who is there from the beginning. */
@@ -177,62 +188,85 @@ function* shorterTexts(schedule) {
     for (const [place, component] of edit.entries()) for (const other of simpler(component)) yield withEdit(schedule, at, edit.with(place, other));
 }
 
-const WAYS = [fewerInstructions, longerStart, fewerClients, noTexts, fewerTexts, fewerComponents, withoutSomeApart, shorterTexts];
+/* The last sessions alone, few first; then without a run of those before the last. */
+function* fewerSessions(sessions) {
+  for (let count = 1; count < sessions.length; count *= 2) yield sessions.slice(-count);
+  for (const kept of withoutRuns(sessions.slice(0, -1))) yield [...kept, sessions.at(-1)];
+}
 
-/* The smallest schedule so far, and what was tried. */
+/* A way to make a schedule smaller, as one for the last session, and then for those before it. */
+const ofEach = (way) =>
+  function* (sessions) {
+    for (let at = sessions.length - 1; at >= 0; at--)
+      for (const given of way(sessions[at])) {
+        const candidate = repaired(given);
+        if (isLess(size(candidate), size(sessions[at]))) yield sessions.with(at, candidate);
+      }
+  };
+
+const WAYS = [fewerSessions, ...[fewerInstructions, longerStart, fewerClients, noTexts, fewerTexts, fewerComponents, withoutSomeApart, shorterTexts].map(ofEach)];
+
+/* What stands in a list from one number on, up to another. */
+function* slice(list, from, to) {
+  let number = 0;
+  for (const it of list) {
+    if (number >= to) return;
+    if (number++ >= from) yield it;
+  }
+}
+
+/* The smallest sessions so far, and what was tried. */
 class Reduction {
-  constructor(schedule, shows, isOver) {
-    this.schedule = schedule;
-    this.shows = shows;
+  constructor(sessions, firstShown, isOver) {
+    this.sessions = sessions;
+    this.firstShown = firstShown;
     this.isOver = isOver;
     this.seen = new Set();
   }
 
-  /* Takes a candidate if it shows it, cut behind where it does if that shows it too. */
-  async take(candidate) {
-    const needed = await this.shows(candidate);
-    if (needed === null) return false;
-    this.schedule = candidate;
-    await this.cut(needed);
-    return true;
+  /* Goes on with the first of the candidates that shows it, cut behind where it does if that shows it too. How many stand before it, or -1 where none shows it. */
+  async tryFirst(candidates) {
+    const numbers = [];
+    const shown = await this.firstShown(this.#untried(candidates, numbers));
+    if (shown === null) return -1;
+    this.sessions = shown.sessions;
+    await this.cut(shown.needed);
+    return numbers[shown.number];
   }
 
-  async cut(needed) {
-    const { instructions } = this.schedule;
-    if (needed < instructions.length && !this.isOver()) await this.take({ ...this.schedule, instructions: instructions.slice(0, needed) });
-  }
-
-  /* What a way makes of the schedule, fitted, if it is smaller and was not tried; null otherwise. */
-  candidate(given) {
-    const candidate = repaired(given);
-    if (!isLess(size(candidate), size(this.schedule))) return null;
-    const key = JSON.stringify(candidate);
-    if (this.seen.has(key)) return null;
-    this.seen.add(key);
-    return candidate;
-  }
-
-  /* Takes the first candidate of a way behind those that were passed, and answers its number; -1 where none shows it. */
-  async first(way, passed) {
-    const most = isLong(this.schedule) ? passed + PATIENCE : Infinity;
-    let number = -1;
-    for (const given of way(this.schedule)) {
-      if (++number < passed) continue;
-      if (number >= most || this.isOver()) break;
-      const candidate = this.candidate(given);
-      if (candidate && !this.isOver() && (await this.take(candidate))) return number;
+  /* The candidates that were not tried; `numbers` gets how many stand before each. */
+  *#untried(candidates, numbers) {
+    let number = 0;
+    for (const candidate of candidates) {
+      const key = JSON.stringify(candidate);
+      if (!this.seen.has(key)) {
+        this.seen.add(key);
+        numbers.push(number);
+        yield candidate;
+      }
+      number++;
     }
-    return -1;
+  }
+
+  /* Without the instructions of the last session that it does not take. */
+  async cut(needed) {
+    const last = this.sessions.at(-1);
+    if (needed >= last.instructions.length || this.isOver()) return;
+    await this.tryFirst([this.sessions.with(-1, { ...last, instructions: last.instructions.slice(0, needed) })]);
+  }
+
+  isLong() {
+    return this.sessions.some(isLong);
   }
 
   /* Goes one way until nothing on it shows it any more. Behind a success it goes on from there, and then begins again. */
   async exhaust(way) {
     let [hasMoved, passed] = [false, 0];
     while (!this.isOver()) {
-      const number = await this.first(way, passed);
-      if (number < 0 && (passed === 0 || isLong(this.schedule))) break;
+      const number = await this.tryFirst(slice(way(this.sessions), passed, this.isLong() ? passed + PATIENCE : Infinity));
+      if (number < 0 && (passed === 0 || this.isLong())) break;
       hasMoved ||= number >= 0;
-      passed = Math.max(number, 0);
+      passed = number < 0 ? 0 : passed + number;
     }
     return hasMoved;
   }
@@ -243,23 +277,24 @@ class Reduction {
     while (hasMoved && !this.isOver()) {
       hasMoved = false;
       for (const way of WAYS) hasMoved = (await this.exhaust(way)) || hasMoved;
-      if (isLong(this.schedule)) break;
+      if (this.isLong()) break;
     }
   }
 }
 
 /**
- * The smallest schedule that was found to show it.
+ * The smallest sessions that were found to show it.
  * @template Schedule
- * @param {Schedule} schedule
- * @param {number} needed how many of its instructions it takes to show it
- * @param {(candidate: Schedule) => Promise<number | null>} shows how many it takes in a candidate, or null where it does not show it
+ * @param {Schedule[]} sessions
+ * @param {number} needed how many instructions of the last it takes to show it
+ * @param {(candidates: Iterable<Schedule[]>) => Promise<{ number: number, sessions: Schedule[], needed: number } | null>} firstShown the first that shows it, by how many
+ *   stand before it; its sessions up to the one that shows it, and how many instructions of that one it takes. null where none shows it
  * @param {() => boolean} isOver whether the time for it is over
- * @returns {Promise<Schedule>}
+ * @returns {Promise<Schedule[]>}
  */
-export async function reduced(schedule, needed, shows, isOver) {
-  const reduction = new Reduction(schedule, shows, isOver);
+export async function reduced(sessions, needed, firstShown, isOver) {
+  const reduction = new Reduction(sessions, firstShown, isOver);
   await reduction.cut(needed);
   await reduction.run();
-  return reduction.schedule;
+  return reduction.sessions;
 }

@@ -1,8 +1,10 @@
 /* What is said of a session over which a port fails, in 60 lines at most. */
 
+import { AssertionError } from "node:assert";
 import { writeFileSync } from "node:fs";
 import { lineTold } from "../viewer/src/numbering.mjs";
-import { valuesOf } from "./schedule.mjs";
+import { valuesOf, withOneUnitEach } from "./schedule.mjs";
+import { isOfTheWay, saidOf } from "./verdict.mjs";
 
 const MOST_LINES = 60;
 const MOST_WIDTH = 300; // characters of a line
@@ -10,9 +12,10 @@ const MOST_SCHEDULE = 28; // lines of a schedule
 const MOST_TOLD = 16; // lines of what conform says
 const AT_THE_END = 6; // of these so many are the last
 const MOST_STACK = 6; // lines
+const MOST_KINDS = 12; // lines
 
 /* A text for the eye: characters that show nothing, or that join the one before, stand as JSON escapes them. */
-const visible = (text) => text.replace(/(?![ \n])[\p{C}\p{M}\p{Z}]/gu, (it) => [...Array(it.length).keys()].map((at) => `\\u${it.charCodeAt(at).toString(16).padStart(4, "0")}`).join(""));
+export const visible = (text) => text.replace(/(?![ \n])[\p{C}\p{M}\p{Z}]/gu, (it) => [...Array(it.length).keys()].map((at) => `\\u${it.charCodeAt(at).toString(16).padStart(4, "0")}`).join(""));
 
 const narrow = (line) => (line.length > MOST_WIDTH ? `${line.slice(0, MOST_WIDTH)} .. (${line.length.toLocaleString("en")} characters)` : line);
 
@@ -25,10 +28,20 @@ function shortened(lines, most, sign) {
   return [...lines.slice(0, first), `${sign}.. ${lines.length - first - AT_THE_END} lines`, ...lines.slice(-AT_THE_END)];
 }
 
-/* What conform said over a schedule, and in which line of it that is. */
-function toldOf(answer, schedule) {
-  const line = lineTold(answer, schedule);
-  return shortened(linesOf(answer.text + (line ? `${line}\n` : "")), MOST_TOLD, "");
+/** A text in few lines for the eye. @param {string} text */
+export const fewLines = (text) => shortened(linesOf(text), MOST_TOLD, "");
+
+/** A name in one line for the eye. @param {string} text */
+export const inOneLine = (text) => narrow(visible(text).replaceAll("\n", "\\n"));
+
+const linesIn = (text) => text.split("\n").length - 1;
+
+/* What is said of the last session, and in which line of the whole text its answer's instruction is. */
+function toldOf(verdict, text) {
+  const last = verdict.sessions.at(-1);
+  const line = verdict.answer && lineTold(verdict.answer, ";\n".repeat(linesIn(text) - linesIn(last)) + last);
+  const said = saidOf(verdict);
+  return said === "" ? [] : fewLines(said + (line ? `${line}\n` : ""));
 }
 
 /* What was thrown, with the first lines of its stack. */
@@ -38,53 +51,91 @@ function thrownLines(who, { value }) {
   return [`${who} threw ${first}`, ...places.map((line) => `    ${line.trim()}`)];
 }
 
-/* Puts the schedule into a file, and says so, or why that was not possible. */
-function saved(schedule, file) {
-  try {
-    writeFileSync(file, schedule);
-    return [`the schedule is in ${file}`, `to replay it: compare(port, readFileSync(${JSON.stringify(file)}, "utf8")) of otbench/testing`];
-  } catch (error) {
-    return [`the schedule could not be saved: ${error.message}`, "to replay it: compare(port, error.schedule) of otbench/testing"];
-  }
+const THE_WAY = "the message was changed on its way: between where it was sent and where it was taken";
+
+/**
+ * @typedef {object} Words how a user calls what is said of
+ * @property {{ seconds: string, reduceSeconds: string, utf16: string | null }} more the options that give more time, or that a port counts UTF-16 units; null where it does
+ * @property {(text: string, name: string) => string[]} replayed how reduced sessions are tried again, with the file into which they were put
+ * @property {(name: string) => string} madeBy how a session as it was found is made again
+ * @property {(its: { sessions: string[], verdict: object }) => string[]} noted what else is to be noted of a reduced case
+ */
+
+/** How reduced sessions are tried again: they are put into a file where one is named, the first ones alone. @param {string | undefined} file @param {(file: string) => string} inFile @param {string[]} otherwise */
+export function replayedFrom(file, inFile, otherwise) {
+  let owner = null; // the session whose schedule is in the file
+  return (text, name) => {
+    if (file === undefined || (owner ?? name) !== name) return otherwise;
+    owner = name;
+    try {
+      writeFileSync(file, text);
+      return [`the schedule is in ${file}`, `to replay it: ${inFile(file)}`];
+    } catch (fault) {
+      return [`the schedule could not be saved: ${fault.message}`];
+    }
+  };
 }
 
-const replayed = ["the schedule is the error's `schedule`; the option saveTo puts it into a file", "to replay it: compare(port, error.schedule) of otbench/testing"];
-
-/* How the session as it was found is made. */
-function madeBy(name, random) {
-  const seed = /^session of seed (\d+)$/.exec(name);
-  if (!seed) return `as it was found it is ${name} of the corpus`;
-  const options = { corpus: false, ...random, sessions: 1, seed: Number(seed[1]) };
-  return `as it was found it is tried by conforms(port, ${JSON.stringify(options)})`;
-}
+/** The number of a session made at random, or null. */
+export const seedOf = (name) => /^session of seed (\d+)\b/.exec(name)?.[1] ?? null;
 
 const countOf = (schedule) => valuesOf(schedule).instructions.length;
 
-/**
- * The message of a failure.
- * @param {object} failure
- * @param {string} failure.name the session's
- * @param {string} failure.found as it was found
- * @param {string} failure.schedule reduced
- * @param {object | null} failure.answer what conform says of that
- * @param {{ value: unknown } | undefined} failure.thrown
- * @param {string[]} failure.notes
- * @param {{ saveTo?: string }} options
- * @param {object} random the options of the sessions made at random
- */
-export function messageOf({ name, found, schedule, answer, thrown, notes }, { saveTo }, random) {
-  const lines = [
-    `${name}: ${countOf(found)} instructions, here reduced to ${countOf(schedule)}`,
+/* The message of a failure. */
+function messageOf(name, found, { sessions, verdict, notes }, text, words) {
+  const { answer, thrown, isEnded } = verdict;
+  const before = sessions.length > 1 ? `; the last of ${sessions.length} in one process` : "";
+  const isOfUnits = words.more.utf16 !== null && !isEnded && /[\ud800-\udfff]/.test(text);
+  return [
+    `${inOneLine(name)}: ${countOf(found)} instructions, here reduced to ${countOf(sessions.at(-1))}${before}`,
     "",
-    ...shortened(linesOf(schedule), MOST_SCHEDULE, "; "),
+    ...shortened(linesOf(text), MOST_SCHEDULE, "; "),
     "",
-    ...(answer ? toldOf(answer, schedule) : []),
+    ...toldOf(verdict, text),
     ...(thrown ? thrownLines(answer ? "the port" : "the driver", thrown) : []),
+    ...(isOfTheWay(verdict) ? [THE_WAY] : []),
+    ...(isOfUnits ? [`a text has characters past U+FFFF: a port that counts UTF-16 units is tried with ${words.more.utf16}`] : []),
     ...notes,
-    ...(saveTo === undefined ? replayed : saved(schedule, saveTo)),
-    madeBy(name, random),
+    ...words.noted({ sessions, verdict }),
+    ...words.replayed(text, name),
+    words.madeBy(name),
   ];
-  return `${lines.slice(0, MOST_LINES).join("\n")}\n`;
+}
+
+/**
+ * The error of a session that fails.
+ * @param {string} name the session's
+ * @param {string} found as it was found
+ * @param {string} kind
+ * @param {import("./reducing.mjs").Case} its reduced
+ * @param {Words} words
+ */
+export function failureError(name, found, kind, its, words) {
+  const schedule = its.sessions.join("%%\n");
+  const { answer, thrown } = its.verdict;
+  const message = `${messageOf(name, found, its, schedule, words).slice(0, MOST_LINES).join("\n")}\n`;
+  const error = new AssertionError({ message, actual: answer?.found, expected: answer?.otjs, operator: "conforms" });
+  return Object.assign(error, { session: name, kind, schedule, answer, ...(thrown && { cause: thrown.value }) });
+}
+
+/** The case of a session that hung in this process, up to the instruction that did. */
+export function hungCase(schedule, verdict, limit, { more }) {
+  const { late } = verdict;
+  const { values: [values], textOf } = withOneUnitEach([schedule]);
+  const instructions = late > 0 ? values.instructions.slice(0, late) : values.instructions;
+  const where = late > 0 ? `instruction ${late - 1}, ${instructions.at(-1).word}, did not end` : "it did not end";
+  return { sessions: [textOf({ ...values, instructions })], verdict, notes: [`${where} within ${limit / 1000} seconds; a slow port is given more by ${more.seconds}`] };
+}
+
+/** The error of failures of several kinds. @param {import("./trying.mjs").Outcome["failures"]} failures */
+export function failuresError(failures) {
+  if (failures.length === 1 && failures[0].sessions === 1) return failures[0].error;
+  const count = failures.reduce((sum, { sessions }) => sum + sessions, 0);
+  const kinds = failures.map(({ kind, sessions }) => narrow(`    ${visible(kind)}: ${sessions}`));
+  const lines = [`${count} sessions fail; by their kinds:`, ...shortened(kinds, MOST_KINDS, "    "), "", "the shortest of the first kind", failures[0].error.message];
+  const message = `${lines.join("\n").trimEnd().split("\n").slice(0, MOST_LINES).join("\n")}\n`;
+  const { actual, expected, session, kind, schedule, answer } = failures[0].error;
+  return Object.assign(new AssertionError({ message, actual, expected, operator: "conforms" }), { session, kind, schedule, answer, failures, cause: failures[0].error.cause });
 }
 
 /** The message of laws that a port breaks. */

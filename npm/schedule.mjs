@@ -1,13 +1,25 @@
-/* A schedule's text as values, and back: { clients, present, start, instructions }, an instruction being { word, client, edit }. */
+/* A schedule's text as values, and back: { clients, present, start, instructions, names }, an instruction being { word, client, edit }. */
 
 import { readSchedule } from "../examples/port/schedule.js";
 
-/** The values of a text that otbench accepts. */
-export const valuesOf = (text) => readSchedule(text);
+/* A comment that names a client. */
+const NAMED = /^[ \t]*;[ \t]*client[ \t]+(\d{1,9})[ \t]+is[ \t]+(.*?)[ \t]*\r?$/;
+
+/** The values of a text that otbench accepts; by the clients' numbers the names that comments give them. */
+export function valuesOf(text) {
+  const values = { ...readSchedule(text), names: [] };
+  for (const line of text.split("\n")) {
+    const [, client, name] = NAMED.exec(line) ?? [];
+    if (Number(client) < values.clients) values.names[client] = name;
+    if (/^[ \t]*%%[ \t]*\r?$/.test(line)) break;
+  }
+  return values;
+}
 
 /** The text of such values. */
-export function written({ clients, present, start, instructions }) {
-  const lines = [`clients ${clients}`];
+export function written({ clients, present, start, instructions, names }) {
+  const lines = names.flatMap((name, client) => (name === undefined ? [] : [`; client ${client} is ${name}`]));
+  lines.push(`clients ${clients}`);
   if (present !== clients) lines.push(`present ${present}`);
   if (start !== "") lines.push(`start ${JSON.stringify(start)}`);
   for (const { word, client, edit } of instructions)
@@ -21,11 +33,11 @@ const FIRST_UNIT = 0xd800;
 const UNITS = 0x800;
 
 /**
- * A schedule's values in which each character past U+FFFF is one unit of its string, one of the surrogates, so that `length` counts
- * as the schedule does; and what makes a text of such values.
- * @param {string} text
+ * Values of schedules in which each character past U+FFFF is one unit of its string, one of the surrogates, so that `length` counts
+ * as a schedule does; and what makes a text of such values.
+ * @param {string[]} texts
  */
-export function withOneUnitEach(text) {
+export function withOneUnitEach(texts) {
   const pairs = [];
   const unitOf = (pair) => {
     if (!pairs.includes(pair)) pairs.push(pair);
@@ -34,7 +46,7 @@ export function withOneUnitEach(text) {
   };
   const pairOf = (unit) => pairs[unit.charCodeAt(0) - FIRST_UNIT];
   return {
-    values: withStrings(valuesOf(text), (string) => string.replace(PAIR, unitOf)),
+    values: texts.map((text) => withStrings(valuesOf(text), (string) => string.replace(PAIR, unitOf))),
     textOf: (values) => written(withStrings(values, (string) => string.replace(UNIT, pairOf))),
   };
 }

@@ -90,7 +90,7 @@ export interface DriveOptions {
 export interface RandomOptions {
   /** How many, 1 at least; 100 where it is left out. */
   sessions?: number;
-  /** The seed of the first, 0 to 999,999,999; each further one has the next. 1 where it is left out. */
+  /** The seed of the first, 0 to 999,999,999; each further one has the next. 1 where it is left out. Seeds that end with 9 have a longer start, or 8 or 25 times the instructions. */
   seed?: number;
   /** 1 to 64; 4 where it is left out. */
   clients?: number;
@@ -111,10 +111,31 @@ export interface ConformsOptions extends DriveOptions, RandomOptions {
   seconds?: number;
   /** How long a session that fails is made smaller; 3 where it is left out. */
   reduceSeconds?: number;
-  /** Laws that the port declines; none where it is left out. */
-  known?: Law[];
+  /** Laws that the port declines, and kinds of failures that are tolerated, `AwaitingConfirm.applyServer: outstanding`; none where it is left out. */
+  known?: (Law | string)[];
+  /** Whether it goes on behind a session that fails: then the error has all failures by their kinds, the shortest of each reduced. */
+  all?: boolean;
+  /** The keys of which a value has to be compared; `document` where it is left out, of each client and of the server in each session. */
+  need?: (ComparedKey | "message")[];
   /** The file into which the reduced schedule of a failure is written. */
   saveTo?: string;
+  /** Is called behind each session, in their order. */
+  onSession?(session: SessionResult): void;
+  /** Ends the run: the promise is rejected with its reason. */
+  signal?: AbortSignal;
+  /** Is called with each line of the run in the Test Anything Protocol, as with `all`. */
+  tap?(line: string): void;
+  /** The file into which the run is written as JUnit's XML, as with `all`. */
+  junit?: string;
+}
+
+/** What became of a session. */
+export interface SessionResult extends Session {
+  conforms: boolean;
+  /** Of a failure the method of ot.js and the key that differs, or what was wrong with the driver; else null. */
+  kind: string | null;
+  /** Whether the kind is one that is tolerated. */
+  known: boolean;
 }
 
 /**
@@ -129,12 +150,20 @@ export interface ConformanceError extends Error {
   expected?: string;
   /** The session's name. */
   session: string;
+  /** The method of ot.js and the key that differs, or what was wrong with the driver. */
+  kind: string;
   /** The schedule, reduced. */
   schedule: string;
   /** What `conform` says of it; null where the driver threw, or the session did not end in time. */
   answer: Conformance | null;
   /** What the port or the driver threw, with its stack; left out where it threw nothing. */
   cause?: unknown;
+}
+
+/** All failures of a run with `all`: an `AssertionError` of node's, with the fields of the first kind's. One failure alone is a ConformanceError. */
+export interface FailuresError extends ConformanceError {
+  /** Of each kind, the most frequent first: how many sessions fail so, and the shortest of them, reduced. */
+  failures: { kind: string; sessions: number; error: ConformanceError }[];
 }
 
 /** Laws that the port breaks: an `AssertionError` of node's. */
@@ -156,9 +185,12 @@ export interface Session {
  */
 
 /**
- * Tries a port over the corpus, over sessions made at random, and over the laws. Rejected with a ConformanceError at the first session that fails,
- * with an AssertionError where no value was compared at all, and with a LawsError where laws are broken. Resolved with how often each value
- * was compared, and the laws that were tried; a driver has none.
+ * Tries a port over the corpus, over sessions made at random, and over the laws. Rejected with a ConformanceError at the first session that fails (with
+ * a FailuresError where the option `all` is given), with an AssertionError where what is needed was not compared, and with a LawsError where laws are
+ * broken. Resolved with how many sessions conform, how often each value was compared, the laws that were tried (a driver has none), and how often
+ * each kind came that is known.
+ *
+ * `otbench port` of the command tries a driver that is a program in the same way.
  *
  * A port that may not end is given as the URL of a module that exports `TextOperation`, `Client` and `Server`, and `accessors` where it needs them,
  * or a driver as `default`. It is tried in a worker, which is ended `seconds` after a session began.
@@ -166,7 +198,7 @@ export interface Session {
 export function conforms(
   subject: Subject | URL,
   options?: ConformsOptions,
-): Promise<{ sessions: number; compared: Partial<Record<ComparedKey, number>>; laws: Law[] }>;
+): Promise<{ sessions: number; compared: Partial<Record<ComparedKey | "message", number>>; laws: Law[]; known?: Record<string, number> }>;
 
 /** Compares over one schedule. */
 export function compare(subject: Subject, schedule: string, options?: DriveOptions): Promise<Conformance>;

@@ -1,168 +1,160 @@
-/* Tries a port or a driver over sessions, and reduces the first that fails. */
+/*
+ * Tries a port or a driver over rounds of sessions and the laws:
+ *
+ *     rounds ── judge ──▶ verdicts ──▶ failures by kinds ── the shortest of each reduced ──▶ reports
+ *                                 └──▶ what was compared
+ */
 
-import { AssertionError } from "node:assert";
-import { setImmediate } from "node:timers/promises";
-import { driverOf } from "./driving.mjs";
+import { Compared } from "./compared.mjs";
 import { triedLaws } from "./laws.mjs";
-import { ofRandom } from "./options.mjs";
-import { conform, OtbenchError } from "./otbench.mjs";
-import { checkPort } from "./port.mjs";
-import { reduced } from "./reduce.mjs";
-import { lawsMessage, messageOf } from "./report.mjs";
-import { withOneUnitEach } from "./schedule.mjs";
-import { corpus, random } from "./sessions.mjs";
-
-const LARGE = 8192; // characters of a schedule: such a session may take twice as long
-const SECONDS = 10;
-const REDUCE_SECONDS = 3;
+import { caseOf, reducedMeanwhile } from "./reducing.mjs";
+import { failureError, hungCase } from "./report.mjs";
+import { valuesOf } from "./schedule.mjs";
+import { kindOf } from "./verdict.mjs";
 
 /**
- * @typedef {object} Watcher who is told what is under way, so that a hang can be named
- * @property {(name: string, schedule: string) => void} [onSession]
- * @property {(at: number) => void} [onInstruction]
+ * @typedef {object} Around what a run is given beside its options
+ * @property {import("./judging.mjs").Judge} judge
+ * @property {{ heading: string, sessions: Iterable<import("./testing.mjs").Session> }[]} rounds
+ * @property {() => number} secondsToReduce how long a failure is reduced that begins to be reduced now
+ * @property {import("./report.mjs").Words} words
+ * @property {import("./formats.mjs").Format[]} [formats]
+ * @property {(name: string, schedule: string) => void} [onBegin] of each session
  * @property {(error: Error) => void} [onFailure] a session that fails, before it is reduced
+ *
+ * @typedef {object} Outcome
+ * @property {number} sessions how many conform
+ * @property {Compared} compared
+ * @property {{ kind: string, sessions: number, error: Error }[]} failures of each kind the shortest, the most frequent kind first
+ * @property {Record<string, number>} known how often each kind came that is tolerated
+ * @property {string[]} wrong what was never compared though it is needed, and how a driver ended
+ * @property {string[]} laws those that were tried
+ * @property {{ law: string, said: string, cause?: unknown }[]} broken
  */
 
-/** The milliseconds that a session may take. */
-export const limitOf = (schedule, { seconds = SECONDS }) => 1000 * seconds * (schedule.length > LARGE ? 2 : 1);
+const instructionsOf = (verdict) => valuesOf(verdict.sessions.at(-1)).instructions.length;
 
-class Late extends Error {}
-
-/* What a driver gives, unless it takes longer: then an error of its own, with the instruction that was under way. */
-async function inTime(drive, limit) {
-  let [timer, at] = [null, 0];
-  const late = new Promise((_, reject) => (timer = setTimeout(() => reject(Object.assign(new Late(), { at })), limit)));
-  try {
-    return await Promise.race([drive((its) => (at = its)), late]);
-  } finally {
-    clearTimeout(timer);
+class Run {
+  constructor(subject, options, around) {
+    Object.assign(this, { subject, options, formats: [], ...around });
+    this.known = Object.fromEntries((options.known ?? []).filter((it) => it.includes(": ")).map((kind) => [kind, 0]));
+    this.failures = new Map(); // by their kinds, the names and verdicts
+    this.smaller = new Map(); // of a session that hung, a smaller one
+    this.compared = new Compared(options.need ?? ["document"]);
+    this.conforming = 0;
   }
-}
 
-/* A verdict: whether it fails; conform's answer, null without one; what was thrown, as { value }; where it hung; what was refused. */
-async function judge({ driver, options, watcher }, schedule) {
-  const began = performance.now();
-  const drive = (note) => driver(schedule, (at) => (note(at), watcher.onInstruction?.(at)));
-  let driven;
-  try {
-    driven = await inTime(drive, limitOf(schedule, options));
-  } catch (value) {
-    const took = performance.now() - began;
-    if (value instanceof Late) return { fails: true, answer: null, late: value.at, took };
-    return { fails: true, answer: null, thrown: { value }, took };
+  isKnown = (verdict) => Object.hasOwn(this.known, kindOf(verdict));
+
+  tell(event, ...given) {
+    for (const format of this.formats) format[event]?.(...given);
   }
-  const told = answered(schedule, driven.lines);
-  return { ...told, thrown: told.thrown ?? driven.thrown, took: performance.now() - began };
-}
 
-/* What conform says of lines; what it refuses is kept as thrown. */
-function answered(schedule, lines) {
-  try {
-    const answer = conform(schedule, lines);
-    return { fails: answer.verdict === "differs", answer };
-  } catch (value) {
-    if (!(value instanceof OtbenchError)) throw value;
-    return { fails: true, answer: null, refused: true, thrown: { value } };
+  /* Tries the sessions of a round; up to the first failure, unless all are to be tried. */
+  async round({ heading, sessions }) {
+    const names = [];
+    const onBegin = this.onBegin ?? (() => {});
+    const schedules = function* () {
+      for (const { name, schedule } of sessions) {
+        names.push(name);
+        onBegin(name, schedule);
+        yield [schedule];
+      }
+    };
+    let [done, conforming] = [0, 0];
+    for await (const verdict of this.judge.verdicts(schedules(), { meanwhile: (those, under) => this.meanwhile(those, under) })) {
+      const name = names[done++];
+      this.note(heading, name, verdict);
+      conforming += verdict.fails ? 0 : 1;
+      if (this.failures.size > 0 && !this.options.all) return;
+    }
+    this.tell("round", heading, done, conforming);
   }
-}
 
-/* Whether both fail, and in the same manner. What otbench refuses is no failure of the port. */
-const failsAs = (one, other) => one.fails && other.fails && !one.refused && (one.answer === null) === (other.answer === null);
-
-/* How many instructions it takes to fail. */
-const neededOf = ({ answer }, { instructions }) => (answer ? answer.at : instructions.length);
-
-/* The smallest schedule that is found in that time over which the driver fails so, what comes of it, and what there is to note. */
-async function reducedCase(trial, schedule, verdict) {
-  const { reduceSeconds = REDUCE_SECONDS } = trial.options;
-  const until = performance.now() + 1000 * reduceSeconds;
-  const { values, textOf } = withOneUnitEach(schedule);
-  let last = verdict; // of the smallest so far
-  let isAgain = false;
-  const isOver = () => performance.now() + last.took > until;
-  const shows = async (candidate) => {
-    await setImmediate();
-    const its = await judge(trial, textOf(candidate));
-    if (!failsAs(its, verdict)) return null;
-    [last, isAgain] = [its, true];
-    return neededOf(its, candidate);
-  };
-  const small = textOf(await reduced(values, neededOf(verdict, values), shows, isOver));
-  if (isAgain) return { schedule: small, verdict: last, notes: isOver() ? ["the time for reducing was over; reduceSeconds gives it more"] : [] };
-  const again = reduceSeconds > 0 ? await judge(trial, schedule) : verdict;
-  return { schedule, verdict, notes: failsAs(again, verdict) ? [] : ["the driver did not do this each time"] };
-}
-
-/* A session that hung, up to the instruction that did. */
-function hungCase(schedule, verdict, options) {
-  const { values, textOf } = withOneUnitEach(schedule);
-  const instructions = verdict.late > 0 ? values.instructions.slice(0, verdict.late) : values.instructions;
-  const where = verdict.late > 0 ? `instruction ${verdict.late - 1}, ${instructions.at(-1).word}, did not end` : "it did not end";
-  const notes = [`${where} within ${limitOf(schedule, options) / 1000} seconds; a slow port is given more by the option seconds`];
-  return { schedule: textOf({ ...values, instructions }), verdict, notes };
-}
-
-/* The error of a case. */
-function errorOf(name, found, { schedule, verdict, notes }, options) {
-  const { answer, thrown } = verdict;
-  const message = messageOf({ name, found, schedule, answer, thrown, notes }, options, ofRandom(options));
-  const error = new AssertionError({ message, actual: answer?.found, expected: answer?.otjs, operator: "conforms" });
-  return Object.assign(error, { session: name, schedule, answer, ...(thrown && { cause: thrown.value }) });
-}
-
-/** The error of a session that hung at an instruction, counted from 1; 0 where that is not known. */
-export const hangOf = (name, schedule, late, options) =>
-  errorOf(name, schedule, hungCase(schedule, { fails: true, answer: null, late }, options), options);
-
-/* The error of a session over which the driver fails. */
-async function failure(trial, name, schedule, verdict) {
-  const { options, watcher } = trial;
-  if (verdict.late !== undefined) return hangOf(name, schedule, verdict.late, options);
-  if (verdict.refused) return errorOf(name, schedule, { schedule, verdict, notes: ["otbench refuses what the driver printed"] }, options);
-  watcher.onFailure?.(errorOf(name, schedule, { schedule, verdict, notes: ["a smaller session hung"] }, options));
-  return errorOf(name, schedule, await reducedCase(trial, schedule, verdict), options);
-}
-
-/* The values by which a port can leave ot.js; without one of them nothing was compared. */
-const VALUES = ["edit", "revision", "state", "outstanding", "buffer", "sent", "applied", "appended", "document"];
-
-/* Tries the laws; a driver has none that are known here. */
-async function lawsOf(subject, options) {
-  if (typeof subject === "function") return [];
-  const { tried, broken } = await triedLaws(subject, options);
-  if (broken.length === 0) return tried;
-  const error = new AssertionError({ message: lawsMessage(broken), operator: "conforms" });
-  const cause = broken.find((it) => "cause" in it);
-  throw Object.assign(error, { laws: Object.fromEntries(broken.map(({ law, said }) => [law, said])), ...(cause && { cause: cause.cause }) });
-}
-
-/* Tries the sessions of a source, and counts what was compared. Throws at the first that fails. */
-async function tryAll(trial, source, compared) {
-  let sessions = 0;
-  for (const { name, schedule } of source) {
-    await setImmediate();
-    trial.watcher.onSession?.(name, schedule);
-    const verdict = await judge(trial, schedule);
-    if (verdict.fails) throw await failure(trial, name, schedule, verdict);
-    for (const [key, count] of Object.entries(verdict.answer.compared ?? {})) compared[key] = (compared[key] ?? 0) + count;
-    sessions++;
+  /* Notes a verdict. */
+  note(heading, name, verdict) {
+    const kind = verdict.fails ? kindOf(verdict) : null;
+    const isKnown = verdict.fails && this.isKnown(verdict);
+    this.tell("session", heading, name, verdict, isKnown);
+    this.options.onSession?.({ name, schedule: verdict.sessions.at(-1), conforms: !verdict.fails, kind, known: isKnown });
+    if (isKnown) this.known[kind]++;
+    else if (verdict.fails) this.failures.set(kind, [...(this.failures.get(kind) ?? []), { name, verdict }]);
+    else {
+      this.conforming++;
+      this.compared.add(verdict);
+    }
   }
-  return sessions;
+
+  /* Reduces a session of a process that seems to hang, while it has the rest of its time. */
+  async meanwhile(sessions, under) {
+    const { judge } = this;
+    if (this.options.all || !judge.isProcess || judge.isKept || this.secondsToReduce() === 0) return;
+    let timer = null;
+    const soon = new Promise((resolve) => (timer = setTimeout(resolve, judge.pace.suspect(sessions.at(-1).length), "hangs")));
+    const first = await Promise.race([under, soon]).finally(() => clearTimeout(timer));
+    if (first !== "hangs") return;
+    const small = await reducedMeanwhile(judge, sessions, under, { seconds: this.secondsToReduce(), isLike: (it) => !this.isKnown(it) });
+    if (small) this.smaller.set(sessions.at(-1), small);
+  }
+
+  /* The error of a session that fails, reduced. With `all` it is one of the same kind. */
+  async errorOf(kind, { name, verdict }) {
+    const found = verdict.sessions.at(-1);
+    const told = (its) => failureError(name, found, kind, its, this.words);
+    if (verdict.isRefused) return told({ sessions: [found], verdict, notes: ["otbench refuses what the driver printed"] });
+    if (verdict.late !== undefined) return told(hungCase(found, verdict, this.judge.pace.most(found.length), this.words));
+    this.onFailure?.(told({ sessions: [found], verdict, notes: ["a smaller session hung"] }));
+    const isLike = this.options.all ? (it) => kindOf(it) === kind : (it) => !this.isKnown(it);
+    return told(await caseOf(this, verdict, isLike, verdict.isSlow ? this.smaller.get(found) : undefined));
+  }
+
+  /* Of each kind the shortest, the most frequent kind first. */
+  async failed() {
+    const told = [];
+    for (const [kind, those] of [...this.failures].sort(([, one], [, other]) => other.length - one.length)) {
+      const shortest = those.reduce((least, it) => (instructionsOf(it.verdict) < instructionsOf(least.verdict) ? it : least));
+      const error = await this.errorOf(kind, shortest);
+      told.push({ kind, sessions: those.length, error });
+      this.tell("failure", { kind, sessions: those.length, error });
+    }
+    return told;
+  }
+
+  /* Tries the laws; a driver has none that are known here. */
+  async laws() {
+    if (this.subject === null || typeof this.subject === "function") return { tried: [], broken: [] };
+    this.onBegin?.("the laws", "clients 1\n");
+    const { tried, broken } = await triedLaws(this.subject, this.options);
+    for (const law of tried) this.tell("law", law, broken.find((it) => it.law === law)?.said ?? null);
+    return { tried, broken };
+  }
+
+  /** @returns {Promise<Outcome>} */
+  async run() {
+    for (const round of this.rounds) {
+      await this.round(round);
+      if (this.failures.size > 0 && !this.options.all) break;
+    }
+    const failures = await this.failed();
+    const isThrough = this.options.all || failures.length === 0;
+    const lacks = isThrough ? this.compared.lacks() : null;
+    const { tried, broken } = isThrough && lacks === null ? await this.laws() : { tried: [], broken: [] };
+    const wrong = [lacks, await this.judge.close()].filter((it) => it !== null);
+    this.tell("end", wrong, this.compared, this.known);
+    return { sessions: this.conforming, compared: this.compared, failures, known: this.known, wrong, laws: tried, broken };
+  }
 }
 
 /**
- * Tries a port over the corpus, over sessions made at random, and over the laws. Its options are checked.
- * @param {Watcher} [watcher]
+ * Tries a subject.
+ * @param {import("./testing.mjs").Subject | null} subject a port, whose laws are tried too; a driver; null: drivers that are processes
+ * @param {import("./testing.mjs").ConformsOptions} options checked ones
+ * @param {Around} around
  */
-export async function tried(subject, options, watcher = {}) {
-  checkPort(subject, options);
-  const trial = { driver: driverOf(subject, options), options, watcher };
-  const compared = {};
-  let sessions = 0;
-  for (const source of options.corpus === false ? [] : [corpus()]) sessions += await tryAll(trial, source, compared);
-  sessions += await tryAll(trial, random(ofRandom(options)), compared);
-  if (VALUES.every((key) => !compared[key]))
-    throw new AssertionError({ message: `nothing was compared: no line of the driver has one of ${VALUES.join(", ")}` });
-  watcher.onSession?.("the laws", "clients 1\n");
-  return { sessions, compared, laws: await lawsOf(subject, options) };
+export async function tried(subject, options, around) {
+  try {
+    return await new Run(subject, options, around).run();
+  } finally {
+    await around.judge.close();
+  }
 }

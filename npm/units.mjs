@@ -8,7 +8,6 @@
  * its end, and half of a pair in a text, are none of a schedule: a string that says so stands there, which conform finds to differ.
  */
 
-import { steps } from "./otbench.mjs";
 import { valuesOf, written } from "./schedule.mjs";
 import { textOf } from "./text.mjs";
 
@@ -18,9 +17,10 @@ const SURROGATE = /[\ud800-\udfff]|\\ud[89a-f]/i;
 /**
  * A schedule's text in units, and the way back for the lines of whoever performs it.
  * @param {string} schedule
+ * @param {import("./otbench.mjs").Bench["steps"]} steps
  * @returns {{ inUnits: string, inScalars: (printed: import("./otbench.mjs").PortLines) => import("./otbench.mjs").PortLines }}
  */
-export function translation(schedule) {
+export function translation(schedule, steps) {
   if (!SURROGATE.test(schedule)) return { inUnits: schedule, inScalars: (printed) => printed };
   const values = valuesOf(schedule);
   const overs = textsOf(steps(schedule, { documents: true }));

@@ -1,97 +1,94 @@
-/* What the command says on a terminal below an answer of status 2, as ./otbench of the repository does (scripts/hints): what may be meant. */
+/* What the command says below an answer of status 2, on standard error: what may be meant. What subcommands and options there are the program's help says. */
 
-import { readFileSync } from "node:fs";
-import { FILES, formOf, isFile } from "./files.mjs";
+import { FILES, formOf, isFile, readFile } from "./files.mjs";
 import { kindOf } from "./kinds.mjs";
+import { fileWord, quoted } from "./shell.mjs";
 import { textOf } from "./text.mjs";
 
-/** @typedef {(words: string[], input: Uint8Array) => import("./otbench.mjs").Answer} Serve */
+/** @typedef {(words: string[], input: Uint8Array) => import("./otbench.mjs").Answer} Ask */
 
 const NOTHING = new Uint8Array(0);
 
+/* The longest word that a hint says again. */
+const LONGEST = 200;
+
 /* What the program says on these words; it refuses them before it reads anything. */
-const saidOn = (serve, words) => textOf(serve(words, NOTHING).errors);
+const saidOn = (ask, words) => textOf(ask(words, NOTHING).errors);
 
-/* The subcommands that have an option, where it is given to another one. */
-const OWNERS = {
-  "--image": "run and explain",
-  "--trace": "explain",
-  "--plan": "explain",
-  "--documents": "steps",
-  "--all": "check",
-  "--sparse": "conform",
-  "--seed": "generate",
-  "--clients": "generate",
-  "--present": "generate",
-  "--instructions": "generate",
-  "--start": "generate",
-  "--open": "generate",
-};
+/** The subcommands of the program, but for help. @param {Ask} ask @returns {string[]} */
+export const subcommandsOf = (ask) => /\[subcommands: (.*), help\]/.exec(saidOn(ask, []))[1].split(", ");
 
-/* The options of `generate` that have a value. */
-const VALUED = new Set(["--seed", "--clients", "--present", "--instructions", "--start"]);
+/** The subcommands that this command adds. */
+export const OWN = ["view", "edit", "merge", "port", "completion", "version"];
 
-const FURTHER = { "--image": "; dis prints an image's text" };
+/* The options of a subcommand, by its help: each, and whether it has a value. */
+const optionRows = (word, ask) => [...saidOn(ask, ["help", word]).matchAll(/^ *(?:-h, )?(--[a-z]+)( <)?/gm)];
+
+/** The options of a subcommand of the program. @param {string} word @param {Ask} ask @returns {string[]} */
+export const optionsOf = (word, ask) => optionRows(word, ask).map(([, option]) => option);
 
 /* The program's tip on words that it refuses: one that is like them. */
-const tipOn = (words, serve) => /^ *tip: (.*)$/m.exec(saidOn(serve, words))?.[1] ?? null;
+const tipOn = (words, ask) => /^ *tip: (.*)$/m.exec(saidOn(ask, words))?.[1] ?? null;
 
-/* The options of a subcommand, by its help. */
-const optionsOf = (word, serve) => [...saidOn(serve, ["help", word]).matchAll(/^ *(?:-h, )?(--[a-z]+)/gm)].map(([, option]) => option);
+/* The subcommands that have an option. */
+const ownersOf = (option, ask) => subcommandsOf(ask).filter((word) => optionsOf(word, ask).includes(option));
+
+const FURTHER = new Map([["--image", "; dis prints an image's text"]]);
 
 /* Of an option that is another subcommand's, that is not needed, or that is none. */
-function ofOption(word, words, serve) {
+function ofOption(word, words, ask) {
   const [option] = words.findLast((it) => it.startsWith("-") && it !== "-")?.split("=") ?? [];
-  if (option === undefined) return [];
-  if (!Object.hasOwn(OWNERS, option)) return tipOn([word, option], serve) === null ? [`the options of ${word} are ${optionsOf(word, serve).join(" ")}`] : [];
-  if (OWNERS[option].split(" and ").includes(word)) return [];
+  if (option === undefined || optionsOf(word, ask).includes(option)) return [];
   if (option === `--${formOf(word, [])}`) return [`${word} needs no ${option}`];
-  return [`${option} is an option of ${OWNERS[option]}${FURTHER[option] ?? ""}`];
+  const owners = ownersOf(option, ask);
+  if (owners.length > 0) return [`${option} is an option of ${owners.join(" and ")}${FURTHER.get(option) ?? ""}`];
+  return tipOn([word, option], ask) === null ? [`the options of ${word} are ${optionsOf(word, ask).join(" ")}`] : [];
 }
 
 /* A word of `generate` that is no option's value. */
-const ofStray = (word) =>
-  /^\d+$/.test(word) ? `a number stands behind its option: otbench generate --instructions ${word}` : `generate reads no file; to write one: otbench generate > ${word}`;
+const ofStray = (word, name) =>
+  /^\d+$/.test(word) ? `a number stands behind its option: ${name} generate --instructions ${word}` : `generate reads no file; to write one: ${name} generate > ${fileWord(word)}`;
 
 /* A value that begins with '-'. The program says what the option takes. */
-function ofValue(option, value, serve) {
-  if (option === "--start") return `a text that begins with '-' stands behind '=': --start=${value}`;
-  const takes = /: it takes (.*)/.exec(saidOn(serve, ["generate", `${option}=${value}`]))?.[1];
+function ofValue(option, value, ask) {
+  if (option === "--start") return `a text that begins with '-' stands behind '=': --start=${quoted(value)}`;
+  const takes = /: it takes (.*)/.exec(saidOn(ask, ["generate", `${option}=${value}`]))?.[1];
   return `${option} takes ${takes}, without a sign`;
 }
 
-function ofGenerate(words, serve) {
+function ofGenerate(words, name, ask) {
+  const valued = optionRows("generate", ask).filter(([, , value]) => value).map(([, option]) => option);
   for (let i = 0; i < words.length; i++) {
     const [word, value] = [words[i], words[i + 1]];
-    if (!word.startsWith("-")) return [ofStray(word)];
-    if (!VALUED.has(word)) continue;
-    if (value?.startsWith("-")) return [ofValue(word, value, serve)];
+    if (!word.startsWith("-")) return [ofStray(word, name)];
+    if (!valued.includes(word)) continue;
+    if (value?.startsWith("-")) return [ofValue(word, value, ask)];
     i++;
   }
   return [];
 }
 
-const allSubcommands = (serve) => `the subcommands are ${/\[subcommands: (.*), help\]/.exec(saidOn(serve, []))[1]}, view, edit, version, help`;
+const allSubcommands = (ask) => `the subcommands are ${[...subcommandsOf(ask), ...OWN].join(", ")}, help`;
 
 const READERS = { image: "run --image", trace: "judge", plan: "threads" };
 
 /* Of a word that is no subcommand. */
-function ofCommand(word, serve) {
-  if (isFile(word)) return [`a command stands in front of a file: otbench ${READERS[kindOf(readFileSync(word), null)] ?? "run"} ${word}`];
-  return tipOn([word], serve) === null ? [allSubcommands(serve)] : [];
+function ofCommand(word, name, ask) {
+  if (isFile(word)) return [`a command stands in front of a file: ${name} ${READERS[kindOf(readFile(word, ["lines"]), null)] ?? "run"} ${fileWord(word)}`];
+  return tipOn([word], ask) === null ? [allSubcommands(ask)] : [];
 }
 
-/** Of a word that is no subcommand, which help was asked for. @param {string} word @param {Serve} serve */
-export const similarTo = (word, serve) => tipOn([word], serve) ?? allSubcommands(serve);
+/** Of a word that is no subcommand, which help was asked for. @param {string} word @param {Ask} ask */
+export const similarTo = (word, ask) => tipOn([word], ask) ?? allSubcommands(ask);
 
 /**
  * What may be meant by words that the program has refused: a line, or none.
  * @param {string[]} words
- * @param {Serve} serve
+ * @param {{ name: string, ask: Ask }} how the command's name for the shell, and the program
  * @returns {string[]}
  */
-export function meant([word = "", ...words], serve) {
-  if (word === "" || word.startsWith("-") || words.some((it) => it === "-h" || it === "--help")) return [];
-  if (word === "generate") return ofGenerate(words, serve);
-  return Object.hasOwn(FILES, word) ? ofOption(word, words, serve) : ofCommand(word, serve);
+export function meant([word = "", ...words], { name, ask }) {
+  if (word === "" || word.startsWith("-") || [word, ...words].some((it) => it === "-h" || it === "--help" || it.length > LONGEST)) return [];
+  if (word === "generate") return ofGenerate(words, name, ask);
+  return Object.hasOwn(FILES, word) ? ofOption(word, words, ask) : ofCommand(word, name, ask);
 }

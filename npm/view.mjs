@@ -1,7 +1,16 @@
 /* `otbench view`: the viewer's page with a session in it, and beside it what a port printed. */
 
 import { gzipSync } from "node:zlib";
+import { announce, FILES, inputOf, split, Unreadable } from "./files.mjs";
+import { engineIfThere, viewer } from "./parts.mjs";
+import { below } from "./pointing.mjs";
+import { complain, print, STDIN } from "./streams.mjs";
 import { bytesOf, joined, markIn, textOf } from "./text.mjs";
+
+export const USAGE = `usage: otbench view [--sparse] [SCHEDULE [LINES]] > PAGE
+Reads a schedule's text, and the lines that a port printed, if any: as files, or on standard input with a line '%%' between them.
+Prints a page for a browser with the session in it. --sparse: instructions without a line are not compared.
+`;
 
 const utf8 = (text) => bytesOf(text, "the text");
 
@@ -16,15 +25,16 @@ function faultOf(serve, schedule, errors) {
  * another what `conform` answers.
  * @param {(words: string[], input: Uint8Array) => import("./otbench.mjs").Answer} serve
  * @param {Uint8Array} input a schedule; maybe a line `%%` and what a port printed
- * @returns {{ schedule: Uint8Array, lines: Uint8Array | null, errors: Uint8Array }}
+ * @param {boolean} isSparse whether instructions without a line are not compared
+ * @returns {{ schedule: Uint8Array, lines: Uint8Array | null, errors: Uint8Array, isSparse: boolean }}
  */
-export function shownOf(serve, input) {
+export function shownOf(serve, input, isSparse = false) {
   const mark = markIn(input);
   const schedule = mark ? input.subarray(0, mark.start) : input;
   const { output, errors } = serve(["steps"], schedule);
-  if (!isWhole(output)) return { schedule, lines: null, errors: faultOf(serve, schedule, errors) };
-  const port = mark ? [utf8("%%\n"), input.subarray(mark.end), utf8("\n%%\n"), serve(["conform"], input).output] : [];
-  return { schedule, lines: joined([output, ...port]), errors };
+  if (!isWhole(output)) return { schedule, isSparse, lines: null, errors: faultOf(serve, schedule, errors) };
+  const port = mark ? [utf8("%%\n"), input.subarray(mark.end), utf8("\n%%\n"), serve(isSparse ? ["conform", "--sparse"] : ["conform"], input).output] : [];
+  return { schedule, isSparse, lines: joined([output, ...port]), errors };
 }
 
 /* Whether the last line is that of the end. */
@@ -32,19 +42,21 @@ const isWhole = (lines) => textOf(lines.subarray(lines.lastIndexOf(10, lines.len
 
 /* Where the viewer's page takes what is shown: behind the line that ends so. */
 const LINES = ' id="lines">\n';
+const SPARSE_LINES = ' id="lines" data-sparse>\n';
 const SCHEDULE = ' id="schedule">\n';
 const MODULE = "/* the module */";
 
 /**
  * The viewer's page with a session in it; and its schedule and the engine, where the page has places for them.
  * @param {string} viewer
- * @param {{ schedule: Uint8Array, lines: Uint8Array }} shown
- * @param {Uint8Array} engine
+ * @param {{ schedule: Uint8Array, lines: Uint8Array, isSparse?: boolean }} shown
+ * @param {Uint8Array | null} engine null: the page shows the session, and does not change it
  * @returns {Uint8Array}
  */
-export function pageOf(viewer, { schedule, lines }, engine) {
-  const page = viewer.replace(MODULE, () => gzipSync(engine, { level: 9 }).toString("base64"));
-  const [front, back] = cut(page, LINES);
+export function pageOf(viewer, { schedule, lines, isSparse = false }, engine) {
+  const page = viewer.replace(MODULE, () => (engine === null ? "" : gzipSync(engine, { level: 9 }).toString("base64")));
+  const [whole, back] = cut(page, LINES);
+  const front = isSparse ? `${whole.slice(0, -LINES.length)}${SPARSE_LINES}` : whole;
   const [head, text] = cut(front, SCHEDULE);
   return joined([utf8(head), text === "" ? NOTHING : escaped(schedule, MARKUP), utf8(text), escaped(lines, JSON_IN_MARKUP), utf8(back)]);
 }
@@ -71,4 +83,26 @@ function escaped(bytes, escapes) {
     from = at + 1;
   }
   return joined([...pieces, bytes.subarray(from)]);
+}
+
+/**
+ * The whole subcommand. Answers its status: 0; 1 where the input cannot be read or is refused, or the output cannot be written; 2 where words are not understood.
+ * @param {(words: string[], input: Uint8Array) => import("./otbench.mjs").Answer} ask
+ * @param {string[]} words
+ */
+export async function view(ask, words) {
+  const { flags, files } = split(words);
+  const [unexpected] = [...flags.filter((flag) => flag !== "--sparse"), ...files.slice(FILES.view.length)];
+  if (unexpected !== undefined) {
+    complain(`error: unexpected argument '${unexpected}' found\n${USAGE}`);
+    return 2;
+  }
+  announce("view", [], files);
+  const parts = inputOf("view", [], files);
+  if (parts.includes(STDIN)) throw new Unreadable("ReadFault");
+  const { errors, ...shown } = shownOf(ask, joined(parts), flags.length > 0);
+  complain(textOf(errors));
+  if (shown.lines !== null) return print(pageOf(await viewer(), shown, await engineIfThere())) ? 0 : 1;
+  below(textOf(errors), textOf(shown.schedule), true).forEach((line) => complain(`${line}\n`));
+  return 1;
 }

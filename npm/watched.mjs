@@ -1,7 +1,8 @@
 /* The worker in which a port is tried. */
 
 import { parentPort, workerData } from "node:worker_threads";
-import { tried } from "./trying.mjs";
+import { conforming } from "./conforming.mjs";
+import { conform, generate, steps } from "./otbench.mjs";
 
 const { module, options, at } = workerData;
 
@@ -23,14 +24,14 @@ function sendable(value) {
 
 /* An error as it can be sent, with its own fields. */
 function told(error) {
-  const { name, message, session, schedule, answer, laws, actual, expected } = error;
-  const given = { session, schedule, answer, laws, ...("cause" in error && { cause: sendable(error.cause) }) };
+  const { name, message, session, kind, schedule, answer, laws, failures, actual, expected } = error;
+  const given = { session, kind, schedule, answer, laws, failures: failures?.map(({ error: one, ...its }) => ({ ...its, error: told(one) })), ...("cause" in error && { cause: sendable(error.cause) }) };
   const fields = Object.fromEntries(Object.entries(given).filter(([, value]) => value !== undefined));
   return { name, message, fields, actual, expected };
 }
 
 const watcher = {
-  onSession(name, schedule) {
+  onBegin(name, schedule) {
     Atomics.store(at, 0, 0);
     parentPort.postMessage({ session: { name, schedule } });
   },
@@ -38,9 +39,12 @@ const watcher = {
   onFailure: (error) => parentPort.postMessage({ failure: told(error) }),
 };
 
+const post = (word) => (given) => parentPort.postMessage({ [word]: given });
+
 try {
   const { subject, accessors } = await subjectOf();
-  parentPort.postMessage({ result: await tried(subject, { ...options, ...(accessors && { accessors }) }, watcher) });
+  const all = { ...options, ...(accessors && { accessors }), onSession: post("done"), ...(options.tap && { tap: post("line") }) };
+  parentPort.postMessage({ result: await conforming(subject, all, { conform, generate, steps }, watcher) });
 } catch (error) {
   parentPort.postMessage({ error: told(error) });
 }

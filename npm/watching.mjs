@@ -9,7 +9,7 @@
 import { AssertionError } from "node:assert";
 import { Worker } from "node:worker_threads";
 import { OtbenchError } from "./errors.mjs";
-import { hangOf, limitOf } from "./trying.mjs";
+import { hangOf, limitOf } from "./conforming.mjs";
 
 const INSIDE = new URL("./watched.mjs", import.meta.url);
 const SLACK = 500; // milliseconds in which the worker ends a session itself, where it can
@@ -17,7 +17,8 @@ const SLACK = 500; // milliseconds in which the worker ends a session itself, wh
 /* The error that the worker has told of. */
 function errorOf({ name, message, fields, actual, expected }) {
   const error = name === "AssertionError" ? new AssertionError({ message, actual, expected, operator: "conforms" }) : name === "TypeError" ? new TypeError(message) : new Error(message);
-  return Object.assign(error, fields);
+  const failures = fields.failures?.map((it) => ({ ...it, error: errorOf(it.error) }));
+  return Object.assign(error, fields, failures && { failures });
 }
 
 /**
@@ -27,9 +28,11 @@ function errorOf({ name, message, fields, actual, expected }) {
  */
 export async function triedInWorker(module, options) {
   if (options.accessors) throw new OtbenchError("Usage", "accessors are exported by the module of a port that is given by its URL");
+  const { onSession = () => {}, tap = () => {}, signal, ...sent } = options;
+  signal?.throwIfAborted();
   const at = new Int32Array(new SharedArrayBuffer(4));
-  const worker = new Worker(INSIDE, { workerData: { module: module.href, options, at }, execArgv: [] });
-  let timer = null;
+  const worker = new Worker(INSIDE, { workerData: { module: module.href, options: { ...sent, ...(options.tap && { tap: true }) }, at }, execArgv: [] });
+  let [timer, stop] = [null, () => {}];
   try {
     return await new Promise((resolve, reject) => {
       let failed = null; // the session that fails, while it is reduced
@@ -37,11 +40,15 @@ export async function triedInWorker(module, options) {
       const clock = (name, schedule) => {
         under = name;
         clearTimeout(timer);
-        timer = setTimeout(() => reject(failed ?? hangOf(name, schedule, Atomics.load(at, 0), options)), limitOf(schedule, options) + SLACK);
+        timer = setTimeout(() => reject(failed ?? hangOf(name, schedule, Atomics.load(at, 0), {}, options)), limitOf(schedule, options) + SLACK);
       };
       clock("before the first session", "clients 1\n");
-      worker.on("message", ({ session, failure, error, result }) => {
+      stop = () => reject(signal.reason);
+      signal?.addEventListener("abort", stop);
+      worker.on("message", ({ session, done, line, failure, error, result }) => {
         if (session) clock(session.name, session.schedule);
+        else if (done) onSession(done);
+        else if (line !== undefined) tap(line);
         else if (failure) failed = errorOf(failure);
         else if (error) reject(errorOf(error));
         else resolve(result);
@@ -51,6 +58,7 @@ export async function triedInWorker(module, options) {
     });
   } finally {
     clearTimeout(timer);
+    signal?.removeEventListener("abort", stop);
     await worker.terminate();
   }
 }

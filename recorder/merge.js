@@ -1,66 +1,61 @@
-#!/usr/bin/env node
 /*
- * Makes one schedule of the recorder's logs, and behind a line %% the participants' own lines.
+ * `otbench merge`: makes one schedule of the recorder's logs, and behind a line %% the participants' own lines.
  *
- *     node merge.js server.log ann.log ben.log | otbench view > session.html
- *     node merge.js --schedule server.log ann.log ben.log | otbench run
+ *     otbench merge server.log ann.log ben.log | otbench view > session.html
+ *     otbench merge server.log ann.log ben.log > session.ots
  *
- * Each file holds lines of one participant or of several. Status 1 where a log cannot be used, or the schedule ends before
- * the logs do: standard error says at whose event, and so does the last line; also where the output cannot be written. Status 2
- * for words that are not understood, and for help.
+ * Each file holds lines of one participant or of several.
  */
 
-import fs from "node:fs";
 import { parseArgs } from "node:util";
+import { readFile } from "../npm/files.mjs";
+import { complain, print } from "../npm/streams.mjs";
 import { decode, withoutHalf } from "./files.js";
 import { readEvents } from "./logs.js";
 import { merge } from "./merging.js";
 
-const USAGE = `usage: node recorder/merge.js [--schedule] LOG ..
+export const USAGE = `usage: otbench merge [--schedule] LOG ..
 Prints the session of the recorder's logs, of the server and of the clients: its schedule, and behind a line '%%' what the
-participants had; with --schedule the schedule alone.`;
-
-const REASONS = { ENOENT: "there is no such file", EISDIR: "is a folder", EACCES: "cannot be read" };
+participants had; with --schedule the schedule alone.
+`;
 
 /* A file's events, and where its last line is half. */
 function readLog(file) {
-  let bytes;
-  try {
-    bytes = fs.readFileSync(file);
-  } catch (fault) {
-    throw new Error(`${file}: ${REASONS[fault.code] ?? fault.message}`);
-  }
+  const bytes = readFile(file, ["log"]);
   const { whole, cut } = withoutHalf(bytes, file);
   return { events: readEvents(decode(whole, file), file), cut };
 }
 
-function main() {
-  const options = { schedule: { type: "boolean" }, help: { type: "boolean", short: "h" } };
-  const { values, positionals } = parseArgs({ options, allowPositionals: true });
-  if (values.help || positionals.length === 0) {
-    console.error(USAGE);
-    process.exitCode = 2;
-    return;
-  }
-  const twice = positionals.find((file, i) => positionals.indexOf(file) < i);
+/* Prints the session of these logs. Whether it could be printed. */
+function printMerged(files, isAlone) {
+  const twice = files.find((file, i) => files.indexOf(file) < i);
   if (twice !== undefined) throw new Error(`${twice} is named twice`);
-  const logs = positionals.map(readLog);
+  const logs = files.map(readLog);
   const { schedule, lines, notes, fault } = merge(logs.flatMap(({ events }) => events), logs.flatMap(({ cut }) => cut ?? []));
-  process.stdout.write((values.schedule ? schedule : [...schedule, "%%", ...lines]).join("\n") + "\n");
-  for (const note of notes) console.error(`merge: ${note}`);
+  const isPrinted = print(`${(isAlone ? schedule : [...schedule, "%%", ...lines]).join("\n")}\n`);
+  for (const note of notes) complain(`merge: ${note}\n`);
   if (fault) throw new Error(fault);
+  return isPrinted;
 }
 
-/* Of words that are not understood node's message ends with advice, which is for words of any command. */
-function fail(fault) {
-  const isOfWords = /^ERR_PARSE_ARGS/.test(fault.code);
-  console.error(isOfWords ? `merge: ${fault.message.split(". ")[0]}\n${USAGE}` : `merge: ${fault.message}`);
-  process.exitCode = isOfWords ? 2 : 1;
-}
-
-process.stdout.on("error", fail);
-try {
-  main();
-} catch (fault) {
-  fail(fault);
+/**
+ * The whole subcommand. Answers its status: 0; 1 where a log cannot be used, or the schedule ends before the logs do, which standard error says and the last line of
+ * what is printed, and where the output cannot be written; 2 where words are not understood.
+ * @param {string[]} words
+ */
+export function mergeLogs(words) {
+  let asked;
+  try {
+    asked = parseArgs({ args: words, options: { schedule: { type: "boolean" } }, allowPositionals: true });
+    if (asked.positionals.length === 0) throw new Error("a log is missing");
+  } catch (fault) {
+    complain(`merge: ${fault.message.split(". ")[0]}\n${USAGE}`); // behind that node's message has advice for words of any command
+    return 2;
+  }
+  try {
+    return printMerged(asked.positionals, asked.values.schedule) ? 0 : 1;
+  } catch (fault) {
+    complain(`merge: ${fault.message}\n`);
+    return 1;
+  }
 }

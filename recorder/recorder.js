@@ -6,7 +6,7 @@
  *
  * Methods of that one object are wrapped: of ot.js' Client applyClient, applyServer, serverAck and the page's sendOperation
  * and applyOperation, of its Server receiveOperation. They do what they did. Lengths are UTF-16 units, as ot.js has them;
- * merge.js counts scalars. README.md lists the keys.
+ * `otbench merge` counts scalars. README.md lists the keys.
  *
  * Call recordClient when the client is made and has its sendOperation and applyOperation, before the first edit;
  * recordServer before the first operation comes, or while all is quiet.

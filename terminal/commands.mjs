@@ -22,19 +22,30 @@ export const COMMANDS = {
   rrun: { takes: "", most: 0, does: "goes back to the last break, change or difference, or to the opening" },
   until: { takes: "WORDS", most: ANY, does: "goes on to behind the next instruction with these first words: until take 0" },
   runtil: { takes: "WORDS", most: ANY, does: "goes back to before the last instruction with these first words" },
-  goto: { takes: "P|end", most: 1, does: "goes to place P: P instructions are performed there" },
+  goto: { takes: "P|end|NAME", most: 1, does: "goes to place P: P instructions are performed there; to the end; or to a place with a mark" },
   break: { takes: "[P|line L|WORDS] [if CONDITION] [time N]", most: ANY, does: 'stops at place P, behind the instruction of line L, behind each with these first words, or where CONDITION begins to hold: break take 1 if doc 0 contains "x"' },
   watch: { takes: "doc|state|outstanding|buffer C, watch server", most: 2, does: "stops where that changes" },
   display: { takes: "doc|state|outstanding|buffer C, display server", most: 2, does: "shows that behind each move" },
   info: { takes: "[breaks]", most: 1, does: "lists breaks, watches and displays with their numbers, and at how many places a break stops" },
   delete: { takes: "N", most: 1, does: "removes the break, watch or display of this number" },
   clear: { takes: "[P]", most: 1, does: "removes the breaks at place P, or all breaks, watches and displays" },
+  who: { takes: "C|server N", most: 2, does: "says who inserted character N of a document, counted from 0, and how it came there" },
+  blame: { takes: "C|server", most: 1, does: "shows a document with the author and the instruction of each piece" },
+  find: { takes: "TEXT", most: 1, does: "goes on to behind the next instruction by which a document gains or loses TEXT, a word or a JSON string" },
+  rfind: { takes: "TEXT", most: 1, does: "goes back to before the last such instruction" },
+  diff: { takes: "P Q [C|server], diff doc C|server C|server", most: 3, does: "shows what changed between two places, in all documents or in one, or what two documents differ in" },
+  mark: { takes: "[NAME]", most: 1, does: "names the place, for goto NAME; lists the names" },
+  undo: { takes: "", most: 0, does: "goes back to where the last move began" },
+  verdict: { takes: "", most: 0, does: "says whether all documents must agree at the place, and to what" },
   list: { takes: "[P [Q]]", most: 2, does: "shows the instructions around the place, around P, or from P to Q, with their lines" },
   show: { takes: "[C|server]", most: 1, does: "shows documents, states, outstanding operations, buffers and links; what is long is cut" },
   print: { takes: "doc|outstanding|buffer|message|link C, print doc server, print instruction [N], print difference", most: 2, does: "shows the whole of one value, or of what conform answers" },
   explain: { takes: "[N]", most: 1, does: "describes the instruction that was performed or undone last, or instruction N, in words" },
   source: { takes: "FILE", most: 1, does: "performs the commands of a file, line by line" },
   save: { takes: "FILE", most: 1, does: "writes breaks, watches and displays as commands to a file, which must not be there yet" },
+  export: { takes: "FILE [complete]", most: 2, does: "writes the schedule up to the place to a file, which must not be there yet; with complete also what is under way there" },
+  reload: { takes: "", most: 0, does: "reads the schedule's file, and the port's, again; the place, breaks and marks stay" },
+  edit: { takes: "", most: 0, does: "opens the schedule in $VISUAL or $EDITOR, and reloads it" },
   help: { takes: "[WORD]", most: 1, does: "shows this" },
   quit: { takes: "", most: 0, does: "ends the session; so does the end of the input" },
 };
@@ -42,7 +53,7 @@ export const COMMANDS = {
 const NAMES = Object.keys(COMMANDS);
 
 /** Letters that several words begin with, and which of them is meant. */
-const SHORT = { s: "step", b: "back", r: "run", ru: "run", c: "clear", d: "display" };
+const SHORT = { s: "step", b: "back", r: "run", ru: "run", c: "clear", d: "display", e: "explain", u: "until", w: "watch", l: "list", h: "help", q: "quit", n: "next", i: "info", p: "print" };
 
 /**
  * The word that this one is or begins.

@@ -1,21 +1,11 @@
 // The conditions of breaks: `doc 0 contains "x"`, `not state 1 is synchronized`.
 
 import { Complaint } from "./commands.mjs";
-import { subjectOf } from "./subjects.mjs";
+import { subjectOf, textOf } from "./subjects.mjs";
 
 /** @typedef {{ isNot: boolean, subject: import("./subjects.mjs").Subject, verb: string, wanted: string }} Condition */
 
 const VERBS = ["contains", "is"];
-
-/** A text as it is written: a JSON string, or a word. */
-function textOf(word) {
-  if (!word.startsWith('"')) return word;
-  try {
-    return JSON.parse(word);
-  } catch {
-    throw new Complaint(`${word} is no JSON string`);
-  }
-}
 
 /** @param {string[]} words behind `if` @param {number} clients @returns {Condition} */
 export function conditionOf(words, clients) {

@@ -1,25 +1,36 @@
 // The debugger without its terminal: a place in a recording, and what stops there; each command answers lines.
 
 import { readFileSync, writeFileSync } from "node:fs";
+import { SERVER } from "../viewer/src/fold.mjs";
+import { documentAt } from "../viewer/src/places.mjs";
+import { authorsOf, differenceOf, hasDocument, whoIs } from "./authors.mjs";
 import { COMMANDS, commandOf, Complaint, helpOf, wordsIn } from "./commands.mjs";
-import { reasonOf } from "./files.mjs";
+import { reasonOf } from "../npm/files.mjs";
 import { named } from "./names.mjs";
 import { nearest } from "./nearest.mjs";
+import { RefusedText } from "./recording.mjs";
 import { Stops } from "./stops.mjs";
-import { clientOf, subjectOf, WATCHED } from "./subjects.mjs";
+import { clientOf, memberOf, subjectOf, textOf, titleOf, WATCHED } from "./subjects.mjs";
 import { shortLine, shortVerdict } from "./values.mjs";
 
 const AROUND = 4; // how many instructions `list` shows before and behind the place
 const MANY = 16; // clients that `show` shows with all that they have
 
 const INSTRUCTIONS = ["edit", "take", "deliver", "ack", "join", "read", "read-server"];
+const WHOLE = ["print", "source", "blame", "diff"]; // what these show is not cut once more
 const PRINTED = ["doc", "outstanding", "buffer", "message", "link"];
 
 export class Debugger {
-  /** @param {import("./recording.mjs").Recording} recording */
-  constructor(recording) {
+  /**
+   * @param {import("./recording.mjs").Recording} recording
+   * @param {{ open: () => import("./recording.mjs").Recording, edit: () => void } | null} source reads the recording's files again; opens the schedule in an editor
+   */
+  constructor(recording, source = null) {
     this.recording = recording;
+    this.source = source;
     this.stops = new Stops(recording);
+    this.marks = new Map();
+    this.jumps = []; // the places from which the moves began
     this.place = 0;
     this.last = null; // the number of the instruction that was performed or undone last
     this.isOver = false;
@@ -69,8 +80,9 @@ export class Debugger {
       const { most } = COMMANDS[name];
       if (given.length > most) throw new Complaint(`${given[most]} is a word too many`);
       const answer = this[`_${name}`](given);
+      if (this.place !== before && name !== "undo") this.jumps.push(before);
       const said = this.place === before ? answer : [...answer, ...this.stops.displayed(this.place)];
-      return name === "print" || name === "source" ? said : said.map(shortLine);
+      return WHOLE.includes(name) ? said : said.map(shortLine);
     } catch (complaint) {
       if (!(complaint instanceof Complaint)) throw complaint;
       throw new Complaint(`${complaint.message}; ${helpOf(name)[0]}`);
@@ -90,11 +102,12 @@ export class Debugger {
     const clients = Array.from({ length: this.recording.clients }, (_, client) => String(client));
     if (command === "watch" || command === "display") return count === 1 ? [...WATCHED, "server"] : [...clients, "server"];
     if (command === "print") return count === 1 ? [...PRINTED, "instruction", "difference"] : [...clients, "server"];
-    if (command === "show") return [...clients, "server"];
+    if (["show", "who", "blame"].includes(command)) return [...clients, "server"];
+    if (command === "diff") return count === 1 ? ["doc"] : [...clients, "server"];
     if (command === "help") return Object.keys(COMMANDS);
     if (command === "until" || command === "runtil") return count === 1 ? INSTRUCTIONS : clients;
     if (command === "break") return count === 1 ? ["line", "if", ...INSTRUCTIONS] : ["if", "time", "contains", "is", "not", ...WATCHED, ...clients];
-    return command === "goto" ? ["end"] : command === "info" ? ["breaks"] : [];
+    return command === "goto" ? ["end", ...this.marks.keys()] : command === "info" ? ["breaks"] : [];
   }
 
   _step([word]) {
@@ -107,7 +120,20 @@ export class Debugger {
 
   _goto([word]) {
     if (word === undefined) throw new Complaint("a place is missing");
+    if (this.marks.has(word)) return this.#moveTo(this.marks.get(word));
     return this.#moveTo(word === "end" ? this.recording.end : this.#placeOf(word));
+  }
+
+  _mark([name]) {
+    if (name === undefined) return this.marks.size ? [...this.marks].map(([mark, place]) => `${mark} at place ${place}`) : ["no marks"];
+    if (!/^\p{L}[\p{L}\p{N}_-]*$/u.test(name) || name === "end") throw new Complaint(`${name} is no name: it begins with a letter, and has letters, digits, - and _`);
+    this.marks.set(name, this.place);
+    return [`${name} at place ${this.place}`];
+  }
+
+  _undo() {
+    const place = this.jumps.pop();
+    return place === undefined ? ["no move to undo"] : this.#moveTo(place);
   }
 
   _next([word]) {
@@ -215,6 +241,70 @@ export class Debugger {
     return [hasRemoved ? `no break at place ${place} any more` : `there was no break at place ${place}`];
   }
 
+  _who([who, word]) {
+    const member = memberOf(who, this.recording.clients);
+    if (word === undefined) throw new Complaint("the character's number is missing");
+    const { length } = this.#documentOf(member);
+    if (!/^\d{1,9}$/.test(word) || Number(word) >= length) throw new Complaint(length === 0 ? "the document is empty" : `${word} is no character of the document: they are 0 to ${length - 1}`);
+    return whoIs(this.recording, member, Number(word), this.place);
+  }
+
+  _blame([who]) {
+    const member = memberOf(who, this.recording.clients);
+    return this.#documentOf(member).length ? authorsOf(this.recording, member, this.place) : ["the document is empty"];
+  }
+
+  #documentOf(member, place = this.place) {
+    if (!hasDocument(this.recording, member, place)) throw new Complaint(`client ${member} has not joined`);
+    return documentAt(this.recording.session, member, place);
+  }
+
+  _find([word]) {
+    return this.#find(word, 1);
+  }
+
+  _rfind([word]) {
+    return this.#find(word, -1);
+  }
+
+  /** Goes on, or back, over the next instruction by which a document has a text more or less often. */
+  #find(word, direction) {
+    if (word === undefined) throw new Complaint("a text is missing");
+    const text = textOf(word);
+    if (text === "") throw new Complaint("the text is empty");
+    const { session, end } = this.recording;
+    const isLast = (p) => (direction > 0 ? p > end : p < 1);
+    for (let p = direction > 0 ? this.place + 1 : this.place; !isLast(p); p += direction) {
+      const client = session.steps[p].moved === SERVER ? null : session.steps[p].moved;
+      const [before, after] = [p - 1, p].map((at) => this.recording.text(client, at).split(text).length - 1);
+      if (before === after) continue;
+      const times = (count) => (count === 0 ? "nowhere" : count === 1 ? "once" : `${count} times`);
+      return [...this.#moveTo(direction > 0 ? p : p - 1), `${titleOf({ what: "doc", client })}: ${JSON.stringify(text)} ${times(before)} -> ${times(after)}`];
+    }
+    return [`no ${direction > 0 ? "further" : "earlier"} instruction changes how often a document has ${JSON.stringify(text)}`];
+  }
+
+  _diff([first, second, third]) {
+    if (first === "doc") return differenceOf(...[second, third].map((who) => this.#documentOf(memberOf(who, this.recording.clients))));
+    if (second === undefined) throw new Complaint("two places are missing, or doc and two documents");
+    const [from, to] = [this.#placeOf(first), this.#placeOf(second)];
+    const all = [...Array.from({ length: this.recording.clients }, (_, client) => client), SERVER];
+    const members = third === undefined ? all : [memberOf(third, this.recording.clients)];
+    return members.flatMap((member) => this.#changesOf(member, from, to));
+  }
+
+  #changesOf(member, from, to) {
+    const title = titleOf({ what: "doc", client: member === SERVER ? null : member });
+    const [before, after] = [from, to].map((place) => hasDocument(this.recording, member, place));
+    if (!before || !after) return [`${title}: ${before || after ? "joined between the two places" : "not joined"}`];
+    const [head, ...more] = differenceOf(this.#documentOf(member, from), this.#documentOf(member, to));
+    return [`${title}: ${head}`, ...more];
+  }
+
+  _verdict() {
+    return this.recording.outlook(this.place);
+  }
+
   _list([first, second]) {
     const { instructions, end } = this.recording;
     const middle = first === undefined ? this.place : this.#placeOf(first);
@@ -292,6 +382,50 @@ export class Debugger {
     return [`${commands.length} commands in ${file}; source ${file} performs them`];
   }
 
+  _export([file, word]) {
+    if (file === undefined) throw new Complaint("a file is missing");
+    if (word !== undefined && word !== "complete") throw new Complaint(`${word} is not known`);
+    const text = this.recording.scheduleUpTo(this.place, word === "complete");
+    this.#withFile(file, () => writeFileSync(file, text, { flag: "wx" }));
+    return [`${this.place} instructions in ${file}${word === "complete" ? ", and what was under way behind them" : ""}`];
+  }
+
+  _reload() {
+    if (this.source === null) throw new Complaint("there is no file to read again");
+    try {
+      this.recording = this.source.open();
+    } catch (fault) {
+      if (fault instanceof RefusedText) return [...fault.message.trimEnd().split("\n"), "the run stays as it was"];
+      throw fault;
+    }
+    const kept = this.stops.all;
+    this.stops = new Stops(this.recording);
+    const said = kept.flatMap(({ command }) => this.#set(command));
+    this.jumps = [];
+    this.last = null;
+    for (const [name, place] of this.marks) if (place > this.recording.end) this.marks.delete(name);
+    return [...this.greeting().slice(0, -1), ...said, ...this.#moveTo(this.place)];
+  }
+
+  /** Sets a break, watch or display once more; where that is not possible, it says so. */
+  #set(command) {
+    try {
+      this.#perform(command);
+      return [];
+    } catch (fault) {
+      if (!(fault instanceof Complaint)) throw fault;
+      return [`no ${command} any more: ${fault.message}`];
+    } finally {
+      this.repeated = "reload";
+    }
+  }
+
+  _edit() {
+    if (this.source === null) throw new Complaint("there is no file to edit");
+    const fault = this.source.edit();
+    return fault === null ? this._reload() : [fault];
+  }
+
   #withFile(file, call) {
     try {
       return call();
@@ -339,6 +473,7 @@ export class Debugger {
     const place = Math.max(0, Math.min(recording.end, wanted));
     if (place > this.place) this.last = place - 1;
     else if (place < this.place) this.last = place;
+    else if (this.last === null && place > 0) this.last = place - 1;
     this.place = place;
     if (this.last === null) return [recording.opening];
     const said = this.#whereIs(recording.instructions[this.last], this.last >= place);

@@ -1,20 +1,24 @@
 // The debugger at a terminal: its words, and the session that is held there.
 
-import { readFileSync } from "node:fs";
+import { spawnSync } from "node:child_process";
 import { createInterface } from "node:readline";
 import { setImmediate } from "node:timers/promises";
+import { readFile, Unreadable } from "../npm/files.mjs";
+import { complain, complainOfWriting, print } from "../npm/streams.mjs";
+import { markIn } from "../npm/text.mjs";
 import { colouring } from "./colours.mjs";
 import { helpOf } from "./commands.mjs";
 import { Debugger } from "./debugger.mjs";
-import { reasonOf, writeFaultOf } from "./files.mjs";
 import { openHistory } from "./history.mjs";
 import { nearest } from "./nearest.mjs";
 import { isLong, page } from "./pager.mjs";
-import { nativeProgram } from "./program.mjs";
 import { Recording, RefusedText } from "./recording.mjs";
 import { shownOn } from "./visible.mjs";
 
-const USAGE = "usage: otbench debug FILE [--port PORT-LINES]\nSteps through the run of a schedule's text, forth and back. With the lines that a port printed it stops where the port differs.\n";
+export const USAGE = `usage: otbench debug FILE [--port PORT-LINES] [--sparse]
+Steps through the run of a schedule's text, forth and back. With the lines that a port printed, which may stand in FILE behind a line '%%', it stops where the
+port differs. --sparse: instructions without a line are not compared.
+`;
 
 /** The usage, and the commands at the prompt. */
 const HELP = `${USAGE}\n${helpOf().join("\n")}\n`;
@@ -88,67 +92,92 @@ function dropLine(reader) {
   for (const name of ["e", "u"]) reader.write(null, { ctrl: true, name });
 }
 
-/** Words that are not understood, and why; of help nothing. */
+/** Words that are not understood, and why. */
 class Misunderstood extends Error {}
 
 const isHelp = (word) => word === "-h" || word === "--help";
 
-/** The words as { file, port, program }. */
+/** The words as { file, port, isSparse }. Behind `--` no word is an option. */
 function wordsOf(words) {
-  const asked = { file: null, port: null, program: process.env.OTBENCH ?? null };
+  const asked = { file: null, port: null, isSparse: false };
+  let isFile = false;
   for (let i = 0; i < words.length; i++) {
     const word = words[i];
-    if (word === "--port" || word === "--program") {
-      if (i + 1 === words.length) throw new Misunderstood(`a value is required for '${word}' but none was supplied`);
-      if (word === "--port" && asked.port !== null) throw new Misunderstood("the argument '--port' cannot be used multiple times");
-      asked[word.slice(2)] = words[++i];
-    } else if (word.startsWith("-")) {
-      const [near] = nearest(word, ["--port"]);
+    if (isFile || !word.startsWith("-")) {
+      if (asked.file !== null) throw new Misunderstood(`unexpected argument '${word}' found; the lines of a port stand behind '--port'`);
+      asked.file = word;
+    } else if (word === "--") isFile = true;
+    else if (word === "--sparse") asked.isSparse = true;
+    else if (word === "--port") {
+      if (i + 1 === words.length) throw new Misunderstood("a value is required for '--port' but none was supplied");
+      if (asked.port !== null) throw new Misunderstood("the argument '--port' cannot be used multiple times");
+      asked.port = words[++i];
+    } else {
+      const [near] = nearest(word, ["--port", "--sparse"]);
       throw new Misunderstood(`unexpected argument '${word}' found${near ? `; a similar argument exists: '${near}'` : ""}`);
-    } else if (asked.file === null) asked.file = word;
-    else throw new Misunderstood(`unexpected argument '${word}' found; the lines of a port stand behind '--port'`);
+    }
   }
   if (asked.file === null) throw new Misunderstood("a schedule's file is required");
   return asked;
 }
 
-/** The file's bytes, or null, with a line on standard error. */
-function bytesOf(path) {
-  try {
-    return readFileSync(path);
-  } catch (fault) {
-    process.stderr.write(`otbench debug: ${reasonOf(path, fault)}\n`);
-    return null;
+/** The schedule and the lines of a port that the words name, null where there are none. */
+function read({ file, port }) {
+  const all = readFile(file, ["schedule", "lines"]);
+  const mark = markIn(all);
+  const behind = mark ? all.subarray(mark.end) : null;
+  return { schedule: mark ? all.subarray(0, mark.start) : all, port: port === null ? behind : readFile(port, ["lines"]) };
+}
+
+/** Reads the files that the words name, again and again, and opens the schedule in the editor that a person has chosen. */
+class Source {
+  constructor(asked, ask) {
+    Object.assign(this, { asked, ask });
+  }
+
+  /** The run of the files as they are. A file that cannot be read is refused, too. */
+  open() {
+    try {
+      const { schedule, port } = read(this.asked);
+      return new Recording(this.ask, schedule, port, this.asked.isSparse);
+    } catch (fault) {
+      if (!(fault instanceof Unreadable)) throw fault;
+      throw new RefusedText(`otbench debug: ${fault.message}\n`);
+    }
+  }
+
+  /** Opens the schedule in an editor; answers a fault in words, or null. */
+  edit(input = process.stdin) {
+    const editor = process.env.VISUAL || process.env.EDITOR;
+    if (!editor) return "neither VISUAL nor EDITOR names an editor";
+    if (!input.isTTY) return "an editor needs a terminal";
+    input.setRawMode(false);
+    try {
+      const { status } = spawnSync("sh", ["-c", `${editor} "$1"`, "sh", this.asked.file], { stdio: "inherit" });
+      return status === 0 ? null : `${editor} ended with status ${status}`;
+    } finally {
+      input.setRawMode(true);
+    }
   }
 }
 
 /**
  * The whole command. Answers its status: 0; 1 where a file cannot be read or is refused, or the output cannot be written; 2 where words are not understood.
- * @param {string[]} words @param {import("./program.mjs").Ask | null} ask null: the program that the words or OTBENCH name
+ * @param {string[]} words @param {import("./recording.mjs").Ask} ask
  */
-export async function debug(words, ask = null) {
-  let asked;
+export async function debug(words, ask) {
+  if (words.some(isHelp)) return print(HELP) ? 0 : 1;
   try {
-    if (words.some(isHelp)) throw new Misunderstood("");
-    asked = wordsOf(words);
-    if (ask === null && asked.program === null) throw new Misunderstood("'--program' or OTBENCH has to name the program");
-  } catch (fault) {
-    if (!(fault instanceof Misunderstood)) throw fault;
-    process.stderr.write(fault.message ? `error: ${fault.message}\n${USAGE}` : HELP);
-    return 2;
-  }
-  const schedule = bytesOf(asked.file);
-  const port = asked.port === null ? null : bytesOf(asked.port);
-  if (schedule === null || (asked.port !== null && port === null)) return 1;
-  try {
-    const session = new Debugger(new Recording(ask ?? nativeProgram(asked.program), schedule, port));
+    const source = new Source(wordsOf(words), ask);
+    const session = new Debugger(source.open(), source);
     const fault = await converse(session, process.stdin, process.stdout);
     if (fault === null) return 0;
-    process.stderr.write(writeFaultOf(fault));
+    complainOfWriting(fault);
     return 1;
   } catch (fault) {
-    if (!(fault instanceof RefusedText)) throw fault;
-    process.stderr.write(shownOn(process.stderr, fault.message));
-    return 1;
+    if (fault instanceof Misunderstood) complain(`error: ${fault.message}\n${USAGE}`);
+    else if (fault instanceof RefusedText) complain(fault.message);
+    else throw fault;
+    return fault instanceof Misunderstood ? 2 : 1;
   }
 }

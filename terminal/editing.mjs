@@ -1,11 +1,11 @@
 // Writes an edit by the texts that a report names.
 
-import { appendFileSync, readFileSync } from "node:fs";
-import { reasonOf, writeFaultOf, written } from "./files.mjs";
+import { appendFileSync, writeFileSync } from "node:fs";
+import { readFile, reasonOf, Unreadable } from "../npm/files.mjs";
+import { complain, print } from "../npm/streams.mjs";
+import { markIn } from "../npm/text.mjs";
 import { alone, Locked } from "./lock.mjs";
-import { nativeProgram } from "./program.mjs";
 import { Recording, RefusedText } from "./recording.mjs";
-import { shownOn } from "./visible.mjs";
 
 /** What the command takes. */
 export const USAGE = `usage: otbench edit FILE C AT DELETED INSERTED
@@ -52,17 +52,20 @@ export function editOf(recording, client, at, deleted, inserted) {
   return { line: `edit ${client} ${JSON.stringify(operation)}`, told: `client ${client}'s document ${JSON.stringify(before)} becomes ${JSON.stringify(after)}` };
 }
 
-/** Appends a line that is made of what stands in a file; answers what was made. */
+/** Appends a line that is made of the schedule in a file, in front of a line `%%` if there is one; answers what was made. */
 function appended(file, make) {
-  const schedule = readFileSync(file);
+  const all = readFile(file, ["schedule", "lines"]);
+  const mark = markIn(all)?.start ?? all.length;
+  const schedule = all.subarray(0, mark);
   const made = make(schedule);
-  appendFileSync(file, `${[undefined, LF].includes(schedule.at(-1)) ? "" : "\n"}${made.line}\n`);
+  const line = `${[undefined, LF].includes(schedule.at(-1)) ? "" : "\n"}${made.line}\n`;
+  if (mark === all.length) appendFileSync(file, line);
+  else writeFileSync(file, Buffer.concat([schedule, Buffer.from(line), all.subarray(mark)]));
   return made;
 }
 
-/** Why these words are not understood, nothing for help, or null. */
+/** Why these words are not understood, or null. */
 function faultOf(words) {
-  if (words.length === 1 && (words[0] === "-h" || words[0] === "--help")) return "";
   const missing = ["FILE", "C", "AT", "DELETED", "INSERTED"].slice(words.length);
   if (missing.length) return `${missing.join(" ")} ${missing.length === 1 ? "is" : "are"} missing`;
   if (words.length > 5) return `unexpected argument '${words[5]}' found; a text with blanks stands in quotes`;
@@ -72,28 +75,22 @@ function faultOf(words) {
 
 /**
  * The whole command. Answers its status: 0; 1 where the file cannot be read or written, is refused, or the edit does not fit, and where the output cannot be written; 2 where words are not understood.
- * @param {string[]} words @param {import("./program.mjs").Ask | null} ask null: the program that the words or OTBENCH name
+ * @param {string[]} words @param {import("./recording.mjs").Ask} ask
  */
-export async function edit(words, ask = null) {
-  const named = words[0] === "--program";
-  const program = named ? words[1] : process.env.OTBENCH;
-  const given = named ? words.slice(2) : words;
+export function edit(words, ask) {
+  const given = words[0] === "--" ? words.slice(1) : words;
   const [file, client, at, deleted, inserted] = given;
-  const misunderstood = faultOf(given) ?? (ask === null && !program ? "'--program' or OTBENCH has to name the program" : null);
+  const misunderstood = faultOf(given);
   if (misunderstood !== null) {
-    process.stderr.write(`${misunderstood && `error: ${misunderstood}\n`}${USAGE}`);
+    complain(`error: ${misunderstood}\n${USAGE}`);
     return 2;
   }
   try {
-    const { line, told } = alone(file, () => appended(file, (schedule) => editOf(new Recording(ask ?? nativeProgram(program), schedule), Number(client), Number(at), deleted, inserted)));
-    const fault = await written(process.stdout, shownOn(process.stdout, `${line}\n${told}\n`));
-    if (fault === null) return 0;
-    process.stderr.write(writeFaultOf(fault));
-    return 1;
+    const { line, told } = alone(file, () => appended(file, (schedule) => editOf(new Recording(ask, schedule), Number(client), Number(at), deleted, inserted)));
+    return print(`${line}\n${told}\n`) ? 0 : 1;
   } catch (fault) {
-    const complain = (text) => process.stderr.write(shownOn(process.stderr, text));
     if (fault instanceof RefusedText) complain(fault.message);
-    else if (fault instanceof Misfit || fault instanceof Locked || fault.code) complain(`otbench edit: ${fault.code ? reasonOf(fault.path ?? file, fault) : fault.message}\n`);
+    else if (fault instanceof Misfit || fault instanceof Locked || fault instanceof Unreadable || fault.code) complain(`otbench edit: ${fault.code ? reasonOf(fault.path ?? file, fault) : fault.message}\n`);
     else throw fault;
     return 1;
   }

@@ -4,8 +4,17 @@ import { fold, SERVER } from "../viewer/src/fold.mjs";
 import { namedIn, numberNamed } from "../viewer/src/numbering.mjs";
 import { documentAt, downAt, logLengthAt, quietAt, stateAt, upAt } from "../viewer/src/places.mjs";
 import { textOf } from "../viewer/src/document.mjs";
+import { splitInput } from "../viewer/src/input.mjs";
+import { outlookIn } from "../viewer/src/outlook.mjs";
+import { Port } from "../viewer/src/port.mjs";
+import { outlineOf, textUpTo } from "../viewer/src/schedule.mjs";
 import { commentsOf, withoutCut } from "./names.mjs";
 import { shortOperation, shortText } from "./values.mjs";
+
+/**
+ * @typedef {{ status: number, output: string, errors: string }} Answer
+ * @typedef {(words: string[], text: string | Uint8Array) => Answer} Ask asks otbench: words and a text go in
+ */
 
 /** A text that otbench refuses, with what it says of it. */
 export class RefusedText extends Error {}
@@ -38,10 +47,13 @@ function differenceIn(answer, instructions) {
   return { place: named.at, number, line: instructions[number]?.line ?? null, answer };
 }
 
+/** The lines of a port, those that are blank left out. */
+const linesIn = (port) => splitInput(`%%\n${Buffer.from(port).toString()}`).port ?? [];
+
 /** What conform says of a port: where it differs, { place, number, line, answer } or null; and whether it shows nothing, so that no value was compared. */
-function conformOf(ask, schedule, port, instructions) {
+function conformOf(ask, schedule, { port, isSparse }, instructions) {
   if (port === null) return { difference: null, showsNothing: false };
-  const { output, errors } = ask(["conform"], Buffer.concat([Buffer.from(schedule.replace(/\n?$/, "\n%%\n")), Buffer.from(port)]));
+  const { output, errors } = ask(isSparse ? ["conform", "--sparse"] : ["conform"], Buffer.concat([Buffer.from(schedule.replace(/\n?$/, "\n%%\n")), Buffer.from(port)]));
   if (errors) throw new RefusedText(errors);
   const difference = output.startsWith("differs at ") ? differenceIn(withoutCut(output).trimEnd(), instructions) : null;
   return { difference, showsNothing: output.startsWith("nothing compared\n") };
@@ -50,19 +62,37 @@ function conformOf(ask, schedule, port, instructions) {
 /** A run, with the state at each place. Place p is the one where p instructions are performed. */
 export class Recording {
   /**
-   * @param {import("./program.mjs").Ask} ask
+   * @param {Ask} ask
    * @param {string | Uint8Array} text of a schedule; bytes that are no UTF-8 are refused
    * @param {string | Uint8Array | null} port the lines that a port printed, if there are some
+   * @param {boolean} isSparse whether instructions without a line are not compared
    */
-  constructor(ask, text, port = null) {
+  constructor(ask, text, port = null, isSparse = false) {
     const told = ask(["explain"], text);
     if (told.errors) throw new RefusedText(told.errors);
     const schedule = Buffer.from(text).toString();
+    this.ask = ask;
+    this.schedule = schedule;
     this.instructions = instructionsOf(told.output);
     Object.assign(this, commentsOf(schedule)); // names and cut
     this.opening = told.output.split("\n", 1)[0];
     this.session = fold(ask(["steps"], schedule).output.split("\n").filter(Boolean));
-    ({ difference: this.difference, showsNothing: this.showsNothing } = conformOf(ask, schedule, port, this.instructions));
+    ({ difference: this.difference, showsNothing: this.showsNothing } = conformOf(ask, schedule, { port, isSparse }, this.instructions));
+    this.port = port === null ? null : new Port(this.session, linesIn(port), [], isSparse);
+  }
+
+  /** The schedule's text up to a place; completed, with the instructions by which all that is under way there arrives. @param {number} place */
+  scheduleUpTo(place, isCompleted = false) {
+    const text = textUpTo(this.schedule, outlineOf(this.schedule), place);
+    if (!isCompleted) return text;
+    const { output, errors } = this.ask(["complete"], text);
+    if (errors) throw new RefusedText(errors);
+    return output;
+  }
+
+  /** Whether all documents must agree at a place, and to what, in lines. @param {number} place */
+  outlook(place) {
+    return outlookIn(this.ask(["explain"], this.scheduleUpTo(place)).output);
   }
 
   /** The last place. */
@@ -121,6 +151,11 @@ export class Recording {
     return state === "not-joined" ? `client ${client} not-joined` : `client ${client} rev ${revision} ${state} ${shortText(this.text(client, place))}`;
   }
 
+  /** How many operations of the server a client has received. @param {number} client @param {number} place */
+  revision(client, place) {
+    return stateAt(this.session, client, place).revision;
+  }
+
   /** The message under way from a client to the server, as JSON; or none. */
   message(client, place) {
     const up = upAt(this.session, client, place);
@@ -144,11 +179,18 @@ export class Recording {
     const heads = this.link(client, place, shortOperation);
     const shown = heads.slice(0, heads.length > LINK ? 1 : LINK).join(", ");
     if (heads.length) lines.push(`  from the server: ${heads.length > LINK ? `${heads.length} messages, first ` : ""}${shown}`);
-    return lines;
+    return [...lines, ...this.#ofPort(client, place)];
+  }
+
+  /** What the port printed last of a participant and ot.js does not have. */
+  #ofPort(who, place) {
+    const differences = this.port?.differencesOf(who, place) ?? [];
+    return differences.map(({ key, found, ours }) => `  port: ${key} ${found}, ot.js ${ours}`);
   }
 
   /** What there is to show of the server and of the whole. @param {number} place */
   server(place) {
-    return [`server rev ${logLengthAt(this.session, place)} ${shortText(this.text(null, place))}`, quietAt(this.session, place)];
+    const head = `server rev ${logLengthAt(this.session, place)} ${shortText(this.text(null, place))}`;
+    return [head, ...this.#ofPort(SERVER, place), quietAt(this.session, place)];
   }
 }

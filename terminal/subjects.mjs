@@ -1,5 +1,6 @@
 // What a command asks for of a session: a client's document, state or operation, or something of the server's.
 
+import { SERVER } from "../viewer/src/fold.mjs";
 import { Complaint } from "./commands.mjs";
 
 /** @typedef {{ what: string, client: number | null }} Subject of a client; null: the server's */
@@ -11,6 +12,19 @@ export const WATCHED = ["doc", "state", "outstanding", "buffer"];
 export function clientOf(word, clients) {
   if (!/^\d{1,9}$/.test(word ?? "") || Number(word) >= clients) throw new Complaint(`${word ?? "nothing"} is no client: they are 0 to ${clients - 1}`);
   return Number(word);
+}
+
+/** A client by its number, or the server. @param {string | undefined} word @param {number} clients @returns {number | "server"} */
+export const memberOf = (word, clients) => (word === SERVER ? SERVER : clientOf(word, clients));
+
+/** A text as it is written: a JSON string, or a word. @param {string} word */
+export function textOf(word) {
+  if (!word.startsWith('"')) return word;
+  try {
+    return JSON.parse(word);
+  } catch {
+    throw new Complaint(`${word} is no JSON string`);
+  }
 }
 
 /**

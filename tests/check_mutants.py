@@ -11,6 +11,8 @@ import pathlib
 import re
 import sys
 
+from words import given
+
 TOP = pathlib.Path(__file__).resolve().parent.parent
 LINE = re.compile(r"^(file|old|new): ?(.*)$", re.MULTILINE)
 
@@ -48,6 +50,7 @@ def changed(text, crate):
 
 
 def main():
+    given(__doc__)
     seen, count, wrong = {}, 0, 0
     for path, crate in mutants():
         count += 1

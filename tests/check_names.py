@@ -14,6 +14,8 @@ import pathlib
 import re
 import sys
 
+from words import given
+
 TOP = pathlib.Path(__file__).resolve().parent.parent
 NAMED = ["README.md", "docs/PROOFS.md", "docs/DEFINITIONS.md", "docs/DECISIONS.md"]
 FILE = re.compile(r"^[\w./-]+\.(?:antt|rt|py|js|mjs|c|h|ots|json|img|txt|md|html|edit|svg)$")
@@ -52,6 +54,7 @@ def mutants():
 
 
 def main():
+    given(__doc__)
     files = list(sources())
     ends = {"/".join(path.parts[at:]) for path in files for at in range(len(path.parts))}
     words = set(ELSEWHERE)

@@ -13,6 +13,8 @@ import re
 import subprocess
 import sys
 
+from words import given
+
 TOP = pathlib.Path(__file__).resolve().parent.parent
 # What is not said, and what is said in its place.
 FORBIDDEN = {
@@ -94,6 +96,7 @@ def found(name, text):
 
 
 def main():
+    given(__doc__)
     count = 0
     documents = listed("*.md")
     sources = listed(*(f"{folder}/*{end}" for folder in FOLDERS for end in (*PROVED, ".py", ".c", ".js", ".sh")), "scripts/*")

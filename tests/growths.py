@@ -22,6 +22,8 @@ import subprocess
 import sys
 import tempfile
 
+from words import given
+
 TESTS = pathlib.Path(__file__).resolve().parent
 TOP = TESTS.parent
 # By program: the libraries that it uses, its calls, the growth that fails (the program makes fewer by itself), and the lines that say that a call left all as it was.
@@ -143,7 +145,7 @@ def tried(name):
 
 
 def main():
-    results = [tried(name) for name in sys.argv[1:] or PROGRAMS]
+    results = [tried(name) for name in given(__doc__, tuple(PROGRAMS)) or PROGRAMS]
     return 0 if all(results) else 1
 
 

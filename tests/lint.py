@@ -13,13 +13,15 @@ import shutil
 import subprocess
 import sys
 
+from words import given
+
 TOP = pathlib.Path(__file__).resolve().parent.parent
 COMPILER = "tsc --noEmit --allowJs --checkJs --noUnusedLocals --skipLibCheck --target es2022 --module es2022 --moduleResolution node"
 # Of a name that is not known, or of a module beside the file; of one that is not exported; of one that is not used.
 NAMES = re.compile(r"error TS(?:2304|2552|2307(?=: Cannot find module '\.)|2305|2724|6133|6192|6196|6198|6199): ")
 NOT_YET_KNOWN = re.compile(r"'(?:Dec|C)ompressionStream'")  # of browsers, by the compiler of Debian 12
 
-# What reads a text as markup: the page (viewer/src, and viewer.html, which is made of it) has none of these.
+# What reads a text as markup: the page (viewer/src) has none of these.
 MARKUP = re.compile(r"innerHTML|outerHTML|insertAdjacentHTML|setHTML|parseHTML|DOMParser|createContextualFragment|srcdoc|execCommand|document\s*\.\s*write")
 
 
@@ -55,12 +57,13 @@ def readers_of_markup(*names):
 
 
 def main():
+    given(__doc__)
     scripts = [name for name in listed("*.py") + listed(":!:*.*") if is_python(name)]
     modules = listed("*.js", "*.mjs")
     findings = [line for line in said("pyflakes3", *scripts) if not has_noqa(line)]
     findings += [line for name in modules for line in said("node --check", name)]
     findings += [line for line in said(COMPILER, *modules) if NAMES.search(line) and not NOT_YET_KNOWN.search(line)]
-    findings += readers_of_markup(*listed("viewer/src", "viewer/html.mjs", "viewer/viewer.html"))
+    findings += readers_of_markup(*listed("viewer/src", "viewer/html.mjs"))
     print("".join(f"{line}\n" for line in findings), end="")
     print(f"lint: {len(scripts)} scripts of Python, {len(modules)} of JavaScript, {len(findings)} lines of findings")
     return 1 if findings or not scripts or not modules else 0

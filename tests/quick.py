@@ -11,6 +11,8 @@ import pathlib
 import subprocess
 import sys
 
+from words import given
+
 TOP = pathlib.Path(__file__).resolve().parent.parent
 COMMANDS = ["run", "check", "explain", "steps"]
 
@@ -29,6 +31,7 @@ def answer(program, command, schedule):
 
 
 def main():
+    given(__doc__)
     program, quick, same, others = proved(), TOP / "out/otbench", 0, []
     if subprocess.run([TOP / "scripts/quick_build"], check=False).returncode:
         return 1

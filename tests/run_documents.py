@@ -18,6 +18,8 @@ import subprocess
 import sys
 import tempfile
 
+from words import given
+
 TOP = pathlib.Path(__file__).resolve().parent.parent
 LINKED = ["otbench", "dist", "package.json", "viewer", "recorder", "conformance", "bench", "oracle"]
 
@@ -60,7 +62,7 @@ def run(command, folder):
 def help_of(words, folder):
     """What the program's help says, as lines."""
     ran = subprocess.run(["./otbench", *words, "--help"], cwd=folder, capture_output=True, timeout=600)
-    return ran.stderr.decode("utf-8").split("\n")
+    return ran.stdout.decode("utf-8").split("\n")
 
 
 def examples(folder):
@@ -86,10 +88,11 @@ def helps(folder):
 
 
 def main():
+    asked = given(__doc__, sys.argv[1:] if all(pathlib.Path(word).is_file() for word in sys.argv[1:]) else ())
     os.environ.setdefault("OTBENCH_NEEDS_PROVED", "1")
     if subprocess.run([TOP / "otbench", "--which"], stdout=subprocess.DEVNULL).returncode:
         return 1
-    paths = [pathlib.Path(word).resolve() for word in sys.argv[1:]] or documents()
+    paths = [pathlib.Path(word).resolve() for word in asked] or documents()
     passed = failed = 0
     with tempfile.TemporaryDirectory(prefix="documents-") as folder:
         shutil.copytree(TOP / "examples", f"{folder}/examples")
@@ -106,7 +109,7 @@ def main():
                 print(f"{path.relative_to(TOP)}:{number}: {command}")
                 print("  shown:   " + "\n           ".join(shown))
                 print("  printed: " + "\n           ".join(printed[:20]))
-        if not sys.argv[1:]:
+        if not asked:
             good, bad = helps(folder)
             passed, failed = passed + good, failed + bad
     print(f"documents: {passed} passed, {failed} failed")

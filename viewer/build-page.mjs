@@ -10,6 +10,10 @@ import { page } from "./html.mjs";
 
 const USAGE = "usage: viewer/build-page.mjs ENGINE.wasm TO.html [HOST.mjs]";
 const words = process.argv.slice(2);
+if (words.length === 1 && (words[0] === "-h" || words[0] === "--help")) {
+  console.log(USAGE);
+  process.exit();
+}
 if (words.length < 2 || words.length > 3 || words.some((word) => word.startsWith("-"))) {
   console.error(USAGE);
   process.exit(2);

@@ -17,11 +17,7 @@ class WordsFault extends Error {}
 function main() {
   const options = { at: { type: "string", default: "0" }, dark: { type: "boolean" }, help: { type: "boolean", short: "h" } };
   const { values } = parseArgs({ options });
-  if (values.help) {
-    console.error(USAGE);
-    process.exitCode = 2;
-    return;
-  }
+  if (values.help) return void console.log(USAGE);
   if (!/^\d+$/.test(values.at)) throw new WordsFault(`--at takes a number, not '${values.at}'`);
   const session = fold(splitInput(fs.readFileSync(0, "utf8")).steps);
   const place = Number(values.at);

@@ -71,7 +71,12 @@ async function take(folder) {
   }
 }
 
-take(process.argv[2] ?? fileURLToPath(new URL("../docs", import.meta.url))).catch((fault) => {
+const [folder, ...more] = process.argv.slice(2);
+if (more.length > 0 || folder?.startsWith("-")) {
+  console.error("usage: node --experimental-websocket viewer/screenshots.js [FOLDER]");
+  process.exit(2);
+}
+take(folder ?? fileURLToPath(new URL("../docs", import.meta.url))).catch((fault) => {
   console.error(`screenshots: ${fault.message}`);
   process.exitCode = 1;
 });

@@ -7,8 +7,8 @@ import { test } from "node:test";
 import { fileURLToPath } from "node:url";
 import { makePort } from "../../oracle/otjs.js";
 import { drive } from "../../oracle/scalars.js";
-import { bugs, keptBy } from "../faults.js";
-import { TOGETHER, coverage, page, readCorpus } from "../finders.js";
+import { bugs, keptBy, leaks } from "../faults.js";
+import { TOGETHER, coverage, page, readCorpus, storedCorpus } from "../finders.js";
 import { comparable, faultyPort, firstDifference, stepsOf } from "../lines.js";
 
 const beside = (name) => fileURLToPath(new URL(`../${name}`, import.meta.url));
@@ -72,8 +72,8 @@ test("each session says what it tries, is never refused, is quiet, and ends with
   }
 });
 
-test("beside each session stand its lines", () => {
-  for (const { name, text } of readCorpus()) {
+test("beside each stored session stand its lines", () => {
+  for (const { name, text } of storedCorpus()) {
     assert.equal(fs.readFileSync(beside(`sessions/${name}.jsonl`), "utf8"), stepsOf(text), name);
   }
 });
@@ -88,23 +88,36 @@ test("every fault is found, every session finds one, and COVERAGE.md says by whi
   assert.equal(fs.readFileSync(beside("COVERAGE.md"), "utf8"), page(found));
 });
 
+test("each fault stands in the table of FOUND.md or below it", () => {
+  const text = fs.readFileSync(beside("FOUND.md"), "utf8");
+  const table = [...text.matchAll(/^\| ([a-z0-9-]+) \| [0-9]/gm)].map(([, name]) => name);
+  const missed = [...text.matchAll(/([a-z0-9-]+) with [0-9]+ of [0-9]+ seeds/g)].map(([, name]) => name);
+  const names = Object.keys(bugs).filter((name) => !Object.hasOwn(leaks, name));
+  assert.deepEqual(table, names.filter((name) => table.includes(name)));
+  assert.deepEqual(new Set([...table, ...missed]), new Set(names));
+  for (const name of Object.keys(leaks)) assert.ok(text.slice(text.indexOf("Not tried")).includes(name));
+});
+
 /* Each kind of session beside the branches of ot.js, and the faults that nothing else finds. */
 const KINDS = {
+  "characters-joiners": ["texts-without-joiners"],
   "characters-line-end-of-two": ["line-ends-changed"],
   "characters-normal-forms": ["texts-normalized"],
   "characters-of-markup": [
     ..."texts-escaped texts-unescaped texts-as-replacements texts-with-other-blanks".split(" "),
     ..."texts-with-straight-quotes texts-without-blanks-in-front".split(" "),
   ],
+  "characters-paragraph-separator": ["texts-with-one-line-end"],
   "characters-rarely-used": ["texts-end-at-nul", "texts-without-noncharacters", "texts-without-spaces-of-no-width"],
   "characters-past-the-plane-": ["insert-counts-code-points"],
-  "client-buffer-of-40-edits": ["buffer-up-to-32-edits"],
+  "client-buffer-of-": ["buffer-up-to-32-edits", "buffer-up-to-200-edits"],
   "compose-deletions-at-the-end": ["compose-first-deletes-at-the-end"],
   "with-34-clients": ["clients-up-to-32"],
-  "lengths-": ["lengths-of-8-bits", "lengths-of-15-bits", "lengths-of-16-bits", "message-read-in-pieces"],
-  "log-above-": ["log-cut-at-40", "log-cut-at-100", "log-cut-at-1000", "log-cut-at-1024"],
+  "lengths-": ["message-read-in-pieces"],
+  "log-above-": ["log-cut-at-40", "log-cut-at-100", "log-cut-at-1000", "log-cut-at-1024", "log-cut-at-3000"],
   "one-place-equal-texts": ["equal-texts-once"],
   "operations-of-many-components": ["components-up-to-1000"],
+  "texts-above-100000": ["lengths-up-to-100000"],
   "texts-like-lengths": ["transforms-kept-by-text", "transforms-kept-by-words"],
   "texts-like-numbers": ["text-0-is-empty", "text-minus-1-is-a-deletion"],
   [TOGETHER]: ["log-shared"],
@@ -117,9 +130,10 @@ test("each kind of session has a fault that passes the rest of the corpus", () =
       assert.ok(found.get(fault).length, fault);
       assert.ok(found.get(fault).every((name) => name.startsWith(kind)), fault);
     }
-  assert.deepEqual(found.get("lengths-of-16-bits"), ["lengths-above-65535"]);
+  assert.deepEqual(found.get("buffer-up-to-200-edits"), ["client-buffer-of-260-edits"]);
+  assert.deepEqual(found.get("log-cut-at-3000"), ["log-above-3000"]);
   assert.deepEqual(found.get("message-read-in-pieces"), ["lengths-of-messages"]);
-  assert.deepEqual(found.get("log-cut-at-1000"), ["log-above-1000"]);
+  assert.deepEqual(found.get("log-cut-at-1000"), ["log-above-1000", "log-above-3000"]);
 });
 
 test("transforms kept by their components are found, whatever joins these", () => {

@@ -2,10 +2,10 @@
 /*
  * The driver of a port: reads a schedule, performs it on the port, and prints a line of JSON for each instruction, as
  * `otbench steps` does. `otbench conform` compares the two. ot.js counts UTF-16 units and so do these lines; a schedule counts
- * Unicode scalar values. The two are one until a character past U+FFFF comes; `conformance/utf16` stands between them then.
+ * Unicode scalar values. The two are one until a character past U+FFFF comes; `otbench port --utf16` stands between them then.
  *
- *     conformance/run --utf16 node driver.js
- *     (cat session.ots; echo %%; conformance/utf16 node driver.js < session.ots) | otbench view > session.html
+ *     otbench port --utf16 -- node driver.js
+ *     (cat session.ots; echo %%; otbench port --lines session.ots --utf16 -- node driver.js) | otbench view > session.html
  *
  *     --port FILE   a module, also of CommonJS, with TextOperation, Client and Server; without it oracle/otjs.js, a re-creation of ot.js
  *     --bug NAME    with one of the faults of bugs.js planted in it

@@ -134,7 +134,8 @@ function asked() {
   const options = { engine: { type: "string" }, check: { type: "boolean" }, pack: { type: "boolean" }, help: { type: "boolean", short: "h" } };
   const { values, positionals } = parseArgs({ options, allowPositionals: true });
   const [word, ...more] = positionals;
-  if (values.help || more.length > 0 || (values.check && values.pack)) return null;
+  if (values.help) return () => process.stdout.write(USAGE);
+  if (more.length > 0 || (values.check && values.pack)) return null;
   if (values.check) return word === undefined ? () => check(values.engine) : null;
   if (values.pack) return values.engine === undefined ? () => packed(word) : null;
   return /^\d+\.\d+\.\d+$/.test(word) ? () => make(word, values.engine) : null;

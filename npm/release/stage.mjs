@@ -13,7 +13,6 @@ export const TOP = fileURLToPath(new URL("../..", import.meta.url));
 const HELD = [
   "LICENSE",
   "CHANGELOG.md",
-  "bench/storms.py",
   "conformance",
   "docs/FORMATS.md",
   "docs/GUIDE.md",
@@ -21,15 +20,18 @@ const HELD = [
   "engine/host.mjs",
   "examples",
   "npm",
-  "oracle",
+  "oracle/otjs.js",
   "recorder",
   "terminal",
   "viewer/src/characters.mjs",
   "viewer/src/document.mjs",
   "viewer/src/fold.mjs",
   "viewer/src/input.mjs",
+  "viewer/src/noted.mjs",
   "viewer/src/numbering.mjs",
+  "viewer/src/outlook.mjs",
   "viewer/src/places.mjs",
+  "viewer/src/port.mjs",
   "viewer/src/schedule.mjs",
   "viewer/src/values.mjs",
 ];
@@ -64,7 +66,7 @@ export function stage(folder, engine, release) {
   for (const held of HELD) fs.cpSync(path.join(TOP, held), to(held), { recursive: true, filter: isHeld });
   for (const name of ["package.json", "README.md"]) fs.copyFileSync(path.join(TOP, "npm", name), to(name));
   fs.copyFileSync(to("recorder/recorder.js"), to("recorder/recorder.cjs")); // for require
-  fs.writeFileSync(to("viewer/viewer.html"), viewerPage());
+  fs.writeFileSync(to("viewer/page.html"), viewerPage());
   fs.mkdirSync(to("engine/out"));
   fs.writeFileSync(to("engine/out/otbench.wasm"), engine);
   fs.writeFileSync(to("VERSION.json"), `${JSON.stringify(release, null, 2)}\n`);

@@ -1,4 +1,4 @@
-// The command: words, files, streams and statuses; beside the native program where it is built.
+// The command: words, files, streams and statuses, over the engine and over the native program where it is built.
 
 import assert from "node:assert/strict";
 import { spawn, spawnSync } from "node:child_process";
@@ -16,10 +16,14 @@ const TWO_CLIENTS = 'client 0 rev 2 synchronized "ba"\nclient 1 rev 2 synchroniz
 const WEAK = example("weak-order.ots");
 
 /** Runs the command: [status, output, errors]. */
-function call(words, input = "") {
-  const { status, stdout, stderr } = spawnSync(process.execPath, [COMMAND, ...words], { input, encoding: "utf8", cwd: folder, maxBuffer: 1 << 28 });
+function call(words, input = "", program = "") {
+  const env = { ...process.env, OTBENCH: program };
+  const { status, stdout, stderr } = spawnSync(process.execPath, [COMMAND, ...words], { input, encoding: "utf8", cwd: folder, env, maxBuffer: 1 << 28 });
   return [status, stdout, stderr];
 }
+
+/** The programs that the command is tried over: the engine, and the native program where it is built. */
+const PROGRAMS = ["", NATIVE].filter((it) => it !== null);
 
 /** A file of the folder. */
 function file(name, content) {
@@ -61,9 +65,10 @@ test("files that are not there, are folders, or are too many", () => {
   assert.deepEqual(call(["run", "."]), [1, "", "otbench: .: is a folder\n"]);
   assert.deepEqual(call(["debug", "."]), [1, "", "otbench debug: .: is a folder\n"]);
   assert.deepEqual(call(["edit", ".", "0", "0", "", "a"]), [1, "", "otbench edit: .: is a folder\n"]);
-  const [status, , errors] = call(["run", "a", "b"]);
+  const [status, , errors] = call(["steps", "a", "b"]);
   assert.equal(status, 2);
   assert.match(errors, /^error: unexpected argument 'b' found\n/);
+  for (const word of ["run", ""]) assert.deepEqual(call(["run", "", word]).slice(0, 2), [1, `==> '' <==\n\n==> ${word || "''"} <==\n`]);
 });
 
 test("a plan of several workers is refused: there are no threads", () => {
@@ -71,12 +76,19 @@ test("a plan of several workers is refused: there are no threads", () => {
   const said = (workers) => `otbench: this program has no threads, and the plan has ${workers} workers: give it "workers":1, or give the plan to ./otbench threads of the repository, built with the toolchain\n`;
   for (const workers of [2, 4, 8]) assert.deepEqual(call(["threads"], plan.replace('"workers":1', `"workers":${workers}`)), [1, "", said(workers)]);
   assert.equal(call(["threads"], plan)[0], 0);
-  assert.deepEqual(call(["threads"], plan.replace('"workers":1', '"workers":9')), [1, "", "otbench: BadNumber\n"]);
+  assert.deepEqual(call(["threads"], plan.replace('"workers":1', '"workers":9')), [1, "", "otbench: BadNumber\n  workers: found 9; wanted a number from 1 to 8\n"]);
   assert.match(call(["help", "threads"])[1], /\nThis program has no threads: it performs plans with "workers":1\. /);
 });
 
 test("a refused text, and words that are not understood", () => {
-  assert.deepEqual(call(["run"], "clients 1\nbogus\n"), [1, "", "otbench: line 2: UnknownWord\n"]);
+  const column = "  column 1: an instruction is edit, take, deliver, ack, join, read or read-server\n";
+  for (const program of PROGRAMS) {
+    for (const word of ["run", "check", "steps", "asm", "complete", "explain"])
+      assert.deepEqual(call([word], "clients 1\n\tbogus\u202e 0\r\n", program), [1, "", `otbench: line 2: UnknownWord\n${column.replace("1", "2")}  \tbogus\\u202e 0\n  \t^\n`], word);
+    assert.deepEqual(call(["run"], "\n", program), [1, "", "otbench: line 2: NoClients\n  no line says `clients N`\n"]);
+    const long = call(["run"], `clients 1\nedit 0 ["${"é".repeat(100_000)}",0]\n`, program)[2].split("\n");
+    assert.deepEqual([long.length, long[2].length, long[3].length], [5, 74, long[2].indexOf("0]") + 1]);
+  }
   assert.equal(call(["bogus"])[0], 2);
   assert.equal(call(["run", "--bogus"])[0], 2);
   assert.equal(call([])[0], 2);
@@ -97,14 +109,15 @@ test("help on the output with status 0, --help as the program has it, and the ve
   const [status, output, errors] = call(["help"]);
   assert.deepEqual([status, errors], [0, ""]);
   assert.match(output, /^A proved test bench[^]*\n {2}otbench conform \[SCHEDULE\] \[LINES\]\n/);
-  const [helpStatus, nothing, said] = call(["--help"]);
-  assert.deepEqual([helpStatus, nothing, said], [2, "", output]);
+  for (const words of [["--help"], ["-h"], ["help", "--help"]]) assert.deepEqual(call(words), [0, output, ""]);
+  assert.deepEqual(call(["run", "x", "--image", "-h"]), [0, call(["help", "run"])[1], ""]);
+  assert.equal(call(["bogus", "--help"])[0], 2);
   assert.match(call(["help", "run"])[1], /^Run a schedule/);
   assert.deepEqual(call(["help", "bogus"]).slice(0, 2), [2, ""]);
   assert.match(call(["help", "view"])[1], /^usage: otbench view/);
   assert.match(call(["help", "edit"])[1], /^usage: otbench edit/);
+  assert.deepEqual(call(["view", "--help"]), [0, call(["help", "view"])[1], ""]);
   for (const [words, said] of [
-    [["--help"], ""],
     [["a", "b", "c"], "error: unexpected argument 'c' found\n"],
     [["a", "--image"], "error: unexpected argument '--image' found\n"],
   ])
@@ -115,23 +128,7 @@ test("help on the output with status 0, --help as the program has it, and the ve
 
 test("the help of both debuggers", () => {
   assert.match(call(["help", "debug"])[1], /^(?!usage)[^]*\nAt a terminal 'otbench debug SCHEDULE \[--port LINES\]' has other commands: /);
-  for (const words of [["w.ots", "--help"], ["w.ots", "--port", "x", "-h"]]) assert.match(call(["debug", ...words])[2], /^usage: otbench debug FILE [^]*\n\nstep +performs one instruction, or N\n[^]*\nuntil /);
-});
-
-test("view: the viewer's page with the lines, as viewer/view writes it", { skip: NATIVE === null && "no native program" }, () => {
-  const inputs = [WEAK, `${WEAK}%%\n{"at":1,"document":"<b>\u2028"}\n`, `${WEAK} %%\t\r\n{"at":1}`, "clients 1\nedit 0 [7]\n"];
-  // (beside no dist/, whose page has the engine in it)
-  const viewer = path.join(folder, "viewer");
-  fs.mkdirSync(viewer);
-  for (const name of ["view", "viewer.html"]) fs.copyFileSync(`${TOP}viewer/${name}`, path.join(viewer, name));
-  for (const input of inputs) {
-    const { status, stdout } = spawnSync(path.join(viewer, "view"), [NATIVE], { input, encoding: "utf8" });
-    assert.deepEqual(call(["view"], input), [status, stdout, ""]);
-  }
-  const [whole] = call(["view", file("s.ots", WEAK), file("l", '{"at":1}\n')]).slice(1);
-  assert.equal(whole, call(["view"], `${WEAK}%%\n{"at":1}\n`)[1]);
-  const [status, page, errors] = call(["view"], "clients 2\nedit 0 [1.5]\n");
-  assert.deepEqual([status, page, errors], [1, "", "otbench: line 2: BadOperation\n  column 10: numbers are whole\n"]);
+  for (const words of [["w.ots", "--help"], ["w.ots", "--port", "x", "-h"]]) assert.match(call(["debug", ...words])[1], /^usage: otbench debug FILE [^]*\n\nstep +performs one instruction, or N\n[^]*\nuntil /);
 });
 
 /* The longest output of these tests, some megabytes. */
@@ -186,17 +183,19 @@ test("answers come before the input ends", async () => {
   assert.equal(await new Promise((resolve) => child.on("exit", resolve)), 0);
 });
 
-test("an output that nobody reads any more, and a full disk: status 1; of the latter only what the program does not print says so", { skip: process.platform !== "linux" }, () => {
+test("an output that nobody reads any more, and a full disk: status 1; the latter is said", { skip: process.platform !== "linux" }, () => {
   const session = path.join(folder, file("long.ots", LONG));
-  const sh = (script) => {
-    const { stdout, stderr } = spawnSync("sh", ["-c", script, process.execPath, COMMAND, session], { encoding: "utf8" });
+  const over = (program) => (script) => {
+    const { stdout, stderr } = spawnSync("sh", ["-c", script, process.execPath, COMMAND, session], { encoding: "utf8", env: { ...process.env, OTBENCH: program } });
     return [stdout, stderr];
   };
-  assert.deepEqual(sh('(status=0; "$0" "$1" steps "$2" || status=$?; echo $status >&2) | head -c 5'), ['{"at"', "1\n"]);
-  assert.deepEqual(sh('status=0; "$0" "$1" steps "$2" >/dev/full || status=$?; echo $status'), ["1\n", ""]);
-  assert.deepEqual(sh('status=0; "$0" "$1" run none.ots 2>/dev/full || status=$?; echo $status'), ["1\n", ""]);
-  assert.deepEqual(sh('status=0; "$0" "$1" view "$2" >/dev/full || status=$?; echo $status'), ["1\n", "otbench: WriteFault\n"]);
-  for (const words of ["help", "version", "help edit", "debug $2", "edit $2 0 0 '' a"])
+  const sh = over("");
+  for (const program of PROGRAMS) {
+    assert.deepEqual(over(program)('(status=0; "$0" "$1" steps "$2" || status=$?; echo $status >&2) | head -c 5'), ['{"at"', "1\n"]);
+    assert.deepEqual(over(program)('status=0; "$0" "$1" run none.ots 2>/dev/full || status=$?; echo $status'), ["1\n", ""]);
+    for (const words of ["steps", "conform", "run", "view", "steps -"]) assert.deepEqual(over(program)(`status=0; "$0" "$1" ${words} <"$2" >/dev/full || status=$?; echo $status`), ["1\n", "otbench: WriteFault\n"], words);
+  }
+  for (const words of ["help", "run --help", "version", "completion zsh", "help edit", "debug $2", "edit $2 0 0 '' a"])
     assert.deepEqual(sh(`status=0; "$0" "$1" ${words.replace("$2", '"$2"')} >/dev/full </dev/null || status=$?; echo $status`), ["1\n", "otbench: WriteFault\n"], words);
   const [shown, status] = sh('(status=0; "$0" "$1" view "$2" || status=$?; echo $status >&2) | head -c 5');
   assert.deepEqual([shown.length, status], [5, "1\n"]);
@@ -222,9 +221,84 @@ function runs() {
   return [...ofTexts, ...traces, ...images, ...generated, ...words];
 }
 
-test("the same bytes and statuses as the native program", { skip: NATIVE === null && "no native program" }, () => {
+test("the same bytes and statuses as the native program, with hints behind, and the same over it", { skip: NATIVE === null && "no native program" }, () => {
   for (const [words, input] of runs()) {
     const { status, stdout, stderr } = spawnSync(NATIVE, words, { input, encoding: "utf8", argv0: "otbench" });
-    assert.deepEqual(call(words, input), [status, stdout, stderr], words.join(" "));
+    const [ourStatus, output, errors] = call(words, input);
+    const isHelp = words.some((it) => it === "-h" || it === "--help");
+    if (isHelp) assert.deepEqual([ourStatus, output, errors], [0, stderr, ""], words.join(" "));
+    else assert.deepEqual([ourStatus, output, errors.startsWith(stderr)], [status, stdout, true], words.join(" "));
+    assert.deepEqual(call(words, input, NATIVE), [ourStatus, output, errors], words.join(" "));
   }
+});
+
+test("several files are answered one behind the other, with the worst status", () => {
+  const [good, bad] = [file("good one.ots", "clients 1\n"), file("bad.ots", "clients 1\ntake 0\n")];
+  for (const program of PROGRAMS) {
+    const [status, output, errors] = call(["run", good, "none.ots", bad], "", program);
+    const ends = (name) => `==> ${name} <==\n`;
+    assert.equal(status, 1);
+    assert.equal(output, `${ends("'good one.ots'")}${call(["run", good])[1]}\n${ends("none.ots")}\n${ends("bad.ots")}${call(["run", bad])[1]}`);
+    assert.equal(errors, `otbench: none.ots: there is no such file\n${call(["run", bad])[2]}`);
+  }
+  assert.equal(call(["check", good, good])[0], 0);
+  assert.equal(call(["judge", `${TOP}examples/weak-order.json`, `${TOP}examples/reversed.json`])[0], 1);
+  assert.deepEqual(call(["run", "-", good], "clients 2\n").slice(0, 2), [0, `==> standard input <==\n${call(["run"], "clients 2\n")[1]}\n==> 'good one.ots' <==\n${call(["run", good])[1]}`]);
+});
+
+test("a schedule ends at a line %%, as recorded ones do; conform, view and debug read on", () => {
+  const lines = steps(WEAK).map((line) => `${JSON.stringify(line)}\n`).join("");
+  const recorded = file("recorded.ots", `${WEAK}%%\n${lines}`);
+  for (const program of PROGRAMS) {
+    for (const word of ["run", "check", "steps", "explain", "asm", "complete"]) assert.deepEqual(call([word, recorded], "", program), call([word], WEAK, program), word);
+    assert.equal(call(["conform", recorded], "", program)[1].split("\n")[0], "conforms");
+    assert.equal(call(["conform", recorded, "-"], lines, program)[1].split("\n")[0], "conforms");
+    assert.deepEqual(call(["debug", recorded, file("commands", "step 3\n")], "", program), [0, "at 3: count\n", ""]);
+    const faulty = file("faulty.ots", `${WEAK}%%\n${lines.replace('"buffer":["a",1,-1,1],"applied"', '"buffer":["a",-1,1],"applied"')}`);
+    assert.match(call(["debug", faulty], "run\n", program)[1], /the port differs at place 7, line 11: run stops there\n[^]*differs at 7: deliver 0: client 0 buffer\n/);
+    assert.doesNotMatch(call(["debug", faulty, "--port", "-x", "--"], "", program)[2], /usage/);
+  }
+  assert.deepEqual(call(["run", "--image"], "a\n%%\nb"), [1, "", "otbench: byte 0: BadMagic\n  magic: found 61 0a 25 25; wanted 4f 54 53 31 (OTS1) or 4f 54 53 32 (OTS2)\n"]);
+});
+
+test("an edit stands in front of a line %%", () => {
+  const name = file("edited.ots", 'clients 1\nstart "a"\n%%\n{"at":1}\n');
+  assert.equal(call(["edit", name, "0", "1", "", "b"])[0], 0);
+  assert.equal(fs.readFileSync(path.join(folder, name), "utf8"), 'clients 1\nstart "a"\nedit 0 [1,"b"]\n%%\n{"at":1}\n');
+});
+
+test("lines for some instructions", () => {
+  const name = file("sparse.ots", `${WEAK}%%\n{"at":12,"document":"acz"}\n`);
+  for (const program of PROGRAMS) {
+    assert.match(call(["debug", name], "", program)[1], /the port differs/);
+    assert.doesNotMatch(call(["debug", "--sparse", name], "", program)[1], /differs/);
+  }
+});
+
+test("what is larger than its kind may be is refused while it is read", { skip: !fs.existsSync("/dev/zero") }, () => {
+  const said = (name, most, kind) => [1, "", `otbench: ${name}: it has more than ${most} bytes, which is the most of ${kind}\n`];
+  for (const program of PROGRAMS) {
+    assert.deepEqual(call(["run", "/dev/zero"], "", program), said("/dev/zero", "268,435,456", "a schedule"));
+    assert.deepEqual(call(["threads", "/dev/zero"], "", program), said("/dev/zero", "67,108,864", "a plan"));
+  }
+  const { status, stderr } = spawnSync(process.execPath, [COMMAND, "judge"], { stdio: [fs.openSync("/dev/zero", "r"), "pipe", "pipe"], encoding: "utf8" });
+  assert.deepEqual([status, "", stderr], said("standard input", "268,435,456", "a trace"));
+});
+
+test("completion lists what the help lists", { skip: spawnSync("bash", ["-c", "true"]).status !== 0 && "no bash" }, () => {
+  const [status, script] = call(["completion", "bash"]);
+  assert.equal(status, 0);
+  const completed = (...words) => spawnSync("bash", ["-c", `${script}\nCOMP_WORDS=("$@") COMP_CWORD=$(($# - 1)); _otbench; printf '%s\\n' "\${COMPREPLY[@]}"`, "bash", "otbench", ...words], { encoding: "utf8" }).stdout.trim().split("\n");
+  assert.deepEqual(completed("co"), ["conform", "complete", "completion"]);
+  assert.deepEqual(completed("run", "--i"), ["--image"]);
+  assert.deepEqual(completed("generate", "--s"), ["--seed", "--start"]);
+  assert.deepEqual(completed("debug", "--s"), ["--sparse"]);
+  assert.deepEqual(completed("run", "a"), [""]);
+  assert.match(call(["completion", "zsh"])[1], /^#compdef otbench\n[^]* {8}check\) words_here=\(--all --help\) ;;\n/);
+  for (const words of [[], ["fish"], ["bash", "zsh"]]) assert.deepEqual(call(["completion", ...words]).slice(0, 2), [2, ""]);
+});
+
+test("a native program that is not there, or is this script", () => {
+  assert.deepEqual(call(["run", "-"], "", "/none"), [1, "", "otbench: /none: there is no such file\n"]);
+  for (const program of [COMMAND, "other.mjs"]) assert.equal(call(["version"], "", program)[1], call(["version"])[1]);
 });

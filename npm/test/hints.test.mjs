@@ -1,4 +1,4 @@
-// What the command says on a terminal below an answer of status 1 or 2; in a pipe it says nothing more.
+// What the command says below an answer of status 1 or 2, on a terminal or not.
 
 import assert from "node:assert/strict";
 import { spawnSync } from "node:child_process";
@@ -9,8 +9,11 @@ import { fileURLToPath } from "node:url";
 import { hintsOf } from "../hints.mjs";
 import { kindOf } from "../kinds.mjs";
 import { serve } from "../otbench.mjs";
+import { fileWord, quoted } from "../shell.mjs";
 import { meant, similarTo } from "../usage.mjs";
 import { example, temporaryFolder, TOP } from "./files.mjs";
+
+delete process.env.OTBENCH; // the engine is what runs
 
 const COMMAND = fileURLToPath(new URL("../cli.mjs", import.meta.url));
 const folder = temporaryFolder();
@@ -20,13 +23,16 @@ const TWICE = 'clients 1\n; a note\nedit 0 ["a"]\ntake 0\ntake 0\n';
 fs.writeFileSync(path.join(folder, "twice.ots"), TWICE);
 fs.writeFileSync(path.join(folder, "lines.jsonl"), '{"at":1,"document":"b"}\n');
 
-/* The hints to an answer of the engine. */
-function hints(word, flags, files, text) {
+/* The hints to an answer of the engine, without `otbench: ` in front. */
+function hints(word, flags, files, text, wanted = 1) {
   const input = Buffer.from(text);
-  const { status, output } = serve([word, ...flags], input);
-  assert.equal(status, 1, word);
-  return hintsOf(word, { flags, files }, { input, output }, serve);
+  const { status, output, errors } = serve([word, ...flags], input);
+  assert.equal(status, wanted, word);
+  return hintsOf({ word, flags, files, name: "otbench", ask: serve }, status, { input, output, errors }).map((line) => line.replace(/^otbench: /, ""));
 }
+
+/* What `explain` says below the fault of a schedule without a number of clients, and the line. */
+const NO_NUMBER = ["  column 8: a number of one to nine digits stands here", "  clients", "         ^"];
 
 const THERE = "what ot.js does there, in words: otbench explain a.ots";
 
@@ -39,10 +45,9 @@ test("of a refused instruction its line, and how to ask explain", () => {
     assert.deepEqual(hints(word, [], ["a.ots"], TWICE), [line, "what happened, in words: otbench explain a.ots"]);
     assert.deepEqual(hints(word, [], [], TWICE), [line, "what happened, in words: give the schedule to otbench explain"]);
   }
-  assert.deepEqual(hints("asm", [], ["a.ots"], "clients\n"), ["where the fault is, in words: otbench explain a.ots"]);
-  for (const word of ["run", "check", "steps", "complete"]) assert.deepEqual(hints(word, [], ["a.ots"], "clients\n"), ["where the fault is, in words: otbench explain a.ots"]);
-  assert.deepEqual(hints("conform", [], ["a.ots", "b"], "clients\n%%\n"), ["where the fault is, in words: otbench explain a.ots"]);
-  assert.deepEqual(hints("explain", [], ["a.ots"], "clients\n"), []);
+  for (const word of ["run", "check", "steps", "complete", "asm"]) assert.deepEqual(hints(word, [], ["a.ots"], "clients\n"), NO_NUMBER);
+  assert.deepEqual(hints("conform", [], ["a.ots", "b"], "clients\n%%\n"), NO_NUMBER);
+  assert.deepEqual(hints("explain", [], ["a.ots"], "clients\n"), NO_NUMBER.slice(1));
 });
 
 test("of a difference the line that led to its place, or the one that ot.js refuses", () => {
@@ -63,12 +68,12 @@ test("of lines that are none of a port what may be wrong", () => {
 });
 
 test("of a port's line in the schedule that a line %% is missing", () => {
-  const where = "where the fault is, in words: ";
+  const below = (line) => ["  column 1: an instruction is edit, take, deliver, ack, join, read or read-server".replace("1", line.search(/\S/) + 1), `  ${line}`, `  ${line.match(/^\s*/)[0]}^`];
   const said = "line 6 is a line of a port: conform wants a line '%%' in front of those";
-  for (const line of ['{"at":1}', ' \t{"at":1}']) assert.deepEqual(hints("conform", [], ["a"], `${TWICE}${line}\n`), [said, `${where}give the schedule to otbench explain`]);
-  assert.deepEqual(hints("conform", [], ["a", "b"], `${TWICE}{"at":1}\n%%\n{"at":1}\n`), [said, `${where}otbench explain a`]);
-  assert.deepEqual(hints("run", [], ["a"], `${TWICE}{"at":1}\n`), [said, `${where}otbench explain a`]);
-  assert.deepEqual(hints("conform", [], [], `${TWICE}edti 0 {}\n{"at":1}\n`), [`${where}give the schedule to otbench explain`]);
+  for (const line of ['{"at":1}', ' \t{"at":1}']) assert.deepEqual(hints("conform", [], ["a"], `${TWICE}${line}\n`), [...below(line), said]);
+  assert.deepEqual(hints("conform", [], ["a", "b"], `${TWICE}{"at":1}\n%%\n{"at":1}\n`), [...below('{"at":1}'), said]);
+  assert.deepEqual(hints("run", [], ["a"], `${TWICE}{"at":1}\n`), [...below('{"at":1}'), said]);
+  assert.deepEqual(hints("conform", [], [], `${TWICE}edti 0 {}\n{"at":1}\n`), below("edti 0 {}"));
 });
 
 const IMAGE = fs.readFileSync(`${TOP}examples/late-join.img`);
@@ -89,29 +94,26 @@ test("of an input that is something else what it is, and how to ask explain", ()
     for (const [kind, [input, said]] of Object.entries(KINDS))
       if (kind !== reads) assert.deepEqual(hints(word, flags, ["a"], input), [said], `${word} ${flags} of a ${kind}`);
   assert.deepEqual(hints("run", [], ["-"], IMAGE), [KINDS.image[1].replace(/otbench explain.*/, "give the image to otbench explain --image")]);
-  assert.deepEqual(hints("judge", [], ["a"], '{"at":1,"replicas":0}'), ["where the fault is, in words: otbench explain --trace a"]); // what is awaited, with more keys
+  assert.deepEqual(hints("judge", [], ["a"], '{"at":1,"replicas":0}'), ["  replicas: found 0; wanted a number from 1 to 65"]); // what is awaited, with more keys
   assert.match(hints("debug", [], ["a.ots", "b"], `${TWICE}%%\n{"at":1}\n`)[0], /^the second file has commands: /);
   assert.deepEqual(hints("debug", [], [], `${TWICE}%%\nbogus\n`), []);
 });
 
 test("of images, traces and plans how to ask explain", () => {
-  const fault = "where the fault is, in words: ";
-  assert.deepEqual(hints("dis", [], ["a.img"], "OTS2"), [`${fault}otbench explain --image a.img`]);
-  assert.deepEqual(hints("dis", [], [], "OTS2"), [`${fault}give the image to otbench explain --image`]);
-  assert.deepEqual(hints("run", ["--image"], ["a.img"], "OTS2"), [`${fault}otbench explain --image a.img`]);
+  const cut = ["  clients: found 0 of 2 bytes"];
+  for (const [word, flags] of [["dis", []], ["run", ["--image"]]]) assert.deepEqual(hints(word, flags, ["a.img"], "OTS2"), cut);
+  assert.deepEqual(hints("explain", ["--image"], [], "OTS2"), []); // said already
   const stopped = serve(["asm"], Buffer.from(TWICE)).output;
   assert.deepEqual(hints("run", ["--image"], ["a.img"], stopped), ["what happened, in words: otbench explain --image a.img"]);
-  assert.deepEqual(hints("judge", [], [], "{}"), [`${fault}give the trace to otbench explain --trace`]);
-  assert.deepEqual(hints("judge", [], ["a.json"], "{}"), [`${fault}otbench explain --trace a.json`]);
+  assert.deepEqual(hints("judge", [], [], "{}"), ["  replicas: found nothing; wanted a number from 1 to 65"]);
   assert.deepEqual(hints("judge", [], ["a.json"], example("reversed.json")), ["what the verdict says, in words: otbench explain --trace a.json"]);
-  assert.deepEqual(hints("threads", [], [], "{}"), [`${fault}give the plan to otbench explain --plan`]);
-  assert.deepEqual(hints("threads", [], ["a.json"], PLAN.replace('"workers":2', '"workers":9')), [`${fault}otbench explain --plan a.json`]);
+  assert.deepEqual(hints("threads", [], ["a.json"], PLAN.replace('"workers":2', '"workers":9')), ["  workers: found 9; wanted a number from 1 to 8"]);
 });
 
 test("of words that are refused what may be meant", () => {
   fs.writeFileSync(path.join(folder, "an.img"), IMAGE);
   const at = (name) => path.join(folder, name);
-  const subcommands = "the subcommands are run, check, debug, asm, dis, judge, steps, explain, conform, threads, complete, generate, view, edit, version, help";
+  const subcommands = "the subcommands are run, check, debug, asm, dis, judge, steps, explain, conform, threads, complete, generate, view, edit, merge, port, completion, version, help";
   const rows = [
     [["generate", "5"], "a number stands behind its option: otbench generate --instructions 5"],
     [["generate", "--open", "-n", "5"], "a number stands behind its option: otbench generate --instructions 5"],
@@ -131,7 +133,8 @@ test("of words that are refused what may be meant", () => {
     [["threads", "--plan"], "threads needs no --plan"],
     [["threads", "--trace"], "--trace is an option of explain"],
     [["run", "--image", "--imgae"]],
-    [["check", "--json"], "the options of check are --all --help"],
+    [["check", "--output"], "the options of check are --all --help"],
+    [["check", "--json"], "--json is an option of conform"],
     [["asm", "-o"], "the options of asm are --help"],
     [["run", "a", "b"]],
     [["run", "--image=a"]],
@@ -140,28 +143,35 @@ test("of words that are refused what may be meant", () => {
     [["nosuch"], subcommands],
     [["--nosuch"]],
     [[]],
-    [[at("an.img")], `a command stands in front of a file: otbench run --image ${at("an.img")}`],
-    [[at("twice.ots"), "run"], `a command stands in front of a file: otbench run ${at("twice.ots")}`],
+    [[at("an.img")], `a command stands in front of a file: otbench run --image ${quoted(at("an.img"))}`],
+    [[at("twice.ots"), "run"], `a command stands in front of a file: otbench run ${quoted(at("twice.ots"))}`],
   ];
   for (const [words, said] of rows) {
     assert.equal(serve(words, "").status, 2, words.join(" "));
-    assert.deepEqual(meant(words, serve), said ? [said] : [], words.join(" "));
+    assert.deepEqual(meant(words, { name: "otbench", ask: serve }), said ? [said] : [], words.join(" "));
   }
   assert.equal(similarTo("runn", serve), "a similar subcommand exists: 'run'");
   assert.equal(similarTo("nosuch", serve), subcommands);
 });
 
-test("./otbench says the same", () => {
-  const wrapper = fs.readFileSync(`${TOP}scripts/hints`, "utf8");
-  const lines = ["", '{"at":1}\n', "hello\n", '{"at":0,"do":"edit"}\n', '{"at":1}\n{"at":2}\n{"at":2,"stopped":"x"}\n', '{"at":1}\n{"at":2}\n{"at":2,"stopped":"x"}\n{"at":3}\n'];
-  const ofPorts = lines.flatMap(ofLines).filter((hint) => !hint.startsWith("place ") && hint !== THERE);
-  assert.equal(ofPorts.length, 6);
-  assert.ok(wrapper.includes(" is a line of a port: conform wants a line '%%' in front of those\""));
-  const kinds = Object.values(KINDS).map(([, said]) => said.split("; in words")[0]);
-  const told = ["what happened", "where the fault is", "what the verdict says", "what ot.js does there"];
-  for (const hint of [...ofPorts, ...kinds, ...told]) assert.ok(wrapper.includes(`"${hint}"`), hint);
-  const owners = ["run and explain", "explain", "steps", "check", "conform", "generate"];
-  for (const owner of owners) assert.match(wrapper, new RegExp(`owners="?${owner}"? (?:;;|further="; dis prints an image's text")`), owner);
+test("names of files are quoted for the shell", { skip: spawnSync("bash", ["-c", "true"]).status !== 0 && "no bash" }, () => {
+  const names = ["a.ots", "a b", "it's", "$(echo x)`x`", "a\nb", "a\u202eb\x1b[2J", "é😀", "", "\\'\n", "*?[]", "~", "#x", "\u{e0001}", "a\u2028b"];
+  for (const name of names) assert.equal(spawnSync("bash", ["-c", `printf %s ${quoted(name)}`], { encoding: "utf8", env: { ...process.env, LC_ALL: "C.UTF-8" } }).stdout, name, quoted(name));
+  assert.equal(fileWord("-x y"), "'./-x y'");
+  assert.deepEqual(hints("run", [], ["my session.ots"], TWICE)[1], "what happened, in words: otbench explain 'my session.ots'");
+  assert.equal(meant(["generate", "a b"], { name: "'./my otbench'", ask: serve })[0], "generate reads no file; to write one: './my otbench' generate > 'a b'");
+  for (const long of ["x".repeat(100_000), `-${"x".repeat(100_000)}`]) assert.deepEqual(meant(["generate", long], { name: "otbench", ask: serve }), []);
+});
+
+test("of a recording that is cut where, with each status", () => {
+  const cut = 'clients 1\n; cut: "ann, event 9: ack"\n';
+  for (const word of ["run", "check", "complete"]) {
+    assert.deepEqual(hints(word, [], ["a b"], cut, 0), ["'a b' ends before its logs: ann, event 9: ack"]);
+    assert.deepEqual(hints(word, [], [], cut.replace("ann", "\\u001bann"), 0), ['the schedule ends before its logs: "\\u001bann, event 9: ack"']);
+  }
+  assert.equal(hints("run", [], ["a"], `${TWICE}; cut: "x"\n`).at(-1), "a ends before its logs: x");
+  for (const word of ["explain", "asm", "steps"]) assert.deepEqual(hints(word, [], ["a"], cut, 0), []);
+  assert.deepEqual(hints("check", [], ["a"], 'clients 1\nread 0\n; cut: x\n', 0), []);
 });
 
 /* What a terminal shows of the command, where nothing is typed but the key that ends the input. */
@@ -185,16 +195,20 @@ test("a terminal is shown what it would obey by its number", { skip: !hasPty && 
   assert.match(stdout, /^client 0 rev 0 synchronized "a\u202eb\u009b\u007f\u00e9"\n/);
 });
 
-test("on a terminal alone", { skip: !hasPty && "no pty of Python's" }, () => {
-  assert.match(shown("run", "twice.ots"), /^stopped at 2: LinkEmpty\n[^]*\notbench: instruction 2 is line 5: take 0\notbench: what happened, in words: otbench explain twice\.ots\n$/);
-  assert.match(shown("conform", "twice.ots", "lines.jsonl"), /^differs at 1: edit 0: client 0 document\n[^]*\notbench: place 1 is behind line 3, instruction 0: edit 0\notbench: what ot\.js does there/);
-  assert.match(shown("twice.ots"), /^error: unrecognized subcommand 'twice\.ots'\n[^]*\notbench: a command stands in front of a file: otbench run twice\.ots\n$/);
-  assert.match(shown("generate", "5"), /^error: unexpected argument '5' found\n[^]*\notbench: a number stands behind its option: otbench generate --instructions 5\n$/);
-  assert.match(shown("check", "--image", "twice.ots"), /^error: unexpected argument '--image' found\n[^]*\notbench: --image is an option of run and explain; /);
-  assert.match(shown("run", "--imgae", "nosuch"), /^error: unexpected argument '--imgae' found\n\n {2}tip: a similar argument exists: '--image'\n/);
-  assert.match(shown("help", "runn"), /^error: unrecognized subcommand 'runn'\n[^]*\notbench: a similar subcommand exists: 'run'\n$/);
+test("on a terminal, and in a pipe", { skip: !hasPty && "no pty of Python's" }, () => {
+  const rows = [
+    [["run", "twice.ots"], /^stopped at 2: LinkEmpty\n[^]*\notbench: instruction 2 is line 5: take 0\notbench: what happened, in words: otbench explain twice\.ots\n$/],
+    [["conform", "twice.ots", "lines.jsonl"], /^differs at 1: edit 0: client 0 document\n[^]*\notbench: place 1 is behind line 3, instruction 0: edit 0\notbench: what ot\.js does there/],
+    [["twice.ots"], /^error: unrecognized subcommand 'twice\.ots'\n[^]*\notbench: a command stands in front of a file: otbench run twice\.ots\n$/],
+    [["generate", "5"], /^error: unexpected argument '5' found\n[^]*\notbench: a number stands behind its option: otbench generate --instructions 5\n$/],
+    [["check", "--image", "twice.ots"], /^error: unexpected argument '--image' found\n[^]*\notbench: --image is an option of run and explain; /],
+    [["run", "--imgae", "nosuch"], /^error: unexpected argument '--imgae' found\n\n {2}tip: a similar argument exists: '--image'\n/],
+    [["help", "runn"], /^error: unrecognized subcommand 'runn'\n[^]*\notbench: a similar subcommand exists: 'run'\n$/],
+  ];
+  for (const [words, said] of rows) {
+    assert.match(shown(...words), said);
+    const { stdout, stderr } = spawnSync(process.execPath, [COMMAND, ...words], { encoding: "utf8", cwd: folder });
+    assert.match(stdout + stderr, said);
+  }
   for (const words of [["nosuch"], ["a".repeat(5000)]]) assert.doesNotMatch(shown(...words), /in front of a file/);
-  const { stdout, stderr } = spawnSync(process.execPath, [COMMAND, "run", "twice.ots"], { encoding: "utf8", cwd: folder });
-  assert.match(stdout, /^stopped at 2: LinkEmpty\n/);
-  assert.equal(stderr, "");
 });

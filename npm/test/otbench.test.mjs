@@ -81,7 +81,7 @@ test("explain: words, of a refused instruction too", () => {
     said,
     'the opening: 2 of 2 clients joined, every document is ""\nline 2, instruction 0: join 1\n' +
       "  refused: AlreadyJoined: the client is there already: it joined before, or was there at the opening, as all clients are without a line `present P`\n" +
-      "the end: all is quiet\n",
+      'the end: all is quiet\nAll documents must be "".\n',
   );
 });
 

@@ -60,7 +60,7 @@ test("the commands of its README print what stands there", () => {
   const expected = commands.map(({ command, printed }) => `${printed}[${/^npx otbench conform/.test(command) ? 1 : 0}]\n`).join("");
   const anyCorpus = (text) => text.replace(/^corpus: \d+/m, "corpus: N");
   assert.equal(anyCorpus(stdout), anyCorpus(expected), stderr);
-  assert.equal(stderr, "");
+  assert.equal(stderr, "otbench: place 7 is behind line 11, instruction 6: deliver 0\notbench: what ot.js does there, in words: otbench explain session.ots\n");
   const page = fs.readFileSync(path.join(project, "session.html"), "utf8");
   assert.ok(page.startsWith("<!") && page.includes('"buffer":["a",-1,1]') && page.includes("AwaitingWithBuffer.applyServer"));
 });
@@ -85,9 +85,9 @@ test("recorded logs become a schedule that runs, and a page", () => {
      client.serverAck();\n`,
   );
   const script = `node record.mjs
-    node node_modules/otbench/recorder/merge.js --schedule server.log ann.log | npx otbench run
-    node node_modules/otbench/recorder/merge.js server.log ann.log | npx otbench conform | head -1
-    node node_modules/otbench/recorder/merge.js server.log ann.log | npx otbench view | grep -c '"do":"edit"'`;
+    npx otbench merge server.log ann.log | npx otbench run
+    npx otbench merge server.log ann.log | npx otbench conform | head -1
+    npx otbench merge server.log ann.log | npx otbench view | grep -c '"do":"edit"'`;
   const { stdout, stderr } = run("sh", "-c", script);
   assert.equal(stdout, 'client 0 rev 1 synchronized "a"\nserver rev 1 "a"\nquiet\nconforms\n2\n', stderr);
 });
@@ -124,6 +124,26 @@ test("the functions, the worker, the types and the engine by their names", () =>
   const { exports } = JSON.parse(fs.readFileSync(path.join(installed, "package.json")));
   for (const target of Object.values(exports).flatMap((it) => (typeof it === "string" ? it : Object.values(it))))
     assert.ok(fs.existsSync(path.join(installed, target)), target);
+});
+
+test("the types, by TypeScript's compiler where it is there", { skip: spawnSync("tsc", ["--version"]).status !== 0 && "no compiler of TypeScript" }, () => {
+  fs.writeFileSync(
+    path.join(project, "use.ts"),
+    `import { run, conform } from "otbench";
+     import { conforms } from "otbench/testing";
+     import type { Port } from "otbench/testing";
+     import { recordClient, recordServer } from "otbench/recorder";
+     declare const port: Port;
+     export const all: Promise<unknown> = conforms(port, { sessions: 2 }) as Promise<unknown>;
+     export const quiet: boolean = run("clients 1\\n").quiet && conform("clients 1\\n", []).conforms;
+     const client = { revision: 0, state: {}, applyClient() {}, applyServer() {}, serverAck() {}, sendOperation() {}, applyOperation() {} };
+     recordClient(client, { who: "ann", document: () => "", write: (line: string) => void line.length });
+     recordServer({ document: "", operations: [], receiveOperation() {} }, { write() {} });
+     // @ts-expect-error: a client's own text is wanted
+     recordClient(client, { who: "ann", write() {} });\n`,
+  );
+  const { status, stdout } = run("tsc", "--noEmit", "--strict", "--target", "es2022", "--module", "node16", "--moduleResolution", "node16", "use.ts");
+  assert.equal(status, 0, stdout);
 });
 
 test("the version", () => {

@@ -63,9 +63,11 @@ test("a release is opened as it was written, and not otherwise", () => {
 });
 
 test("words of ./release that are not understood", () => {
-  for (const words of [[], ["1.0"], ["0.1.0", "0.1.1"], ["--check", "--pack"], ["--bogus"], ["--pack", "--engine", "x"], ["--help"]]) {
+  for (const words of [[], ["1.0"], ["0.1.0", "0.1.1"], ["--check", "--pack"], ["--bogus"], ["--pack", "--engine", "x"]]) {
     const { status, stderr } = spawnSync(`${TOP}release`, words, { encoding: "utf8" });
     assert.equal(status, 2, words.join(" "));
     assert.match(stderr, /^(usage: \.\/release|release: Unknown option)/);
   }
+  const { status, stdout, stderr } = spawnSync(`${TOP}release`, ["--help"], { encoding: "utf8" });
+  assert.deepEqual([status, stderr, stdout.startsWith("usage: ./release VERSION")], [0, "", true]);
 });

@@ -5,6 +5,7 @@ import { test } from "node:test";
 import { makePort } from "../../oracle/otjs.js";
 import { bugs } from "../../conformance/faults.js";
 import { OtbenchError, run, steps } from "../otbench.mjs";
+import { valuesOf } from "../schedule.mjs";
 import { compare, conforms, corpus, drive, random } from "../testing.mjs";
 
 /** ot.js with a fault planted in it. */
@@ -135,7 +136,14 @@ test("an operation that cuts a pair, passes the end, or inserts half of a pair, 
   assert.equal(await told([2, "a"]), undefined);
 });
 
-test("sessions made at random: their seeds, round the end of the seeds", () => {
-  const names = [...random({ sessions: 3, seed: 999_999_998, instructions: 1 })].map(({ name }) => name);
-  assert.deepEqual(names, ["session of seed 999999998", "session of seed 999999999", "session of seed 0"]);
+test("sessions made at random: their seeds, round the end of the seeds; those that end with 9 have more", () => {
+  const namesFrom = (seed, options) => [...random({ sessions: 3, seed, instructions: 2, ...options })].map(({ name }) => name);
+  assert.deepEqual(namesFrom(999_999_998), ["session of seed 999999998", "session of seed 999999999, 50 instructions", "session of seed 0"]);
+  assert.deepEqual(namesFrom(18), ["session of seed 18", "session of seed 19, 16 instructions", "session of seed 20"]);
+  assert.deepEqual(namesFrom(8), ["session of seed 8", "session of seed 9, a longer start", "session of seed 10"]);
+  assert.deepEqual(namesFrom(8, { start: "x" })[1], "session of seed 9");
+  const [{ schedule }] = random({ sessions: 1, seed: 9 });
+  assert.equal(valuesOf(schedule).start.length, 300);
+  const counts = [...random({ sessions: 1, seed: 99, clients: 1, instructions: 50_000, open: true })].map((it) => valuesOf(it.schedule).instructions.length);
+  assert.deepEqual(counts, [100_000]);
 });

@@ -419,8 +419,8 @@ test("bytes that are no UTF-8 are named by their line", () => {
   for (const [text, line] of rows) assert.throws(() => decode(text, "log"), { message: `log, line ${line} is no UTF-8` });
 });
 
-const merger = fileURLToPath(new URL("../merge.js", import.meta.url));
-const call = (...words) => spawnSync("node", [merger, ...words], { encoding: "utf8" });
+const command = fileURLToPath(new URL("../../npm/cli.mjs", import.meta.url));
+const call = (...words) => spawnSync("node", [command, "merge", ...words], { encoding: "utf8" });
 
 test("the command line", () => {
   const folder = fs.mkdtempSync(path.join(os.tmpdir(), "otbench-merge-"));
@@ -473,10 +473,15 @@ test("a log that is not there, or is a folder, is named", () => {
 });
 
 test("words that are not understood, and help, are answered by the usage", () => {
-  for (const words of [[], ["--help"], ["-h"], ["--schedule"]]) {
+  for (const words of [[], ["--schedule"]]) {
     const { status, stdout, stderr } = call(...words);
     assert.deepEqual([status, stdout], [2, ""], words.join(" "));
-    assert.match(stderr, /^usage: node recorder\/merge\.js \[--schedule\] LOG \.\.\n/);
+    assert.match(stderr, /^merge: a log is missing\nusage: otbench merge \[--schedule\] LOG \.\.\n/);
+  }
+  for (const words of [["--help"], ["-h", "x.log"]]) {
+    const { status, stdout, stderr } = call(...words);
+    assert.deepEqual([status, stderr], [0, ""], words.join(" "));
+    assert.match(stdout, /^usage: otbench merge /);
   }
   const { status, stderr } = call("--shedule", "session.log");
   assert.equal(status, 2);
@@ -488,9 +493,9 @@ test("an output that cannot be written is named in a line", { skip: !fs.existsSy
   const file = path.join(folder, "session.log");
   fs.writeFileSync(file, liveSession({ seed: 1 }).log);
   const full = fs.openSync("/dev/full", "w");
-  const { status, stderr } = spawnSync("node", [merger, file], { stdio: ["ignore", full, "pipe"], encoding: "utf8" });
+  const { status, stderr } = spawnSync("node", [command, "merge", file], { stdio: ["ignore", full, "pipe"], encoding: "utf8" });
   assert.equal(status, 1);
-  assert.match(stderr, /^merge: ENOSPC.*\n$/);
+  assert.equal(stderr, "otbench: WriteFault\n");
   fs.closeSync(full);
   fs.rmSync(folder, { recursive: true });
 });

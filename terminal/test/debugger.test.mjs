@@ -1,7 +1,7 @@
 // The debugger's answers, over the native program that OTBENCH names, or the repository's. The values are worked by hand from examples/weak-order.ots.
 
 import assert from "node:assert/strict";
-import { existsSync, mkdtempSync, readFileSync, rmSync, writeFileSync } from "node:fs";
+import { mkdtempSync, readFileSync, rmSync, writeFileSync } from "node:fs";
 import { tmpdir } from "node:os";
 import path from "node:path";
 import test from "node:test";
@@ -10,12 +10,9 @@ import { conditionOf, holdingOf } from "../conditions.mjs";
 import { named, seen, withoutCut } from "../names.mjs";
 import { Debugger } from "../debugger.mjs";
 import { nearest as nearestOf } from "../nearest.mjs";
-import { nativeProgram } from "../program.mjs";
 import { Recording, RefusedText } from "../recording.mjs";
+import { ask, options } from "./program.mjs";
 
-const PROGRAM = process.env.OTBENCH ?? new URL("../../crates/otbench/out/otbench", import.meta.url).pathname;
-const options = { skip: existsSync(PROGRAM) ? false : "the program is not built" };
-const ask = nativeProgram(PROGRAM);
 const WEAK = readFileSync(new URL("../../examples/weak-order.ots", import.meta.url), "utf8");
 
 /** The answers to these lines, of a new session. */
@@ -32,7 +29,7 @@ test("first letters name a command, and an unknown word is answered with the nea
   assert.equal(commandOf("wach").fault, "there is no wach; nearest: watch");
   assert.equal(commandOf("backwards").fault, "there is no backwards; nearest: back");
   assert.deepEqual(["oto", "qit", "hlep", "unitl", "steps"].map((word) => nearest(word)[0]), ["goto", "quit", "help", "until", "step"]);
-  for (const word of ["continue", "foo", "bar", "exit", "rat"]) assert.equal(commandOf(word).fault, `there is no ${word}; help lists all words`);
+  for (const word of ["continue", "foo", "bar", "rat"]) assert.equal(commandOf(word).fault, `there is no ${word}; help lists all words`);
   assert.deepEqual(nearest("x"), []);
 });
 
@@ -236,7 +233,7 @@ test("what conform says of the cut is not said again where the port differs", ()
 
 test("completion knows commands, what is watched, and clients", options, () => {
   const session = new Debugger(new Recording(ask, WEAK));
-  assert.deepEqual(session.complete("w"), [["watch"], "w"]);
+  assert.deepEqual(session.complete("w"), [["watch", "who"], "w"]);
   assert.deepEqual(session.complete("watch o"), [["outstanding"], "o"]);
   assert.deepEqual(session.complete("watch doc "), [["0", "1", "server"], ""]);
   assert.deepEqual(session.complete("constructor "), [[], ""]);

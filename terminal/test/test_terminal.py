@@ -27,7 +27,7 @@ class Terminal:
         fcntl.ioctl(slave, termios.TIOCSWINSZ, struct.pack("HHHH", rows, 80, 0, 0))
         self.state = tempfile.TemporaryDirectory()
         environment = {**os.environ, "OTBENCH": str(PROGRAM), "TERM": "xterm", "XDG_STATE_HOME": state or self.state.name, **more}
-        self.ran = subprocess.Popen([*(call or ["node", TOP / "terminal/debug.mjs"]), *words], stdin=slave, stdout=output or slave, stderr=slave, env=environment, start_new_session=True, preexec_fn=lambda: fcntl.ioctl(slave, termios.TIOCSCTTY, 0))
+        self.ran = subprocess.Popen([*(call or ["node", TOP / "npm/cli.mjs", "debug"]), *words], stdin=slave, stdout=output or slave, stderr=slave, env=environment, start_new_session=True, preexec_fn=lambda: fcntl.ioctl(slave, termios.TIOCSCTTY, 0))
         os.close(slave)
         self.master = master
         self.bytes = b""
@@ -72,6 +72,17 @@ class Debugging(unittest.TestCase):
         port = pathlib.Path(folder.name, "port.jsonl")
         port.write_text(lines.replace('"buffer":["a",1,-1,1],"applied"', '"buffer":["a",-1,1],"applied"'))
         return self.start(str(schedule), "--port", str(port))
+
+    def test_an_editor_opens_the_schedule_and_the_run_is_read_again(self):
+        """The terminal is the editor's meanwhile, and the debugger's again behind it."""
+        folder = tempfile.TemporaryDirectory()
+        self.addCleanup(folder.cleanup)
+        schedule = pathlib.Path(folder.name, "a b.ots")
+        schedule.write_text("clients 1\nread 0\n")
+        terminal = self.start(str(schedule), VISUAL="printf 'read 0\\n' >>")
+        terminal.type("edit\r", r"the end: quiet[^(]*\(1/2\) |\(0/2\) ")
+        terminal.type("goto end\r", r"\(2/2\) ")
+        self.assertEqual(schedule.read_text(), "clients 1\nread 0\nread 0\n")
 
     def test_a_port_s_fault_is_found_in_three_commands(self):
         """Where, what, and what had to be; in five keys without the full words: r, e, sh 0."""
@@ -122,7 +133,7 @@ class Debugging(unittest.TestCase):
         shell = Terminal("--norc", "--noprofile", "-i", call=["bash"], PS1="$ ")
         self.addCleanup(shell.close)
         shell.until(r"\$ $")
-        shell.type(f"node {TOP}/terminal/debug.mjs {TOP}/examples/two-clients.ots\r", r"\(0/8\) $")
+        shell.type(f"node {TOP}/npm/cli.mjs debug {TOP}/examples/two-clients.ots\r", r"\(0/8\) $")
         shell.type("step\r", r"\(1/8\) $")
         for place in (1, 2):
             os.write(shell.master, b"ste")

@@ -247,7 +247,7 @@ class Gate(Programs):
     def test_the_program_that_it_builds_is_the_proved_one(self):
         self.tree.has_gate()
         status, printed, _ = self.tree.run(program=self.tree.top / "test")
-        self.assertEqual((status, printed), (0, "1 passed, 0 failed\n14 passed, 0 failed\n"))
+        self.assertEqual((status, printed), (0, "1 passed, 0 failed\n15 passed, 0 failed\n"))
         self.answers("proved")
         self.assertEqual([it.name for it in (self.tree.top / "out").glob("otbench*")], [])
 
@@ -255,7 +255,7 @@ class Gate(Programs):
         self.tree.has_gate()
         self.tree.has_proved()
         status, printed, _ = self.tree.run(program=self.tree.top / "test", environment={"FAKE_FAILS": "ci"})
-        self.assertEqual((status, printed), (1, "0 passed, 1 failed\n13 passed, 1 failed\n"))
+        self.assertEqual((status, printed), (1, "0 passed, 1 failed\n14 passed, 1 failed\n"))
         self.answers("proved")
         self.tree.source.write_text("two", encoding="utf-8")
         self.tree.run(program=self.tree.top / "test", environment={"FAKE_FAILS": "ci"})

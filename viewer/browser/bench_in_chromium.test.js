@@ -4,6 +4,7 @@ import assert from "node:assert/strict";
 import { test } from "node:test";
 import { testIn } from "./bench_tests.js";
 import { openChromium } from "./chromium.js";
+import { testByHand } from "./hand_tests.js";
 import { testInputs } from "./input_tests.js";
 import { testLong } from "./long_tests.js";
 import { skip } from "./otbench.js";
@@ -13,6 +14,7 @@ import { testWriting } from "./writing_tests.js";
 
 testIn("Chromium", openChromium);
 testInputs("Chromium", openChromium);
+testByHand("Chromium", openChromium);
 testSharing("Chromium", openChromium);
 testWriting("Chromium", openChromium);
 testLong("Chromium", openChromium);

@@ -2,6 +2,7 @@
 
 import { testIn } from "./bench_tests.js";
 import { openFirefox } from "./firefox.js";
+import { testByHand } from "./hand_tests.js";
 import { testInputs } from "./input_tests.js";
 import { testLong } from "./long_tests.js";
 import { testSharing } from "./sharing_tests.js";
@@ -9,6 +10,7 @@ import { testWriting } from "./writing_tests.js";
 
 testIn("Firefox", openFirefox);
 testInputs("Firefox", openFirefox);
+testByHand("Firefox", openFirefox);
 testSharing("Firefox", openFirefox);
 testWriting("Firefox", openFirefox);
 testLong("Firefox", openFirefox);

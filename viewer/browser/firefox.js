@@ -14,6 +14,7 @@ const KEYS = {
   Enter: "\ue007",
   Shift: "\ue008",
   Control: "\ue009",
+  Alt: "\ue00a",
   Escape: "\ue00c",
   PageUp: "\ue00e",
   PageDown: "\ue00f",

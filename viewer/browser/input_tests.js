@@ -147,7 +147,7 @@ export function testInputs(name, openBrowser) {
       const rows = [
         ["package.json", '{\n  "name": "otbench"\n}\n', "package.json cannot be opened: it begins as JSON does, and is no trace, no plan, no log of the recorder, and no lines of otbench steps or of a port."],
         ["README.md", "a page\n\nclients 2\n", "README.md is no schedule: otbench: line 1: NoClients: column 1: `clients N` is the first line, above all others but comments."],
-        ["ann.jsonl", '{"who":"ann","n":0,"do":"open","revision":0,"document":""}\n', "The recorder's logs make no session: no log is a server's. Drop the logs of all its participants together."],
+        ["ann.jsonl", '{"who":"ann","n":0,"time":1,"do":"open","role":"client","revision":0,"state":"synchronized","outstanding":null,"buffer":null,"document":""}\n', "The recorder's logs make no session: no log is a server's. Drop the logs of all its participants together."],
       ];
       for (const [name, content, notice] of rows) {
         await user.drop(name, content);

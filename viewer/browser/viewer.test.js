@@ -8,7 +8,7 @@ import { drive } from "../../examples/port/drive.js";
 import { makePort } from "../../oracle/otjs.js";
 import { openChromium } from "./chromium.js";
 import { longSchedule } from "./long_session.js";
-import { otbench, pageOf } from "./otbench.js";
+import { otbench, pageOf, pageWithoutEngine } from "./otbench.js";
 
 const example = (name) => fs.readFileSync(new URL(`../../examples/${name}.ots`, import.meta.url), "utf8");
 
@@ -199,10 +199,19 @@ test("a port's lines beside, with the first difference", async () => {
   assert.equal(await place(), 7);
 });
 
+test("lines for some instructions: the others are not compared, also once the engine has judged", async () => {
+  await page.goto(pageOf("sparse", `${example("weak-order")}%%\n{"at":12,"document":"acz"}\n`, ["--sparse"]));
+  await shows("#conformance", /^conforms/);
+  await until(async () => (await text("#list-verdict")) !== "");
+  await shows("#conformance", /^conforms/);
+  await page.goto(pageOf("sparse-fault", `${example("weak-order")}%%\n{"at":12,"document":"caz"}\n`, ["--sparse"]));
+  await shows("#conformance", /differs at 12: deliver 1: client 1 document/);
+});
+
 test("a file is dropped, and a faulty one is refused with its line", async () => {
   const drop = (content) => `(() => { const data = new DataTransfer(); data.items.add(new File([${JSON.stringify(content)}], "a.jsonl"));
     document.body.dispatchEvent(new DragEvent("drop", { dataTransfer: data, bubbles: true })); })()`;
-  await page.goto(new URL("../viewer.html", import.meta.url).href);
+  await page.goto(pageWithoutEngine());
   assert.match(await page.run("document.body.innerText"), /^A session, to look at\n/);
   await page.run(drop('{"at":1}\n'));
   await page.drawn();

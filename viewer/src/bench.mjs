@@ -2,8 +2,11 @@
 // changes, and for the verdicts when nothing has changed for a while.
 
 import { followLines } from "./follow.mjs";
+import { areNotes } from "./noted.mjs";
+import { outlookIn } from "./outlook.mjs";
 import { headsAt } from "./places.mjs";
 import { Port } from "./port.mjs";
+import { textUpTo } from "./schedule.mjs";
 import { caretBehind, documentNow, emptyState, isAnswered, reduce, shownPlace } from "./state.mjs";
 
 /** After how many milliseconds without a change the verdicts are asked for, and how often the time of a run is added to that. */
@@ -21,6 +24,9 @@ const linesIn = (bytes) => {
   lines.pop();
   return lines;
 };
+
+/** A schedule, and behind a line %% the lines of a port, or notes. */
+const besideText = (text, port) => `${text}\n%%\n${port.join("\n")}\n`;
 
 /** The fault that explain reports: { line, column, kind, cause }, line 0 where it is of none, column 0 where none is given. */
 export function readFault(errors) {
@@ -59,8 +65,11 @@ export class Bench {
   #settlers = [];
   #quiets = 0;
   #judge = null;
+  #sparse = null; // the lines of a port of which instructions without a line are not compared, as a text
   #judging = null; // what the verdicts are asked for: { text, port }
   #timer = null;
+  #outlookTimer = null;
+  #isLooking = false; // ahead: the program is asked what the documents become
 
   /**
    * @param {(action: import("./state.mjs").Action) => void} onChange called after each change
@@ -92,6 +101,7 @@ export class Bench {
     this.#endOldJudging();
     this.#follow();
     this.#judgeSoon();
+    this.#lookAheadSoon();
   }
 
   get isBusy() {
@@ -111,6 +121,12 @@ export class Bench {
   /** What the program answers to words and an input, off the state. */
   ask(words, input) {
     return this.engine.ask(words, typeof input === "string" ? new TextEncoder().encode(input) : input);
+  }
+
+  /** What conform answers, in lines, to what a user saw of a client's document at the place. */
+  async askNote(client, document) {
+    const { text, port } = reduce({ ...this.state, port: null }, { do: "note", client, document });
+    return port ? linesIn((await this.ask(this.#conformWords(port), besideText(text, port))).output) : [];
   }
 
   /** Ends an engine that does not answer. The next change starts it again. */
@@ -152,6 +168,7 @@ export class Bench {
     }
     for (const done of this.#settlers.splice(0)) done();
     this.#judgeSoon();
+    this.#lookAheadSoon();
   }
 
   #typeWaiting() {
@@ -201,6 +218,20 @@ export class Bench {
     this.dispatch({ do: "answer", text, session: this.#session, refusal: readRefusal(refusal), took });
   }
 
+  /** Says of a port's lines that instructions without a line are not compared. @param {string[]} port */
+  takeAsSparse(port) {
+    this.#sparse = port.join("\n");
+  }
+
+  /** Whether that was said of these lines. @param {string[] | null} port */
+  isSparse(port) {
+    return port !== null && port.join("\n") === this.#sparse;
+  }
+
+  #conformWords(port) {
+    return areNotes(port) || this.isSparse(port) ? ["conform", "--sparse"] : ["conform"];
+  }
+
   #isToJudge() {
     const { text, port, beside, verdicts } = this.state;
     if (!this.engine || this.isBusy || !isAnswered(this.state)) return false;
@@ -225,8 +256,8 @@ export class Bench {
     const tell = (verdicts) => isOld() || this.dispatch({ do: "verdicts", text, verdicts });
     try {
       await this.#judge.load();
-      const told = port && (await answer(["conform"], `${text}\n%%\n${port.join("\n")}\n`));
-      if (told && !isOld()) this.dispatch({ do: "beside", text, beside: new Port(session, port, told) });
+      const told = port && (await answer(this.#conformWords(port), besideText(text, port)));
+      if (told && !isOld()) this.dispatch({ do: "beside", text, beside: new Port(session, port, told, this.isSparse(port)) });
       const verdicts = await answer(["check"], text);
       tell(verdicts.length ? verdicts : ["not judged"]);
     } catch (fault) {
@@ -235,5 +266,34 @@ export class Bench {
     if (this.#judging !== asked) return;
     this.#judging = null;
     this.#judgeSoon();
+  }
+
+  #isToLookAhead() {
+    const { text, outlook, session } = this.state;
+    if (!this.engine || this.isBusy || this.#isLooking || !session || !isAnswered(this.state)) return false;
+    return outlook?.text !== text || outlook.place !== shownPlace(this.state);
+  }
+
+  #lookAheadSoon() {
+    clearTimeout(this.#outlookTimer);
+    if (this.#isToLookAhead()) this.#outlookTimer = setTimeout(() => this.#lookAhead(), STILL + this.state.took);
+  }
+
+  /* Whether the documents must agree at the shown place, and to what. Where that is not known, nothing is shown. */
+  async #lookAhead() {
+    if (!this.#isToLookAhead()) return;
+    this.#isLooking = true;
+    const { text, outline } = this.state;
+    const place = shownPlace(this.state);
+    let lines = [];
+    try {
+      await this.#judge.load();
+      const { output } = await this.#judge.ask(["explain"], new TextEncoder().encode(textUpTo(text, outline, place)));
+      lines = outlookIn(new TextDecoder().decode(output));
+    } catch {
+      // the judge was given up: it is of an old text, or does not answer
+    }
+    this.#isLooking = false;
+    this.dispatch({ do: "outlook", outlook: { text, place, lines } });
   }
 }

@@ -116,8 +116,16 @@ const badge = (text, look = "") => tree("span", { class: `badge ${look}` }, text
 
 const table = (rows) => rows.length > 0 && tree("dl", {}, rows.map(([name, value]) => [tree("dt", {}, name), tree("dd", {}, value)]));
 
+/* What the user saw, and what ot.js has where that is another text. */
+function noteRow({ document, differences: [difference] }) {
+  if (!difference) return ["my editor", [shownValue(JSON.stringify(document)), " as ot.js has it"]];
+  const [theirs, wanted] = apart(difference.found, difference.ours).map(shownValue);
+  return [tree("span", { class: "differs" }, "my editor"), [theirs, " ", tree("span", { class: "against" }, "ot.js has ", wanted, " here")]];
+}
+
 function portRows(port, who, place) {
   if (!port) return [];
+  if (port.areNotes) return who === SERVER ? [] : [port.noteOf(who, place)].filter(Boolean).map(noteRow);
   return port.differencesOf(who, place).map(({ key, found, ours }) => {
     const [theirs, wanted] = apart(found, ours).map(shownValue);
     return [tree("span", { class: "differs" }, `port: ${key}`), [theirs, " ", tree("span", { class: "against" }, "ot.js: ", wanted)]];
@@ -198,16 +206,18 @@ function clientCard(session, client, view, isMoved) {
   rows.push(...linkRows(session, client, view), ...portRows(port, client, place));
   const isSame = sameText(documentAt(session, client, place), documentAt(session, SERVER, place));
   const read = canPlay && playButton(`read ${client}`, "shows the document here (r)", READ);
-  const heading = [name, " ", badge(`rev ${revision}`), " ", badge(isSame ? "= server" : "≠ server"), acts(read, rename)];
+  const title = "notes what an editor showed here, beside what ot.js has";
+  const note = canPlay && view.canNote && tree("button", { class: "small", "data-note": client, title }, "I saw …");
+  const heading = [name, " ", badge(`rev ${revision}`), " ", badge(isSame ? "= server" : "≠ server"), acts(note, read, rename)];
   return card(client, { ...view, isMoved }, heading, [shownDocument(session, client, view), table(rows)]);
 }
 
 /* Of what a participant's card is made: where all of it is the same, the card is. */
 export function cardParts(session, who, view) {
-  const { place, port, picked, draft, canPlay, names, caret, writing, asked } = view;
+  const { place, port, picked, draft, canPlay, canNote, names, caret, writing, asked } = view;
   const step = session.steps[place];
   const moved = step?.moved === who ? step.line : null;
-  const parts = [session.clients, moved, session.server.markAt(place), port, port && place, picked, canPlay, [...names].join()];
+  const parts = [session.clients, moved, session.server.markAt(place), port, port && place, picked, canPlay, canNote, [...names].join()];
   if (who === SERVER) return parts;
   const own = asked.filter((instruction) => instruction.endsWith(` ${who}`)).join();
   const { versions } = session.members[who];
@@ -220,7 +230,7 @@ export function cardParts(session, who, view) {
 /*
  * A participant's card at a place: view.place. Of the rest of a view `draft` is what a client's document is while that is not
  * answered, `asked` the instructions that the engine has not answered yet, `caret` what is selected where the user types, `writing` the client whose document
- * has the focus, `names` what clients are called, and `canPlay` says whether there is an engine.
+ * has the focus, `names` what clients are called, `canPlay` says whether there is an engine, and `canNote` whether no port's lines stand beside the session.
  */
 export function cardOf(session, who, view) {
   const step = session.steps[view.place];

@@ -106,9 +106,9 @@ export class Deck {
     const focused = card.contains(document.activeElement) ? document.activeElement : null;
     if (!focused) return card.replaceWith(fresh);
     if (focused.matches(".document")) return keepEditor(card, fresh, focused);
-    const { play, name } = focused.dataset;
+    const { play, name, note } = focused.dataset;
     card.replaceWith(fresh);
-    const isSame = ({ dataset, disabled }) => !disabled && dataset.play === play && dataset.name === name;
+    const isSame = ({ dataset, disabled }) => !disabled && dataset.play === play && dataset.name === name && dataset.note === note;
     const same = [...fresh.querySelectorAll("button")].find(isSame);
     (same || fresh.querySelector("button.head:not(:disabled)") || fresh).focus({ preventScroll: true });
   }

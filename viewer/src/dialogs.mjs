@@ -1,11 +1,13 @@
-// The page's dialogs: examples, paste, save, a client's name, lanes, a judged trace.
+// The page's dialogs: examples, paste, save, a client's name, what an editor showed, lanes, a judged trace.
 
-import { element, fill } from "./dom.mjs";
+import { brief } from "./characters.mjs";
+import { element, fill, setText } from "./dom.mjs";
 import { splitInput } from "./input.mjs";
+import { noteAt, notedPlace } from "./noted.mjs";
 import { shownPlace } from "./state.mjs";
 import { traceTable } from "./trace.mjs";
 import { built, tree } from "./tree.mjs";
-import { nameOfMember } from "./words.mjs";
+import { apart, nameOfMember } from "./words.mjs";
 
 export function openDialog(id) {
   element(id).returnValue = "";
@@ -33,19 +35,92 @@ export function askName({ outline }, client) {
   openDialog("naming");
 }
 
+/** What a client's editor showed at the place: the text that is noted, or an empty field. */
+export function askNote({ session, port, outline, ...state }, client) {
+  const place = shownPlace({ session, ...state });
+  const noted = noteAt(port, client, notedPlace(session, client, place));
+  element("noting").dataset.client = client;
+  setText("noted", `At place ${place} the editor of ${nameOfMember(client, outline.names)} showed:`);
+  element("showed").value = noted ?? "";
+  setText("noted-answer", "");
+  element("forget-note").hidden = noted === null;
+  openDialog("noting");
+  element("showed").focus();
+  element("showed").dispatchEvent(new Event("input"));
+}
+
+/** What conform's answer says of a note, in words. */
+export function noteWords(answer) {
+  const valueOf = (word) => answer.find((line) => line.startsWith(`${word} `))?.slice(word.length + 1);
+  if (answer[0] === "conforms") return "ot.js has the same text here.";
+  const ours = valueOf("ot.js");
+  if (ours === undefined) return answer[0] ?? "The text has a fault: mend it first.";
+  const found = valueOf("found");
+  const [shown, wanted] = apart(found, ours);
+  const note = valueOf("note");
+  const isPlain = shown === found && wanted === ours;
+  return `ot.js has ${brief(wanted, 300)} here${isPlain ? "" : `, and the editor ${brief(shown, 300)}`}.${note ? ` Of the editor’s text: ${note}.` : ""}`;
+}
+
+const showed = () => element("showed").value;
+
+/* Compares the text at once; an answer that comes late is of an old text. */
+function watchNote(bench) {
+  element("showed").oninput = async () => {
+    const asked = showed();
+    let words;
+    try {
+      words = noteWords(await bench.askNote(Number(element("noting").dataset.client), asked));
+    } catch (fault) {
+      words = `Not compared: ${fault.message}.`;
+    }
+    if (asked === showed() && element("noting").open) setText("noted-answer", words);
+  };
+}
+
 export function paste() {
   element("pasted").value = "";
   openDialog("pasting");
 }
 
-/** Which lanes are shown. */
+const ofClient = (act, client, words, title) => tree("button", { type: "button", class: "small engine", "data-act": act, "data-client": client, title }, words);
+
+/* What can be done with a client: the last one that is there at the opening can join later, the first that joins later be there. */
+function actsOf(client, { present }) {
+  return [
+    ofClient("rename", client, "name", "gives the client a name"),
+    client === present - 1 && ofClient("oneLate", client, "joins later", "joins before its first instruction, and is not there at the opening"),
+    client === present && ofClient("onePresent", client, "is there at the opening", "its join goes"),
+    ofClient("leaveOutClient", client, "leave out", "the client goes, with its instructions; those behind it have the number before"),
+  ];
+}
+
+/** The clients, which of them have a lane, and what can be done with them. */
 export function showLanes({ session, hidden, outline }) {
-  const boxes = session.members.map(({ number }) => {
+  const rows = session.members.map(({ number }) => {
     const box = tree("input", { type: "checkbox", value: number, checked: !hidden.has(number) });
-    return tree("label", {}, box, ` ${nameOfMember(number, outline.names)}`);
+    return tree("p", {}, tree("label", {}, box, ` ${nameOfMember(number, outline.names)} `), actsOf(number, session));
   });
-  element("shown-lanes").replaceChildren(...boxes.map((box) => built(box)));
+  element("shown-lanes").replaceChildren(...rows.map((row) => built(row)));
   if (!element("hiding").open) openDialog("hiding");
+}
+
+/* Clients are added and left out, and their dialog shows them when the engine has answered. */
+function watchClients(bench) {
+  const change = async (action) => {
+    bench.dispatch(action);
+    await bench.settled();
+    if (element("hiding").open && bench.state.session) showLanes(bench.state);
+  };
+  element("shown-lanes").onclick = ({ target }) => {
+    const { act, client } = target.closest("button")?.dataset ?? {};
+    if (act === "rename") {
+      element("hiding").close();
+      askName(bench.state, Number(client));
+    } else if (act) change({ do: act, client: Number(client) });
+  };
+  element("add-client").onclick = () => change({ do: "addClient", isLate: false });
+  element("add-late").onclick = () => change({ do: "addClient", isLate: true });
 }
 
 /* The clients that nothing happens to around the place. */
@@ -74,6 +149,12 @@ export function watchDialogs(bench, { choices, openChoice, take, save }) {
     const pasted = element("pasted").value;
     if (value === "show") take(pasted);
     if (value === "compare") act("compare", { port: splitInput(`%%\n${pasted}`).port });
+  });
+  watchNote(bench);
+  watchClients(bench);
+  onClose("noting", (value) => {
+    const client = Number(element("noting").dataset.client);
+    if (value === "note" || value === "forget") act("note", { client, document: value === "note" ? showed() : null });
   });
   onClose("naming", (value) => value === "name" && act("name", { client: Number(element("naming").dataset.client), name: element("called").value }));
   const hide = (hidden) => {

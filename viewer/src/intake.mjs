@@ -33,6 +33,22 @@ const say = (bench, notice) => bench.dispatch({ do: "notice", notice });
 /* A file's name in so few characters that what is said of the file is seen. */
 const called = (name) => brief(seen(name), 80) || "This";
 
+/** The most bytes of a file that the page takes. */
+const MOST = 1 << 28;
+
+/**
+ * What a file has, { name, bytes }; { fault } where it cannot be read, or has too much.
+ * @param {File} file
+ */
+export async function readWhole(file) {
+  if (file.size > MOST) return { fault: `${called(file.name)} has more than ${MOST.toLocaleString("en")} bytes, and is not opened.` };
+  try {
+    return { name: file.name, bytes: new Uint8Array(await file.arrayBuffer()) };
+  } catch {
+    return { fault: `${called(file.name)} cannot be read: it is a folder, or the browser may not read it.` };
+  }
+}
+
 /* The recorder's logs of one session, as its schedule with the participants' own lines beside it. */
 function takeLogs(bench, logs) {
   try {

@@ -11,7 +11,7 @@ export async function linkTo(bench) {
   const { status, output, errors } = await bench.ask(["asm"], text);
   if (status) throw new Error(errors.trim().split("\n")[0]);
   const lines = port && (await packed(new TextEncoder().encode(port.join("\n"))));
-  return addressOf({ place, title, names: outline.names, image: await packed(output), port: lines });
+  return addressOf({ place, title, names: outline.names, image: await packed(output), port: lines, isSparse: bench.isSparse(port) });
 }
 
 /** Whether an address is a link: to a session, or to what is none. */
@@ -22,7 +22,7 @@ export function isLink(hash) {
 
 /** Opens the session of an address; false where it names none. Of a link that cannot be read a fault says what is wrong with it. */
 export async function openLink(bench, hash) {
-  const { image, port, names, title, place, strange } = readAddress(hash);
+  const { image, port, isSparse, names, title, place, strange } = readAddress(hash);
   if (strange !== null) throw new Error(`it has ${quoted(brief(strange, 60))}, which is no part of a link`);
   if (image === null) return false;
   const bytes = await unpacked(image);
@@ -31,6 +31,7 @@ export async function openLink(bench, hash) {
   let text = new TextDecoder().decode(output);
   for (const [client, name] of [...names].reverse()) text = withName(text, client, name);
   const lines = port === null ? null : new TextDecoder().decode(await unpacked(port, "port")).split("\n");
+  if (isSparse && lines) bench.takeAsSparse(lines);
   bench.dispatch({ do: "open", text, port: lines, title, place: place ?? 0 });
   return true;
 }

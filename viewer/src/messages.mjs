@@ -62,18 +62,32 @@ function arrow([x1, y1], [x2, y2], look, hasHead) {
   return tree("g", { opacity: look.opacity }, path, hasHead && tree("path", { d: point, fill: look.colour }));
 }
 
-function arrowsOf(message, look, layout, { from, to }) {
-  const { x, y, rowHeight, laneWidth } = layout;
-  const isUp = message.kind === "up";
-  const [here, there] = isUp ? [x(message.client), x(SERVER)] : [x(SERVER), x(message.client)];
+/* Where a message begins and ends, and how far from the lanes its ends are drawn. */
+function endsOf(message, { x, y, rowHeight, laneWidth }) {
+  const [here, there] = message.kind === "up" ? [x(message.client), x(SERVER)] : [x(SERVER), x(message.client)];
   const reach = Math.sign(there - here) * Math.min(laneWidth * 0.45, 34);
-  const start = [here, y(message.sent)];
+  const end = message.got === null ? [here + reach, y(message.sent) + rowHeight * 0.7] : [there, y(message.got)];
+  return { here, there, reach, start: [here, y(message.sent)], end };
+}
+
+/* What a user takes hold of at a message's end: one that is not received is let through, a received one is dragged. */
+function handleOf(message, layout) {
+  const [cx, cy] = endsOf(message, layout).end;
+  if (message.got !== null) return tree("circle", { class: "end", cx, cy, r: 9, fill: "transparent", "data-end": message.got });
+  const title = tree("title", {}, "not received: a click lets it through, with those before it");
+  return tree("circle", { class: "let", cx, cy, r: 10, fill: "transparent", "data-let": letIn(message), "data-sent": message.sent }, title);
+}
+
+const letIn = ({ kind, client, number }) => (kind === "up" ? `up ${client}` : `down ${client} ${number}`);
+
+function arrowsOf(message, look, layout, { from, to }) {
+  const { rowHeight } = layout;
+  const isUp = message.kind === "up";
+  const { here, there, reach, start, end } = endsOf(message, layout);
   if (message.got === null) {
-    const end = [here + reach, y(message.sent) + rowHeight * 0.7];
     const circle = tree("circle", { cx: end[0], cy: end[1], r: 3.5, fill: "var(--background)", stroke: look.colour, "stroke-width": 1.5 });
     return [arrow(start, end, look, false), circle];
   }
-  const end = [there, y(message.got)];
   if (look.isWhole) return arrow(start, end, look, true);
   const drop = rowHeight * 0.62;
   const tail = isUp && message.sent >= from - 1 && arrow(start, [here + reach, start[1] + drop], look, false);
@@ -111,19 +125,21 @@ function manyLabel(count, layout, place) {
 
 const raised = (parts) => parts.sort((a, b) => a.height - b.height).map(({ drawn }) => drawn);
 
-/* { arrows, labels } of the rows that are drawn. */
+/* { arrows, labels, handles } of the rows that are drawn. */
 export function drawnMessages(session, layout, view) {
   const arrows = [];
   const labels = [];
+  const handles = [];
   const messages = messagesIn(session, layout, view);
   const now = messages.filter(({ sent, got }) => sent === view.place || got === view.place).length;
   for (const message of messages) {
     const look = lookOf(message, session, view, now > MANY);
     if (!look) continue;
     arrows.push({ height: look.height, drawn: arrowsOf(message, look, layout, view) });
+    if (view.canPlay) handles.push(handleOf(message, layout));
     const label = labelOf(message, look, layout, view, labels);
     if (label) labels.push(label);
   }
   if (now > MANY) labels.push(manyLabel(now, layout, view.place));
-  return { arrows: raised(arrows), labels: raised(labels) };
+  return { arrows: raised(arrows), labels: raised(labels), handles };
 }

@@ -2,12 +2,13 @@
 
 import { Bench } from "./bench.mjs";
 import { withEscapes } from "./characters.mjs";
-import { askName, openDialog, paste, showLanes, showTrace, watchDialogs } from "./dialogs.mjs";
+import { askName, askNote, openDialog, paste, showLanes, showTrace, watchDialogs } from "./dialogs.mjs";
 import { element } from "./dom.mjs";
+import { moveInstruction, watchRows } from "./dragging.mjs";
 import { Engine, wanted } from "./engine.mjs";
 import { SERVER, fold } from "./fold.mjs";
 import { splitInput, unescapeLine } from "./input.mjs";
-import { takeAll, takeIn } from "./intake.mjs";
+import { readWhole, takeAll, takeIn } from "./intake.mjs";
 import { Keeper, tabStorage } from "./keeping.mjs";
 import { isLink, linkTo, openLink } from "./linking.mjs";
 import { otherEnd, sameMember, towards } from "./moves.mjs";
@@ -93,25 +94,15 @@ function writeInDocument() {
 
 /* Files. */
 
-/* The bytes of files; null, and a notice, where one cannot be read. */
-async function bytesOf(files) {
-  const found = [];
-  for (const file of files) {
-    try {
-      found.push({ name: file.name, bytes: new Uint8Array(await file.arrayBuffer()) });
-    } catch {
-      say(`${file.name} cannot be read: it is a folder, or the browser may not read it.`);
-      return null;
-    }
-  }
-  return found;
-}
-
 async function takeFiles(files) {
-  const found = await bytesOf([...files]);
-  if (!found || found.length === 0) return;
-  if (found.length > 1 && canPlay) await takeAll(bench, found);
-  else await takeBytes(found[0].bytes, found[0].name);
+  const found = [];
+  for (const file of [...files]) {
+    const { fault, ...read } = await readWhole(file);
+    if (fault !== undefined) return void say(fault);
+    found.push(read);
+  }
+  if (found.length === 0) return undefined;
+  return found.length > 1 && canPlay ? takeAll(bench, found) : takeBytes(found[0].bytes, found[0].name);
 }
 
 async function takeBytes(bytes, name) {
@@ -135,7 +126,9 @@ function load(input, { name = "", place = null, isGiven = false }) {
   }
   const told = scheduleOf(steps);
   const text = (isGiven && element("schedule").textContent) || (told ? textOfSchedule(told) : "");
-  const beside = port && new Port(session, port, answer.map(unescapeLine));
+  const isSparse = isGiven && element("lines").dataset.sparse !== undefined;
+  const beside = port && new Port(session, port, answer.map(unescapeLine), isSparse);
+  if (port && isSparse) bench.takeAsSparse(port.map(unescapeLine));
   act("open", { text, port: port && port.map(unescapeLine), title: name, place: place ?? beside?.first ?? 0 });
   act("answer", { text, session, refusal: null, took: 0 });
   if (beside) act("beside", { text, beside });
@@ -272,8 +265,18 @@ function undoKey(event) {
   return key === "z" || key === "y";
 }
 
+/* The instruction that led to the place, one earlier or later. */
+function orderKey({ altKey, ctrlKey, metaKey, key, target }) {
+  const step = { ArrowUp: -1, ArrowDown: 1 }[key];
+  if (!altKey || ctrlKey || metaKey || !step || !canPlay || !bench.state.session) return false;
+  if (/^(SELECT|TEXTAREA|INPUT)$/.test(target.tagName) || target.isContentEditable || document.querySelector("dialog[open]")) return false;
+  const place = shownPlace(bench.state);
+  moveInstruction(bench, place, place + step);
+  return true;
+}
+
 addEventListener("keydown", (event) => {
-  if (undoKey(event)) return event.preventDefault();
+  if (undoKey(event) || orderKey(event)) return event.preventDefault();
   const { target, key } = event;
   if (key === "Escape" && target.matches?.(".document, #text")) {
     const card = target.closest("[data-card]");
@@ -368,7 +371,6 @@ addEventListener("beforeprint", () => {
   if (bench.state.session) addEventListener("afterprint", toPaper(bench.state), { once: true });
 });
 
-element("rows").onclick = (event) => go(timeline.placeAt(event.clientY));
 element("heads").onclick = (event) => {
   const lane = event.target.closest(".lane");
   if (lane) follow(bench.state.followed === memberOf(lane.dataset.who) ? null : memberOf(lane.dataset.who));
@@ -396,6 +398,7 @@ element("cards").onclick = (event) => {
   const button = event.target.closest("button");
   if (button?.dataset.play) return play(button.dataset.play);
   if (button?.dataset.name) return askName(bench.state, Number(button.dataset.name));
+  if (button?.dataset.note) return askNote(bench.state, Number(button.dataset.note));
   const text = event.target.closest(".document");
   if (!text) return undefined;
   const index = indexAt(event);
@@ -550,5 +553,6 @@ async function start() {
 }
 
 watchCards(bench);
+watchRows(bench, timeline, go);
 watchDialogs(bench, { choices, openChoice, take: takeText, save });
 start();

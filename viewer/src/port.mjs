@@ -2,9 +2,13 @@
 
 import { lastUpTo, textOf } from "./document.mjs";
 import { SERVER } from "./fold.mjs";
+import { areNotes, notedPlace } from "./noted.mjs";
 import { documentAt, logLengthAt, stateAt } from "./places.mjs";
 
 const KEYS = ["at", "do", "client", "message", "edit", "revision", "state", "outstanding", "buffer", "sent", "applied", "appended", "document"];
+
+/** No session has as many places. */
+const MOST = 200_000;
 
 const isOpening = (line) => line.at === 0 && !("do" in line) && !("stopped" in line) && !("end" in line);
 
@@ -59,11 +63,21 @@ function sameValue(found, ours) {
 
 const inWords = (value) => (value === null || value === undefined ? "none" : JSON.stringify(value));
 
+/* The line of each place; of lines that stand at some places only, by what they say. */
+function linesByPlace(lines, isSparse) {
+  if (!isSparse) return lines.length && isOpening(lines[0]) ? lines : [null, ...lines];
+  const placed = [];
+  for (const line of lines) if (line.at >= 0 && line.at < MOST && line.end === undefined && line.stopped === undefined) placed[line.at] = line;
+  return placed;
+}
+
 export class Port {
-  constructor(session, texts, answer) {
+  /** @param {boolean} isSparse whether instructions without a line are skipped */
+  constructor(session, texts, answer, isSparse = false) {
     this.session = session;
-    const lines = texts.map(readLine);
-    this.lines = lines.length && isOpening(lines[0]) ? lines : [null, ...lines];
+    this.areNotes = areNotes(texts);
+    this.isSparse = isSparse || this.areNotes;
+    this.lines = linesByPlace(texts.map(readLine), this.isSparse);
     this.memo = new Map();
     this.moves = new Map([SERVER, ...session.members.keys()].map((who) => [who, [0]]));
     session.steps.forEach((step, place) => step && this.lines[place] && this.moves.get(step.moved).push(place));
@@ -89,7 +103,7 @@ export class Port {
 
   #compare(place) {
     const line = this.lines[place];
-    if (place === 0 || place > this.session.length) return [];
+    if (place === 0 || place > this.session.length || (this.isSparse && !line)) return [];
     if (!line || line.end !== undefined) return place === this.lines.length ? [{ key: "line", found: "nothing", ours: "a line" }] : [];
     if (line.text !== undefined) return [{ key: "line", found: inWords(line.text), ours: "a line of JSON" }];
     const ours = valuesAt(this.session, place);
@@ -97,6 +111,12 @@ export class Port {
     const differences = (keys) => keys.filter(differs).map((key) => ({ key, found: inWords(line[key]), ours: inWords(ours[key]) }));
     if (line.stopped === undefined) return differences(KEYS);
     return [...differences(["message"]), { key: "stopped", found: inWords(line.stopped), ours: "performed" }];
+  }
+
+  /** What was noted of a client, with the document that it has at the place: { document, differences }; null where nothing was. */
+  noteOf(who, place) {
+    const at = this.areNotes ? notedPlace(this.session, who, place) : 0;
+    return this.lines[at]?.client === who ? { document: this.lines[at].document, differences: this.differencesAt(at) } : null;
   }
 
   /* What the port printed last of a participant that is not what ot.js has. */

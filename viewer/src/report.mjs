@@ -4,7 +4,7 @@ import { brief, quoted, seen } from "./characters.mjs";
 import { SERVER } from "./fold.mjs";
 import { documentAt, quietAt, stateAt } from "./places.mjs";
 import { textOf } from "./document.mjs";
-import { shownPlace } from "./state.mjs";
+import { outlookNow, shownPlace } from "./state.mjs";
 import { nameOfMember } from "./words.mjs";
 
 /* The longest run of backticks in a text. */
@@ -38,6 +38,13 @@ function documentsAt(session, place, names) {
   return [SERVER, ...joined].map((who) => `- ${who === SERVER ? "server" : inline(nameOfMember(who, names))}: ${text(who)}`);
 }
 
+/* The notes, each at the place where it stands. */
+const seenIn = ({ lines }, names) =>
+  lines.filter(Boolean).map(({ at, client, document }) => `- at ${at}, ${inline(nameOfMember(client, names))}: ${inline(quoted(brief(document, MOST.document)))}`);
+
+/* Whether the documents must agree, and to what, as a paragraph. */
+const outlookAt = (state) => outlookNow(state).map((line) => `${inline(brief(line, 600))}\n\n`).join("");
+
 /**
  * @param {import("./state.mjs").State} state one with a session
  * @param {string[]} verdicts what the page says of the session, in its words
@@ -49,9 +56,10 @@ export function reportOf(state, verdicts, link, isOfFile) {
   const parts = [
     `**otbench**${title ? ` ${inline(brief(title, 80))}` : ""}: ${verdicts.map((words) => inline(brief(words, 300))).join("; ")}`,
     block(shortened(text)),
-    `At place ${place} of ${session.length} (${inline(quietAt(session, place))}):\n\n${documentsAt(session, place, outline.names).join("\n")}`,
+    `At place ${place} of ${session.length} (${inline(quietAt(session, place))}):\n\n${outlookAt(state)}${documentsAt(session, place, outline.names).join("\n")}`,
   ];
-  if (beside?.answer.length) parts.push(`What the port printed, beside ot.js:\n\n${block(beside.answer.join("\n"))}`);
+  if (beside?.areNotes) parts.push(`What was seen in editors:\n\n${seenIn(beside, outline.names).join("\n")}`);
+  if (beside?.answer.length) parts.push(`${beside.areNotes ? "That" : "What the port printed"}, beside ot.js:\n\n${block(beside.answer.join("\n"))}`);
   parts.push(isOfFile ? `The session opens only where the page's file is: ${inline(link)}` : `[Open the session](<${link}>)`);
   return `${parts.join("\n\n")}\n`;
 }

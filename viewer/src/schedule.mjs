@@ -5,7 +5,8 @@ import { quoted } from "./characters.mjs";
 import { trimmed } from "./input.mjs";
 
 const OPENING = /^(clients|present|start)(?![^ \t])/;
-const NAME = /^;[ \t]*client[ \t]+(\d{1,9})[ \t]+is[ \t]+(.+)$/s;
+/** A comment that says what a client is called. */
+export const NAME = /^;[ \t]*client[ \t]+(\d{1,9})[ \t]+is[ \t]+(.+)$/s;
 const CUT = /^;[ \t]*cut:[ \t]+(".*)$/s;
 
 /* What a comment says, where it stands there as a JSON string. */
@@ -52,6 +53,9 @@ function readComment(outline, line) {
 
 /** The line that led to a place: the opening's last one at place 0, and -1 where there is none. */
 export const lineOfPlace = ({ opening, lines }, place) => (place === 0 ? opening - 1 : (lines[place - 1] ?? -1));
+
+/** The text up to a place: the lines up to the instruction that led there. */
+export const textUpTo = (text, outline, place) => text.split("\n").slice(0, lineOfPlace(outline, place) + 1).concat("").join("\n");
 
 /** The place behind a line: how many instructions stand up to it. */
 export function placeOfLine({ lines }, line) {

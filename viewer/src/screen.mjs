@@ -6,9 +6,10 @@ import { Deck } from "./deck.mjs";
 import { element, fill, setText } from "./dom.mjs";
 import { SERVER } from "./fold.mjs";
 import { legend } from "./legend.mjs";
+import { canNote } from "./noted.mjs";
 import { namedIn, numberNamed } from "./numbering.mjs";
 import { quietAt } from "./places.mjs";
-import { isAnswered, shownPlace } from "./state.mjs";
+import { isAnswered, outlookNow, shownPlace } from "./state.mjs";
 import { variablesOf } from "./theme.mjs";
 import { Timeline } from "./timeline.mjs";
 import { tree } from "./tree.mjs";
@@ -25,9 +26,10 @@ export const isNarrow = () => innerWidth <= 800;
 
 /** What is drawn of a state. */
 export function viewOf(state, canPlay) {
-  const { session, beside, followed, picked, hidden, draft, chosen, caret, outline, asked } = state;
+  const { session, beside, followed, picked, hidden, draft, chosen, caret, outline, asked, port } = state;
   const { writing } = deck;
-  return { session, port: beside, place: shownPlace(state), followed, picked, hidden, draft, asked, chosen, caret, writing, names: outline.names, canPlay };
+  const shownState = { session, port: beside, place: shownPlace(state), followed, picked, hidden, draft, asked, chosen, caret };
+  return { ...shownState, writing, names: outline.names, canPlay, canNote: canNote(port) };
 }
 
 /* Of what the picture is made: where nothing of it is another one, the picture is the same. */
@@ -96,6 +98,7 @@ function showHeader(state, view) {
   setText("length", `of ${session.length}`);
   element("slider").value = element("place").value = place;
   fill("sentence", wordsAt(state, view));
+  fill("outlook", shownOutlook(state));
   element("slider").setAttribute("aria-valuetext", `${place} of ${session.length}: ${element("sentence").textContent}`);
   element("first").disabled = element("back").disabled = place === 0;
   element("next").disabled = element("last").disabled = place === session.length;
@@ -135,7 +138,8 @@ function showVerdicts(state) {
   if (!beside) return;
   const [first] = beside.answer;
   const conforms = first === undefined ? beside.first === null : first === "conforms";
-  const marked = beside.first === null ? "the port's lines agree" : `the port's lines differ at ${beside.first}`;
+  const those = beside.areNotes ? "what was seen" : "the port's lines";
+  const marked = beside.first === null ? `${those}: no difference` : `${those}: a difference at ${beside.first}`;
   const named = namedIn(beside.answer) ?? { at: (beside.first ?? 0) - 1 };
   setVerdict("conformance", front + (first || marked) + lineOf(state, numberNamed(named, wordsIn(session))), !conforms ? "bad" : isNow ? "good" : "");
   element("answer").hidden = conforms || first === undefined;
@@ -177,7 +181,7 @@ function wordsAt(state, { session, place, picked, port, followed, names }) {
   const parts = [sentence(session, place, names), tree("span", { class: "now" }, now)];
   for (const { key, found, ours } of port ? port.differencesAt(place) : []) {
     const [theirs, wanted] = apart(found, ours).map(shownValue);
-    parts.push(tree("span", { class: "differs" }, `The port: ${key} `, theirs, ", ot.js: ", wanted, "."));
+    parts.push(tree("span", { class: "differs" }, port.areNotes ? "The editor showed " : `The port: ${key} `, theirs, ", ot.js: ", wanted, "."));
   }
   if (followed !== null) parts.push(tree("span", { class: "now" }, `Stepping through ${nameOfMember(followed, names)}.`));
   if (picked) {
@@ -186,6 +190,9 @@ function wordsAt(state, { session, place, picked, port, followed, names }) {
   }
   return parts.flatMap((part, i) => (i ? [" ", part] : [part]));
 }
+
+/* What the documents must be, or become. The line keeps its height while that is not known. */
+const shownOutlook = (state) => outlookNow(state).flatMap((line, i) => [i > 0 && tree("br"), seen(line)]);
 
 const waits = (asked) => `${asked[0]}${asked.length > 1 ? ` and ${asked.length - 1} more` : ""}: not answered yet.`;
 

@@ -37,7 +37,7 @@ export async function unpacked(text, what = "image") {
   return new Uint8Array(await new Blob(parts).arrayBuffer());
 }
 
-/** @typedef {{ place: number | null, theme: string | null, image: string | null, port: string | null, title: string, names: Map<number, string>, strange: string | null }} Address */
+/** @typedef {{ place: number | null, theme: string | null, image: string | null, port: string | null, isSparse: boolean, title: string, names: Map<number, string>, strange: string | null }} Address */
 
 const decoded = (value) => {
   try {
@@ -49,13 +49,14 @@ const decoded = (value) => {
 
 /** What stands behind the # of an address, as `#at=7;theme=dark`; `strange` is the first part that is none of a link. @returns {Address} */
 export function readAddress(hash) {
-  const address = { place: null, theme: null, image: null, port: null, title: "", names: new Map(), strange: null };
+  const address = { place: null, theme: null, image: null, port: null, isSparse: false, title: "", names: new Map(), strange: null };
   for (const part of hash.replace(/^#/, "").split(/[;&]/)) {
     const [, key, value] = /^([a-z0-9]+)=(.*)$/s.exec(part) || [];
     if (key === "at" && /^\d{1,9}$/.test(value)) address.place = Number(value);
     else if (key === "theme" && /^(dark|light)$/.test(value)) address.theme = value;
     else if (key === "image") address.image = value;
     else if (key === "port") address.port = value;
+    else if (key === "sparse" && value === "1") address.isSparse = true;
     else if (key === "title") address.title = decoded(value);
     else if (/^c\d{1,2}$/.test(key || "")) address.names.set(Number(key.slice(1)), decoded(value));
     else if (part !== "") address.strange ??= decoded(part);
@@ -64,11 +65,12 @@ export function readAddress(hash) {
 }
 
 /** @param {Partial<Address>} address */
-export function addressOf({ place, image, port, title, names = new Map() }) {
+export function addressOf({ place, image, port, isSparse = false, title, names = new Map() }) {
   const parts = [`at=${place}`];
   if (title) parts.push(`title=${encodeURIComponent(title)}`);
   for (const [client, name] of names) parts.push(`c${client}=${encodeURIComponent(name)}`);
   if (image) parts.push(`image=${image}`);
   if (port) parts.push(`port=${port}`);
+  if (isSparse) parts.push("sparse=1");
   return `#${parts.join(";")}`;
 }

@@ -2,8 +2,10 @@
 // it. What the engine answers stands beside it until the text is another one.
 
 import { quoted } from "./characters.mjs";
+import { withClient, withMoved, withOneLate, withOnePresent, withoutClient } from "./clients.mjs";
 import { insertedText, makeElements, patched } from "./document.mjs";
 import { editOf, wellFormed } from "./edits.mjs";
+import { canNote, carriedNotes, notedPlace, withNote } from "./noted.mjs";
 import { documentAt } from "./places.mjs";
 import { outlineOf, placeOfLine, withInstructions, withName, withoutInstruction } from "./schedule.mjs";
 
@@ -25,6 +27,7 @@ import { outlineOf, placeOfLine, withInstructions, withName, withoutInstruction 
  * @property {{ line: number, reason: string } | null} refusal of an instruction; line from 1
  * @property {boolean} isLate whether the engine has not answered for long
  * @property {string[]} verdicts what check answered
+ * @property {{ text: string, place: number, lines: string[] } | null} outlook whether the documents must agree at a place of a text, and to what
  * @property {{ client: number, place: number, elements: object[] } | null} draft a client's document while its edits are not answered
  * @property {number} took how long the engine took for the last text, in milliseconds
  * @property {number | string | null} followed the participant that is stepped through
@@ -56,6 +59,7 @@ export const emptyState = () => ({
   refusal: null,
   isLate: false,
   verdicts: [],
+  outlook: null,
   draft: null,
   took: 0,
   followed: null,
@@ -77,13 +81,15 @@ const snapshot = ({ text, port, place, title, caret }, tag) => ({ text, port, pl
 const NOT_ASKED = { asked: [], stood: null, draft: null };
 
 /* The state with another text; an action with the tag of the one before is undone together with it. */
-function changed(state, { text, port = state.port, place = state.place, title = state.title, tag = null }) {
+function changed(state, { text, port: given, place = state.place, title = state.title, tag = null }) {
+  const outline = text === state.text ? state.outline : outlineOf(text);
+  const port = given === undefined ? carriedNotes(state.port, state, { text, outline }) : given;
   if (text === state.text && port === state.port) return { ...state, place, title };
   const last = state.past[state.past.length - 1];
   const joins = tag !== null && last !== undefined && last.tag === tag;
   const depth = Math.min(DEPTH, Math.ceil(ROOM / (text.length + 1)));
   const past = joins ? state.past : [...state.past.slice(-depth), snapshot(state, tag)];
-  return { ...state, text, outline: outlineOf(text), port, place, title, past, future: [], ...NOT_ASKED, beside: null, notice: "" };
+  return { ...state, text, outline, port, place, title, past, future: [], ...NOT_ASKED, beside: null, notice: "" };
 }
 
 /* Undo and redo: the last of one list takes the state's place, which goes to the other list. */
@@ -100,6 +106,10 @@ export const isAnswered = (state) => state.answered === state.text;
 
 /** The place that can be shown of the session there is: while instructions are not answered, the one that they were played at. */
 export const shownPlace = ({ session, place, stood }) => (session ? Math.max(0, Math.min(stood ?? place, session.length)) : 0);
+
+/** Whether the documents must agree at the shown place, and to what, in lines; none where that is not known. */
+export const outlookNow = (state) =>
+  state.outlook?.text === state.text && state.outlook.place === shownPlace(state) && isAnswered(state) ? state.outlook.lines : [];
 
 /** The elements of a client's document as the page shows it now; null while that is not known. */
 export function documentNow(state, client) {
@@ -135,6 +145,16 @@ function played(state, { instructions, tag }) {
   return text === state.text ? next : { ...next, asked: [...state.asked, ...instructions], stood, draft: state.draft };
 }
 
+/* What a user saw of a client's document at the place; a document of null takes the note away. A client that has not changed gets a read to be noted at. */
+function noted(state, { client, document }) {
+  if (!canNote(state.port) || !isAnswered(state) || !state.session?.members[client]) return state;
+  const at = notedPlace(state.session, client, shownPlace(state));
+  if (at > 0) return changed(state, { text: state.text, port: withNote(state.port, { at, client, document }) });
+  if (document === null) return state;
+  const next = played(state, { instructions: [`read ${client}`] });
+  return { ...next, port: withNote(next.port, { at: next.place, client, document }) };
+}
+
 const REDUCERS = {
   /* Another session in the place of this one: { text, title, port, place }. */
   open: (state, { text, title = "", port = null, place = 0 }) => {
@@ -162,6 +182,25 @@ const REDUCERS = {
     if (!isAnswered(state) || !session?.stop) return state;
     return changed(state, { text: withoutInstruction(state.text, session.length + 1), place: state.place });
   },
+  /* The instruction that led to the place from leads to the place to. */
+  move: (state, { from, to }) => {
+    const last = state.outline.lines.length;
+    const place = Math.max(1, Math.min(to, last));
+    return from >= 1 && from <= last ? changed(state, { text: withMoved(state.text, state.outline, from, place), place }) : state;
+  },
+  /* One client more, which joins later where isLate; one fewer. */
+  addClient: (state, { isLate }) => changed(state, { text: withClient(state.text, state.outline, isLate) }),
+  leaveOutClient: (state, { client }) => ({
+    ...changed(state, { text: withoutClient(state.text, state.outline, client), port: null }),
+    chosen: null,
+    caret: null,
+    followed: null,
+    hidden: new Set(),
+  }),
+  /* The last client that is there at the opening joins later; the first that joins later is there. */
+  oneLate: (state) => changed(state, { text: withOneLate(state.text, state.outline) }),
+  onePresent: (state) => changed(state, { text: withOnePresent(state.text, state.outline) }),
+  note: noted,
   name: (state, { client, name }) => changed(state, { text: withName(state.text, client, name) }),
   /* A port's lines beside the session; null takes them away. */
   compare: (state, { port }) => changed(state, { text: state.text, port }),
@@ -184,6 +223,7 @@ const REDUCERS = {
   fault: (state, { fault, took }) => ({ ...state, fault, took, refusal: null, isLate: false, ...NOT_ASKED }),
   late: (state) => ({ ...state, isLate: true }),
   verdicts: (state, { text, verdicts }) => (text === state.answered && isAnswered(state) ? { ...state, verdicts } : state),
+  outlook: (state, { outlook }) => ({ ...state, outlook }),
   beside: (state, { text, beside }) => (text === state.answered && isAnswered(state) ? { ...state, beside } : state),
 };
 

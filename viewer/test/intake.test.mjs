@@ -2,7 +2,7 @@
 
 import assert from "node:assert/strict";
 import { test } from "node:test";
-import { takeIn } from "../src/intake.mjs";
+import { readWhole, takeIn } from "../src/intake.mjs";
 
 const NOTHING = new Uint8Array(0);
 const refused = (errors) => ({ status: 1, output: NOTHING, errors });
@@ -16,6 +16,15 @@ async function taken(input, answers) {
 }
 
 const notice = async (input, answers) => (await taken(input, answers)).dispatched.map((it) => it.notice);
+
+test("a file that is too large, or cannot be read, is not taken", async () => {
+  const file = (size, name = "a.ots") => ({ name, size, arrayBuffer: async () => (size === 7 ? Promise.reject(new Error("no")) : new ArrayBuffer(3)) });
+  assert.deepEqual(await readWhole(file(2 ** 28)), { name: "a.ots", bytes: new Uint8Array(3) });
+  assert.deepEqual(await readWhole(file(2 ** 28 + 1)), { fault: "a.ots has more than 268,435,456 bytes, and is not opened." });
+  assert.deepEqual(await readWhole(file(7)), { fault: "a.ots cannot be read: it is a folder, or the browser may not read it." });
+  const { fault } = await readWhole(file(2 ** 40, `\u202e<img>${"x".repeat(100_000)}`));
+  assert.ok(fault.length < 150 && !fault.includes("\u202e"), fault);
+});
 
 test("an image and a plan that are refused", async () => {
   const rows = [

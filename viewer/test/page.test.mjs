@@ -1,15 +1,10 @@
-// viewer.html is one file, made of the parts.
+// The page is one file, made of the parts.
 
 import assert from "node:assert/strict";
-import fs from "node:fs";
 import { test } from "node:test";
 import * as viewer from "../html.mjs";
 
-const page = fs.readFileSync(new URL("../viewer.html", import.meta.url), "utf8");
-
-test("viewer.html is what build.mjs makes", () => {
-  assert.equal(page, viewer.page());
-});
+const page = viewer.page();
 
 test("the page asks for nothing else", () => {
   assert.doesNotMatch(page, /^(import|export) |<link|<script[^>]* src|@import|fetch\(|XMLHttpRequest/m);

@@ -17,9 +17,11 @@ test("docs/session.svg is drawn", () => {
   assert.equal(stdout, fs.readFileSync(new URL("../../docs/session.svg", import.meta.url), "utf8"));
 });
 
-test("words that are not understood, and help, are answered by the usage, with status 2", () => {
+test("words that are not understood are answered by the usage, with status 2, and help is on the output", () => {
+  const { status: done, stdout: help, stderr: nothing } = call(["--help"]);
+  assert.deepEqual([done, nothing], [0, ""]);
+  assert.match(help, /^usage: node viewer\/picture\.mjs /);
   const rows = [
-    [["--help"], ""],
     [["--at", "x"], "picture: --at takes a number, not 'x'\n"],
     [["--at", ""], "picture: --at takes a number, not ''\n"],
     [["--at", "99"], /^picture: --at takes 0 to \d+ in this session, not 99\n$/],

@@ -23,6 +23,15 @@ test("a port that is ot.js differs nowhere", () => {
   assert.equal(beside(lines.slice(1, -1)).first, null, "without opening and end");
 });
 
+test("lines for some instructions stand at their places", () => {
+  const lines = ['{"at":7,"buffer":["a",-1,1]}', "trace", '{"at":12,"document":"acz"}', '{"at":99}', '{"at":16,"end":"quiet"}', '{"at":-1}', '{"at":"7"}'];
+  const port = new Port(session, lines, [], true);
+  assert.equal(port.first, 7);
+  assert.deepEqual(port.differencesAt(7), [{ key: "buffer", found: '["a",-1,1]', ours: '["a",1,-1,1]' }]);
+  for (const place of [0, 1, 6, 12, 16, 17]) assert.deepEqual(port.differencesAt(place), []);
+  assert.equal(new Port(session, lines.slice(1), ["conforms"], true).first, null);
+});
+
 test("the first difference, and what differs there", () => {
   const port = beside(ofBug("tie"));
   assert.equal(port.first, 7);

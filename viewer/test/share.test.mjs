@@ -29,9 +29,11 @@ test("an image that is none is refused, in the page's own words", async () => {
 });
 
 test("an address is written and read", () => {
-  const address = { place: 7, theme: null, image: "a-_9", port: "b-_8", title: 'a;b=&#<"', names: new Map([[0, "Ann; & <b>"], [12, "Ü"]]), strange: null };
+  const address = { place: 7, theme: null, image: "a-_9", port: "b-_8", isSparse: true, title: 'a;b=&#<"', names: new Map([[0, "Ann; & <b>"], [12, "Ü"]]), strange: null };
   assert.deepEqual(readAddress(addressOf(address)), address);
-  assert.deepEqual(readAddress("#at=7;theme=dark"), { place: 7, theme: "dark", image: null, port: null, title: "", names: new Map(), strange: null });
+  assert.deepEqual(readAddress("#at=7;theme=dark"), { place: 7, theme: "dark", image: null, port: null, isSparse: false, title: "", names: new Map(), strange: null });
+  assert.equal(readAddress("#at=7;sparse=1").isSparse, true);
+  assert.equal(readAddress("#sparse=2").strange, "sparse=2");
 });
 
 test("the first part of an address that is none of a link is named", () => {

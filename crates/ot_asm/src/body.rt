@@ -12,24 +12,22 @@ ghost use Rattle.ot_asm.specs.Stepping.{Answer, pushed, clients_line, present_li
 ghost use Rattle.ot_asm.specs.Words.{after_word};
 
 use crate::fault::Kind;
-use crate::json_text::{read_json, read_plain_operation};
+use crate::json_text::read_json;
 use crate::keyword::Keyword;
 use crate::number::read_number;
 use crate::section::Section;
 use crate::words::split_word;
-use json::Scratch;
 use ot_isa::{Builder, CLIENT_LIMIT, INSTR_LIMIT, Instr, PushFault, START_LIMIT, Schedule};
-use ot_json::{OpFault, op_of_value};
+use ot_json::{OpFault, op_of_value, read_plain};
 use serde_json::Value;
 use std::alloc::Global;
 use std::marker::Model;
 
-/// The schedule so far, and where the next line stands; and memory for the JSON texts of the lines, reused from one to the next.
+/// The schedule so far, and where the next line stands.
 #[derive(Drop)]
 pub struct Body {
     section: Section,
     builder: Builder,
-    scratch: Box<Scratch>,
 }
 
 impl Model for Body {
@@ -62,8 +60,7 @@ fn read_client(clients: u16, rest: &[u8]) -> Result<(u16, &[u8]), Kind>
 }
 
 impl Body {
-    /// The line `clients N`. It is not inlined: a caller would pay for the scratch, which is large, on each line.
-    #[inline(never)]
+    /// The line `clients N`.
     pub fn from_clients(alloc: Global, rest: &[u8]) -> Result<Body, Kind>
         ensures ok { IfOk result (λ b. clients_line rest.now ≡ Ok b) }
         ensures err { IfErr result (λ k. (k ≡ Kind.Memory) ⊎ (clients_line rest.now ≡ Err k)) }
@@ -83,14 +80,10 @@ impl Body {
                     return Err(Kind::Extra);
                 }
                 let clients = clients as u16;
-                let Ok(scratch) = Box::new(alloc, Scratch::new(alloc)) else {
-                    return Err(Kind::Memory);
-                };
                 match Builder::new(alloc, clients, &[]) {
                     Ok(builder) => Ok(Body {
                         section: Section::AfterClients,
                         builder,
-                        scratch,
                     }),
                     Err(_) => Err(Kind::Memory),
                 }
@@ -231,7 +224,7 @@ impl Body {
         ensures other { IfErr result (λ k. k ≢ Kind.ReadFault) }
     {
         let (client, after) = read_client(self.builder.clients(), rest)?;
-        if let Some(op) = read_plain_operation(alloc, after, &mut *self.scratch) {
+        if let Some(op) = read_plain(alloc, after) {
             return self.push(Instr::Edit(client, op));
         }
         match read_json(alloc, after) {

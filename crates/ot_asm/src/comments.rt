@@ -1,6 +1,6 @@
 //! What the comments of a schedule's text tell.
 
-ghost use Rattle.std.specs.Prelude.{◌≡◌, ◌==◌, ◌++◌, get_or, length, map, not, [], IfOk, OnOk, is_some};
+ghost use Rattle.std.specs.Prelude.{◌≡◌, ◌==◌, ◌++◌, get_or, length, map, not, [], IfOk, OnOk, is_some, option_map};
 ghost use Rattle.ot_asm.specs.Comments.{behind_colon, behind_sign, client_in, comment_words, comments_of, cut_text, cut_words, is_cut, is_quoted, name_in, nothing_said, with_name, with_words};
 
 use crate::number::read_number;
@@ -151,6 +151,16 @@ impl Comments {
         ensures { result ≡ not (length self.now.names == 0) }
     {
         !self.names.is_empty()
+    }
+
+    /// What is said of the cut, if the recorded session went on after the schedule's last instruction; empty where that cannot be shown.
+    pub fn cut(&self) -> Option<&[u8]>
+        ensures { option_map (λ words. words.now) result ≡ self.now.cut }
+    {
+        match &self.cut {
+            Some(words) => Some(words.as_slice()),
+            None => None,
+        }
     }
 
     /// Whether the recorded session went on after the schedule's last instruction.

@@ -3,11 +3,8 @@
 ghost use Rattle.std.specs.Prelude.{◌≡◌, None, Ok, true, false, IfOk, IfSome, option_map};
 ghost use Rattle.std.specs.Str.{is_utf8};
 ghost use Rattle.serde_json.specs.View.{view};
-ghost use Rattle.ot_asm.specs.Stepping.{json_of, operation_of_rest};
+ghost use Rattle.ot_asm.specs.Stepping.{json_of};
 
-use json::Scratch;
-use ot_json::read_plain;
-use ot_text::TextOp;
 use serde_json::Value;
 use std::alloc::{AllocError, Global};
 
@@ -33,19 +30,5 @@ pub fn read_json(alloc: Global, bytes: &[u8]) -> Result<Option<Value>, AllocErro
             Err(_) => Ok(None),
         },
         None => Ok(None),
-    }
-}
-
-/// The operation that bytes are, where they are a plain one; `None` says nothing of them.
-pub fn read_plain_operation(
-    alloc: Global,
-    bytes: &[u8],
-    scratch: &mut Scratch,
-) -> Option<TextOp<char>>
-    ensures { IfSome result (λ op. operation_of_rest bytes.now ≡ Ok op) }
-{
-    match read_text(bytes) {
-        Some(text) => read_plain(alloc, text, scratch),
-        None => None,
     }
 }

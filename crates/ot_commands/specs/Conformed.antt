@@ -1,21 +1,19 @@
 -- What `conform` writes and answers.
-use Rattle.std.specs.Prelude.{◌≡◌, ◌⊎◌, ◌-◌, ◌++◌, ℕ, Bool, true, List, Option, Ok, is_some, length, if◌then◌else◌}
+use Rattle.std.specs.Prelude.{◌≡◌, ◌⊎◌, ◌-◌, ℕ, Bool, true, List, Option, Ok, is_some, length, if◌then◌else◌}
 use Rattle.std.specs.Io.KnownBytes.{Keeps}
 use Rattle.streams.specs.Lines.{lines_of}
 use Rattle.ot_isa.specs.Program.{Program}
 use Rattle.ot_asm.specs.declared.fault.Kind.TheVariants as kind
 use Rattle.ot_asm.specs.Parts.{lines_before, lines_behind}
 use Rattle.ot_asm.specs.Stepping.{outcome_of_lines}
-use Rattle.ot_asm.specs.Comments.{Said, comments_among, cut_text}
-use Rattle.ot_asm.specs.Named.{named}
+use Rattle.ot_asm.specs.Comments.{Said}
+use Rattle.ot_commands.specs.Answered.{IsTold, Session, session_of}
 use Rattle.ot_commands.specs.Faults.{RefusesLines, line_fault}
 use Rattle.streams.specs.Outcomes.{Streams, Complains, Gives, OutOfMemory}
 use Rattle.ot_conform.specs.Compared.{IsVerdictOf, NamesKeys, StopsBehind, verdict_status}
 use Rattle.ot_conform.specs.Ports.{counted_lines}
-use Rattle.ot_conform.specs.Ruled.{IsAnswer}
-use Rattle.ot_conform.specs.Unknown.{all_named, unknown_rows}
+use Rattle.ot_conform.specs.Unknown.{all_named}
 use Rattle.ot_conform.specs.declared.comparison.Verdict.{Verdict}
-use Rattle.ot_conform.specs.declared.comparison.Verdict.TheVariants.{Conforms, Differs, Stopped}
 use Rattle.ot_conform.specs.declared.reading.Compared.{Compared}
 use Rattle.ot_conform.specs.declared.reading.CompareStop.{CompareStop}
 use Rattle.ot_conform.specs.declared.reading.CompareStop.TheVariants.{ReadFault, Memory}
@@ -24,34 +22,22 @@ use Rattle.ot_conform.specs.declared.reading.CompareStop.TheVariants.{ReadFault,
 abbrev pub answer_status : Said → Verdict → ℕ
 answer_status said verdict = if is_some said.cut then 1 else verdict_status verdict
 
--- the lines of a verdict: of a difference with the clients' names; in the others a number behind `client` is a count
-abbrev pub with_names : Said → Verdict → List ℕ → List ℕ
-with_names said (Conforms counts) text = text
-with_names said (Differs difference) text = named said.names text
-with_names said (Stopped place refusal) text = text
-
--- these lines, the unknown keys, and what tells of the cut
-pub record IsTold (said : Said) (schedule : Program) (compared : Compared) (bytes : List ℕ) : Type 0 where
-  pub text : List ℕ
-  pub answer : IsAnswer schedule compared.verdict text
-  pub is : bytes ≡ with_names said compared.verdict text ++ (unknown_rows (all_named compared.unknown.items) ++ cut_text said.cut)
-
--- these lines are written, with the status
-pub record Answers (said : Said) (schedule : Program) (compared : Compared) (status : ℕ) (streams : Streams) : Type 0 where
+-- the answer is written, in words or as JSON, with the status
+pub record Answers (json : Bool) (session : Session) (compared : Compared) (status : ℕ) (streams : Streams) : Type 0 where
   pub bytes : List ℕ
-  pub is : IsTold said schedule compared bytes
-  pub gives : Gives (answer_status said compared.verdict) bytes status streams
+  pub is : IsTold json session compared bytes
+  pub gives : Gives (answer_status session.said compared.verdict) bytes status streams
 
 -- or memory for them ran out
-abbrev pub MayWrite : Said → Program → Compared → ℕ → Streams → Type 0
-MayWrite said schedule compared status streams = Answers said schedule compared status streams ⊎ OutOfMemory status streams
+abbrev pub MayWrite : Bool → Session → Compared → ℕ → Streams → Type 0
+MayWrite json session compared status streams = Answers json session compared status streams ⊎ OutOfMemory status streams
 
 -- the verdict on the port's lines, behind so many, is written with their unknown keys; `sparse` allows lines for some instructions alone
-pub record Judges (sparse : Bool) (said : Said) (schedule : Program) (lines : List (List ℕ)) (earlier : ℕ) (status : ℕ) (streams : Streams) : Type 0 where
+pub record Judges (sparse json : Bool) (session : Session) (lines : List (List ℕ)) (earlier : ℕ) (status : ℕ) (streams : Streams) : Type 0 where
   pub compared : Compared
-  pub is : IsVerdictOf sparse schedule (counted_lines lines) compared.verdict
-  pub unknown : NamesKeys sparse schedule earlier lines compared.verdict (all_named compared.unknown.items)
-  pub answers : Answers said schedule compared status streams
+  pub is : IsVerdictOf sparse session.schedule (counted_lines lines) compared.verdict
+  pub unknown : NamesKeys sparse session.schedule earlier lines compared.verdict (all_named compared.unknown.items)
+  pub answers : Answers json session compared status streams
 
 -- the line of a comparison that broke off
 abbrev pub TellsStop : CompareStop → Option (List ℕ) → Option (List ℕ) → Type 0
@@ -68,17 +54,17 @@ pub record BreaksOff (sparse : Bool) (schedule : Program) (lines : List (List �
   pub status_is : status ≡ 1
 
 -- the verdict, a comparison that breaks off, or out of memory for the verdict's text
-abbrev pub MayJudge : Bool → Said → Program → List (List ℕ) → ℕ → ℕ → Streams → Type 0
-MayJudge sparse said schedule lines earlier status streams =
-    Judges sparse said schedule lines earlier status streams ⊎ BreaksOff sparse schedule lines earlier status streams ⊎ OutOfMemory status streams
+abbrev pub MayJudge : Bool → Bool → Session → List (List ℕ) → ℕ → ℕ → Streams → Type 0
+MayJudge sparse json session lines earlier status streams =
+    Judges sparse json session lines earlier status streams ⊎ BreaksOff sparse session.schedule lines earlier status streams ⊎ OutOfMemory status streams
 
 -- how many lines stand before those behind the mark: the schedule's, and the mark
 abbrev pub lines_up_to_mark : List (List ℕ) → ℕ
 lines_up_to_mark lines = length lines - length (lines_behind true lines)
 
 -- the lines before the mark are a schedule, and those behind it are compared with its run; the schedule's comments name the clients
-abbrev pub Compares : Bool → List ℕ → ℕ → Streams → Type 0
-Compares sparse text status streams =
+abbrev pub Compares : Bool → Bool → List ℕ → ℕ → Streams → Type 0
+Compares sparse json text status streams =
     RefusesLines (lines_before true (lines_of text)) status streams
     ⊎ ((schedule : Program) × (outcome_of_lines (lines_before true (lines_of text)) ≡ Ok schedule)
-    × MayJudge sparse (comments_among (lines_before true (lines_of text))) schedule (lines_behind true (lines_of text)) (lines_up_to_mark (lines_of text)) status streams)
+    × MayJudge sparse json (session_of (lines_before true (lines_of text)) schedule) (lines_behind true (lines_of text)) (lines_up_to_mark (lines_of text)) status streams)

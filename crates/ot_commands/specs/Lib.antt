@@ -13,4 +13,5 @@ pub mod Stepped
 pub mod Faults
 pub mod Inputs
 pub mod Part
+pub mod Answered
 pub mod Conformed

@@ -7,22 +7,23 @@
 //! ```
 //!
 //! [`run_conform`] does the whole work over any reader and two writers; `specs/Conformed.antt` says what it writes and answers, over the
-//! verdicts of `ot_conform` (specs/Compared.antt there). Nothing that a port prints is a fault of the input: it is a difference. What stands
+//! verdicts of `ot_conform` (specs/Compared.antt there), and `specs/Answered.antt` the answer, whose words and JSON are made of one value. Nothing that a port prints is a fault of the input: it is a difference. What stands
 //! behind the first difference is not read. The schedule's lines are kept as a text (`part.rt`), since their comments name the clients of
 //! the answer and say whether the schedule is cut (`ot_asm`).
 
-ghost use Rattle.std.specs.Prelude.{◌≡◌, IfOk, IfSome};
+ghost use Rattle.std.specs.Prelude.{◌≡◌, IfSome};
 ghost use Rattle.streams.specs.Lines.{lines_of};
 ghost use Rattle.streams.specs.Taken.{before};
 ghost use Rattle.ot_conform.specs.Compared.{verdict_status};
-ghost use Rattle.ot_commands.specs.Conformed.{Compares, IsTold, MayJudge, MayWrite, TellsStop, answer_status, with_names};
+ghost use Rattle.ot_commands.specs.Answered.{session_value};
+ghost use Rattle.ot_commands.specs.Conformed.{Compares, MayJudge, MayWrite, TellsStop, answer_status};
 
+use crate::answering::{Session, answer_text};
 use crate::faults::complain_of_line;
 use crate::part::read_part;
-use ot_asm::{AsmFault, Comments, Kind, comments_of, named, push_cut};
-use ot_conform::{CompareStop, Compared, Verdict, compare_lines, print_unknown, print_verdict};
-use ot_isa::Schedule;
-use std::alloc::{AllocError, Global};
+use ot_asm::{AsmFault, Comments, Kind, comments_of};
+use ot_conform::{CompareStop, Compared, Verdict, compare_lines};
+use std::alloc::Global;
 use std::io::{Read, Write};
 use streams::{ReadAhead, Sink, complain_of_memory, give};
 
@@ -72,56 +73,20 @@ fn answer_status(comments: &Comments, verdict: &Verdict) -> u8
     }
 }
 
-// The lines of a verdict: of a difference with the clients' names. In the others a number behind `client` is a count.
-fn with_names(
-    alloc: Global,
-    comments: &Comments,
-    verdict: &Verdict,
-    text: &[u8],
-) -> Result<Vec<u8>, AllocError>
-    ensures { IfOk result (λ v. v.items ≡ with_names comments.now verdict.now text.now) }
-{
-    if let Verdict::Differs(_) = verdict {
-        return named(alloc, text, comments);
-    }
-    let mut bytes = Vec::new(alloc);
-    bytes.extend_from_slice(text)?;
-    Ok(bytes)
-}
-
-// These lines, behind them the unknown keys, and what tells of the cut.
-fn answer_text(
-    alloc: Global,
-    comments: &Comments,
-    schedule: &Schedule,
-    compared: &Compared,
-) -> Result<Vec<u8>, AllocError>
-    ensures { IfOk result (λ v. IsTold comments.now schedule.now compared.now v.items) }
-{
-    let text = print_verdict(alloc, schedule, &compared.verdict)?;
-    let mut bytes = with_names(alloc, comments, &compared.verdict, text.as_bytes())?;
-    let unknown = print_unknown(alloc, compared.unknown.as_slice())?;
-    bytes.extend_from_slice(unknown.as_bytes())?;
-    push_cut(&mut bytes, comments)?;
-    Ok(bytes)
-}
-
-// Writes what came of comparing lines for the schedule.
+// Writes what came of comparing lines for the session's schedule.
 fn write_verdict<O: Sink, F: Write>(
     alloc: Global,
-    comments: &Comments,
-    schedule: &Schedule,
-    compared: &Compared,
+    json: bool,
+    session: &Session<'_>,
+    compared: Compared,
     output: &mut O,
     faults: &mut F,
 ) -> u8
-    ensures { MayWrite comments.now schedule.now compared.now result (record { output = O.contents output.old; output' = O.contents output.new; broken = O.failed output.new; faults = F.contents faults.old; faults' = F.contents faults.new }) }
+    ensures { MayWrite json (session_value session.now) compared result (record { output = O.contents output.old; output' = O.contents output.new; broken = O.failed output.new; faults = F.contents faults.old; faults' = F.contents faults.new }) }
 {
-    match answer_text(alloc, comments, schedule, compared) {
-        Ok(bytes) => {
-            let status = answer_status(comments, &compared.verdict);
-            give(bytes.as_slice(), status, output)
-        }
+    let status = answer_status(session.comments, &compared.verdict);
+    match answer_text(alloc, json, session, compared) {
+        Ok(bytes) => give(bytes.as_slice(), status, output),
         Err(_) => {
             complain_of_memory(faults);
             1
@@ -129,22 +94,22 @@ fn write_verdict<O: Sink, F: Write>(
     }
 }
 
-// Compares the lines that are left with the schedule's run. So many lines stand before them.
+// Compares the lines that are left with the session's run. So many lines stand before them.
 fn judge<I: Read, O: Sink, F: Write>(
     alloc: Global,
-    comments: &Comments,
-    schedule: &Schedule,
     sparse: bool,
+    json: bool,
+    session: &Session<'_>,
     earlier: u64,
     ahead: &mut ReadAhead,
     input: &mut I,
     output: &mut O,
     faults: &mut F,
 ) -> u8
-    ensures { IfSome (before ahead.old (I.remaining input.old)) (λ rest. MayJudge sparse comments.now schedule.now (lines_of rest) earlier result (record { output = O.contents output.old; output' = O.contents output.new; broken = O.failed output.new; faults = F.contents faults.old; faults' = F.contents faults.new })) }
+    ensures { IfSome (before ahead.old (I.remaining input.old)) (λ rest. MayJudge sparse json (session_value session.now) (lines_of rest) earlier result (record { output = O.contents output.old; output' = O.contents output.new; broken = O.failed output.new; faults = F.contents faults.old; faults' = F.contents faults.new })) }
 {
-    match compare_lines(alloc, schedule, sparse, ahead, input, earlier) {
-        Ok(compared) => write_verdict(alloc, comments, schedule, &compared, output, faults),
+    match compare_lines(alloc, session.schedule, sparse, ahead, input, earlier) {
+        Ok(compared) => write_verdict(alloc, json, session, compared, output, faults),
         Err(stop) => {
             complain_of_stop(alloc, stop, faults);
             1
@@ -153,18 +118,20 @@ fn judge<I: Read, O: Sink, F: Write>(
 }
 
 /// Reads a schedule's lines as far as the first line `%%`, compares the port's lines behind it with the schedule's run as they come, writes
-/// the answer with the unknown keys of these lines, and gives the status. Where it is `sparse`, instructions without a line are passed over. The answer has the names that the
-/// schedule's comments give the clients; where the schedule is cut, its last line says so. The status is 0 where the port conforms; 1 where
+/// the answer with the unknown keys of these lines, in words or as one line of `json`, and gives the status. Where it is `sparse`,
+/// instructions without a line are passed over. The answer has the names that the schedule's comments give the clients, and says where the
+/// schedule is cut. The status is 0 where the port conforms; 1 where
 /// it differs, where nothing but places and clients is compared, where the schedule is cut, where nothing can be compared for a limit of the bench, for a refused
 /// schedule, and for a fault of reading, writing or memory.
 pub fn run_conform<I: Read, O: Sink, F: Write>(
     alloc: Global,
     sparse: bool,
+    json: bool,
     input: &mut I,
     output: &mut O,
     faults: &mut F,
 ) -> u8
-    ensures { IfSome (I.remaining input.old) (λ text. Compares sparse text result (record { output = O.contents output.old; output' = O.contents output.new; broken = O.failed output.new; faults = F.contents faults.old; faults' = F.contents faults.new })) }
+    ensures { IfSome (I.remaining input.old) (λ text. Compares sparse json text result (record { output = O.contents output.old; output' = O.contents output.new; broken = O.failed output.new; faults = F.contents faults.old; faults' = F.contents faults.new })) }
 {
     let mut ahead = ReadAhead::new();
     let mut text = Vec::new(alloc);
@@ -174,8 +141,13 @@ pub fn run_conform<I: Read, O: Sink, F: Write>(
                 complain_of_memory(faults);
                 return 1;
             };
+            let session = Session {
+                text: text.as_slice(),
+                comments: &comments,
+                schedule: &schedule,
+            };
             judge(
-                alloc, &comments, &schedule, sparse, taken, &mut ahead, input, output, faults,
+                alloc, sparse, json, &session, taken, &mut ahead, input, output, faults,
             )
         }
         Err(fault) => {

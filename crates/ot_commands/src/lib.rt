@@ -13,10 +13,11 @@
 //!    generating   generate: a session made at random
 //!    completing   complete: a schedule, and behind it what brings its run to quiet
 //!    conforming   conform: the lines that a port of ot.js printed, against the run of the schedule that it performed
+//!    answering    its answer, in words or as JSON
 //! ```
 //!
 //! Each call answers the program's status, and says by its clause what it writes: `specs/` has a file for each module (`Ran`, `Stepped`, `Explains`, `ExplainsImages`, `Checked`,
-//! `Debugged`, `Converted`, `Judged`, `ExplainedTraces`, `ExplainedPlans`, `Generated`, `Completes`, `Conformed`), over the outcomes of `streams`. Begin with [`run_text`].
+//! `Debugged`, `Converted`, `Judged`, `ExplainedTraces`, `ExplainedPlans`, `Generated`, `Completes`, `Conformed`, `Answered`), over the outcomes of `streams`. Begin with [`run_text`].
 //!
 //! A schedule as the input, and its fault as a line:
 //!
@@ -30,6 +31,7 @@
 //! is refused.
 #![tactic(auto)]
 
+mod answering;
 mod checking;
 mod completing;
 mod conforming;

@@ -15,7 +15,7 @@ use Rattle.ot_isa.specs.declared.instruction.Instr.TheVariants as instr
 use Rattle.ot_conform.specs.Differences.{Ahead, Wanted, Conforms, Differs, LeftOver, field_of, first_key, over}
 use Rattle.ot_conform.specs.Due.{DueLine, Instruction, end_due}
 use Rattle.ot_conform.specs.Laws.{place_alone}
-use Rattle.ot_conform.specs.Points.{points_rows}
+use Rattle.ot_conform.specs.Points.{points_of, points_rows}
 use Rattle.ot_conform.specs.Ports.{PortLine, Told}
 use Rattle.ot_conform.specs.Received.{Received, Taken, Delivered, message_agrees}
 use Rattle.ot_steps.specs.declared.key.Key.TheVariants.{At, Document}
@@ -150,23 +150,23 @@ nothing_received = refl
 -- ---- values that may look alike
 
 -- a letter with its accent, in two characters and in one
-two_forms : points_rows (34 ∷ 101 ∷ 769 ∷ 34 ∷ []) (34 ∷ 233 ∷ 34 ∷ []) ≡ codes "points U+0065 U+0301 U+0022 | U+00E9 U+0022\n"
+two_forms : points_rows (points_of (34 ∷ 101 ∷ 769 ∷ 34 ∷ []) (34 ∷ 233 ∷ 34 ∷ [])) ≡ codes "points U+0065 U+0301 U+0022 | U+00E9 U+0022\n"
 unfolding digits
 two_forms = refl
 
 -- a blank without a width is missing
-not_seen : points_rows (codes "\"ab\"") (34 ∷ 97 ∷ 8203 ∷ 98 ∷ 34 ∷ []) ≡ codes "points U+0062 U+0022 | U+200B U+0062 U+0022\n"
+not_seen : points_rows (points_of (codes "\"ab\"") (34 ∷ 97 ∷ 8203 ∷ 98 ∷ 34 ∷ [])) ≡ codes "points U+0062 U+0022 | U+200B U+0062 U+0022\n"
 unfolding digits
 not_seen = refl
 
 -- four are told of each, from where they differ
-four_of_each : points_rows (codes "[1,\"abcdef\"]") (91 ∷ 49 ∷ 44 ∷ 34 ∷ 97 ∷ 128512 ∷ 34 ∷ 93 ∷ []) ≡ codes "points U+0062 U+0063 U+0064 U+0065 | U+1F600 U+0022 U+005D\n"
+four_of_each : points_rows (points_of (codes "[1,\"abcdef\"]") (91 ∷ 49 ∷ 44 ∷ 34 ∷ 97 ∷ 128512 ∷ 34 ∷ 93 ∷ [])) ≡ codes "points U+0062 U+0063 U+0064 U+0065 | U+1F600 U+0022 U+005D\n"
 unfolding digits
 four_of_each = refl
 
 -- characters of ASCII are seen, and so is the end
-both_seen : points_rows (codes "[\"a\",1]") (codes "[\"b\",1]") ≡ []
+both_seen : points_rows (points_of (codes "[\"a\",1]") (codes "[\"b\",1]")) ≡ []
 both_seen = refl
 
-end_seen : points_rows (codes "1") (codes "12") ≡ []
+end_seen : points_rows (points_of (codes "1") (codes "12")) ≡ []
 end_seen = refl

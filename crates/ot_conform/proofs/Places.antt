@@ -5,6 +5,7 @@ use Rattle.std.proofs.lemmas.Bool.{cases_lt}
 use Rattle.std.proofs.lemmas.List.{drop-set-lt, drop_all, set_past, take-append-drop, take_more_set}
 use Rattle.ot_conform.specs.Answers.{count_name, count_text, counts_text}
 use Rattle.ot_conform.specs.Counted.{are_nothing, count_each, one_more, shows_nothing}
+use Rattle.ot_conform.specs.Json.{count_item, count_items}
 use Rattle.ot_steps.specs.declared.key.Key.{Key}
 
 pub at_place : {A : Type 0} (xs : List A) (i : ℕ) (x : A) → i < length xs → drop i xs ≡ get_or xs i x ∷ drop (i + 1) xs
@@ -72,3 +73,13 @@ nothing_goes ks ns i k d b in_ks in_ns is = nothing_next ks ns i k d in_ks in_ns
 
 pub nothing_done : (ks : List Key) (ns : List ℕ) (i : ℕ) → length ks ≤ i → are_nothing (drop i ks) (drop i ns) ≡ true
 nothing_done ks ns i past = ap (λ (xs : List Key). are_nothing xs (drop i ns)) (drop_all i ks past)
+
+-- the item of the next count
+pub items_next : (ks : List Key) (ns : List ℕ) (i : ℕ) (k : Key) (d : ℕ) → i < length ks → i < length ns
+    → count_items (drop i ks) (drop i ns) ≡ count_item (count_name (get_or ks i k)) (get_or ns i d) ∷ count_items (drop (i + 1) ks) (drop (i + 1) ns)
+items_next ks ns i k d in_ks in_ns =
+    ap (λ (xs : List Key). count_items xs (drop i ns)) (at_place ks i k in_ks)
+    ∙ ap (count_items (get_or ks i k ∷ drop (i + 1) ks)) (at_place ns i d in_ns)
+
+pub items_done : (ks : List Key) (ns : List ℕ) (i : ℕ) → length ks ≤ i → count_items (drop i ks) (drop i ns) ≡ []
+items_done ks ns i past = ap (λ (xs : List Key). count_items xs (drop i ns)) (drop_all i ks past)

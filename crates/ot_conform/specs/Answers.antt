@@ -21,6 +21,8 @@ use Rattle.ot_conform.specs.Ports.{PortLine, Told, OtherForm, NoText, Nothing}
 use Rattle.ot_conform.specs.Counted.{counted_keys, is_nothing, tells}
 use Rattle.ot_conform.specs.Received.{received_value}
 use Rattle.ot_conform.specs.declared.answers.Difference.{Difference}
+use Rattle.ot_conform.specs.declared.answers.Owner.{Owner}
+use Rattle.ot_conform.specs.declared.answers.Owner.TheVariants as owner
 use Rattle.ot_conform.specs.declared.malformed.Malformed.{Malformed}
 use Rattle.ot_conform.specs.declared.malformed.Malformed.TheVariants as form
 use Rattle.ot_conform.specs.declared.counts.Counts.{Counts}
@@ -65,15 +67,21 @@ field_name (field.Key key.SentRevision) = codes "sent revision"
 field_name (field.Key key.SentOperation) = codes "sent operation"
 field_name (field.Key k) = key_text k
 
-abbrev pub with_owner : Option ℕ → List ℕ → List ℕ
-with_owner None name = codes "server " ++ name
-with_owner (Some c) name = codes "client " ++ (decimal c ++ 32 ∷ name)
+-- whose value it is
+abbrev pub owner_in : Option ℕ → Owner
+owner_in None = owner.Server
+owner_in (Some c) = owner.Client c
 
--- the field's name; at an instruction, behind its owner
-abbrev pub field_text : What → Field → List ℕ
-field_text (Instruction i) f = if is_theirs f then with_owner (placed_client i) (field_name f) else field_name f
-field_text Opening f = field_name f
-field_text End f = field_name f
+abbrev pub owner_of : What → Field → Owner
+owner_of (Instruction i) f = if is_theirs f then owner_in (placed_client i) else owner.Nobody
+owner_of Opening f = owner.Nobody
+owner_of End f = owner.Nobody
+
+-- the field's name behind its owner
+abbrev pub field_text : Owner → Field → List ℕ
+field_text owner.Nobody f = field_name f
+field_text owner.Server f = codes "server " ++ field_name f
+field_text (owner.Client c) f = codes "client " ++ (decimal c ++ 32 ∷ field_name f)
 
 -- differs at P: WHAT: FIELD
 abbrev pub head_row : ℕ → List ℕ → List ℕ → List ℕ
@@ -105,12 +113,12 @@ abbrev pub stopped_text : Option Refusal → List ℕ
 stopped_text None = codes "performed"
 stopped_text (Some refusal) = refusal_text refusal
 
--- of a line with its LF
-abbrev pub wanted_text : Field → DueLine → List ℕ
-wanted_text field.Line due = line_text due.shown
-wanted_text field.Stopped due = stopped_text due.line.stopped
-wanted_text field.Message due = unwrap_or (option_map value_text (option_map received_value due.received)) (codes "none")
-wanted_text (field.Key k) due = unwrap_or (text_at k due.line) (codes "none")
+-- of a line without its LF
+abbrev pub IsWantedText : Field → DueLine → List ℕ → Type 0
+IsWantedText field.Line due text = line text ≡ line_text due.shown
+IsWantedText field.Stopped due text = text ≡ stopped_text due.line.stopped
+IsWantedText field.Message due text = text ≡ unwrap_or (option_map value_text (option_map received_value due.received)) (codes "none")
+IsWantedText (field.Key k) due text = text ≡ unwrap_or (text_at k due.line) (codes "none")
 
 -- ---- for two texts, how many scalars at the front are equal
 
@@ -157,6 +165,13 @@ number_of (Instruction i) None at = number_before at
 number_of (Instruction i) (Some refusal) at = None
 number_of End stopped at = None
 
+-- the number of the instruction that a line is of, performed or not
+abbrev pub instruction_of : What → Option Refusal → ℕ → Option ℕ
+instruction_of Opening stopped at = None
+instruction_of (Instruction i) None at = number_before at
+instruction_of (Instruction i) (Some refusal) at = Some at
+instruction_of End stopped at = None
+
 -- a line of another form has no instruction
 abbrev pub number_told : PortLine → Option ℕ → Option ℕ
 number_told (Told d) number = number
@@ -179,10 +194,11 @@ malformed Nothing = None
 pub record IsDifference (due : DueLine) (f : Field) (line : PortLine) (d : Difference) : Type 0 where
   pub place : d.place ≡ due.line.at
   pub what : string_bytes d.what ≡ what_text due.what
-  pub name : string_bytes d.name ≡ field_text due.what f
+  pub instruction : d.instruction ≡ instruction_of due.what due.line.stopped due.line.at
+  pub owner : d.owner ≡ owner_of due.what f
   pub field : d.field ≡ f
   pub found : IsFoundText f line (string_bytes d.found)
-  pub wanted : string_bytes d.wanted ≡ wanted_text f due
+  pub wanted : IsWantedText f due (string_bytes d.wanted)
   pub front : d.front ≡ front_at f due.line line
   pub operation : d.tells_operation ≡ tells_operation line
   pub number : d.number ≡ number_told line (number_of due.what due.line.stopped due.line.at)
@@ -196,10 +212,11 @@ IsCompared due line d = (f : Field) × (field_of due line ≡ Some f) × IsDiffe
 pub record IsLeftOver (last : ℕ) (left : PortLine) (d : Difference) : Type 0 where
   pub place : d.place ≡ last
   pub what : string_bytes d.what ≡ codes "after the end"
-  pub name : string_bytes d.name ≡ codes "line"
+  pub instruction : d.instruction ≡ None
+  pub owner : d.owner ≡ owner.Nobody
   pub found : IsFoundText field.Line left (string_bytes d.found)
   pub field : d.field ≡ field.Line
-  pub wanted : string_bytes d.wanted ≡ line (codes "nothing")
+  pub wanted : string_bytes d.wanted ≡ codes "nothing"
   pub front : d.front ≡ None
   pub operation : d.tells_operation ≡ false
   pub number : d.number ≡ None
@@ -211,9 +228,8 @@ IsDifferenceOf (Differs due f line) d = IsDifference due f line d
 IsDifferenceOf (LeftOver last left) d = IsLeftOver last left d
 IsDifferenceOf (Stopped at refusal) d = ⊥
 
-abbrev pub wanted_row : Field → List ℕ → List ℕ
-wanted_row field.Line text = codes "ot.js " ++ text
-wanted_row f text = codes "ot.js " ++ line text
+abbrev pub wanted_row : List ℕ → List ℕ
+wanted_row wanted = codes "ot.js " ++ line wanted
 
 abbrev pub front_rows : Option ℕ → List ℕ
 front_rows None = []
@@ -234,7 +250,7 @@ found_row found = codes "found " ++ line found
 
 abbrev pub difference_text : Difference → List ℕ
 difference_text d =
-    head_row d.place (string_bytes d.what) (string_bytes d.name) ++ found_row (string_bytes d.found) ++ wanted_row d.field (string_bytes d.wanted) ++ front_rows d.front
+    head_row d.place (string_bytes d.what) (field_text d.owner d.field) ++ found_row (string_bytes d.found) ++ wanted_row (string_bytes d.wanted) ++ front_rows d.front
 
 -- ---- no difference
 
@@ -252,9 +268,12 @@ counts_text (k ∷ ks) [] = []
 counts_text (k ∷ ks) (n ∷ ns) = count_text (count_name k) n ++ counts_text ks ns
 
 -- where nothing is counted, the port does not conform
-abbrev pub agreement_head : Bool → List ℕ
-agreement_head true = codes "nothing compared\ncompared"
-agreement_head false = codes "conforms\ncompared"
+abbrev pub agreement_word : Bool → List ℕ
+agreement_word true = codes "nothing compared"
+agreement_word false = codes "conforms"
+
+abbrev pub counts_row : Counts → List ℕ
+counts_row c = codes "compared" ++ line (counts_text counted_keys c.values)
 
 abbrev pub agreement_text : Counts → List ℕ
-agreement_text c = agreement_head (is_nothing c) ++ (counts_text counted_keys c.values ++ codes "\n")
+agreement_text c = line (agreement_word (is_nothing c)) ++ counts_row c

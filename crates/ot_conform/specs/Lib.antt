@@ -13,4 +13,5 @@ pub mod Alike
 pub mod Standing
 pub mod Compared
 pub mod Ruled
+pub mod Json
 pub mod Laws

@@ -1,9 +1,10 @@
 -- The code points of what was found and of what ot.js has, which may look alike.
-use Rattle.std.specs.Prelude.{ℕ, nat_le, nat_lt, List, [], ◌∷◌, ◌++◌, take, drop, Bool, true, codes, string_bytes, ◌&&◌, if◌then◌else◌}
+use Rattle.std.specs.Prelude.{ℕ, nat_le, nat_lt, List, [], ◌∷◌, ◌++◌, take, drop, Bool, true, Option, Some, None, codes, string_bytes, ◌&&◌, if◌then◌else◌}
 use Rattle.std.specs.Fmt.{digits}
 use Rattle.std.specs.Str.{chars}
 use Rattle.ot_conform.specs.Answers.{same_front}
 use Rattle.ot_conform.specs.declared.answers.Difference.{Difference}
+use Rattle.ot_conform.specs.declared.points.Points.{Points}
 
 -- the zeros before a hexadecimal number, which has four digits or more
 abbrev pub zeros : ℕ → List ℕ
@@ -29,12 +30,20 @@ abbrev pub four_from : ℕ → List ℕ → List ℕ
 four_from place text = take 4 (drop place text)
 
 -- of both texts from where they first differ, where one of them has another character there
-abbrev pub points_from : List ℕ → List ℕ → List ℕ
-points_from found wanted = if begins_plain found && begins_plain wanted then [] else points_row found wanted
+abbrev pub points_from : List ℕ → List ℕ → Option (List ℕ × List ℕ)
+points_from found wanted = if begins_plain found && begins_plain wanted then None else Some (found, wanted)
 
-abbrev pub points_rows : List ℕ → List ℕ → List ℕ
-points_rows found wanted = points_from (four_from (same_front found wanted) found) (four_from (same_front found wanted) wanted)
+abbrev pub points_of : List ℕ → List ℕ → Option (List ℕ × List ℕ)
+points_of found wanted = points_from (four_from (same_front found wanted) found) (four_from (same_front found wanted) wanted)
 
 -- of both values as they are printed
-abbrev pub difference_points : Difference → List ℕ
-difference_points d = points_rows (chars (string_bytes d.found)) (chars (string_bytes d.wanted))
+abbrev pub difference_points : Difference → Option (List ℕ × List ℕ)
+difference_points d = points_of (chars (string_bytes d.found)) (chars (string_bytes d.wanted))
+
+abbrev pub points_rows : Option (List ℕ × List ℕ) → List ℕ
+points_rows None = []
+points_rows (Some points) = points_row points.0 points.1
+
+-- as the program has them
+abbrev pub points_value : Points → List ℕ × List ℕ
+points_value points = (points.found.items, points.wanted.items)

@@ -1,13 +1,14 @@
 //! The first difference, in words.
 
-ghost use Rattle.std.specs.Prelude.{◌≡◌, IfOk, codes, option_and_then, option_map, string_bytes, unwrap_or};
+ghost use Rattle.std.specs.Prelude.{◌≡◌, false, IfOk, codes, option_and_then, option_map, string_bytes, unwrap_or};
 ghost use Rattle.std.specs.Str.{chars};
 ghost use Rattle.serde_json.specs.Find.{as_str};
 ghost use Rattle.serde_json.specs.View.{view};
-ghost use Rattle.ot_conform.specs.Answers.{IsDifference, IsFoundText, IsLeftOver, IsToldText, IsValueText, field_name, field_text, front_at, instr_text, is_theirs, number_told, same_front, tells_operation, told_front, wanted_text, what_text, with_owner};
+ghost use Rattle.ot_conform.specs.Answers.{IsDifference, IsFoundText, IsLeftOver, IsToldText, IsValueText, IsWantedText, field_name, field_text, front_at, instr_text, is_theirs, number_told, owner_in, owner_of, same_front, tells_operation, told_front, what_text};
 ghost use Rattle.json.specs.Print.{quoted};
-ghost use Rattle.ot_steps.specs.Held.{IsHeld, value_of};
-ghost use Rattle.ot_steps.specs.Text.{value_text};
+ghost use Rattle.ot_report.specs.Printed as printed;
+ghost use Rattle.ot_steps.specs.Held.{IsHeld, printed_of, value_of};
+ghost use Rattle.ot_steps.specs.Text.{line_text, value_text};
 ghost use Rattle.ot_conform.specs.Due.{due_of, what_of};
 ghost use Rattle.ot_conform.specs.Keys.{found_at};
 ghost use Rattle.ot_conform.specs.Read.{read_as};
@@ -23,6 +24,15 @@ use ot_values::refusal_name;
 use serde_json::Value;
 use std::alloc::{AllocError, Global};
 
+/// Whose value differs, at an instruction.
+#[derive(Clone, Copy, Debug, PartialEq, Eq)]
+pub enum Owner {
+    /// Nobody's: the line itself, a stop, or what says which line it is.
+    Nobody,
+    Server,
+    Client(u16),
+}
+
 /// The first difference between a port's lines and those that are due.
 #[derive(Drop)]
 pub struct Difference {
@@ -30,12 +40,13 @@ pub struct Difference {
     pub place: usize,
     /// `opening`, the instruction, `end` or `after the end`.
     pub what: String,
-    /// The field's name; at an instruction, behind its owner: `client 1 document`.
-    pub name: String,
+    /// The number of the instruction whose line was due, counted from 0, performed or not.
+    pub instruction: Option<usize>,
+    pub owner: Owner,
     pub field: Field,
     /// What the port has there, as compact JSON, or in words.
     pub found: String,
-    /// What ot.js has there; a line has its LF.
+    /// What ot.js has there, in the same form.
     pub wanted: String,
     /// For two texts, how many scalars at the front are equal.
     pub front: Option<usize>,
@@ -83,8 +94,8 @@ fn is_theirs(field: Field) -> bool
     }
 }
 
-// The field's name; a message's part has two words.
-fn field_name(field: Field) -> &'static str
+/// The field's name; a message's part has two words.
+pub(crate) fn field_name(field: Field) -> &'static str
     ensures { result.now ≡ field_name field }
 {
     match field {
@@ -97,25 +108,35 @@ fn field_name(field: Field) -> &'static str
     }
 }
 
-// The name behind its owner: `client 1 document`.
-fn with_owner(alloc: Global, owner: Option<u16>, name: &str) -> Result<String, AllocError>
-    ensures { IfOk result (λ s. string_bytes s ≡ with_owner owner name.now) }
+fn owner_in(client: Option<u16>) -> Owner
+    ensures { result ≡ owner_in client }
 {
-    match owner {
-        Some(client) => format!(in alloc; "client {client} {name}"),
-        None => format!(in alloc; "server {name}"),
+    match client {
+        Some(client) => Owner::Client(client),
+        None => Owner::Server,
     }
 }
 
-// The field's name; at an instruction, behind its owner.
-fn field_text(alloc: Global, line: &Line<'_>, field: Field) -> Result<String, AllocError>
-    ensures { IfOk result (λ s. string_bytes s ≡ field_text (what_of line.now) field) }
+// Whose value of the line it is.
+fn owner_of(line: &Line<'_>, field: Field) -> Owner
+    ensures { result ≡ owner_of (what_of line.now) field }
+{
+    match line {
+        Line::Step(step) if is_theirs(field) => owner_in(placed_client(step.instr)),
+        Line::Stop(stop) if is_theirs(field) => owner_in(placed_client(stop.instr)),
+        _ => Owner::Nobody,
+    }
+}
+
+/// The field's name behind its owner: `client 1 document`.
+pub(crate) fn field_text(alloc: Global, owner: Owner, field: Field) -> Result<String, AllocError>
+    ensures { IfOk result (λ s. string_bytes s ≡ field_text owner field) }
 {
     let name = field_name(field);
-    match line {
-        Line::Step(step) if is_theirs(field) => with_owner(alloc, placed_client(step.instr), name),
-        Line::Stop(stop) if is_theirs(field) => with_owner(alloc, placed_client(stop.instr), name),
-        _ => String::from_str(alloc, name),
+    match owner {
+        Owner::Nobody => String::from_str(alloc, name),
+        Owner::Server => format!(in alloc; "server {name}"),
+        Owner::Client(client) => format!(in alloc; "client {client} {name}"),
     }
 }
 
@@ -171,13 +192,25 @@ fn wanted_value(alloc: Global, value: Option<LineValue<'_>>) -> Result<String, A
     }
 }
 
+// A line of `steps` without its LF.
+fn due_text(alloc: Global, line: &Line<'_>) -> Result<String, AllocError>
+    requires { IsHeld line.now }
+    ensures { IfOk result (λ s. printed.line (string_bytes s) ≡ line_text (printed_of false line.now)) }
+{
+    let text = line.text(alloc, false)?;
+    match text.as_str().strip_suffix('\n') {
+        Some(front) => String::from_str(alloc, front),
+        None => unreachable!(),
+    }
+}
+
 // What the run has.
 fn wanted_text(alloc: Global, due: &Due<'_>, field: Field) -> Result<String, AllocError>
     requires { IsHeld due.now.line }
-    ensures { IfOk result (λ s. string_bytes s ≡ wanted_text field (due_of due.now)) }
+    ensures { IfOk result (λ s. IsWantedText field (due_of due.now) (string_bytes s)) }
 {
     match field {
-        Field::Line => due.line.text(alloc, false),
+        Field::Line => due_text(alloc, &due.line),
         Field::Stopped => match due.refusal() {
             Some(refusal) => String::from_str(alloc, refusal_name(refusal)),
             None => String::from_str(alloc, "performed"),
@@ -288,7 +321,8 @@ pub fn differs(
     Ok(Difference {
         place: due.line.place(),
         what: what_text(alloc, &due.line)?,
-        name: field_text(alloc, &due.line, field)?,
+        instruction: due.instruction(),
+        owner: owner_of(&due.line, field),
         field,
         found: found_text(alloc, line, field)?,
         wanted: wanted_text(alloc, due, field)?,
@@ -306,10 +340,11 @@ pub fn left_over(alloc: Global, place: usize, line: &PortLine<'_>) -> Result<Dif
     Ok(Difference {
         place,
         what: String::from_str(alloc, "after the end")?,
-        name: String::from_str(alloc, "line")?,
+        instruction: None,
+        owner: Owner::Nobody,
         field: Field::Line,
         found: found_text(alloc, line, Field::Line)?,
-        wanted: String::from_str(alloc, "nothing\n")?,
+        wanted: String::from_str(alloc, "nothing")?,
         front: None,
         tells_operation: false,
         number: None,

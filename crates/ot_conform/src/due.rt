@@ -3,7 +3,7 @@
 ghost use Rattle.std.specs.Prelude.{◌≡◌, IfOk, option_map};
 ghost use Rattle.ot_isa.specs.Tagging.{chars_of};
 ghost use Rattle.ot_steps.specs.Held.{IsHeld, value_of};
-ghost use Rattle.ot_conform.specs.Answers.{letters_at, number_before, number_of};
+ghost use Rattle.ot_conform.specs.Answers.{instruction_of, letters_at, number_before, number_of};
 ghost use Rattle.ot_conform.specs.Due.{due_of};
 ghost use Rattle.ot_conform.specs.Received.{received_value};
 
@@ -66,6 +66,17 @@ impl<'a> Due<'a> {
     {
         match self.line {
             Line::Stop(stop) => Some(stop.refusal),
+            _ => None,
+        }
+    }
+
+    /// The number of the instruction that it is the line of, counted from 0, performed or not.
+    pub fn instruction(&self) -> Option<usize>
+        ensures { result ≡ instruction_of (due_of self.now).what (due_of self.now).line.stopped (due_of self.now).line.at }
+    {
+        match self.line {
+            Line::Step(step) => number_before(step.at),
+            Line::Stop(stop) => Some(stop.at),
             _ => None,
         }
     }

@@ -20,7 +20,8 @@
 //! - *The first difference* (`specs/Differences.antt`): `field_of` of one line, `outcome` of all.
 //! - *Lines for some instructions* (`specs/Passed.antt`): a sparse comparison passes over what is due until a line's place; each line that is
 //!   there is compared as ever.
-//! - *The answer* (`specs/Answers.antt`, `specs/Counted.antt`): every byte of it, but the digits of a port's floats.
+//! - *The answer* (`specs/Ruled.antt`): one value, [`Answer`], of which both its words (`specs/Answers.antt`, `specs/Counted.antt`, [`print_verdict`]) and its
+//!   JSON (`specs/Json.antt`, [`verdict_members`]) are functions: every byte of them, but the digits of a port's floats.
 //! - *Values that may look alike* (`specs/Points.antt`): their code points, from where they first differ.
 //! - *The rule of ot.js* (`specs/Ruled.antt`): behind a difference at an instruction stands what `ot_rules` says of it: the method of ot.js that
 //!   makes the value, what that is given, and the first note that is true of what was found.
@@ -35,6 +36,7 @@
 #![tactic(auto)]
 
 mod agreement;
+mod answer;
 mod answers;
 mod comparison;
 mod counts;
@@ -44,6 +46,7 @@ mod laws;
 mod lines;
 mod malformed;
 mod meeting;
+mod members;
 mod passing;
 mod points;
 mod printing;
@@ -53,7 +56,8 @@ mod ruling;
 mod same_bytes;
 mod unknown;
 
-pub use answers::{Difference, differs, left_over};
+pub use answer::{Answer, answer_of};
+pub use answers::{Difference, Owner, differs, left_over};
 pub use comparison::{Comparison, Stage, Verdict};
 pub use counts::{COUNTED, Counts};
 pub use due::Due;
@@ -65,7 +69,10 @@ pub use laws::{
 pub use lines::{PortLine, is_opening_line, read_line};
 pub use malformed::{Malformed, malformed_sentence};
 pub use meeting::{Field, meet};
-pub use printing::print_verdict;
+pub use members::{
+    agreement_members, number_member, object, text_member, unknown_member, verdict_members,
+};
+pub use printing::{print_counts, print_verdict};
 pub use reading::{CompareStop, Compared, compare_lines};
 pub use received::Received;
 pub use unknown::{Part, UnknownKey, print_unknown};

@@ -1,8 +1,8 @@
 //! The code points of two texts that may look alike, from where they first differ.
 
-ghost use Rattle.std.specs.Prelude.{◌≡◌, ◌++◌, IfOk, OnOk, string_bytes};
+ghost use Rattle.std.specs.Prelude.{◌≡◌, ◌++◌, IfOk, OnOk, option_map, string_bytes};
 ghost use Rattle.std.specs.Str.{chars};
-ghost use Rattle.ot_conform.specs.Points.{begins_plain, four_from, point_text, points_row, points_rows, points_text, zeros};
+ghost use Rattle.ot_conform.specs.Points.{begins_plain, four_from, point_text, points_of, points_row, points_rows, points_text, points_value, zeros};
 
 use crate::answers::{letters, same_front};
 use std::alloc::{AllocError, Global};
@@ -70,10 +70,20 @@ fn points_row(alloc: Global, found: &[char], wanted: &[char]) -> Result<String, 
     Ok(row)
 }
 
-/// The row of the code points of both texts from where they first differ, four at most of each; none where what differs are characters of
-/// ASCII that are seen.
-pub(crate) fn points_rows(alloc: Global, found: &str, wanted: &str) -> Result<String, AllocError>
-    ensures { IfOk result (λ s. string_bytes s ≡ points_rows (chars found.now) (chars wanted.now)) }
+/// The characters of two texts from where they first differ, four at most of each.
+#[derive(Drop)]
+pub(crate) struct Points {
+    pub found: Vec<char>,
+    pub wanted: Vec<char>,
+}
+
+/// Those of both texts; none where what differs are characters of ASCII that are seen.
+pub(crate) fn points_of(
+    alloc: Global,
+    found: &str,
+    wanted: &str,
+) -> Result<Option<Points>, AllocError>
+    ensures { IfOk result (λ p. option_map points_value p ≡ points_of (chars found.now) (chars wanted.now)) }
 {
     let found = letters(alloc, found)?;
     let wanted = letters(alloc, wanted)?;
@@ -81,7 +91,20 @@ pub(crate) fn points_rows(alloc: Global, found: &str, wanted: &str) -> Result<St
     let found = four_from(found.as_slice(), same);
     let wanted = four_from(wanted.as_slice(), same);
     if begins_plain(found) && begins_plain(wanted) {
-        return Ok(String::new(alloc));
+        return Ok(None);
     }
-    points_row(alloc, found, wanted)
+    Ok(Some(Points {
+        found: found.to_vec(alloc)?,
+        wanted: wanted.to_vec(alloc)?,
+    }))
+}
+
+/// Their row.
+pub(crate) fn points_rows(alloc: Global, points: &Option<Points>) -> Result<String, AllocError>
+    ensures { IfOk result (λ s. string_bytes s ≡ points_rows (option_map points_value points.now)) }
+{
+    match points {
+        Some(points) => points_row(alloc, points.found.as_slice(), points.wanted.as_slice()),
+        None => Ok(String::new(alloc)),
+    }
 }

@@ -1,30 +1,27 @@
 //! The answer, as lines.
 
-ghost use Rattle.std.specs.Prelude.{◌≡◌, ◌++◌, IfOk, OnOk, string_bytes};
+ghost use Rattle.std.specs.Prelude.{◌≡◌, ◌++◌, IfOk, OnOk, option_map, string_bytes};
+ghost use Rattle.ot_rules.specs.Explained.{explained_value};
 ghost use Rattle.ot_conform.specs.Counted.{counted_keys};
-ghost use Rattle.ot_conform.specs.Ruled.{IsAnswer, IsDifferenceText};
-ghost use Rattle.ot_conform.specs.Answers.{agreement_head, agreement_text, count_name, count_text, counts_text, difference_text, found_row, front_rows, head_row, malformed_rows, wanted_row};
+ghost use Rattle.ot_conform.specs.Ruled.{explained_rows, verdict_text};
+ghost use Rattle.ot_conform.specs.Answers.{agreement_text, agreement_word, count_name, count_text, counts_row, counts_text, difference_text, found_row, front_rows, head_row, malformed_rows, wanted_row};
 
-use crate::answers::Difference;
+use crate::answer::Answer;
+use crate::answers::{Difference, field_text};
 use crate::comparison::Verdict;
 use crate::counts::{COUNTED, Counts};
 use crate::malformed::{Malformed, malformed_sentence};
-use crate::meeting::Field;
-use crate::points::points_rows;
-use crate::ruling::rules_of;
-use ot_isa::Schedule;
+use crate::points::{points_of, points_rows};
 use ot_report::print_stop;
+use ot_rules::{Explained, print_explained};
 use ot_steps::{Key, key_text};
 use std::alloc::{AllocError, Global};
 
-// The row of what the run has; a line has its LF.
-fn wanted_row(alloc: Global, field: Field, wanted: &str) -> Result<String, AllocError>
-    ensures { IfOk result (λ s. string_bytes s ≡ wanted_row field wanted.now) }
+// The row of what the run has.
+fn wanted_row(alloc: Global, wanted: &str) -> Result<String, AllocError>
+    ensures { IfOk result (λ s. string_bytes s ≡ wanted_row wanted.now) }
 {
-    match field {
-        Field::Line => format!(in alloc; "ot.js {wanted}"),
-        _ => format!(in alloc; "ot.js {wanted}\n"),
-    }
+    format!(in alloc; "ot.js {wanted}\n")
 }
 
 // The row of two texts' common front.
@@ -56,10 +53,10 @@ fn print_difference(alloc: Global, difference: &Difference) -> Result<String, Al
     ensures { IfOk result (λ s. string_bytes s ≡ difference_text difference.now) }
 {
     let what = difference.what.as_str();
-    let name = difference.name.as_str();
-    let mut text = head_row(alloc, difference.place, what, name)?;
+    let name = field_text(alloc, difference.owner, difference.field)?;
+    let mut text = head_row(alloc, difference.place, what, name.as_str())?;
     let found = found_row(alloc, difference.found.as_str())?;
-    let wanted = wanted_row(alloc, difference.field, difference.wanted.as_str())?;
+    let wanted = wanted_row(alloc, difference.wanted.as_str())?;
     let front = front_rows(alloc, difference.front)?;
     text.push_str(found.as_str())?;
     text.push_str(wanted.as_str())?;
@@ -67,19 +64,19 @@ fn print_difference(alloc: Global, difference: &Difference) -> Result<String, Al
     Ok(text)
 }
 
-// The first line, and the word before the counts.
-fn agreement_head(is_nothing: bool) -> &'static str
-    ensures { result.now ≡ agreement_head is_nothing }
+/// Whether a port without a difference conforms, in words.
+pub(crate) fn agreement_word(is_nothing: bool) -> &'static str
+    ensures { result.now ≡ agreement_word is_nothing }
 {
     if is_nothing {
-        "nothing compared\ncompared"
+        "nothing compared"
     } else {
-        "conforms\ncompared"
+        "conforms"
     }
 }
 
-// The word of a key that is counted.
-fn count_name(key: Key) -> &'static str
+/// The word of a key that is counted.
+pub(crate) fn count_name(key: Key) -> &'static str
     ensures { result.now ≡ count_name key }
 {
     match key {
@@ -107,14 +104,23 @@ fn push_counts(alloc: Global, text: &mut String, counts: &Counts) -> Result<(), 
     Ok(())
 }
 
+/// The line that says how often each key was compared.
+pub fn print_counts(alloc: Global, counts: &Counts) -> Result<String, AllocError>
+    ensures { IfOk result (λ s. string_bytes s ≡ counts_row counts.now) }
+{
+    let mut text = String::from_str(alloc, "compared")?;
+    push_counts(alloc, &mut text, counts)?;
+    text.push_str("\n")?;
+    Ok(text)
+}
+
 // The lines of a port without a difference: whether it conforms, and how much was compared.
 fn print_agreement(alloc: Global, counts: &Counts) -> Result<String, AllocError>
     ensures { IfOk result (λ s. string_bytes s ≡ agreement_text counts.now) }
 {
-    let mut text = String::from_str(alloc, agreement_head(counts.is_nothing()))?;
-    push_counts(alloc, &mut text, counts)?;
-    text.push_str("\n")?;
-    Ok(text)
+    let word = agreement_word(counts.is_nothing());
+    let row = print_counts(alloc, counts)?;
+    format!(in alloc; "{word}\n{row}")
 }
 
 // What is wrong with the port's line, as a note.
@@ -132,38 +138,34 @@ fn malformed_rows(alloc: Global, malformed: Option<Malformed>) -> Result<String,
 
 // The lines of a difference, the code points of what may look alike, and behind them what is wrong with the port's line, or what the
 // rules of ot.js say of it.
-fn print_explained(
+fn explained_rows(
     alloc: Global,
-    schedule: &Schedule,
     difference: &Difference,
+    explained: &Option<Explained>,
 ) -> Result<String, AllocError>
-    ensures { IfOk result (λ s. IsDifferenceText schedule.now difference.now (string_bytes s)) }
+    ensures { IfOk result (λ s. string_bytes s ≡ explained_rows difference.now (option_map explained_value explained.now)) }
 {
     let mut text = print_difference(alloc, difference)?;
-    let points = points_rows(alloc, difference.found.as_str(), difference.wanted.as_str())?;
+    let points = points_of(alloc, difference.found.as_str(), difference.wanted.as_str())?;
+    let points = points_rows(alloc, &points)?;
     let malformed = malformed_rows(alloc, difference.malformed)?;
-    let rules = rules_of(alloc, schedule, difference)?;
+    let rules = print_explained(alloc, explained)?;
     text.push_str(points.as_str())?;
     text.push_str(malformed.as_str())?;
     text.push_str(rules.as_str())?;
     Ok(text)
 }
 
-/// The lines of a verdict on a port's lines for the schedule: `conforms` with how much was compared, or `nothing compared` where no value
-/// was; the first difference with what was
-/// found, what ot.js has, for two texts how much of them is equal, the code points of what may look alike, and where an instruction was
-/// performed which rule of ot.js makes the value, if one does, what that is given, and the first note that is true of what was found; or
-/// where the run stopped for a limit of the bench. For the rules the schedule is run again up to the difference.
-pub fn print_verdict(
-    alloc: Global,
-    schedule: &Schedule,
-    verdict: &Verdict,
-) -> Result<String, AllocError>
-    ensures { IfOk result (λ s. IsAnswer schedule.now verdict.now (string_bytes s)) }
+/// The lines of an answer's verdict: `conforms` with how much was compared, or `nothing compared` where no value was; the first difference
+/// with what was found, what ot.js has, for two texts how much of them is equal, the code points of what may look alike, and where an
+/// instruction was performed which rule of ot.js makes the value, if one does, what that is given, and the first note that is true of what
+/// was found; or where the run stopped for a limit of the bench.
+pub fn print_verdict(alloc: Global, answer: &Answer) -> Result<String, AllocError>
+    ensures { IfOk result (λ s. string_bytes s ≡ verdict_text answer.now.compared.verdict (option_map explained_value answer.now.explained)) }
 {
-    match verdict {
+    match &answer.compared.verdict {
         Verdict::Conforms(counts) => print_agreement(alloc, counts),
-        Verdict::Differs(difference) => print_explained(alloc, schedule, difference),
+        Verdict::Differs(difference) => explained_rows(alloc, difference, &answer.explained),
         Verdict::Stopped { place, refusal } => print_stop(alloc, *place, *refusal),
     }
 }

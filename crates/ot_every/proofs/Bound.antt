@@ -129,7 +129,7 @@ along n (i ∷ is) p q many unread e =
     let counts = count_adds n i is in
     omega (arith, cost, same, fewer_now, rest, first, counts)
 
-opening_clients : (clients present : ℕ) (text : List ℕ) → present ≤ clients → length (opening clients present text).clients ≡ clients
+pub opening_clients : (clients present : ℕ) (text : List ℕ) → present ≤ clients → length (opening clients present text).clients ≡ clients
 opening_clients clients present text le =
     let a = length-append (replicate present (present_with (start_list text))) (replicate (clients - present) absent) in
     let b = length-replicate present (present_with (start_list text)) in

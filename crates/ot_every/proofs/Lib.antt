@@ -21,3 +21,5 @@ mod Lettering
 mod Settling
 mod Stepping
 mod Visiting
+mod HandedOn
+mod Short

@@ -1,5 +1,5 @@
 -- One instruction of a walk: forth, the sessions behind it, and back.
-use Rattle.std.proofs.Common.{◌≡◌, ℕ, zero, suc, ◌+◌, ◌-◌, ◌<◌, ◌≤◌, List, [], ◌∷◌, ◌++◌, length, take, drop, map, refl, sym, ap, ap₂, ◌∙◌, subst, arith, Option, Some, None, Bool, true, false, Result, Ok, Err}
+use Rattle.std.proofs.Common.{◌≡◌, ℕ, zero, suc, ◌+◌, ◌-◌, ◌<◌, ◌≤◌, List, [], ◌∷◌, ◌++◌, length, take, drop, map, refl, sym, ap, ◌∙◌, subst, arith, Option, Some, None, Bool, false, Result, Ok, Err}
 use Rattle.std.specs.Prelude.{IsSomeAnd, OnErr, slice_get, flat_map, filter, not, if◌then◌else◌, ◌&&◌}
 use Rattle.std.specs.List.{range_with_len}
 use Rattle.std.proofs.lemmas.Grind.{flat_map-append}
@@ -7,15 +7,15 @@ use Rattle.std.proofs.lemmas.List.{append-nil}
 use Rattle.ot_isa.specs.declared.instruction.Instr.{Instr}
 use Rattle.ot_isa.specs.declared.instruction.Instr.TheVariants.{Edit}
 use Rattle.ot_operation.specs.Operation.{Operation}
-use Rattle.ot_model.specs.declared.shown.Refusal.{Refusal}
 use Rattle.ot_model.specs.declared.shown.Shown.{Shown}
-use Rattle.ot_model.specs.Table.{State, Performed, Refused, opening, step}
+use Rattle.ot_model.specs.Table.{State, Performed, opening, step}
 use Rattle.ot_machine.specs.Undoing.{Undoes}
 use Rattle.ot_machine.specs.declared.undo.Undo.{Undo}
 use Rattle.ot_every.specs.Listing.{Earlier, Space, candidates, comes_late, is_empty, is_settled, sessions_from, sessions_of, texts_after, texts_from}
 use Rattle.ot_every.specs.Walking.{AreMarks, Goes, GoesOrStays, IsBegun, IsMark, IsSame, Visits, VisitsPart, behind_all, sessions_by}
 use Rattle.ot_every.specs.declared.marks.Mark.{Mark}
 use Rattle.ot_every.specs.declared.walk.Walk.{Walk}
+use Rattle.ot_every.proofs.Bound.{opening_clients}
 use Rattle.ot_every.proofs.Late.{marks_push}
 use Rattle.ot_every.proofs.Visiting.{behind_cons, behind_nil, one_more, part_after, part_front, part_of_front, part_same, split_at, visits_append, visits_same}
 
@@ -182,6 +182,13 @@ whole_sessions before inserts count n texts path s items is e =
 
 pub begun_same : (space : Space) (a b : Walk) → IsBegun space a → IsSame a b → IsBegun space b
 begun_same space a b begun same = record { machine = same.machine ∙ begun.machine; instrs = same.instrs ∙ begun.instrs; marks = same.marks ∙ begun.marks }
+
+-- a space has at most 4 clients
+pub opening_few : (clients present : ℕ) (text : List ℕ) (s : State) → s ≡ opening clients present text → present ≤ clients → clients ≤ 4 → length s.clients ≤ 4
+opening_few clients present text s is le few =
+    let many = ap (λ (t : State). length t.clients) is in
+    let all = opening_clients clients present text le in
+    omega (arith, many, all, few)
 
 pub begun_marks : (space : Space) (w : Walk) → IsBegun space w → AreMarks [] (length w.marks.items) w.marks.items
 begun_marks space w begun = ap length begun.marks

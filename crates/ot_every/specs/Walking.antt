@@ -1,5 +1,6 @@
 -- How the program goes through the sessions.
-use Rattle.std.specs.Prelude.{◌≡◌, ◌⊎◌, ℕ, suc, ◌+◌, ◌&&◌, ◌||◌, not, if◌then◌else◌, Bool, true, false, List, [], ◌∷◌, ◌++◌, length, map, slice_get, Option, Some, None, unwrap_or}
+use Rattle.std.specs.Prelude.{◌≡◌, ◌⊎◌, ℕ, zero, suc, ◌+◌, ◌&&◌, ◌||◌, not, if◌then◌else◌, Bool, true, false, List, [], ◌∷◌, ◌++◌, length, map, slice_get, Option, Some, None, unwrap_or, ◌≤◌}
+use Rattle.std.specs.List.{All}
 use Rattle.ot_isa.specs.Program.{client_of}
 use Rattle.ot_isa.specs.declared.instruction.Instr.{Instr}
 use Rattle.ot_isa.specs.declared.instruction.Instr.TheVariants.{Edit, Take, Deliver, Acknowledge, Read, Join, ReadServer}
@@ -24,6 +25,10 @@ longer op left image = record { base = op.base + left; image = op.image ++ image
 -- the operations that begin as op does, and go on over so many more characters with at most so many more insertions; none stands before the next character
 abbrev pub ends : List ℕ → Operation ℕ → ℕ → ℕ → List (Operation ℕ)
 ends text op left inserts = map (longer op left) (images text op.base left inserts)
+
+-- the texts of insertions have at most 8 letters
+abbrev pub AreShort : List (List ℕ) → Type 0
+AreShort texts = All (λ text. length text ≤ 8) texts
 
 -- a letter of an edit
 abbrev pub letter_of : Bool → ℕ → ℕ
@@ -140,3 +145,14 @@ abbrev pub VisitsPart : {V O : Type 0} → (V → O → List Instr → V → O �
 VisitsPart visits stops v o [] w q = (v ≡ w) × (o ≡ q)
 VisitsPart {V} {O} visits stops v o (x ∷ xs) w q =
     (v ≡ w) × (o ≡ q) ⊎ (stops v o x w q ⊎ ((u : V) × (p : O) × visits v o x u p × VisitsPart visits stops u p xs w q))
+
+-- ---- parts
+
+-- a visitor that leaves out sessions: so many before the next one that it hands on, and so many between two of them. It hands on a session, or leaves it out
+abbrev pub HandsOn : {V O : Type 0} → (V → O → List Instr → V → O → Type 0) → ℕ → ℕ → V → O → List Instr → ℕ → ℕ → V → O → Type 0
+HandsOn visits gap zero v o is gap' left' w q = (gap' ≡ gap) × (left' ≡ gap) × visits v o is w q
+HandsOn visits gap (suc left) v o is gap' left' w q = (gap' ≡ gap) × (left' ≡ left) × (w ≡ v) × (q ≡ o)
+
+-- a session that is handed on stops
+abbrev pub StopsOn : {V O : Type 0} → (V → O → List Instr → V → O → Type 0) → ℕ → V → O → List Instr → V → O → Type 0
+StopsOn stops left v o is w q = (left ≡ 0) × stops v o is w q

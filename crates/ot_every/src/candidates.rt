@@ -1,22 +1,19 @@
 //! What may come next.
 
-ghost use Rattle.std.specs.Prelude.{◌≡◌, ◌≢◌, ◌<◌, ◌++◌, ◌∷◌, [], drop, filter, length, map, not, vec_items, Err, List, IfOk, OnOk, false, true};
+ghost use Rattle.std.specs.Prelude.{◌≡◌, ◌<◌, ◌≤◌, ◌++◌, ◌∷◌, [], drop, filter, length, map, not, vec_items, List, IfOk, OnOk, false, true};
 ghost use Rattle.ot_isa.specs.declared.instruction.Instr.TheVariants.{Acknowledge, Deliver, Join};
 ghost use Rattle.ot_machine.specs.Readers.{ClientHas};
 ghost use Rattle.ot_every.specs.Listing.{candidates, comes_late, edits, takes, Earlier};
-ghost use Rattle.ot_every.specs.Walking.{unless, AreMarks};
-ghost use Rattle.ot_every.specs.declared.visitor.Stop.TheVariants.{WriteFault};
+ghost use Rattle.ot_every.specs.Walking.{unless, AreMarks, AreShort};
 ghost use Rattle.ot_every.specs.Walking as walking;
 
 use crate::edits::push_edits;
 use crate::marks::{Mark, is_late};
-use crate::visitor::Stop;
 use ot_isa::Instr;
 use ot_machine::Machine;
-use ot_text::LIMIT;
 use std::alloc::{AllocError, Global};
 
-// Adds the client's edits with the next text, if one is left, unless they come late; `TooLong` where one might pass the limit of operations.
+// Adds the client's edits with the next text, if one is left, unless they come late.
 fn push_edits_in_time(
     alloc: Global,
     machine: &Machine,
@@ -26,10 +23,11 @@ fn push_edits_in_time(
     made: usize,
     inserts: usize,
     next: &mut Vec<Instr>,
-) -> Result<(), Stop>
-    requires { client < length machine.now.clients }
-    ensures edits { (path : List Earlier) → AreMarks path (length marks.now) marks.now → OnOk result (ClientHas machine.now client (λ x. next.old.items ++ unless (walking.is_late client false false path) (edits inserts (drop made (map vec_items texts.now)) client (length x.list))) next.new.items) }
-    ensures cause { result ≢ Err WriteFault }
+) -> Result<(), AllocError>
+    requires client { client < length machine.now.clients }
+    requires few { (length machine.now.clients ≤ 4) × (inserts ≤ 8) }
+    requires short { AreShort (map vec_items texts.now) }
+    ensures { (path : List Earlier) → AreMarks path (length marks.now) marks.now → OnOk result (ClientHas machine.now client (λ x. next.old.items ++ unless (walking.is_late client false false path) (edits inserts (drop made (map vec_items texts.now)) client (length x.list))) next.new.items) }
 {
     if made >= texts.len() {
         return Ok(());
@@ -37,11 +35,10 @@ fn push_edits_in_time(
     if is_late(marks, marks.len(), client, false, false) {
         return Ok(());
     }
+    // For the proof: the state of a machine is sound.
+    let _sound = machine.clients();
     let text = &texts[made];
     let count = machine.document(client).len();
-    if inserts > 8 || text.len() > 8 || count + inserts * text.len() > LIMIT {
-        return Err(Stop::TooLong);
-    }
     push_edits(alloc, next, client, text.as_slice(), inserts, count)?;
     Ok(())
 }
@@ -87,9 +84,10 @@ pub fn candidates(
     texts: &[Vec<char>],
     made: usize,
     inserts: usize,
-) -> Result<Vec<Instr>, Stop>
-    ensures left { (path : List Earlier) → AreMarks path (length marks.now) marks.now → IfOk result (λ next. next.items ≡ filter (λ i. not (comes_late path i)) (candidates inserts (drop made (map vec_items texts.now)) machine.now)) }
-    ensures cause { result ≢ Err WriteFault }
+) -> Result<Vec<Instr>, AllocError>
+    requires few { (length machine.now.clients ≤ 4) × (inserts ≤ 8) }
+    requires short { AreShort (map vec_items texts.now) }
+    ensures { (path : List Earlier) → AreMarks path (length marks.now) marks.now → IfOk result (λ next. next.items ≡ filter (λ i. not (comes_late path i)) (candidates inserts (drop made (map vec_items texts.now)) machine.now)) }
 {
     let mut next = Vec::new(alloc);
     for client in 0..machine.clients() {

@@ -14,7 +14,8 @@
 //!   two orders that are the same at each machine one is listed: an instruction that comes late is left out. An edit is any operation over the client's document
 //!   (`specs/Forms.antt`).
 //! - The laws (`specs/Laws.antt`, [`laws`]): each session is performed whole, no two are the same but for letters, and for every other one that is small there is one.
-//! - [`visit_sessions`] hands each of them to a [`Visitor`], in order. It keeps the path to where it is, and no list of sessions.
+//! - [`visit_sessions`] hands each of them to a [`Visitor`], in order. It keeps the path to where it is, and no list of sessions. [`visit_part`] hands on those of a
+//!   [`Part`].
 //!
 //! Begin reading at `sessions_from` in specs/Listing.antt, then at `visit_from` in listing.rt.
 #![tactic(auto)]
@@ -24,11 +25,15 @@ mod edits;
 pub mod laws;
 mod listing;
 mod marks;
+mod part;
+mod parting;
 mod settled;
 mod space;
 mod visitor;
 mod walk;
 
 pub use listing::visit_sessions;
+pub use part::Part;
+pub use parting::visit_part;
 pub use space::Space;
 pub use visitor::{Stop, Visitor};

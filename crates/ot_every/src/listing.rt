@@ -3,8 +3,8 @@
 ghost use Rattle.std.specs.Prelude.{◌≡◌, ◌+◌, ◌≤◌, drop, length, map, suc, vec_items, Err, List, IfOk, OnErr, OnOk, ℕ};
 ghost use Rattle.std.specs.List.{flat_map, range_with_len};
 ghost use Rattle.ot_every.specs.Listing.{most, sessions, sessions_from, sessions_of, texts_after, Earlier};
-ghost use Rattle.ot_every.specs.Walking.{behind_all, AreMarks, IsBegun, IsSame, Visits, VisitsPart};
-ghost use Rattle.ot_every.specs.declared.visitor.Stop.TheVariants.{WriteFault};
+ghost use Rattle.ot_every.specs.Walking.{behind_all, AreMarks, AreShort, IsBegun, IsSame, Visits, VisitsPart};
+ghost use Rattle.ot_every.specs.declared.visitor.Stop.TheVariants.{Output};
 
 use crate::candidates::candidates;
 use crate::edits::texts;
@@ -39,11 +39,13 @@ fn visit_from<O, V: Visitor<O>>(
     visitor: &mut V,
     output: &mut O,
 ) -> Result<(), Stop>
-    requires { made + room ≤ 1000 }
+    requires room { made + room ≤ 1000 }
+    requires few { (length walk.old.machine.clients ≤ 4) × (inserts ≤ 8) }
+    requires short { AreShort (map vec_items texts.now) }
     ensures ok { (path : List Earlier) → AreMarks path (length walk.old.marks.items) walk.old.marks.items → OnOk result (Visits V.visits visitor.old output.old (behind_all walk.old.instrs.items (sessions_from inserts room (drop made (map vec_items texts.now)) path walk.old.machine)) visitor.new output.new) }
     ensures same { OnOk result (IsSame walk.old walk.new) }
     ensures err { (path : List Earlier) → AreMarks path (length walk.old.marks.items) walk.old.marks.items → OnErr result (VisitsPart V.visits V.stops visitor.old output.old (behind_all walk.old.instrs.items (sessions_from inserts room (drop made (map vec_items texts.now)) path walk.old.machine)) visitor.new output.new) }
-    ensures cause { result ≡ Err WriteFault → V.failed output.new }
+    ensures cause { result ≡ Err Output → V.failed output.new }
 {
     if room == 0 {
         if made < texts.len() {
@@ -89,6 +91,7 @@ fn most(space: &Space, edits: usize) -> usize
     requires { edits ≤ 6 }
     ensures value { result ≡ most space.now edits }
     ensures few { result ≤ 100 }
+    ensures clients { (space.now.present ≤ space.now.clients) × (space.now.clients ≤ 4) }
 {
     let clients = space.clients() as usize;
     let present = space.present() as usize;
@@ -109,7 +112,7 @@ fn visit_edits<O, V: Visitor<O>>(
     ensures ok { OnOk result (Visits V.visits visitor.old output.old (flat_map (sessions_of space.now edits) (range_with_len 0 (suc (most space.now edits)))) visitor.new output.new) }
     ensures same { OnOk result (IsBegun space.now walk.new) }
     ensures err { OnErr result (VisitsPart V.visits V.stops visitor.old output.old (flat_map (sessions_of space.now edits) (range_with_len 0 (suc (most space.now edits)))) visitor.new output.new) }
-    ensures cause { result ≡ Err WriteFault → V.failed output.new }
+    ensures cause { result ≡ Err Output → V.failed output.new }
 {
     let texts = texts(alloc, edits, space.letters())?;
     for room in 0..most(space, edits) + 1 {
@@ -139,8 +142,8 @@ fn begin(alloc: Global, space: &Space) -> Result<Walk, AllocError>
     })
 }
 
-/// Visits each session of the space, in order. `WriteFault` only where the visitor's output has failed; `TooLong` where an edit might pass the limit of 1,000,000
-/// characters; `Memory` where a growth was refused. After an `Err` the first sessions have been visited, and perhaps one visit has stopped.
+/// Visits each session of the space, in order. `Output` only where the visitor's output takes no more; `Memory` where a growth was refused. After an `Err` the first
+/// sessions have been visited, and perhaps one visit has stopped.
 pub fn visit_sessions<O, V: Visitor<O>>(
     alloc: Global,
     space: &Space,
@@ -149,7 +152,7 @@ pub fn visit_sessions<O, V: Visitor<O>>(
 ) -> Result<(), Stop>
     ensures ok { OnOk result (Visits V.visits visitor.old output.old (sessions space.now) visitor.new output.new) }
     ensures err { OnErr result (VisitsPart V.visits V.stops visitor.old output.old (sessions space.now) visitor.new output.new) }
-    ensures cause { result ≡ Err WriteFault → V.failed output.new }
+    ensures cause { result ≡ Err Output → V.failed output.new }
 {
     let mut walk = begin(alloc, space)?;
     for edits in 0..space.edits() + 1 {

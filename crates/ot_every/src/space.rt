@@ -92,7 +92,8 @@ impl Space {
 
     // How many insertions an edit has at most.
     pub(crate) fn inserts(&self) -> usize
-        ensures { result ≡ self.now.inserts }
+        ensures value { result ≡ self.now.inserts }
+        ensures few { result ≤ 8 }
     {
         self.inserts
     }

@@ -2,7 +2,7 @@
 
 ghost use Rattle.std.specs.Prelude.{◌≡◌, Err, List, OnErr, OnOk};
 ghost use Rattle.ot_isa.specs.declared.instruction.Instr.{Instr};
-ghost use Rattle.ot_every.specs.declared.visitor.Stop.TheVariants.{Memory, WriteFault};
+ghost use Rattle.ot_every.specs.declared.visitor.Stop.TheVariants.{Memory, Output};
 
 use ot_isa::Instr;
 use std::alloc::AllocError;
@@ -10,10 +10,8 @@ use std::alloc::AllocError;
 /// Why not all sessions were visited.
 #[derive(Clone, Copy, Debug, PartialEq, Eq)]
 pub enum Stop {
-    /// The visitor's output has failed.
-    WriteFault,
-    /// An edit would pass the limit of 1,000,000 characters.
-    TooLong,
+    /// The visitor's output takes no more.
+    Output,
     /// Out of memory.
     Memory,
 }
@@ -34,12 +32,12 @@ pub trait Visitor<O> {
     // What a visit leaves that stops.
     ghost stops: { Self → O → List Instr → Self → O → Type 0 };
 
-    // The output has failed.
+    // The output takes no more.
     ghost failed: { O → Type 0 };
 
     /// Visits the session of these instructions.
     fn visit(&mut self, session: &[Instr], output: &mut O) -> Result<(), Stop>
         ensures ok { OnOk result (visits self.old output.old session.now self.new output.new) }
         ensures err { OnErr result (stops self.old output.old session.now self.new output.new) }
-        ensures cause { result ≡ Err WriteFault → failed output.new };
+        ensures cause { result ≡ Err Output → failed output.new };
 }

@@ -1,4 +1,5 @@
 mod Clients
+mod Sentences
 mod LineByLine
 mod Progress
 mod Sizes

@@ -14,6 +14,7 @@ use Rattle.ot_asm.specs.Comments.{Said, cut_text}
 use Rattle.ot_asm.specs.Named.{named}
 use Rattle.ot_explain.specs.Told.{opening_words, paragraph}
 use Rattle.ot_explain.specs.Reasons.{refused_paragraph}
+use Rattle.ot_explain.specs.Agreeing.{verdict_words}
 use Rattle.ot_steps.specs.declared.writing.StepsFault.{StepsFault}
 use Rattle.ot_steps.specs.declared.writing.StepsFault.TheVariants.{Memory, WriteFault}
 
@@ -53,9 +54,9 @@ stop_text lines s state (Some stop) = stop_at lines stop.0 stop.1 state (slice_g
 abbrev pub end_words : Bool → List ℕ
 end_words quiet = if quiet then codes "the end: all is quiet\n" else codes "the end: not all is quiet\n"
 
--- the stop and the end of a run that ends in this state
+-- the stop and the end of a run that ends in this state, and the verdict on it
 abbrev pub end_text : List ℕ → Program → State → Option (ℕ × Refusal) → List ℕ
-end_text lines s state stopped = stop_text lines s state stopped ++ end_words (is_quiet state)
+end_text lines s state stopped = stop_text lines s state stopped ++ (end_words (is_quiet state) ++ verdict_words state)
 
 -- these with the clients' names, and what tells of the cut
 abbrev pub last_text : List ℕ → Said → Program → State → Option (ℕ × Refusal) → List ℕ

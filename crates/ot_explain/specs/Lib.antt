@@ -2,4 +2,5 @@ pub mod Words
 pub mod Told
 pub mod Reasons
 pub mod Placed
+pub mod Agreeing
 pub mod Explained

@@ -1,10 +1,11 @@
-//! How a run ends: the instruction that is refused, and whether all is quiet.
+//! How a run ends: the instruction that is refused, whether all is quiet, and the verdict.
 
 ghost use Rattle.std.specs.Prelude.{◌≡◌, ◌++◌, IfOk, OnOk, string_bytes};
 ghost use Rattle.ot_steps.specs.Steps.{is_quiet};
 ghost use Rattle.ot_explain.specs.Reasons.{refused_paragraph, tried};
-ghost use Rattle.ot_explain.specs.Explained.{end_words, last_text, line_at, stop_text};
+ghost use Rattle.ot_explain.specs.Explained.{end_text, end_words, last_text, line_at, stop_text};
 
+use crate::agreeing::push_verdict;
 use crate::paragraphs::{push_heading, push_user};
 use crate::reasons::push_reason;
 use ot_asm::{Comments, named, push_cut};
@@ -72,7 +73,23 @@ fn push_end(text: &mut String, machine: &Machine) -> Result<(), AllocError>
     text.push_str("the end: not all is quiet\n")
 }
 
-/// The paragraphs of a run's stop, if there was one, and of its end, with the clients' names, and behind them what tells of the cut.
+// All of a run's end.
+fn push_last(
+    alloc: Global,
+    text: &mut String,
+    machine: &Machine,
+    lines: &[u64],
+    schedule: &Schedule,
+    stopped: Option<(usize, Refusal)>,
+) -> Result<(), AllocError>
+    ensures { OnOk result (string_bytes text.new ≡ string_bytes text.old ++ end_text lines.now schedule.now machine.now stopped) }
+{
+    push_stop(text, machine, lines, schedule, stopped)?;
+    push_end(text, machine)?;
+    push_verdict(alloc, text, machine)
+}
+
+/// The paragraphs of a run's stop, if there was one, of its end and of the verdict, with the clients' names, and behind them what tells of the cut.
 pub(crate) fn last_words(
     alloc: Global,
     machine: &Machine,
@@ -84,8 +101,7 @@ pub(crate) fn last_words(
     ensures { IfOk result (λ v. v.items ≡ last_text lines.now comments.now schedule.now machine.now stopped) }
 {
     let mut text = String::new(alloc);
-    push_stop(&mut text, machine, lines, schedule, stopped)?;
-    push_end(&mut text, machine)?;
+    push_last(alloc, &mut text, machine, lines, schedule, stopped)?;
     let mut last = named(alloc, text.as_bytes(), comments)?;
     push_cut(&mut last, comments)?;
     Ok(last)

@@ -9,6 +9,7 @@
 //!
 //! - *What an instruction did* (`specs/Told.antt`): `paragraph`, a text made of the written table's states before and after the instruction
 //!   (`ot_model`'s specs/Table.antt), by way of what a line of `ot_steps` says (`applies`, `outstanding_of`, `last_of`).
+//! - *The verdict* (`specs/Agreeing.antt`): `verdict_words`, behind the end: whether all documents must agree, and to what (`ot_verdict`).
 //! - *Why one is refused* (`specs/Reasons.antt`): `reason`, of the refusal and the state in which the run stands.
 //! - *Where an instruction stands* (`specs/Placed.antt`): [`places`], the lines of a text that are neither blank, nor comments, nor those
 //!   above the instructions.
@@ -19,6 +20,7 @@
 //! Begin reading at `paragraph` in specs/Told.antt, then at [`explain`].
 #![tactic(auto)]
 
+mod agreeing;
 mod causes;
 mod ends;
 mod paragraphs;

@@ -45,7 +45,7 @@ fn write_moves<W: Sink>(
 }
 
 /// Runs the schedule and writes its run in words while it goes: the opening, a paragraph for each performed instruction, the stop if an
-/// instruction was not performed (refused, or out of memory), and the end. Says whether one was not performed. `lines` are the lines
+/// instruction was not performed (refused, or out of memory), the end, and the verdict. Says whether one was not performed. `lines` are the lines
 /// of the instructions, as [`places`](crate::places) of the schedule's text; an instruction without one has line 0. `comments` are what the
 /// text's comments tell: where they name a client, its name stands behind its number; where the schedule is cut, the last line says so.
 ///

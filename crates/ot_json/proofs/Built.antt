@@ -12,7 +12,7 @@ use Rattle.ot_json.proofs.Added.{is_short}
 use Rattle.ot_json.proofs.RoundTrip.{written_reads}
 use Rattle.ot_json.specs.Writing.{HasForm, data_of, array_of}
 
-one_back : (r : Run ℕ) → HasForm r → run_of_data (data_of r) ≡ Some r
+pub one_back : (r : Run ℕ) → HasForm r → run_of_data (data_of r) ≡ Some r
 one_back (Keep zero) h = absurd (omega (arith, h.0))
 one_back (Keep (suc n)) h = refl
 one_back (Add s) h = ap (λ t. Some (Add t)) (chars-encodes s h)

@@ -3,5 +3,5 @@ pub mod RoundTrip
 pub mod Built
 mod Counted
 pub mod Faults
-mod PlainItems
+mod PlainText
 pub mod Lists

@@ -23,11 +23,11 @@ use Rattle.ot_json.specs.Writing.{HasForm, data_of, array_of}
 abbrev whole : Option (json.Json × List Token) → Option Data
 whole o = option_and_then of_json (option_and_then (λ p. json.if_last p.0 p.1) o)
 
-read_back : (d : Data) (ts : List Token) (bytes : List ℕ) → WritesValue d [] ts → tokens bytes ≡ ts → depth d ≤ max_depth → read bytes ≡ Some d
+pub read_back : (d : Data) (ts : List Token) (bytes : List ℕ) → WritesValue d [] ts → tokens bytes ≡ ts → depth d ≤ max_depth → read bytes ≡ Some d
 read_back d ts bytes w same shallow =
     ap whole (ap (json.value max_depth) (same ∙ w.1 ∙ sym (append-nil _)) ∙ value-json_tokens w.0 max_depth [] (omega (arith, w.3))) ∙ w.2
 
-abbrev datas : List (Run ℕ) → Items
+abbrev pub datas : List (Run ℕ) → Items
 datas ps = items_of (map data_of ps)
 
 negative_reads : (n : ℕ) → (0 < n) × (n < 2 ^ 63) → number_of (signed_decimal (negsuc (n - 1))) ≡ Some (negative (negsuc (n - 1)))
@@ -70,11 +70,11 @@ flat_outline (Keep n ∷ ps) = omega (arith, flat_outline ps)
 flat_outline (Add s ∷ ps) = omega (arith, flat_outline ps)
 flat_outline (Skip n ∷ ps) = omega (arith, flat_outline ps)
 
-printable : (ps : List (Run ℕ)) → AllByRecursion HasForm ps → ArePrintable (tree.json_tokens (outline (array_of ps)))
+pub printable : (ps : List (Run ℕ)) → AllByRecursion HasForm ps → ArePrintable (tree.json_tokens (outline (array_of ps)))
 unfolding ArePrintable
 printable ps h = (tt, all_printable ps h)
 
-written : (ps : List (Run ℕ)) → AllByRecursion HasForm ps → WritesValue (array_of ps) [] (tree.json_tokens (outline (array_of ps)))
+pub written : (ps : List (Run ℕ)) → AllByRecursion HasForm ps → WritesValue (array_of ps) [] (tree.json_tokens (outline (array_of ps)))
 written ps h = (
   outline (array_of ps),
   refl,
@@ -83,9 +83,12 @@ written ps h = (
   ap json.array (all_plain ps h),
 )
 
+pub shallow : (ps : List (Run ℕ)) → depth (array_of ps) ≤ max_depth
+shallow ps = omega (arith, flat ps)
+
 pub written_reads : (ps : List (Run ℕ)) → AllByRecursion HasForm ps → read (compact_text (array_of ps)) ≡ Some (array_of ps)
 written_reads ps h =
     let d = array_of ps in
     let ts = tree.json_tokens (outline d) in
     let same : tokens (compact_text d) ≡ ts = ap tokens (sym (print-outline d)) ∙ tokens-print ts (printable ps h) in
-    read_back d ts (compact_text d) (written ps h) same (omega (arith, flat ps))
+    read_back d ts (compact_text d) (written ps h) same (shallow ps)

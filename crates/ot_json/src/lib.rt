@@ -12,7 +12,7 @@
 //! `serde_json` reads and writes the JSON values. The contracts' words: `specs/Reading.antt` (`operation_of_text`, the
 //! operation of a text or its fault) and `specs/Writing.antt` (`text_of_operation`). Begin with `reading.rt`; `building.rt`
 //! has the one pass, and a second one without memory which finds whether a fault stands behind a refused growth. `plain.rt` reads
-//! what a program writes, arrays of strings and integers, with memory that is reused from text to text.
+//! what programs write, arrays of strings without escapes and of integers, in one pass over the bytes and without a JSON value.
 //!
 //! What stands under the keys of JSON objects (numbers, texts, arrays) is read by [`number_at`] and the others of `fields.rt`; `specs/Fields.antt`
 //! has the same words for the definitions of formats.

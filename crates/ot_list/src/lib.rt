@@ -21,7 +21,7 @@
 //! - `Draft::new` or `begin`, then `keep`, `extend`, and `finish`, which makes the patch; or `list`, where there is no old list. The old list is only
 //!   read. What is written is copied once where it becomes one leaf. After an error the draft is abandoned: `begin` makes it one in which nothing is written.
 //! - `List::find` walks over leaves by their sums; `List::copy` copies a list. `List::replace_in_leaf` changes one leaf where it lies, if the rule on leaves still
-//!   holds then, and `List::exchange_leaf` puts other items in its place. A leaf that grows gets the room of a whole leaf at once.
+//!   holds then; `List::leaf_with` copies the leaf so changed, and `List::exchange_leaf` exchanges it. A leaf that grows gets the room of a whole leaf at once.
 //! - `List::prepare` makes room in the patch; that may fail, and changes no value.
 //! - `List::swap` exchanges leaves: it takes no memory, cannot fail, and moves only the headers of leaves. Where as many go as come at each place, it touches
 //!   these alone; else it moves all headers once.

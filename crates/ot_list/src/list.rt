@@ -1,7 +1,7 @@
 //! The list.
 
 ghost use Rattle.std.specs.Prelude.{◌≡◌, ◌↔◌, ◌<◌, ◌≤◌, ◌+◌, ◌-◌, ◌^◌, List as ListOf, map, length, take, drop, set, get_or, [], false, IsTrue, IfOk, OnErr};
-ghost use Rattle.ot_list.specs.Leaves.{concatenated, AreLeaves, MayHave, replaced};
+ghost use Rattle.ot_list.specs.Leaves.{concatenated, AreLeaves, MayHave, replaced, with_run};
 
 use crate::Item;
 use crate::replace::replace;
@@ -190,6 +190,27 @@ impl<E: Item> List<E> {
         replace(&mut self.leaves[leaf], at, gone, items, E::CAP)?;
         self.sums[leaf] = E::sum(self.leaves[leaf].as_slice());
         Ok(true)
+    }
+
+    /// A copy of a leaf in which others come in the place of `gone` items, with as much room as the leaf has. `AllocError` where memory was refused.
+    pub fn leaf_with(
+        &self,
+        leaf: usize,
+        at: usize,
+        gone: usize,
+        items: &[E],
+    ) -> Result<Vec<E>, AllocError>
+        requires leaf { leaf < length self.now }
+        requires within { at + gone ≤ length (get_or self.now leaf []) }
+        ensures { IfOk result (λ copy. copy.items ≡ with_run (get_or self.now leaf []) at gone items.now) }
+    {
+        let old = &self.leaves[leaf];
+        let mut copy = Vec::with_capacity(*old.allocator(), old.capacity())?;
+        let old = old.as_slice();
+        copy.extend_from_slice(&old[..at])?;
+        copy.extend_from_slice(items)?;
+        copy.extend_from_slice(&old[at + gone..])?;
+        Ok(copy)
     }
 
     /// Exchanges a leaf for other items: what was the leaf is handed back. Answers false, and changes nothing, exactly where the leaves would not be as they

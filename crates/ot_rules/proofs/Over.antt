@@ -1,9 +1,7 @@
 -- One more item of a loop's list.
 use Rattle.std.proofs.Common.{◌≡◌, ℕ, ◌+◌, ◌<◌, ◌≤◌, List, ◌∷◌, ◌++◌, length, drop, get_or, refl, sym, ap, ◌∙◌, subst, arith, add-one, length-drop, drop-cons, append_assoc, Option, Some, None, Bool, true}
-use Rattle.std.specs.Prelude.{codes}
 use Rattle.ot_operation.specs.Operation.{Operation}
 use Rattle.ot_operation.specs.Run.{Run, Keep, Add, Skip}
-use Rattle.ot_rules.specs.Text.{concurrent_lines, given_operation}
 use Rattle.ot_rules.specs.Units.{IsAdded, behind, unit_run, units_from, with_one_more}
 use Rattle.ot_rules.specs.Wrong.{second_of, transformed, turned_over}
 
@@ -47,13 +45,3 @@ pub behind_within : (text later : List ℕ) (run : Run ℕ) → length text ≤ 
 behind_within text later (Keep count) small is = omega (arith, ap length is, length-drop count text)
 behind_within text later (Add letters) small is = omega (arith, ap length is)
 behind_within text later (Skip count) small is = omega (arith, ap length is, length-drop count text)
-
--- ---- lines of operations
-
-pub lines_more : (text next all : List ℕ) (ops : List (Operation ℕ)) (i : ℕ) (op : Operation ℕ) → i < length ops → op ≡ get_or ops i op
-    → text ++ concurrent_lines (drop i ops) ≡ all → next ≡ text ++ given_operation (codes "concurrent") op → next ++ concurrent_lines (drop (i + 1) ops) ≡ all
-lines_more text next all ops i op here at so_far is =
-    ap (λ (t : List ℕ). t ++ concurrent_lines (drop (i + 1) ops)) is
-    ∙ append_assoc text (given_operation (codes "concurrent") op) (concurrent_lines (drop (i + 1) ops))
-    ∙ ap (λ (rest : List (Operation ℕ)). text ++ concurrent_lines rest) (sym (drop_here ops i op here at))
-    ∙ so_far

@@ -1,6 +1,6 @@
 //! What is said of a port's first difference.
 
-ghost use Rattle.std.specs.Prelude.{◌≡◌, ◌≤◌, ◌≢◌, length, IfOk, OnOk, string_bytes};
+ghost use Rattle.std.specs.Prelude.{◌≡◌, ◌≤◌, ◌≢◌, length, IfOk, OnOk};
 ghost use Rattle.std.specs.Option.{option_map};
 ghost use Rattle.ot_model.specs.Runs.{opening_of, place_at};
 ghost use Rattle.ot_rules.specs.Call.{call_value};
@@ -10,7 +10,7 @@ ghost use Rattle.ot_rules.specs.Notes as notes;
 use crate::call::Call;
 use crate::calling::call_of;
 use crate::note::{Asked, first_note, sentence};
-use crate::printing::print_call;
+use crate::printing::{Given, given_of, rule};
 use crate::text::text_for;
 use ot_isa::{Instr, Schedule};
 use ot_machine::{Machine, Refusal};
@@ -28,6 +28,16 @@ pub struct Difference<'a> {
     pub wanted: &'a str,
     /// The port printed the operation that the instruction applies to a document, and it is ot.js'.
     pub printed: bool,
+}
+
+/// What is said of a difference: the method of ot.js that makes the value, what that is given, and a sentence that is true of what was found.
+#[derive(Drop)]
+pub struct Explained {
+    /// The method's name, as ot.js has it.
+    pub rule: &'static str,
+    pub given: Vec<Given>,
+    /// The sentence of the first note that is true, if one is.
+    pub note: Option<&'static str>,
 }
 
 // An instruction was not performed: memory ran out, or it was refused.
@@ -70,7 +80,7 @@ fn machine_at(
     Ok(Some(machine))
 }
 
-// The lines of the call that the instruction is, before which the machine is, and of the first note that is true.
+// What is said of the call that the instruction is, before which the machine is: the call, and the first note that is true.
 fn explain_call(
     alloc: Global,
     schedule: &Schedule,
@@ -78,8 +88,8 @@ fn explain_call(
     instr: &Instr,
     call: &Call,
     difference: Difference<'_>,
-) -> Result<String, AllocError>
-    ensures { IfOk result (λ lines. explained.IsExplained (explained.asked_of schedule.now machine.now instr.now (call_value call.now) (notes.difference_value difference.entry)) (string_bytes lines)) }
+) -> Result<Explained, AllocError>
+    ensures { IfOk result (λ said. explained.IsExplained (explained.asked_of schedule.now machine.now instr.now (call_value call.now) (notes.difference_value difference.entry)) (explained.explained_value said)) }
 {
     let text = text_for(alloc, schedule, machine, instr, call, difference.key)?;
     let asked = Asked {
@@ -87,14 +97,16 @@ fn explain_call(
         text: &text,
         difference,
     };
-    let lines = print_call(alloc, call)?;
-    match first_note(alloc, &asked)? {
-        None => Ok(lines),
-        Some(note) => {
-            let sentence = sentence(note, difference.key);
-            format!(in alloc; "{lines}note {sentence}\n")
-        }
-    }
+    let given = given_of(alloc, call)?;
+    let note = match first_note(alloc, &asked)? {
+        Some(note) => Some(sentence(note, difference.key)),
+        None => None,
+    };
+    Ok(Explained {
+        rule: rule(call),
+        given,
+        note,
+    })
 }
 
 // What is said of the instruction, which the machine is before, if it is performed.
@@ -104,18 +116,18 @@ fn explain_step(
     machine: &mut Machine,
     instr: &Instr,
     difference: Difference<'_>,
-) -> Result<String, AllocError>
-    ensures { IfOk result (λ lines. explained.IsStepExplained schedule.now machine.old instr.now (notes.difference_value difference.entry) (string_bytes lines)) }
+) -> Result<Option<Explained>, AllocError>
+    ensures { IfOk result (λ said. explained.IsStepExplained schedule.now machine.old instr.now (notes.difference_value difference.entry) (option_map explained.explained_value said)) }
 {
     let Some(call) = call_of(alloc, machine, instr)? else {
-        return Ok(String::new(alloc));
+        return Ok(None);
     };
-    let lines = explain_call(alloc, schedule, machine, instr, &call, difference)?;
+    let said = explain_call(alloc, schedule, machine, instr, &call, difference)?;
     if let Err(refusal) = machine.perform::<false>(instr) {
         only_refused(refusal)?;
-        return Ok(String::new(alloc));
+        return Ok(None);
     }
-    Ok(lines)
+    Ok(Some(said))
 }
 
 // A rule of ot.js makes the value; the place, the instruction and its client are the schedule's.
@@ -125,9 +137,9 @@ fn has_rule(key: Option<Key>) -> bool
     !matches!(key, Some(Key::At | Key::Do | Key::Client))
 }
 
-/// The lines that say which rule of ot.js makes the value at the instruction with this number, counted from 0: `rule R`, a line `given NAME V` for each thing
-/// that it is given, and a line `note TEXT` where a note is true of what was found, the first of them. Empty where the instruction is not an edit, a take, a
-/// deliver or an ack that ot.js performs, and for `at`, `do` and `client`, which no rule makes.
+/// Says which rule of ot.js makes the value at the instruction with this number, counted from 0, what that is given, and the first note that
+/// is true of what was found. Nothing where the instruction is not an edit, a take, a deliver or an ack that ot.js performs, and for `at`,
+/// `do` and `client`, which no rule makes.
 ///
 /// The schedule is run again up to that instruction. `Err` is out of memory.
 pub fn explain(
@@ -135,17 +147,17 @@ pub fn explain(
     schedule: &Schedule,
     place: usize,
     difference: Difference<'_>,
-) -> Result<String, AllocError>
-    ensures { IfOk result (λ lines. explained.Explains schedule.now place (notes.difference_value difference.entry) (string_bytes lines)) }
+) -> Result<Option<Explained>, AllocError>
+    ensures { IfOk result (λ said. explained.Explains schedule.now place (notes.difference_value difference.entry) (option_map explained.explained_value said)) }
 {
     if !has_rule(difference.key) {
-        return Ok(String::new(alloc));
+        return Ok(None);
     }
     let Some(instr) = schedule.get(place) else {
-        return Ok(String::new(alloc));
+        return Ok(None);
     };
     match machine_at(alloc, schedule, place)? {
         Some(mut machine) => explain_step(alloc, schedule, &mut machine, instr, difference),
-        None => Ok(String::new(alloc)),
+        None => Ok(None),
     }
 }

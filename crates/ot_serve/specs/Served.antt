@@ -45,7 +45,7 @@ Serves (Explain subject.Schedule) unread = Explains unread
 Serves (Explain subject.Image) unread = ExplainsImage unread
 Serves (Explain subject.Trace) unread = ExplainsTrace unread
 Serves (Explain subject.Plan) unread = ExplainsPlan unread
-Serves (Conform sparse) unread = Compares sparse
+Serves (Conform sparse json) unread = Compares sparse json
 Serves Complete unread = OfText MayComplete
 Serves (Generate seed shape) unread = WithoutInput (Generates shape)
 

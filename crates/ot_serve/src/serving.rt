@@ -68,7 +68,9 @@ fn carry_out<I: Source, O: Sink, F: Write>(
         Request::Explain(Subject::Image) => run_explain_image(alloc, input, output, faults),
         Request::Explain(Subject::Trace) => explain_trace(alloc, input, output, faults),
         Request::Explain(Subject::Plan) => explain_plan(alloc, input, output, faults),
-        Request::Conform(sparse) => run_conform(alloc, sparse, input, output, faults),
+        Request::Conform { sparse, json } => {
+            run_conform(alloc, sparse, json, input, output, faults)
+        }
         Request::Complete => complete_text(alloc, input, output, faults),
         Request::Generate(seed, shape) => generate_session(alloc, seed, &shape, output, faults),
     }

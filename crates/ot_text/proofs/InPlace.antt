@@ -229,9 +229,7 @@ run_of_parts {A} front run behind come =
     let all : drop (length front + length run) (front ++ run ++ behind) ≡ behind = rw (← length-append front run) (drop-append_seam (front ++ run) behind) in
     rw (at, all) refl
 
-pub brought_run :
-    {A : Type 0} (leaf come saved : List A) (at gone : ℕ) → at + gone ≤ length leaf → gone ≤ length come → saved ≡ take gone (drop at leaf)
-    → brought_back (gone - length come) saved (with_run (with_run leaf at gone come) at (length come) saved) ≡ leaf
+pub brought_run : {A : Type 0} (leaf come saved : List A) (at gone : ℕ) → at + gone ≤ length leaf → gone ≤ length come → saved ≡ take gone (drop at leaf) → brought_back (gone - length come) saved (with_run (with_run leaf at gone come) at (length come) saved) ≡ leaf
 brought_run {A} leaf come saved at gone within less is =
     let none : gone - length come ≡ 0 = omega (arith, less) in
     let front : List A = take at leaf in
@@ -242,17 +240,9 @@ brought_run {A} leaf come saved at gone within less is =
     subst (λ (n : ℕ). with_run (front ++ come ++ behind) n (length come) saved ≡ front ++ saved ++ behind) long (run_of_parts front come behind saved) in
     rw none (back ∙ parts)
 
-pub brought_all : {A : Type 0} (saved run : List A) (gone come : ℕ) → come < gone → brought_back (gone - come) saved run ≡ saved
-brought_all saved run gone come more = let some : gone - come ≡ suc (gone - come - 1) = omega (arith, more) in rw some refl
-
-pub brought_none : {A : Type 0} (saved run : List A) (gone come : ℕ) → gone ≤ come → brought_back (gone - come) saved run ≡ run
-brought_none saved run gone come less = let none : gone - come ≡ 0 = omega (arith, less) in rw none refl
-
 -- the list with the leaf that is brought back
-pub restored :
-    {A : Type 0} (old one now : List (List A)) (leaf at gone : ℕ) (come saved : List A) → leaf < length old → now ≡ one → one ≡ replaced old leaf at gone come
-    → brought_back (gone - length come) saved (with_run (with_run (get_or old leaf []) at gone come) at (length come) saved) ≡ get_or old leaf []
-    → set now leaf (brought_back (gone - length come) saved (with_run (get_or now leaf []) at (length come) saved)) ≡ old
+pub restored : {A : Type 0} (old one now : List (List A)) (leaf at gone : ℕ) (come saved : List A) → leaf < length old → now ≡ one → one ≡ replaced old leaf at gone come
+    → brought_back (gone - length come) saved (with_run (with_run (get_or old leaf []) at gone come) at (length come) saved) ≡ get_or old leaf [] → set now leaf (brought_back (gone - length come) saved (with_run (get_or now leaf []) at (length come) saved)) ≡ old
 restored {A} old one now leaf at gone come saved there same one_is back =
     let all : now ≡ replaced old leaf at gone come = same ∙ one_is in
     rw (all, get_or-set_same old leaf (with_run (get_or old leaf []) at gone come) [] there, back) (set-set old leaf (with_run (get_or old leaf []) at gone come) (get_or old leaf []) ∙ set-get_or old leaf [])

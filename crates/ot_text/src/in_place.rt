@@ -1,10 +1,10 @@
 //! An operation carried out where the list lies.
 
-ghost use Rattle.std.specs.Prelude.{◌≡◌, ◌+◌, ◌-◌, ◌<◌, ◌≤◌, [], length, take, drop, set, get_or, unwrap_or, false, IsTrue, IfOk, OnErr};
+ghost use Rattle.std.specs.Prelude.{◌≡◌, ◌+◌, ◌-◌, ◌<◌, ◌≤◌, [], length, take, drop, set, get_or, unwrap_or, false, IsTrue, IfOk, IfSome, None, OnErr};
 ghost use Rattle.ot_operation.specs.Operation.{apply};
 ghost use Rattle.ot_operation.specs.Run.{base_of};
 ghost use Rattle.ot_codes.specs.Codes.{runs_of};
-ghost use Rattle.ot_list.specs.Leaves.{concatenated, with_run, AreLeaves};
+ghost use Rattle.ot_list.specs.Leaves.{concatenated, with_run, replaced, AreLeaves};
 ghost use Rattle.ot_text.specs.Components.{insertions};
 ghost use Rattle.ot_text.specs.InPlace.{HasPassed, changed_behind, brought_back};
 ghost use Rattle.ot_text.specs.Places.{start_of};
@@ -14,7 +14,7 @@ use crate::place::Place;
 use ot_codes::Cursor;
 use ot_list::{Item, List};
 use ot_operation::Element;
-use std::alloc::{AllocError, Global};
+use std::alloc::AllocError;
 
 // An operation of more components is carried out by a draft.
 const FEW: usize = 128;
@@ -59,22 +59,35 @@ impl<'a, T: Item> Left<'a, T> {
     }
 }
 
-// What a leaf is brought back by in which others come in the place of `gone` items: all of it, where it is shorter then, else those that go.
-fn saved<T: Item>(
-    alloc: Global,
-    leaf: &[T],
-    at: usize,
+// Puts others in the place of `gone` items of a leaf. Gives what the leaf is brought back by: all that it was, where it is shorter then, else the items that went. None, and
+// nothing has changed, where the leaf may not have what it has then.
+fn exchange<T: Item>(
+    list: &mut List<T>,
+    place: Place,
     gone: usize,
     come: &[T],
-) -> Result<Vec<T>, AllocError>
-    requires { at + gone ≤ length leaf.now }
-    ensures leaf { IfOk result (λ v. brought_back (gone - length come.now) v.items (with_run (with_run leaf.now at gone come.now) at (length come.now) v.items) ≡ leaf.now) }
-    ensures few { IfOk result (λ v. gone ≤ length come.now → length v.items ≤ length come.now) }
+) -> Result<Option<Vec<T>>, AllocError>
+    requires there { place.leaf < length list.old }
+    requires within { place.offset + gone ≤ length (get_or list.old place.leaf []) }
+    ensures made { IfOk result (λ saved. IfSome saved (λ v. list.new ≡ replaced list.old place.leaf place.offset gone come.now)) }
+    ensures leaf { IfOk result (λ saved. IfSome saved (λ v. brought_back (gone - length come.now) v.items (with_run (with_run (get_or list.old place.leaf []) place.offset gone come.now) place.offset (length come.now) v.items) ≡ get_or list.old place.leaf [])) }
+    ensures few { IfOk result (λ saved. IfSome saved (λ v. gone ≤ length come.now → length v.items ≤ length come.now)) }
+    ensures not { IfOk result (λ saved. saved ≡ None → list.new ≡ list.old) }
+    ensures err { OnErr result (list.new ≡ list.old) }
 {
+    let Place { leaf, offset } = place;
     if gone > come.len() {
-        return Vec::from_slice(alloc, leaf);
+        let mut shorter = list.leaf_with(leaf, offset, gone, come)?;
+        if !list.exchange_leaf(leaf, &mut shorter) {
+            return Ok(None);
+        }
+        return Ok(Some(shorter));
     }
-    Vec::from_slice(alloc, &leaf[at..at + gone])
+    let saved = Vec::from_slice(list.allocator(), &list.leaf(leaf)[offset..offset + gone])?;
+    if !list.replace_in_leaf(leaf, offset, gone, come)? {
+        return Ok(None);
+    }
+    Ok(Some(saved))
 }
 
 // Brings a leaf back in which `come` items stand in the place of `gone`.
@@ -130,11 +143,9 @@ fn change_from<T: Item>(
     if left.codes.head().is_none() {
         return list.replace_in_leaf(place.leaf, place.offset, gone, come);
     }
-    let alloc = list.allocator();
-    let before = saved(alloc, list.leaf(place.leaf), place.offset, gone, come)?;
-    if !list.replace_in_leaf(place.leaf, place.offset, gone, come)? {
+    let Some(before) = exchange(list, place, gone, come)? else {
         return Ok(false);
-    }
+    };
     let _second = list.leaf_count();
     let behind = Place {
         leaf: place.leaf,

@@ -33,6 +33,10 @@ flagged_app name flag = with_rule (new_app name) (flag_rule flag)
 abbrev pub explain_app : App
 explain_app = with_rule (with_rule (flagged_app (codes "explain") (codes "trace")) (flag_rule (codes "plan"))) (flag_rule (codes "image"))
 
+-- the subcommand `conform`
+abbrev pub conform_app : App
+conform_app = with_rule (flagged_app (codes "conform") (codes "sparse")) (flag_rule (codes "json"))
+
 -- the subcommand `generate`
 abbrev pub generate_app : App
 generate_app =
@@ -70,7 +74,7 @@ otbench_app =
     +> plain_app (codes "judge")
     +> flagged_app (codes "steps") (codes "documents")
     +> explain_app
-    +> flagged_app (codes "conform") (codes "sparse")
+    +> conform_app
     +> plain_app (codes "threads")
     +> plain_app (codes "complete")
     +> generate_app
@@ -103,6 +107,9 @@ explains (Some what) = Some (Plainly (Explain what))
 
 abbrev pub explain_among : List Row → Option Asked
 explain_among rows = explains (subject_of (flag_among (codes "trace") rows) (flag_among (codes "plan") rows) (flag_among (codes "image") rows))
+
+abbrev pub conform_among : List Row → Request
+conform_among rows = Conform (flag_among (codes "sparse") rows) (flag_among (codes "json") rows)
 
 -- the number of an option's text, or this one where there is none
 abbrev pub number_or : ℕ → Option Text → Option ℕ
@@ -150,7 +157,7 @@ request_in_rows p =
     (if bytes_eq p.0 (codes "judge") then Some (Plainly Judge) else
     (if bytes_eq p.0 (codes "steps") then Some (Plainly (Steps (flag_among (codes "documents") p.1))) else
     (if bytes_eq p.0 (codes "explain") then explain_among p.1 else
-    (if bytes_eq p.0 (codes "conform") then Some (Plainly (Conform (flag_among (codes "sparse") p.1))) else
+    (if bytes_eq p.0 (codes "conform") then Some (Plainly (conform_among p.1)) else
     (if bytes_eq p.0 (codes "threads") then Some Threads else
     (if bytes_eq p.0 (codes "complete") then Some (Plainly Complete) else
     (if bytes_eq p.0 (codes "generate") then generate_among p.1 else None)))))))))))

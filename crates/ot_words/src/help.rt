@@ -71,7 +71,8 @@ The lines: docs/FORMATS.md, 'Steps'.";
 /// Of `explain`.
 pub const EXPLAIN: &str = "\
 Reads a schedule's text on standard input. Tells its run in words: what each instruction did, with its line of the text and its
-number, why one is refused and what would repair it. Of a text that is no schedule: the column and the cause of its fault.
+number, why one is refused and what would repair it; and at the end whether the documents must agree, and to what. Of a text that
+is no schedule: the column and the cause of its fault.
 With --image it reads a schedule's image and tells the run of the text that 'otbench dis' writes of it; of bytes that are no image: the
 field of the first fault, what stands there and what is wanted.
 With --trace it reads a trace as 'otbench judge' does, and judges it. With --plan it reads a plan as 'otbench threads' does, and
@@ -88,6 +89,7 @@ Reads a schedule's text, a line '%%', and the lines that a port of ot.js printed
 'otbench steps'. Says that the port conforms and how much was compared, or the first difference: where, whose, which value, what
 was found and what ot.js has. A key that the port does not print is not compared; one that 'otbench steps' does not have is named.
 With --sparse an instruction without a line is passed over too, so that a line for one instruction is enough; its place says which.
+With --json the answer is one line of JSON, made of the same values.
 Example:  printf 'clients 1\\nedit 0 [\"a\"]\\n%%%%\\n{\"at\":1,\"document\":\"a\"}\\n' | otbench conform
 Status 0: conforms. 1: differs, or nothing was compared, or nothing can be compared for a limit of otbench, or the schedule was
 refused, or a fault of reading, writing or memory. The lines and the answer: docs/FORMATS.md, 'Conform'.";

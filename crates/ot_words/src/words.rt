@@ -3,7 +3,7 @@
 ghost use Rattle.std.specs.Prelude.{◌≡◌, Some, IfOk, IfErr, IsSome, map, true, option_and_then, option_map, vec_items};
 ghost use Rattle.std.specs.Str.{chars};
 ghost use Rattle.clap.specs.Words.{app_of, found_of, kind_of, rows_of, subcommand_rows_of, takes, with_rule};
-ghost use Rattle.ot_words.specs.Requests.{◌+>◌, IsPlain, chars_among, explain_among, explain_app, flag_among, flag_rule, form_among, generate_among, generate_app, number_among, number_if_among, option_rule, otbench_app, plain_app, request_in_rows, request_of, session_among, subject_of, top_app};
+ghost use Rattle.ot_words.specs.Requests.{◌+>◌, IsPlain, chars_among, conform_among, conform_app, explain_among, explain_app, flag_among, flag_rule, form_among, generate_among, generate_app, number_among, number_if_among, option_rule, otbench_app, plain_app, request_in_rows, request_of, session_among, subject_of, top_app};
 
 use crate::help;
 use clap::error::ErrorKind;
@@ -54,8 +54,9 @@ pub enum Request {
     /// Says in words what each instruction of a schedule, as text or as image, did; or what the verdict of a trace is, or what a plan is; and why
     /// it is refused.
     Explain(Subject),
-    /// Compares the lines that a port printed with the run of its schedule; whether instructions without a line are passed over.
-    Conform(bool),
+    /// Compares the lines that a port printed with the run of its schedule; whether instructions without a line are passed over, and whether
+    /// the answer is JSON.
+    Conform { sparse: bool, json: bool },
     /// Prints a schedule, and behind it what brings its run to quiet.
     Complete,
     /// Prints a session made at random: its seed, and what is asked of it.
@@ -205,6 +206,25 @@ fn explain_command<'a>(alloc: Global) -> Result<Command<'a>, AllocError>
     )
 }
 
+// The subcommand `conform`.
+fn conform_command<'a>(alloc: Global) -> Result<Command<'a>, AllocError>
+    ensures { IfOk result (λ c. app_of c ≡ conform_app) }
+{
+    let command = plain(
+        alloc,
+        "conform",
+        "Compare a port's own run with ot.js: a schedule's text, a line '%%', then the port's lines",
+        help::CONFORM,
+    );
+    let command = flagged(
+        alloc,
+        command,
+        "sparse",
+        "Pass over the instructions that have no line",
+    )?;
+    flagged(alloc, command, "json", "Answer with one line of JSON")
+}
+
 // The program with one subcommand more.
 fn joined<'a>(program: Command<'a>, subcommand: Command<'a>) -> Result<Command<'a>, AllocError>
     ensures { IfOk result (λ c. IsPlain (app_of subcommand.entry) → app_of c ≡ (app_of program.entry +> app_of subcommand.entry)) }
@@ -282,17 +302,7 @@ fn command<'a>(alloc: Global) -> Result<Command<'a>, AllocError>
     let program = joined(program, steps)?;
     let explain = explain_command(alloc)?;
     let program = joined(program, explain)?;
-    let conform = flagged(
-        alloc,
-        plain(
-            alloc,
-            "conform",
-            "Compare a port's own run with ot.js: a schedule's text, a line '%%', then the port's lines",
-            help::CONFORM,
-        ),
-        "sparse",
-        "Pass over the instructions that have no line",
-    )?;
+    let conform = conform_command(alloc)?;
     let program = joined(program, conform)?;
     let threads = plain(
         alloc,
@@ -357,6 +367,15 @@ fn explain_in(matches: &ArgMatches<'_>) -> Option<Asked>
         Some(subject) => Some(Asked::Plainly(Request::Explain(subject))),
         None => None,
     }
+}
+
+// What the matches of `conform` ask for.
+fn conform_in(matches: &ArgMatches<'_>) -> Request
+    ensures { result ≡ conform_among (rows_of (found_of matches.now)) }
+{
+    let sparse = is_set(matches, "sparse");
+    let json = is_set(matches, "json");
+    Request::Conform { sparse, json }
 }
 
 // The number that an option gives, or else this one; none where what it gives is no number.
@@ -448,7 +467,7 @@ fn request_in(alloc: Global, matches: &ArgMatches<'_>) -> Result<Option<Asked>, 
         "judge" => Ok(Some(Asked::Plainly(Request::Judge))),
         "steps" => Ok(Some(Asked::Plainly(Request::Steps(is_set(found, "documents"))))),
         "explain" => Ok(explain_in(found)),
-        "conform" => Ok(Some(Asked::Plainly(Request::Conform(is_set(found, "sparse"))))),
+        "conform" => Ok(Some(Asked::Plainly(conform_in(found)))),
         "threads" => Ok(Some(Asked::Threads)),
         "complete" => Ok(Some(Asked::Plainly(Request::Complete))),
         "generate" => generate_in(alloc, found),

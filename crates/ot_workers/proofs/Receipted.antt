@@ -77,3 +77,7 @@ replayed_all b a x r made whole =
 pub receipts_replayed : (b a : BoardView) (before after : List Receipt) (x : Session) (r : Replayed) → IsReplayed b x a r → after ≡ before ++ r.receipt ∷ [] → HasReceipts b before a after
 receipts_replayed b a before after x r made added =
     receipts_one b a before after r.receipt (take made.count x.steps) (set b.out x.start.number false) made.recorded added
+
+-- what is recorded leaves the number of clients
+pub same_clients : (b a : BoardView) (before after : List Receipt) → HasReceipts b before a after → a.recorded.clients ≡ b.recorded.clients
+same_clients b a before after has = ap (λ (p : Program). p.clients) has.recorded

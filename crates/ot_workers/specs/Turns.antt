@@ -59,9 +59,11 @@ abbrev pub AreSeen : BoardView → List (Vec Typing Global) → List ℕ → Lis
 AreSeen b typing typed seats =
     (c : ℕ) (s : Seat) → c < length b.state.clients → slice_get seats c ≡ Some s → IsSeen b (is_some (next_action typing typed c)) c s
 
--- all uplinks of the board are empty, and the seats show its clients
+-- all uplinks of the board are empty, and the seats show its clients, one each
 pub record IsLookedAt (typing : List (Vec Typing Global)) (i : Inside) (b : BoardView) : Type 0 where
   pub taken : AreUplinksEmpty b.state
+  pub counts : length i.typed.items ≡ b.recorded.clients
+  pub places : length i.seats.items ≡ b.recorded.clients
   pub seen : AreSeen b typing i.typed.items i.seats.items
 
 -- some client is out

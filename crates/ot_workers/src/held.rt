@@ -11,10 +11,11 @@ use ot_board::Lent;
 use ot_plan::Typing;
 
 /// A session, and what is to be done with it off the lock.
-pub(crate) struct Held<'a> {
-    pub(crate) lent: Lent,
-    pub(crate) task: Task<'a>,
-    ghost playable: { MayPlay (session_of lent) task },
+#[derive(Drop)]
+pub struct Held<'a> {
+    pub lent: Lent,
+    pub task: Task<'a>,
+    pub ghost playable: { MayPlay (session_of lent) task },
 }
 
 /// A session that was parked is read, and in any other the client's next action is typed.

@@ -16,7 +16,7 @@
 //! the first ones of them (`turn_steps` and `IsCutShort` in `specs/Playing.antt`). Which client a turn takes is `choice` in
 //! `specs/Choosing.antt`, and what a board and its users' actions have to be is `MayShare` in `specs/Sharing.antt`. What a turn does under the
 //! lock is `begin_turn` and `end_turn` in `turns.rt`: the first is `IsNextOf` in `specs/Turns.antt`, and exactly what either records has its
-//! receipts (`HasReceipts` in `specs/Receipts.antt`). Only `work` and `run_workers` may wait; no contract speaks of the order in which threads run,
+//! receipts (`HasReceipts` in `specs/Receipts.antt`). Both are public: with `play` between them they make a turn without threads or a lock. Only `work` and `run_workers` may wait; no contract speaks of the order in which threads run,
 //! or says that they make progress.
 //!
 //! Workers stand on the board, so this crate gives the board's names too: who takes it needs no other for sessions on threads. `play` is also a
@@ -40,6 +40,7 @@ mod working;
 pub use choosing::{Seat, Way, choose};
 pub use fault::WorkFault;
 pub use gate::{Gate, OpenGate};
+pub use held::Held;
 pub use method::Play;
 pub use ot_board::{
     AuditFault, Board, BoardRefusal, ClientState, EditedState, Finished, Lent, Receipt, Replayed,
@@ -47,6 +48,7 @@ pub use ot_board::{
 };
 pub use ot_plan::Typing;
 pub use playing::{Task, play};
-pub use shared::Shared;
+pub use shared::{Inside, Shared};
 pub use sharing::{ACTION_LIMIT, can_share};
+pub use turns::{Ended, Next, begin_turn, end_turn};
 pub use working::{WorkerEnd, run_workers, work};

@@ -1,6 +1,6 @@
 //! One lock round a board.
 
-ghost use Rattle.std.specs.Prelude.{◌≡◌, IfErr};
+ghost use Rattle.std.specs.Prelude.{◌≡◌, false, length, IfErr, IfOk};
 ghost use Rattle.ot_plan.specs.Typing.{typing_view};
 ghost use Rattle.ot_workers.specs.Sharing.{MayShare};
 
@@ -10,16 +10,18 @@ use ot_plan::Typing;
 use std::alloc::{AllocError, Global};
 use std::sync::{Condvar, Mutex, Wait};
 
-/// What lies under the lock.
+/// What lies under the lock: a board, with a count and a place for each of its clients.
 #[derive(Drop)]
-pub(crate) struct Inside {
-    pub(crate) board: Board,
+pub struct Inside {
+    pub board: Board,
     /// By client, how many of its actions stand in settled or parked sessions.
-    pub(crate) typed: Vec<usize>,
-    /// Room for what is seen of the clients.
-    pub(crate) seats: Vec<Seat>,
+    pub typed: Vec<usize>,
+    /// By client, what a turn has seen of it.
+    pub seats: Vec<Seat>,
     /// A worker has ended with a fault.
-    pub(crate) stopped: bool,
+    pub stopped: bool,
+    pub ghost counts: { length typed.items ≡ board.recorded.clients },
+    pub ghost places: { length seats.items ≡ board.recorded.clients },
 }
 
 /// A board that workers share, and what the clients' users type.
@@ -30,8 +32,33 @@ pub struct Shared {
     typing: Vec<Vec<Typing>>,
 }
 
-// The counts and the room for what is seen of so many clients.
-fn counts(alloc: Global, clients: usize) -> Result<(Vec<usize>, Vec<Seat>), AllocError> {
+impl Inside {
+    /// The board with nothing typed, nobody seen and no fault. If memory runs out the board comes back.
+    pub fn new(alloc: Global, board: Board) -> Result<Inside, (AllocError, Board)>
+        ensures board { IfOk result (λ inside. inside.board ≡ board) }
+        ensures going { IfOk result (λ inside. inside.stopped ≡ false) }
+        ensures back { IfErr result (λ back. back.1 ≡ board) }
+    {
+        // For the proof: the invariant of every board.
+        let _kept = board.steps();
+        let clients = usize::from(board.machine().clients());
+        match counts(alloc, clients) {
+            Ok((typed, seats)) => Ok(Inside {
+                board,
+                typed,
+                seats,
+                stopped: false,
+            }),
+            Err(error) => Err((error, board)),
+        }
+    }
+}
+
+// The counts and the places of so many clients.
+fn counts(alloc: Global, clients: usize) -> Result<(Vec<usize>, Vec<Seat>), AllocError>
+    ensures typed { IfOk result (λ given. length given.0.items ≡ clients) }
+    ensures seats { IfOk result (λ given. length given.1.items ≡ clients) }
+{
     let typed = vec![in alloc; 0; clients]?;
     let seats = vec![in alloc; Seat::NOBODY; clients]?;
     Ok((typed, seats))
@@ -48,20 +75,14 @@ impl Shared {
         requires { MayShare board (typing_view typing.items) }
         ensures { IfErr result (λ back. (back.1 ≡ board) × (back.2 ≡ typing)) }
     {
-        let (typed, seats) = match counts(alloc, typing.len()) {
-            Ok(counts) => counts,
-            Err(error) => return Err((error, board, typing)),
-        };
-        Ok(Shared {
-            inside: Mutex::new(Inside {
-                board,
-                typed,
-                seats,
-                stopped: false,
+        match Inside::new(alloc, board) {
+            Ok(inside) => Ok(Shared {
+                inside: Mutex::new(inside),
+                turned: Condvar::new(),
+                typing,
             }),
-            turned: Condvar::new(),
-            typing,
-        })
+            Err((error, board)) => Err((error, board, typing)),
+        }
     }
 
     /// The board as the workers left it. It takes no memory.

@@ -16,17 +16,24 @@ use ot_board::{Board, Lent, Receipt, Replayed};
 use ot_plan::Typing;
 
 /// What a turn comes to under the lock.
-pub(crate) enum Next<'a> {
+#[derive(Drop)]
+pub enum Next<'a> {
+    /// The worker holds a session, plays it, and ends its turn.
     Play(Held<'a>),
+    /// No client can be had, and somebody is out: the worker waits until another's turn ends, and begins again.
     Wait,
+    /// No client can be had and nobody is out; or a fault.
     End(Option<WorkFault>),
 }
 
 /// What the end of a turn came to.
 #[derive(Clone, Copy)]
-pub(crate) enum Ended {
+pub enum Ended {
+    /// All steps of the session are recorded.
     Settled,
+    /// The session waits in its client's slot.
     Parked,
+    /// The stop mark is set.
     Fault(WorkFault),
 }
 
@@ -192,9 +199,10 @@ fn begin<'a>(
     }
 }
 
-/// The first two steps of a turn: where a worker has stopped, the end; else the server takes what is under way, and the next client is
-/// picked up or lent, or there is none. A refusal sets the stop mark. What is recorded has its receipts, also before a refusal.
-pub(crate) fn begin_turn<'a>(
+/// The first two steps of a worker's turn, which a worker makes under the lock: where the stop mark is set, the end with `Stopped`; else the server takes what
+/// is under way, and the client that `choose` gives is picked up or lent, or there is none. The typing is by client. A refusal sets the stop mark. What is recorded
+/// has its receipts, also before a refusal, and no action counts as typed yet.
+pub fn begin_turn<'a>(
     inside: &mut Inside,
     typing: &'a [Vec<Typing>],
     receipts: &mut Vec<Receipt>,
@@ -305,9 +313,9 @@ fn parks(turn: u64, task: Task<'_>) -> bool
     turn % 4 == 3 && matches!(task, Task::Enter(_))
 }
 
-/// The last step of a turn: the session is parked, where it was lent in each fourth turn, or settled, and what was typed is counted; after a
+/// The last step of a worker's turn, which a worker makes under the lock: the session is parked, where it was lent in each fourth turn, or settled, and what was typed is counted; after a
 /// fault it is settled, if that can be done, and the stop mark is set. What is recorded has its receipts, also before a fault.
-pub(crate) fn end_turn(
+pub fn end_turn(
     inside: &mut Inside,
     receipts: &mut Vec<Receipt>,
     turn: u64,

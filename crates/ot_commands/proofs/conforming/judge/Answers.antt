@@ -1,12 +1,13 @@
 use Rattle.std.proofs.KnownBytes.{Keeps-refl}
 use Rattle.streams.specs.Taken.{before}
+use Rattle.ot_commands.specs.Answered.{session_value}
 use Rattle.ot_commands.proofs.Judged.{broke_off, judged}
 use Rattle.ot_commands.proofs.conforming.judge.Goals as goal
 
 pub returns-in-Ok : goal.returns-in-Ok
 returns-in-Ok g c =
-    judged c.args.sparse c.args.comments.now c.args.schedule.now c.args.earlier (before c.args.ahead.now (g.I.Read.remaining c.args.input.now)) c.in-Ok.compared c.write_verdict.result _ c.in-Ok.ensures.ok c.in-Ok.ensures.unknown c.write_verdict.ensures
+    judged c.args.sparse c.args.json (session_value c.args.session.now) c.args.earlier (before c.args.ahead.now (g.I.Read.remaining c.args.input.now)) c.in-Ok.compared c.write_verdict.result _ c.in-Ok.ensures.ok c.in-Ok.ensures.unknown c.write_verdict.ensures
 
 pub returns-in-Err : goal.returns-in-Err
 returns-in-Err g c =
-    broke_off c.args.sparse c.args.comments.now c.args.schedule.now c.args.earlier (before c.args.ahead.now (g.I.Read.remaining c.args.input.now)) c.in-Err.stop _ c.in-Err.ensures.err (Keeps-refl (g.O.Write.contents c.args.output.now)) c.complain_of_stop.ensures
+    broke_off c.args.sparse c.args.json (session_value c.args.session.now) c.args.earlier (before c.args.ahead.now (g.I.Read.remaining c.args.input.now)) c.in-Err.stop _ c.in-Err.ensures.err (Keeps-refl (g.O.Write.contents c.args.output.now)) c.complain_of_stop.ensures

@@ -7,11 +7,11 @@ use Rattle.ot_commands.proofs.conforming.run_conform.Goals as goal
 
 pub returns-in_default : goal.returns-in_default
 returns-in_default g c =
-    wanted c.args.sparse c.new-ahead.result.held (g.I.Read.remaining c.args.input.now) c.in-Ok.schedule 1 _ c.new-ahead.ensures.held c.in-Ok.ensures.ok
+    wanted c.args.sparse c.args.json c.new-ahead.result.held (g.I.Read.remaining c.args.input.now) c.in-Ok.schedule 1 _ c.new-ahead.ensures.held c.in-Ok.ensures.ok
     (refl, Keeps-refl (g.O.Write.contents c.args.output.now), c.complain_of_memory.ensures)
 
 pub returns-in-Ok : goal.returns-in-Ok
 returns-in-Ok g c =
-    compared c.args.sparse c.new-ahead.result.held (g.I.Read.remaining c.args.input.now) (before c.read_part.new.ahead (g.I.Read.remaining c.read_part.new.input)) c.read_part.new.text.items
+    compared c.args.sparse c.args.json c.new-ahead.result.held (g.I.Read.remaining c.args.input.now) (before c.read_part.new.ahead (g.I.Read.remaining c.read_part.new.input)) c.read_part.new.text.items c.as_slice-in-Ok.result.now
     c.in-Ok-comments_of.comments c.in-Ok.schedule c.in-Ok.taken c.judge.result _ c.new-ahead.ensures.held c.in-Ok.ensures.part c.in-Ok.ensures.ok c.in-Ok.ensures.text
-    (c.in-Ok-comments_of.ensures ∙ ap comments_of c.as_slice.ensures.value) c.judge.ensures
+    (c.in-Ok-comments_of.ensures ∙ ap comments_of c.as_slice.ensures.value) c.as_slice-in-Ok.ensures.value c.judge.ensures

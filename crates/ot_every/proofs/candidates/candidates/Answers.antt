@@ -12,10 +12,10 @@ pub loop-client-preserved : goal.loop-client-preserved
 loop-client-preserved c path are =
     tried_next c.args.inserts (drop c.args.made (map vec_items c.args.texts.now)) path c.args.machine.now.clients c.loop-client.client c.loop-client.next.items
     c.push_edits_in_time.new.next.items c.push_receipts.new.next.items c.push_join.new.next.items
-    (c.loop-client.invariant path are) (c.in_ok-push_edits_in_time.ensures.edits path are) (c.in_ok-push_receipts.ensures path are) (c.in_ok-push_join.ensures path are)
+    (c.loop-client.invariant path are) (c.in_ok-push_edits_in_time.ensures path are) (c.in_ok-push_receipts.ensures path are) (c.in_ok-push_join.ensures path are)
 
-pub returns-clause-left : goal.returns-clause-left
-returns-clause-left c path are =
+pub returns : goal.returns
+returns c path are =
     let texts = drop c.args.made (map vec_items c.args.texts.now) in
     let clients = c.args.machine.now.clients in
     c.in_ok-push_takes.ensures

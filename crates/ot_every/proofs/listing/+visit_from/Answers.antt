@@ -1,10 +1,12 @@
-use Rattle.std.proofs.Common.{◌≡◌, ◌∙◌, ◌∷◌, ◌-◌, List, Some, ap, arith, drop, length, map, refl, subst, sym, take}
+use Rattle.std.proofs.Common.{◌≡◌, ◌∙◌, ◌∷◌, ◌-◌, ◌≤◌, rules, List, Some, ap, arith, drop, length, map, refl, subst, sym, take}
 use Rattle.std.specs.Prelude.{slice_get, flat_map, vec_items}
 use Rattle.std.proofs.lemmas.List.{length-map, take_all}
 use Rattle.std.proofs.lemmas.Option.{slice_get_read}
 use Rattle.ot_isa.specs.declared.instruction.Instr.{Instr}
+use Rattle.ot_generate.proofs.Owing.{paid}
+use Rattle.ot_model.specs.Table.{State}
 use Rattle.ot_every.specs.Listing.{Earlier, sessions_from}
-use Rattle.ot_every.specs.Walking.{AreMarks, Goes, GoesOrStays, behind_all, sessions_by}
+use Rattle.ot_every.specs.Walking.{AreMarks, AreShort, Goes, GoesOrStays, behind_all, sessions_by}
 use Rattle.ot_every.specs.declared.marks.Mark.{Mark}
 use Rattle.ot_every.proofs.Stepping.{always_err, ends_short, goes_next, gone_back, gone_marks, gone_sessions, part_here, part_inside, part_whole, visits_none, whole_sessions}
 use Rattle.ot_every.proofs.Visiting.{part_none, part_same, visits_same}
@@ -30,7 +32,7 @@ returns-in_err-undo-clause-err g t c path are =
     let f = sessions_by c.args.inserts (c.args.room - 1) texts path a0.machine in
     let before = a0.instrs.items in
     let marked : AreMarks path (length c.as_slice-2.result.now) c.as_slice-2.result.now = subst (λ (ms : List Mark). AreMarks path (length ms) ms) (sym c.as_slice-2.ensures.value) are in
-    let tried = c.as_slice-next.ensures.value ∙ c.in_ok-all.ensures.left path marked in
+    let tried = c.as_slice-next.ensures.value ∙ c.in_ok-all.ensures path marked in
     let items = c.as_slice-next.result.now in
     let whole = whole_sessions before c.args.inserts c.args.room (c.args.room - 1) texts path a0.machine items tried (omega (arith, c.if-room-eq0.false)) in
     let at : slice_get items c.loop-place.place ≡ Some c.index-next-place.result =
@@ -49,7 +51,7 @@ returns-in_err-visit_from-clause-err g t c path are =
     let f = sessions_by c.args.inserts (c.args.room - 1) texts path a0.machine in
     let before = a0.instrs.items in
     let marked : AreMarks path (length c.as_slice-2.result.now) c.as_slice-2.result.now = subst (λ (ms : List Mark). AreMarks path (length ms) ms) (sym c.as_slice-2.ensures.value) are in
-    let tried = c.as_slice-next.ensures.value ∙ c.in_ok-all.ensures.left path marked in
+    let tried = c.as_slice-next.ensures.value ∙ c.in_ok-all.ensures path marked in
     let items = c.as_slice-next.result.now in
     let whole = whole_sessions before c.args.inserts c.args.room (c.args.room - 1) texts path a0.machine items tried (omega (arith, c.if-room-eq0.false)) in
     let at : slice_get items c.loop-place.place ≡ Some c.index-next-place.result =
@@ -77,7 +79,7 @@ returns-in_err-back-clause-err g t c path are =
     let f = sessions_by c.args.inserts (c.args.room - 1) texts path a0.machine in
     let before = a0.instrs.items in
     let marked : AreMarks path (length c.as_slice-2.result.now) c.as_slice-2.result.now = subst (λ (ms : List Mark). AreMarks path (length ms) ms) (sym c.as_slice-2.ensures.value) are in
-    let tried = c.as_slice-next.ensures.value ∙ c.in_ok-all.ensures.left path marked in
+    let tried = c.as_slice-next.ensures.value ∙ c.in_ok-all.ensures path marked in
     let items = c.as_slice-next.result.now in
     let whole = whole_sessions before c.args.inserts c.args.room (c.args.room - 1) texts path a0.machine items tried (omega (arith, c.if-room-eq0.false)) in
     let at : slice_get items c.loop-place.place ≡ Some c.index-next-place.result =
@@ -133,10 +135,21 @@ returns-clause-ok g t c path are =
     let f = sessions_by c.args.inserts (c.args.room - 1) texts path a0.machine in
     let before = a0.instrs.items in
     let marked : AreMarks path (length c.as_slice-2.result.now) c.as_slice-2.result.now = subst (λ (ms : List Mark). AreMarks path (length ms) ms) (sym c.as_slice-2.ensures.value) are in
-    let tried = c.as_slice-next.ensures.value ∙ c.in_ok-all.ensures.left path marked in
+    let tried = c.as_slice-next.ensures.value ∙ c.in_ok-all.ensures path marked in
     let items = c.as_slice-next.result.now in
     let whole = whole_sessions before c.args.inserts c.args.room (c.args.room - 1) texts path a0.machine items tried (omega (arith, c.if-room-eq0.false)) in
     visits_same R S c.args.visitor.now c.loop-place.visitor c.args.output.now c.loop-place.output (behind_all before (flat_map f (take c.loop-place.place items)))
     (behind_all before (sessions_from c.args.inserts c.args.room texts path a0.machine))
     (ap (λ (is : List Instr). behind_all before (flat_map f is)) (take_all c.loop-place.place items (omega (arith, c.loop-place-test.false))) ∙ whole)
     (c.loop-place.invariant.visited path are)
+
+pub visit_from-requires : goal.visit_from-requires
+visit_from-requires g t c =
+    let goes : Goes c.loop-place.walk c.index-next-place.result c.go.new.self c.in-Some.undo =
+    subst (GoesOrStays c.loop-place.walk c.index-next-place.result c.go.new.self) c.in-Some.is c.in_ok-undo.ensures in
+    let many = (paid c.loop-place.walk.machine c.go.new.self.machine c.index-next-place.result goes.shown goes.led).clients in
+    let same = ap (λ (s : State). length s.clients) c.loop-place.invariant.same.machine in
+    let few : length c.go.new.self.machine.clients ≤ 4 = omega (arith, many, same, c.requires.few.0) in
+    let inserts : c.args.inserts ≤ 8 = c.requires.few.1 in
+    let short : AreShort (map vec_items c.args.texts.now) = c.requires.short in
+    search rules

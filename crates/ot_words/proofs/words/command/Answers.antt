@@ -1,7 +1,7 @@
 use Rattle.std.proofs.Common.{ap, ap₂, codes, rules, ◌≡◌, ◌∙◌}
 use Rattle.std.proofs.lemmas.Result.{IfOk-weaker}
 use Rattle.clap.specs.Words.{App, app_of, with_rule}
-use Rattle.ot_words.specs.Requests.{◌+>◌, explain_app, flag_rule, flagged_app, otbench_app}
+use Rattle.ot_words.specs.Requests.{◌+>◌, conform_app, explain_app, flag_rule, flagged_app, otbench_app}
 use Rattle.ot_words.proofs.Shapes.{plain_of}
 use Rattle.ot_words.proofs.words.command.Goals as goal
 
@@ -23,8 +23,7 @@ returns c =
     let seven = c.in_ok-program-7.ensures (ap plain_of steps) ∙ ap₂ (◌+>◌) six steps in
     let explain : app_of c.in_ok-explain.explain ≡ explain_app = c.in_ok-explain.ensures in
     let eight = c.in_ok-program-8.ensures (ap plain_of explain) ∙ ap₂ (◌+>◌) seven explain in
-    let conform : app_of c.in_ok-conform.conform ≡ flagged_app (codes "conform") (codes "sparse") =
-    c.in_ok-conform.ensures ∙ ap (λ (a : App). with_rule a (flag_rule (codes "sparse"))) c.plain-4.ensures in
+    let conform : app_of c.in_ok-conform.conform ≡ conform_app = c.in_ok-conform.ensures in
     let nine = c.in_ok-program-9.ensures (ap plain_of conform) ∙ ap₂ (◌+>◌) eight conform in
     let ten = c.in_ok-program-10.ensures (ap plain_of c.plain-threads.ensures) ∙ ap₂ (◌+>◌) nine c.plain-threads.ensures in
     let eleven = c.in_ok-program-11.ensures (ap plain_of c.plain-complete.ensures) ∙ ap₂ (◌+>◌) ten c.plain-complete.ensures in

@@ -7,7 +7,7 @@ use Rattle.ot_plan.specs.declared.typing.Typing.{Typing}
 use Rattle.ot_workers.specs.Choosing.{choice, IsTaskFor}
 use Rattle.ot_workers.specs.declared.choosing.Seat.{Seat}
 use Rattle.ot_workers.specs.Turns.{AreSeen, IsHadFrom, next_action}
-use Rattle.ot_workers.proofs.Receipted.{receipts_more}
+use Rattle.ot_workers.proofs.Receipted.{receipts_more, same_clients}
 use Rattle.ot_workers.proofs.turns.begin.Goals as goal
 
 pub returns-in_err-lent-in-Some-clause-receipts : goal.returns-in_err-lent-in-Some-clause-receipts
@@ -27,10 +27,14 @@ returns-in_ok-lent-in-Some-clause-next c =
     let chosen : choice seats.items c.args.worker c.args.turn ≡ Some (c.in-Some.client, c.in-Some.way) =
     sym first ∙ c.in-Some.is in
     let action = c.next_action-action.ensures ∙ ap (λ (l : List ℕ). next_action c.args.typing.now l c.in-Some.client) c.as_slice-in-Some.ensures.value in
+    let long : length c.look.new.seats ≡ length c.args.inside.now.seats.items = search (rules, c.look.auto.seats, c.as_mut_slice.ensures) in
+    let kept = sym (same_clients c.args.inside.now.board b c.args.receipts.now.items c.take_all.new.receipts.items c.take_all.ensures.receipts) in
     record {
       board = b;
       looked = record {
         taken = c.in_ok-take_all.ensures.taken;
+        counts = c.args.inside.now.counts ∙ kept;
+        places = ap (λ (l : List Seat). length l) shown ∙ long ∙ c.args.inside.now.places ∙ kept;
         seen = subst (λ (l : List Seat). AreSeen b c.args.typing.now c.args.inside.now.typed.items l) (sym shown)
             (subst (λ (l : List ℕ). AreSeen b c.args.typing.now l c.look.new.seats) c.as_slice.ensures.value c.look.ensures);
       };

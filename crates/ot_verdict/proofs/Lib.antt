@@ -1,0 +1,8 @@
+pub mod Idle
+pub mod Keeping
+pub mod Ending
+pub mod Examples
+pub mod Arrivals
+pub mod First
+mod Gathering
+mod Entries

@@ -1,0 +1,32 @@
+// The debugger as an object.
+
+import assert from "node:assert/strict";
+import { test } from "node:test";
+import { OtbenchError, commands, openDebugger } from "../debug.mjs";
+
+const TIE = 'clients 2\nedit 0 ["a b"]\nedit 1 ["b"]\ntake 0\ndeliver 1\n';
+
+test("each command is a method that returns lines", () => {
+  const session = openDebugger(TIE);
+  assert.equal(session.end, 4);
+  assert.match(session.find("a b").at(-1), /^client 0 doc: "a b" nowhere -> once$/);
+  assert.equal(session.place, 1);
+  session.goto("end");
+  assert.equal(session.who(1, 1)[0], '"a" at 1 of the document of client 1');
+  assert.deepEqual(session.undo(), session.perform("step 0"));
+  assert.match(session.help("who")[0], /^who C\|server N: /);
+  assert.match(session.perform("constructor")[0], /^there is no constructor/);
+  assert.deepEqual(session.complete("bl"), ["blame"]);
+  for (const name of Object.keys(commands)) assert.equal(typeof session[name], "function", name);
+});
+
+test("a port's lines stand beside it", () => {
+  const session = openDebugger(TIE, { port: '{"at":1,"document":"x"}\n' });
+  assert.match(session.run().join("\n"), /differs at 1/);
+});
+
+test("a refused text, and an option that is none, are errors", () => {
+  assert.throws(() => openDebugger("clients 1\nedti\n"), (fault) => fault instanceof OtbenchError && fault.kind === "UnknownWord" && fault.line === 2);
+  assert.throws(() => openDebugger(TIE, { prot: "" }), (fault) => fault.kind === "Usage" && /no option prot/.test(fault.message));
+  assert.throws(() => openDebugger(TIE).perform(3), OtbenchError);
+});

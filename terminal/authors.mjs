@@ -1,0 +1,88 @@
+// Who inserted a character, when, and how it came to a document; and what two documents have in common. Characters are the elements of the
+// fold: one insertion is one element in every document.
+
+import { START } from "../viewer/src/document.mjs";
+import { SERVER } from "../viewer/src/fold.mjs";
+import { documentAt, stateAt } from "../viewer/src/places.mjs";
+import { shortText } from "./values.mjs";
+
+const nameOf = (who) => (who === SERVER ? "the server" : `client ${who}`);
+const madeBy = ({ maker }) => (maker === START ? "the start text" : `client ${maker}`);
+
+/** @param {import("./recording.mjs").Recording} recording @param {number} place */
+const at = ({ instructions }, place) => `line ${instructions[place - 1].line}, instruction ${place - 1}: ${instructions[place - 1].words}`;
+
+/** The way of an element into a document, up to a place: a line for the edit, the message, the log's entry, the delivery. */
+function wayOf(recording, element, who, place) {
+  const { members, log, messages } = recording.session;
+  const has = ({ elements }) => elements.includes(element);
+  const way = [`inserted by client ${element.maker}: ${at(recording, element.born)}`];
+  const sent = members[element.maker].sent.find((message) => message.sent <= place && has(message));
+  if (sent && sent.sent !== element.born) way.push(`sent from the buffer: ${at(recording, sent.sent)}`);
+  const entry = log.find((it) => it.sent <= place && has(it));
+  if (entry) way.push(`taken by the server as revision ${entry.number + 1}: ${at(recording, entry.sent)}`);
+  if (who === SERVER || who === element.maker || !entry) return way;
+  const delivered = messages.find(({ kind, client, number, got }) => kind === "down" && client === who && number === entry.number && got <= place);
+  if (delivered) way.push(`delivered to client ${who}: ${at(recording, delivered.got)}`);
+  else way.push(`client ${who} has it since it joined: ${at(recording, recording.session.members[who].statePlaces[1])}`);
+  return way;
+}
+
+/**
+ * Who inserted the character at an index of a document, and how it came there.
+ * @param {import("./recording.mjs").Recording} recording @param {number | "server"} who @param {number} index @param {number} place
+ */
+export function whoIs(recording, who, index, place) {
+  const element = documentAt(recording.session, who, place)[index];
+  const head = `${JSON.stringify(element.character)} at ${index} of the document of ${nameOf(who)}`;
+  if (element.maker === START) return [`${head}: of the start text`];
+  return [head, ...wayOf(recording, element, who, place).map((line) => `  ${line}`)];
+}
+
+/** A document in runs of one author and instruction, a line for each. */
+export function authorsOf(recording, who, place) {
+  const runs = [];
+  for (const element of documentAt(recording.session, who, place)) {
+    const last = runs.at(-1);
+    if (last && last.maker === element.maker && last.born === element.born) last.text += element.character;
+    else runs.push({ maker: element.maker, born: element.born, text: element.character });
+  }
+  return runs.map(({ maker, born, text }) => `${shortText(text)}  ${madeBy({ maker })}${born ? `, instruction ${born - 1}` : ""}`);
+}
+
+/**
+ * The operation that leads from one list of elements to another, which has the common ones in the same order: a retain is a count, an insertion a text, a deletion a
+ * negative count; insertions stand before deletions.
+ */
+export function between(before, after) {
+  const [old, fresh] = [new Set(before), new Set(after)];
+  const parts = [];
+  const add = (kind, text) => (parts.at(-1)?.kind === kind ? (parts.at(-1).text += text) : parts.push({ kind, text }));
+  let [i, j] = [0, 0];
+  while (i < before.length || j < after.length) {
+    if (j < after.length && !old.has(after[j])) add("insert", after[j++].character);
+    else if (i < before.length && !fresh.has(before[i])) add("delete", before[i++].character);
+    else if (before[i] === after[j]) add("retain", (j++, before[i++].character));
+    else return null;
+  }
+  return parts;
+}
+
+/** A difference of two documents in words: the operation, and what it deletes and inserts. */
+export function differenceOf(before, after) {
+  const parts = between(before, after);
+  if (parts === null) return ["the characters that stand in both are in another order"];
+  if (parts.every(({ kind }) => kind === "retain")) return ["the same characters"];
+  const length = (text) => [...text].length;
+  const component = { insert: (text) => text, delete: (text) => -length(text), retain: length };
+  const lines = [JSON.stringify(parts.map(({ kind, text }) => component[kind](text)))];
+  let place = 0;
+  for (const { kind, text } of parts) {
+    if (kind !== "retain") lines.push(`  at ${place}: ${kind === "insert" ? "+" : "-"} ${shortText(text)}`);
+    if (kind !== "delete") place += length(text);
+  }
+  return lines;
+}
+
+/** Whether a client has a document at a place. */
+export const hasDocument = ({ session }, who, place) => who === SERVER || stateAt(session, who, place).state !== "not-joined";

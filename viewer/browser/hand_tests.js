@@ -1,0 +1,111 @@
+/* Tests of what is done by hand, for any browser: notes, ends of messages, the order, clients. */
+
+import assert from "node:assert/strict";
+import { after, before, describe, test } from "node:test";
+import { skip } from "./otbench.js";
+import { User, quoted } from "./user.js";
+
+const TIE = 'clients 2\nedit 0 ["a"]\nedit 1 ["b"]\ntake 0\ntake 1\ndeliver 1\n';
+
+export function testByHand(name, openBrowser) {
+  describe(`${name}, by hand`, { skip }, () => {
+    let user;
+    let page;
+    before(async () => {
+      page = await openBrowser();
+      user = new User(page);
+    });
+    after(async () => {
+      const { exceptions } = page;
+      await page.close();
+      assert.deepEqual(exceptions, []);
+    });
+
+    const opened = async (text, place) => {
+      await user.open();
+      await user.paste("body", text);
+      await user.until(`document.getElementById("text").value === ${quoted(text)}`, "the session");
+      await user.until('document.getElementById("length").textContent !== "of 0"');
+      await user.run(`location.hash = "#at=${place}"`);
+      await user.settled(place);
+    };
+
+    const note = async (client, text) => {
+      await user.click(`[data-note="${client}"]`);
+      await user.until('document.getElementById("noting").open');
+      await user.run(`(() => { const field = document.getElementById("showed"); field.value = ${quoted(text)}; field.dispatchEvent(new Event("input")); })()`);
+    };
+
+    test("what an editor showed is compared at once, noted, shared and taken away", async () => {
+      await opened(TIE, 5);
+      await note(1, "ab");
+      await user.until('/ot.js has "ba" here/.test(document.getElementById("noted-answer").textContent)', "the answer");
+      await note(1, "ba");
+      await user.until('/same text/.test(document.getElementById("noted-answer").textContent)', "the answer");
+      await note(1, "<img src=x onerror=window.harm=1>\u202e");
+      await user.click('#noting [value="note"]');
+      await user.until('/differs at 5/.test(document.getElementById("conformance").textContent)', "conform's answer");
+      await user.until('/my editor.*ot.js has/s.test(document.querySelector(\'[data-card="1"]\').textContent)', "the card");
+      assert.equal(await user.run('"harm" in window'), false);
+      await user.run('document.getElementById("link").click()');
+      await user.until('/port=/.test(location.hash)', "the link");
+      const hash = await user.run("location.hash");
+      await user.open(hash);
+      await user.until('/differs at 5/.test(document.getElementById("conformance").textContent)', "the note of the link");
+      await user.click('[data-note="1"]');
+      assert.match(await user.run('document.getElementById("showed").value'), /^<img/);
+      await user.click("#forget-note");
+      await user.until('document.getElementById("conformance").hidden', "no note");
+    });
+
+    test("a click on the end of a message lets it through, with those before it", async () => {
+      await opened(TIE, 5);
+      await user.run('document.querySelector(\'[data-let="down 0 1"]\').dispatchEvent(new MouseEvent("click", { bubbles: true }))');
+      await user.shown("/deliver 1\\nack 0\\ndeliver 0\\n$/");
+      assert.deepEqual((await user.documents()).slice(0, 2), ["ba", "ba"]);
+    });
+
+    const drag = (from, to) =>
+      user.run(`(() => {
+        const end = document.querySelector('[data-end="${from}"]').getBoundingClientRect();
+        const rows = document.getElementById("rows").getBoundingClientRect();
+        const at = [...document.querySelectorAll("#rows .texts text")].find((text) => text.textContent === "${to}").getBoundingClientRect();
+        const send = (type, target, y) => target.dispatchEvent(new PointerEvent(type, { bubbles: true, clientX: end.x + 9, clientY: y, button: 0 }));
+        send("pointerdown", document.querySelector('[data-end="${from}"]'), end.y + 9);
+        send("pointermove", document.body, at.y + 6);
+        send("pointerup", document.body, at.y + 6);
+      })()`);
+
+    test("the end of a message is dragged to another row where that order is possible", async () => {
+      await opened('clients 2\nedit 0 ["a"]\nedit 1 ["b"]\ntake 0\ntake 1\n', 4);
+      await drag(4, 3);
+      await user.shown("/take 1\\ntake 0\\n$/");
+      await user.settled(3);
+      await drag(3, 1);
+      await user.until('/This order is not possible/.test(document.getElementById("notice").textContent)', "the reason");
+      assert.match(await user.schedule(), /edit 1 .*\ntake 1\ntake 0\n$/);
+      await user.run('document.activeElement.blur()');
+      await user.press("Alt+ArrowDown");
+      await user.shown("/take 0\\ntake 1\\n$/");
+      await user.press("Control+z");
+      await user.shown("/take 1\\ntake 0\\n$/");
+    });
+
+    test("a client is added, joins later, and is left out", async () => {
+      await opened(TIE, 0);
+      await user.press("v");
+      await user.click("#add-client");
+      await user.shown("/^clients 3\\nedit/");
+      await user.until('document.querySelectorAll("#shown-lanes p").length === 3', "its row");
+      await user.click('[data-act="oneLate"][data-client="2"]');
+      await user.shown("/^clients 3\\npresent 2\\n/");
+      await user.until('document.querySelector(\'[data-act="onePresent"]\')', "its row");
+      await user.click("#add-late");
+      await user.shown("/^clients 4\\npresent 2\\n/");
+      await user.until('document.querySelectorAll("#shown-lanes p").length === 4', "its row");
+      await user.click('[data-act="leaveOutClient"][data-client="0"]');
+      await user.shown('/^clients 3\\npresent 1\\nedit 0 \\["b"\\]\\ntake 0\\n/');
+      await user.press("Escape");
+    });
+  });
+}

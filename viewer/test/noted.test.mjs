@@ -1,0 +1,110 @@
+// What users saw in their editors, noted beside a session.
+
+import assert from "node:assert/strict";
+import { test } from "node:test";
+import { Bench } from "../src/bench.mjs";
+import { cardOf } from "../src/cards.mjs";
+import { noteWords } from "../src/dialogs.mjs";
+import { areNotes, canNote, carriedNotes, noteAt, withNote } from "../src/noted.mjs";
+import { reportOf } from "../src/report.mjs";
+import { outlineOf } from "../src/schedule.mjs";
+import { DirectEngine, skip } from "./engines.mjs";
+
+const TIE = 'clients 2\nedit 0 ["a"]\nedit 1 ["b"]\ntake 0\ntake 1\ndeliver 1\n';
+const given = (text) => ({ text, outline: outlineOf(text) });
+const note = (at, client, document) => JSON.stringify({ at, client, document });
+
+test("only lines of a place, a client and a document are notes", () => {
+  assert.ok(areNotes([note(1, 0, "")]));
+  for (const other of ["{}", "[]", "null", "3", "x", '{"at":1,"client":0,"document":"a","do":"edit"}', '{"at":1,"client":0}', '{"at":"1","client":0,"document":"a"}', '{"__proto__":1,"client":0,"document":"a"}'])
+    assert.ok(!areNotes([note(1, 0, ""), other]), other);
+  assert.ok(!areNotes([]));
+  assert.ok(canNote(null));
+  assert.ok(!canNote(['{"at":1}']));
+});
+
+test("a note stands once at its place, in order, and can be taken away", () => {
+  const one = withNote(null, { at: 5, client: 1, document: "ab" });
+  const two = withNote(one, { at: 1, client: 0, document: "a" });
+  assert.deepEqual(two, [note(1, 0, "a"), note(5, 1, "ab")]);
+  assert.deepEqual(withNote(two, { at: 5, client: 1, document: "__proto__" }), [note(1, 0, "a"), note(5, 1, "__proto__")]);
+  assert.deepEqual(withNote(two, { at: 1, client: 0, document: null }), one);
+  assert.equal(withNote(one, { at: 5, client: 1, document: null }), null);
+  assert.equal(noteAt(two, 1, 5), "ab");
+  assert.equal(noteAt(two, 0, 5), null);
+});
+
+test("notes move with the instructions that they stand at", () => {
+  const port = [note(1, 0, "a"), note(2, 1, "b"), note(5, 1, "ba")];
+  const carried = (after) => carriedNotes(port, given(TIE), given(after));
+  assert.deepEqual(carried(TIE.replace("take 0", "read-server\ntake 0")), [note(1, 0, "a"), note(2, 1, "b"), note(6, 1, "ba")]);
+  assert.deepEqual(carried(TIE.replace('edit 1 ["b"]\n', "")), [note(1, 0, "a"), note(4, 1, "ba")], "the edit is gone, and its note");
+  assert.deepEqual(carried(TIE.replace('edit 0 ["a"]', 'edit 0 ["x"]')), [note(2, 1, "b"), note(5, 1, "ba")]);
+  assert.deepEqual(carried(`; a comment\n\n${TIE}`), port);
+  assert.equal(carried("clients 2\n"), null);
+  assert.deepEqual(carriedNotes(["a stack trace"], given(TIE), given("clients 2\n")), ["a stack trace"], "a port's lines stay as they are");
+});
+
+test("what conform answers is said in words", () => {
+  assert.equal(noteWords(["conforms", "compared at 1"]), "ot.js has the same text here.");
+  assert.equal(noteWords(["differs at 5: deliver 1: client 1 document", 'found "ab"', 'ot.js "ba"']), 'ot.js has "ba" here.');
+  assert.match(noteWords(["differs at 5", 'found "a\u200b"', 'ot.js "a"']), /u\{200b\}/);
+  assert.match(noteWords([]), /fault/);
+});
+
+const opened = async (text, place) => {
+  const bench = new Bench(() => {}, async () => {});
+  bench.use(new DirectEngine());
+  bench.dispatch({ do: "open", text, place });
+  await bench.settled();
+  bench.dispatch({ do: "go", place });
+  return bench;
+};
+
+const judged = async (bench) => {
+  await bench.settled();
+  for (let i = 0; i < 100 && (!bench.state.verdicts.length || !bench.state.beside); i++) await new Promise((done) => setTimeout(done, 50));
+  return bench.state.beside;
+};
+
+test("a note is compared at once, and stays beside the session", { skip }, async () => {
+  const bench = await opened(TIE, 5);
+  assert.equal((await bench.askNote(1, "ab"))[0], "differs at 5: deliver 1: client 1 document");
+  assert.equal((await bench.askNote(1, "ba"))[0], "conforms");
+  assert.equal((await bench.askNote(0, "a"))[0], "conforms");
+  bench.dispatch({ do: "note", client: 1, document: "x".repeat(100000) });
+  bench.dispatch({ do: "note", client: 1, document: "</script><b>" });
+  bench.dispatch({ do: "note", client: 0, document: "a" });
+  assert.deepEqual(bench.state.port, [note(1, 0, "a"), note(5, 1, "</script><b>")]);
+  const beside = await judged(bench);
+  assert.equal(beside.first, 5);
+  assert.deepEqual(beside.noteOf(0, 4), { document: "a", differences: [] });
+  assert.equal(beside.noteOf(1, 4), null, "the client had another document there");
+  const [difference] = beside.noteOf(1, 5).differences;
+  assert.deepEqual([difference.key, difference.found], ["document", '"</script><b>"']);
+  const report = reportOf(bench.state, ["differs"], "link", false);
+  assert.match(report, /What was seen in editors:\n\n- at 1, `client 0`: `"a"`\n- at 5/);
+  bench.dispatch({ do: "undo" });
+  assert.deepEqual(bench.state.port, [note(5, 1, "</script><b>")]);
+});
+
+test("a client that has not changed is noted at a read of its document", { skip }, async () => {
+  const bench = await opened("clients 1\nstart \"a\"\n", 0);
+  bench.dispatch({ do: "note", client: 0, document: "b" });
+  assert.equal(bench.state.text, 'clients 1\nstart "a"\nread 0\n');
+  assert.deepEqual(bench.state.port, [note(1, 0, "b")]);
+  const beside = await judged(bench);
+  assert.equal(beside.answer[0], "differs at 1: read 0: client 0 document");
+  bench.dispatch({ do: "note", client: 0, document: null });
+  assert.equal(bench.state.port, null);
+});
+
+test("the card of a client says what was noted of it", { skip }, async () => {
+  const bench = await opened(TIE, 5);
+  bench.dispatch({ do: "note", client: 1, document: "zz" });
+  const port = await judged(bench);
+  const view = { session: bench.state.session, port, place: 5, picked: null, canPlay: true, canNote: true, names: new Map(), caret: null, writing: null, asked: [] };
+  const words = JSON.stringify(cardOf(bench.state.session, 1, view));
+  assert.match(words, /my editor/);
+  assert.match(words, /ot.js has /);
+});

@@ -1,0 +1,44 @@
+// Whether the documents must agree at a place, and to what: what explain says of the text up to there.
+
+import assert from "node:assert/strict";
+import { test } from "node:test";
+import { Bench } from "../src/bench.mjs";
+import { outlookIn } from "../src/outlook.mjs";
+import { reportOf } from "../src/report.mjs";
+import { outlineOf, textUpTo } from "../src/schedule.mjs";
+import { outlookNow } from "../src/state.mjs";
+import { DirectEngine, skip } from "./engines.mjs";
+
+const TIE = "; client 0 is Ann\nclients 2\nedit 0 [\"a\"]\nedit 1 [\"b\"]\n\n; both\ntake 0\ntake 1\ndeliver 1\nack 1\nack 0\ndeliver 0\n";
+
+test("the verdict is what stands behind the end, without the line of a cut", () => {
+  assert.deepEqual(outlookIn('the opening: x\nthe end: all is quiet\nAll documents must be "the end: ".\nclient 1 has not joined.\nthe schedule ends before its logs: "x"\n'), ['All documents must be "the end: ".', "client 1 has not joined."]);
+  assert.deepEqual(outlookIn(""), []);
+});
+
+test("a text up to a place", () => {
+  const upTo = (place) => textUpTo(TIE, outlineOf(TIE), place);
+  assert.equal(upTo(0), "; client 0 is Ann\nclients 2\n");
+  assert.ok(upTo(2).endsWith('edit 1 ["b"]\n'));
+  assert.ok(upTo(3).endsWith("\n\n; both\ntake 0\n"));
+  assert.equal(upTo(8), TIE);
+});
+
+async function at(place) {
+  const bench = new Bench(() => {}, async () => {});
+  bench.use(new DirectEngine());
+  bench.dispatch({ do: "open", text: TIE });
+  await bench.settled();
+  bench.dispatch({ do: "go", place });
+  for (let i = 0; i < 100 && !outlookNow(bench.state).length; i++) await new Promise((done) => setTimeout(done, 30));
+  return bench.state;
+}
+
+test("the page knows it at each place, and has it in its report", { skip }, async () => {
+  assert.deepEqual(outlookNow(await at(0)), ['All documents must be "".']);
+  const tied = await at(2);
+  assert.match(outlookNow(tied)[0], /^They may still differ: client 0 \(Ann\)'s \["a"\] is on its way to the server; .*whose edit the server takes first, client 0 \(Ann\)'s or client 1's; complete takes client 0 \(Ann\)'s first\.$/);
+  assert.match(reportOf(tied, [], "link", false), /They may still differ/);
+  assert.match(outlookNow(await at(4))[0], /When everything has arrived, all will be "ba"\.$/);
+  assert.deepEqual(outlookNow(await at(8)), ['All documents must be "ba".']);
+});
