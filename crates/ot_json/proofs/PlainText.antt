@@ -129,7 +129,7 @@ gone_more later text before rest gap behind op r g comma is_gap next form short 
     let pushed = spaced_push later g.spaced gap t g.ended in
     let separated = comma_before later r in
     let whole : print_spaced false (g.spaced ++ (gap, t) ∷ []) ≡ print_spaced false g.spaced ++ (comma_if later ++ (gap ++ compact_text (data_of r))) =
-        pushed ∙ ap (λ c. print_spaced false g.spaced ++ (c ++ (gap ++ token_text t))) separated ∙ ap (λ c. print_spaced false g.spaced ++ (comma_if later ++ (gap ++ c))) (text_of_token r) in
+    pushed ∙ ap (λ c. print_spaced false g.spaced ++ (c ++ (gap ++ token_text t))) separated ∙ ap (λ c. print_spaced false g.spaced ++ (comma_if later ++ (gap ++ c))) (text_of_token r) in
     record {
       runs = g.runs ++ r ∷ [];
       spaced = g.spaced ++ (gap, t) ∷ [];
@@ -178,8 +178,7 @@ gone_all text rest op g e =
     let ts = tree.json_tokens (outline (array_of g.runs)) in
     let is_text : text ≡ print_spaced false (closed g.spaced) = g.here ∙ ap (λ l. print_spaced false g.spaced ++ l) e ∙ sym (closed_text g.spaced g.ended) in
     let are : map (λ p. p.1) (closed g.spaced) ≡ ts = closed_tokens g.spaced g.runs g.tokens_are in
-    let same : tokens text ≡ ts = ap tokens is_text ∙ tokens-print_spaced (closed g.spaced) (gaps_push g.spaced ([], Token.end_array) g.gaps tt) (subst ArePrintable (sym are) (printable g.runs g.forms)) ∙ are in
-    (
+    let same : tokens text ≡ ts = ap tokens is_text ∙ tokens-print_spaced (closed g.spaced) (gaps_push g.spaced ([], Token.end_array) g.gaps tt) (subst ArePrintable (sym are) (printable g.runs g.forms)) ∙ are in (
       ap operation_of_json (read_back (array_of g.runs) ts text (written g.runs g.forms) same (shallow g.runs)) ∙ g.made,
       is_utf8-from_IsUtf8 text (subst IsUtf8 (sym (g.here ∙ ap (λ l. print_spaced false g.spaced ++ l) e)) (IsUtf8-append _ _ g.utf8 (IsUtf8-are_ascii (93 ∷ []) refl))),
     )
@@ -190,8 +189,7 @@ pub string_text :
     → (bytes ≡ compact_text (data_of (Add (chars text))) ++ behind) × (HasForm (Add (chars text)))
 string_text bytes below behind text first e is next u =
     let same : chars text ≡ u.0 = ap chars (sym u.1.1) ∙ chars-encodes u.0 u.1.0 in
-    let again : encode_utf8_all (chars text) ≡ text = ap encode_utf8_all same ∙ u.1.1 in
-    (
+    let again : encode_utf8_all (chars text) ≡ text = ap encode_utf8_all same ∙ u.1.1 in (
       e ∙ ap (λ b. b ∷ below) is ∙ ap (λ l. 34 ∷ l) (next ∙ sym (append_assoc (escape text) (34 ∷ []) behind)) ∙ ap (λ s. quoted s ++ behind) (sym again),
       ap all_scalars same ∙ u.1.0,
     )

@@ -18,7 +18,7 @@ loop-byte-preserved c =
     let so_far = c.loop-byte.invariant in
     record {
       text = count_more c.args.bytes.now c.in-Some-split_first.below.now count byte so_far.some so_far.small low high
-        (so_far.text ∙ ap (λ l. decimal count ++ l) c.in-Some-split_first.ensures.cases.0);
+          (so_far.text ∙ ap (λ l. decimal count ++ l) c.in-Some-split_first.ensures.cases.0);
       some = omega arith;
       small = omega arith;
     }
