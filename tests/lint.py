@@ -4,7 +4,7 @@
     python3 tests/lint.py
 
 Python is looked through by pyflakes, but for lines with `# noqa`; JavaScript by node, for its syntax, and by TypeScript's compiler, for names that are not used, not
-defined or not exported. In the page nothing reads a text as markup. A linter that is not there is reported and left out; `tests/set-up` installs them. The last line says how many files
+defined or not exported. In the page nothing reads a text as markup. The crates are in the layout of `rt fmt`, which the gate asks for. A linter that is not there is reported and left out; `tests/set-up` installs them. The last line says how many files
 there are and how much was found; the status is 1 where something was.
 """
 import pathlib
@@ -56,6 +56,17 @@ def readers_of_markup(*names):
     return [f"{name}:{i}: a text would be read as markup: {line.strip()[:100]}" for name, i, line in lines if MARKUP.search(line)]
 
 
+def out_of_layout(*names):
+    """The files of crates that `rt fmt` would change."""
+    rattle = shutil.which("rattle")
+    if not rattle:
+        print("lint: without rattle, which is not there")
+        return []
+    ran = subprocess.run([rattle, "fmt", "--check", *names], cwd=TOP, capture_output=True, text=True, check=False)
+    lines = [line for line in (ran.stdout + ran.stderr).splitlines() if line.strip()]
+    return lines or [f"rattle fmt --check ended with status {ran.returncode}"] * (ran.returncode != 0)
+
+
 def main():
     given(__doc__)
     scripts = [name for name in listed("*.py") + listed(":!:*.*") if is_python(name)]
@@ -63,6 +74,7 @@ def main():
     findings = [line for line in said("pyflakes3", *scripts) if not has_noqa(line)]
     findings += [line for name in modules for line in said("node --check", name)]
     findings += [line for line in said(COMPILER, *modules) if NAMES.search(line) and not NOT_YET_KNOWN.search(line)]
+    findings += out_of_layout(*listed("crates/*.rt", "crates/*.antt"))
     findings += readers_of_markup(*listed("viewer/src", "viewer/html.mjs"))
     print("".join(f"{line}\n" for line in findings), end="")
     print(f"lint: {len(scripts)} scripts of Python, {len(modules)} of JavaScript, {len(findings)} lines of findings")
