@@ -21,7 +21,7 @@ COMPILER = "tsc --noEmit --allowJs --checkJs --noUnusedLocals --skipLibCheck --t
 NAMES = re.compile(r"error TS(?:2304|2552|2307(?=: Cannot find module '\.)|2305|2724|6133|6192|6196|6198|6199): ")
 NOT_YET_KNOWN = re.compile(r"'(?:Dec|C)ompressionStream'")  # of browsers, by the compiler of Debian 12
 
-# What reads a text as markup: the page (viewer/src) has none of these.
+# What reads a text as markup: the page (common, viewer/src) has none of these.
 MARKUP = re.compile(r"innerHTML|outerHTML|insertAdjacentHTML|setHTML|parseHTML|DOMParser|createContextualFragment|srcdoc|execCommand|document\s*\.\s*write")
 
 
@@ -75,7 +75,7 @@ def main():
     findings += [line for name in modules for line in said("node --check", name)]
     findings += [line for line in said(COMPILER, *modules) if NAMES.search(line) and not NOT_YET_KNOWN.search(line)]
     findings += out_of_layout(*listed("crates/*.rt", "crates/*.antt"))
-    findings += readers_of_markup(*listed("viewer/src", "viewer/html.mjs"))
+    findings += readers_of_markup(*listed("common", "viewer/src", "viewer/html.mjs"))
     print("".join(f"{line}\n" for line in findings), end="")
     print(f"lint: {len(scripts)} scripts of Python, {len(modules)} of JavaScript, {len(findings)} lines of findings")
     return 1 if findings or not scripts or not modules else 0

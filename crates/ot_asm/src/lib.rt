@@ -65,6 +65,7 @@ pub use fault::{AsmFault, Kind};
 pub use from_reader::{assemble_from, assemble_until_mark};
 pub use json_text::read_text;
 pub use laws::{canonical_spells, no_names_no_change, spells_at_most_one};
+pub use lines::push_instr;
 pub use naming::named;
 pub use number::read_number;
 pub use words::{split_word, trimmed};

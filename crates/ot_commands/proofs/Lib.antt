@@ -6,3 +6,4 @@ mod Inputs
 mod FaultLines
 mod Judged
 mod Keeping
+mod Sessions

@@ -8,7 +8,7 @@ use Rattle.ot_judge.specs.declared.fault.TraceFault.TheVariants as kind
 use Rattle.ot_judge.specs.Reading.{trace_of_text}
 use Rattle.ot_judge.specs.Verdict.{IsVerdict}
 use Rattle.ot_model.specs.Trace.{TraceView}
-use Rattle.ot_report.specs.Verdicts.{verdict_line}
+use Rattle.ot_report.specs.Members.{verdict_text}
 use Rattle.streams.specs.Outcomes.{Streams, Refuses, Gives, GivesUp, OutOfMemory}
 
 -- 0 where the property holds
@@ -34,17 +34,17 @@ pub record RefusesTrace (bytes : List ℕ) (status : ℕ) (streams : Streams) : 
   pub named : fault ≢ kind.Memory → trace_of_bytes bytes ≡ Err fault
   pub refuses : Refuses (trace_fault fault) status streams
 
--- the verdict of the trace, as it is printed
-pub record GivesVerdict (trace : TraceView) (status : ℕ) (streams : Streams) : Type 0 where
+-- the verdict of the trace, as it is printed, in words or as JSON
+pub record GivesVerdict (json : Bool) (trace : TraceView) (status : ℕ) (streams : Streams) : Type 0 where
   pub verdict : Verdict
   pub is_verdict : IsVerdict trace verdict
-  pub gives : Gives (verdict_status verdict) (verdict_line verdict) status streams
+  pub gives : Gives (verdict_status verdict) (verdict_text json verdict) status streams
 
 -- the verdict, or out of memory
-abbrev pub MayGiveVerdict : TraceView → ℕ → Streams → Type 0
-MayGiveVerdict trace status streams = GivesVerdict trace status streams ⊎ OutOfMemory status streams
+abbrev pub MayGiveVerdict : Bool → TraceView → ℕ → Streams → Type 0
+MayGiveVerdict json trace status streams = GivesVerdict json trace status streams ⊎ OutOfMemory status streams
 
 -- the bytes were not read whole (`unread`: the input has failed), or they are refused, or they are a trace, which is judged
-abbrev pub Judges : Bool → List ℕ → ℕ → Streams → Type 0
-Judges unread bytes status streams =
-    GivesUp unread status streams ⊎ RefusesTrace bytes status streams ⊎ ((trace : TraceView) × (trace_of_bytes bytes ≡ Ok trace) × MayGiveVerdict trace status streams)
+abbrev pub Judges : Bool → Bool → List ℕ → ℕ → Streams → Type 0
+Judges json unread bytes status streams =
+    GivesUp unread status streams ⊎ RefusesTrace bytes status streams ⊎ ((trace : TraceView) × (trace_of_bytes bytes ≡ Ok trace) × MayGiveVerdict json trace status streams)

@@ -8,6 +8,7 @@ pub mod Explains
 pub mod ExplainsImages
 pub mod Generated
 pub mod Judged
+pub mod Listed
 pub mod Ran
 pub mod Stepped
 pub mod Faults

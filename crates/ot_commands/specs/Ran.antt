@@ -1,5 +1,5 @@
 -- What `run` writes and answers.
-use Rattle.std.specs.Prelude.{◌≡◌, ◌⊎◌, ℕ, List, Option, Some, None}
+use Rattle.std.specs.Prelude.{◌≡◌, ◌⊎◌, ℕ, Bool, List, Option, Some, None}
 use Rattle.streams.specs.Streams.{WritesPart}
 use Rattle.ot_isa.specs.Program.{Program}
 use Rattle.ot_model.specs.declared.shown.Refusal.{Refusal}
@@ -14,19 +14,19 @@ abbrev pub stop_status : Option (ℕ × Refusal) → ℕ
 stop_status None = 0
 stop_status (Some stop) = 1
 
--- the run of the schedule, as it is printed
-pub record Reports (schedule : Program) (status : ℕ) (streams : Streams) : Type 0 where
+-- the run of the schedule, as it is printed, in words or as JSON
+pub record Reports (json : Bool) (schedule : Program) (status : ℕ) (streams : Streams) : Type 0 where
   pub run : Run
   pub is_run : IsRun schedule run
   pub text : List ℕ
-  pub is_report : IsReport run text
+  pub is_report : IsReport json run text
   pub gives : Gives (stop_status run.stopped) text status streams
 
 -- memory ran out: status 1, the lines of the first reads, which were written by then, and on the faults that it was
-abbrev pub StopsAmongReads : Program → ℕ → Streams → Type 0
-StopsAmongReads schedule status streams =
-    (status ≡ 1) × WritesFirstReads schedule streams.output streams.output' × WritesPart streams.faults streams.faults' memory_fault
+abbrev pub StopsAmongReads : Bool → Program → ℕ → Streams → Type 0
+StopsAmongReads json schedule status streams =
+    (status ≡ 1) × WritesFirstReads json schedule streams.output streams.output' × WritesPart streams.faults streams.faults' memory_fault
 
 -- a run, or out of memory
-abbrev pub MayReport : Program → ℕ → Streams → Type 0
-MayReport schedule status streams = Reports schedule status streams ⊎ StopsAmongReads schedule status streams
+abbrev pub MayReport : Bool → Program → ℕ → Streams → Type 0
+MayReport json schedule status streams = Reports json schedule status streams ⊎ StopsAmongReads json schedule status streams

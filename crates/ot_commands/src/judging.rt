@@ -6,7 +6,7 @@ ghost use Rattle.ot_judge.specs.declared.fault.TraceFault.TheVariants as kind;
 
 use ot_asm::read_text;
 use ot_judge::{Trace, TraceFault, Verdict, judge, read_trace};
-use ot_report::print_verdict;
+use ot_report::verdict_text;
 use std::alloc::Global;
 use std::io::Write;
 use streams::{Sink, Source, complain, complain_of_input, complain_of_memory, give};
@@ -48,34 +48,36 @@ fn trace_in(alloc: Global, bytes: &[u8]) -> Result<Trace, TraceFault>
     }
 }
 
-// Judges the trace and prints the verdict.
+// Judges the trace and prints the verdict, in words or as JSON.
 fn give_verdict<O: Sink, F: Write>(
     alloc: Global,
+    json: bool,
     trace: &Trace,
     output: &mut O,
     faults: &mut F,
 ) -> u8
-    ensures { MayGiveVerdict trace.now result (record { output = O.contents output.old; output' = O.contents output.new; broken = O.failed output.new; faults = F.contents faults.old; faults' = F.contents faults.new }) }
+    ensures { MayGiveVerdict json trace.now result (record { output = O.contents output.old; output' = O.contents output.new; broken = O.failed output.new; faults = F.contents faults.old; faults' = F.contents faults.new }) }
 {
     let Ok(verdict) = judge(alloc, trace) else {
         complain_of_memory(faults);
         return 1;
     };
-    let Ok(line) = print_verdict(alloc, verdict) else {
+    let Ok(line) = verdict_text(alloc, json, verdict) else {
         complain_of_memory(faults);
         return 1;
     };
     give(line.as_bytes(), status_of(verdict), output)
 }
 
-/// Judges the trace that is the input.
+/// Judges the trace that is the input, and prints the verdict, in words or as a line of `json`.
 pub fn judge_input<I: Source, O: Sink, F: Write>(
     alloc: Global,
+    json: bool,
     input: &mut I,
     output: &mut O,
     faults: &mut F,
 ) -> u8
-    ensures { IfSome (I.remaining input.old) (λ bytes. Judges (I.failed input.new) bytes result (record { output = O.contents output.old; output' = O.contents output.new; broken = O.failed output.new; faults = F.contents faults.old; faults' = F.contents faults.new })) }
+    ensures { IfSome (I.remaining input.old) (λ bytes. Judges json (I.failed input.new) bytes result (record { output = O.contents output.old; output' = O.contents output.new; broken = O.failed output.new; faults = F.contents faults.old; faults' = F.contents faults.new })) }
 {
     let bytes = match input.read_whole(alloc) {
         Ok(bytes) => bytes,
@@ -85,7 +87,7 @@ pub fn judge_input<I: Source, O: Sink, F: Write>(
         }
     };
     match trace_in(alloc, bytes.as_slice()) {
-        Ok(trace) => give_verdict(alloc, &trace, output, faults),
+        Ok(trace) => give_verdict(alloc, json, &trace, output, faults),
         Err(fault) => {
             complain(faults, fault_line(fault));
             1

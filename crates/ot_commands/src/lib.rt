@@ -11,13 +11,14 @@
 //!    explaining   explain --trace: its verdict with words, or in words where its first fault is
 //!    describing   explain --plan: what a plan is, or in words where its first fault is
 //!    generating   generate: a session made at random
+//!    listing      generate --every: every small session, or how many they are
 //!    completing   complete: a schedule, and behind it what brings its run to quiet
 //!    conforming   conform: the lines that a port of ot.js printed, against the run of the schedule that it performed
 //!    answering    its answer, in words or as JSON
 //! ```
 //!
 //! Each call answers the program's status, and says by its clause what it writes: `specs/` has a file for each module (`Ran`, `Stepped`, `Explains`, `ExplainsImages`, `Checked`,
-//! `Debugged`, `Converted`, `Judged`, `ExplainedTraces`, `ExplainedPlans`, `Generated`, `Completes`, `Conformed`, `Answered`), over the outcomes of `streams`. Begin with [`run_text`].
+//! `Debugged`, `Converted`, `Judged`, `ExplainedTraces`, `ExplainedPlans`, `Generated`, `Listed`, `Completes`, `Conformed`, `Answered`), over the outcomes of `streams`. Begin with [`run_text`].
 //!
 //! A schedule as the input, and its fault as a line:
 //!
@@ -42,6 +43,7 @@ mod explaining;
 mod faults;
 mod generating;
 mod judging;
+mod listing;
 mod part;
 mod running;
 mod stepping;
@@ -56,6 +58,7 @@ pub use describing::explain_plan;
 pub use explaining::explain_trace;
 pub use generating::generate_session;
 pub use judging::judge_input;
+pub use listing::{count_sessions, list_sessions};
 pub use running::{run_image, run_text};
 pub use stepping::run_steps;
 pub use telling::{run_explain, run_explain_image};

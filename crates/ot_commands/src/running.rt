@@ -24,16 +24,17 @@ pub fn status_of(stopped: Option<(usize, Refusal)>) -> u8
     }
 }
 
-// Runs the schedule and writes its report.
+// Runs the schedule and writes its report, in words or as JSON.
 fn report<O: Sink, F: Write>(
     alloc: Global,
     schedule: &Schedule,
+    json: bool,
     output: &mut O,
     faults: &mut F,
 ) -> u8
-    ensures { MayReport schedule.now result (record { output = O.contents output.old; output' = O.contents output.new; broken = O.failed output.new; faults = F.contents faults.old; faults' = F.contents faults.new }) }
+    ensures { MayReport json schedule.now result (record { output = O.contents output.old; output' = O.contents output.new; broken = O.failed output.new; faults = F.contents faults.old; faults' = F.contents faults.new }) }
 {
-    match write_report(alloc, schedule, output) {
+    match write_report(alloc, schedule, json, output) {
         Ok(stopped) => status_of(stopped),
         Err(ReportFault::WriteFault) => 1,
         Err(ReportFault::Memory) => {
@@ -43,17 +44,18 @@ fn report<O: Sink, F: Write>(
     }
 }
 
-/// Runs the schedule whose text is the input.
+/// Runs the schedule whose text is the input, and prints its report, in words or as lines of `json`.
 pub fn run_text<I: Read, O: Sink, F: Write>(
     alloc: Global,
+    json: bool,
     input: &mut I,
     output: &mut O,
     faults: &mut F,
 ) -> u8
-    ensures { IfSome (I.remaining input.old) (λ text. OfText MayReport text result (record { output = O.contents output.old; output' = O.contents output.new; broken = O.failed output.new; faults = F.contents faults.old; faults' = F.contents faults.new })) }
+    ensures { IfSome (I.remaining input.old) (λ text. OfText (MayReport json) text result (record { output = O.contents output.old; output' = O.contents output.new; broken = O.failed output.new; faults = F.contents faults.old; faults' = F.contents faults.new })) }
 {
     match assemble_from(alloc, input) {
-        Ok(schedule) => report(alloc, &schedule, output, faults),
+        Ok(schedule) => report(alloc, &schedule, json, output, faults),
         Err(fault) => {
             complain_of_line(alloc, fault, faults);
             1
@@ -61,18 +63,19 @@ pub fn run_text<I: Read, O: Sink, F: Write>(
     }
 }
 
-/// Runs the schedule whose image is the input.
+/// Runs the schedule whose image is the input, and prints its report, in words or as lines of `json`.
 pub fn run_image<I: Source, O: Sink, F: Write>(
     alloc: Global,
+    json: bool,
     input: &mut I,
     output: &mut O,
     faults: &mut F,
 ) -> u8
-    ensures { IfSome (I.remaining input.old) (λ bytes. OfImage MayReport (I.failed input.new) bytes result (record { output = O.contents output.old; output' = O.contents output.new; broken = O.failed output.new; faults = F.contents faults.old; faults' = F.contents faults.new })) }
+    ensures { IfSome (I.remaining input.old) (λ bytes. OfImage (MayReport json) (I.failed input.new) bytes result (record { output = O.contents output.old; output' = O.contents output.new; broken = O.failed output.new; faults = F.contents faults.old; faults' = F.contents faults.new })) }
 {
     match input.read_whole(alloc) {
         Ok(bytes) => match load(alloc, bytes.as_slice()) {
-            Ok(schedule) => report(alloc, &schedule, output, faults),
+            Ok(schedule) => report(alloc, &schedule, json, output, faults),
             Err(fault) => {
                 complain_of_byte(alloc, fault, faults);
                 1

@@ -4,6 +4,7 @@ use Rattle.json.specs.Print.{quoted}
 use Rattle.ot_rules.specs.Explained.{Explained}
 use Rattle.ot_rules.specs.Text.{Given}
 use Rattle.ot_model.specs.declared.shown.Refusal.{Refusal}
+use Rattle.ot_values.specs.Items.{with_items}
 use Rattle.ot_values.specs.Values.{refusal_text}
 use Rattle.ot_conform.specs.Answers.{agreement_word, count_name, field_name, malformed_sentence}
 use Rattle.ot_conform.specs.Counted.{counted_keys, is_nothing}
@@ -26,15 +27,6 @@ member name value = codes ",\"" ++ (name ++ (codes "\":" ++ value))
 
 abbrev pub text_member : List ℕ → List ℕ → List ℕ
 text_member name text = member name (quoted text)
-
--- one item more, behind a comma where it is not the first
-abbrev pub with_item : List ℕ → List ℕ → List ℕ
-with_item [] item = item
-with_item (b ∷ bs) item = (b ∷ bs) ++ 44 ∷ item
-
-abbrev pub with_items : List ℕ → List (List ℕ) → List ℕ
-with_items text [] = text
-with_items text (item ∷ items) = with_items (with_item text item) items
 
 abbrev pub in_brackets : List ℕ → List ℕ
 in_brackets items = 91 ∷ (items ++ 93 ∷ [])

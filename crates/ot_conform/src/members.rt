@@ -1,7 +1,7 @@
 //! The answer, as the members of a JSON object. Values of lines are strings with the same text as in the words, so that no reader loses digits
 //! of a number, or takes `none` for a text.
 
-ghost use Rattle.std.specs.Prelude.{◌≡◌, [], IfOk, OnOk, decimal, map, option_map, string_bytes};
+ghost use Rattle.std.specs.Prelude.{◌≡◌, [], IfOk, decimal, map, option_map, string_bytes};
 ghost use Rattle.ot_rules.specs.Explained.{explained_value};
 ghost use Rattle.ot_rules.specs.Text.{given_value, given_values};
 ghost use Rattle.ot_conform.specs.Answers as answers;
@@ -9,6 +9,7 @@ ghost use Rattle.ot_conform.specs.Counted.{counted_keys};
 ghost use Rattle.ot_conform.specs.Json as json;
 ghost use Rattle.ot_conform.specs.Points.{points_value};
 ghost use Rattle.ot_conform.specs.Unknown.{all_named, named_of};
+ghost use Rattle.ot_values.specs.Items.{with_items};
 
 use crate::answer::Answer;
 use crate::answers::{Difference, Owner, field_name, quoted};
@@ -21,7 +22,7 @@ use crate::unknown::UnknownKey;
 use ot_machine::Refusal;
 use ot_rules::{Explained, Given};
 use ot_steps::Key;
-use ot_values::refusal_name;
+use ot_values::{push_item, refusal_name};
 use std::alloc::{AllocError, Global};
 
 // A member of an object that stands behind another one, of a value in JSON: `,"NAME":VALUE`.
@@ -63,16 +64,6 @@ pub fn object(alloc: Global, members: &str) -> Result<String, AllocError>
     Ok(text)
 }
 
-// One item more of an array or an object, behind a comma where it is not the first.
-fn push_item(text: &mut String, item: &str) -> Result<(), AllocError>
-    ensures { OnOk result (string_bytes text.new ≡ json.with_item (string_bytes text.old) item.now) }
-{
-    if !text.is_empty() {
-        text.push_str(",")?;
-    }
-    text.push_str(item)
-}
-
 fn count_item(alloc: Global, key: Key, count: u64) -> Result<String, AllocError>
     ensures { IfOk result (λ s. string_bytes s ≡ json.count_item (answers.count_name key) count) }
 {
@@ -81,7 +72,7 @@ fn count_item(alloc: Global, key: Key, count: u64) -> Result<String, AllocError>
 }
 
 fn count_items(alloc: Global, counts: &Counts) -> Result<String, AllocError>
-    ensures { IfOk result (λ s. string_bytes s ≡ json.with_items [] (json.count_items counted_keys counts.now.values)) }
+    ensures { IfOk result (λ s. string_bytes s ≡ with_items [] (json.count_items counted_keys counts.now.values)) }
 {
     let mut items = String::new(alloc);
     for (place, key) in COUNTED.iter().enumerate() {
@@ -118,7 +109,7 @@ fn place_member(alloc: Global, place: Option<usize>) -> Result<String, AllocErro
 }
 
 fn letter_items(alloc: Global, letters: &[char]) -> Result<String, AllocError>
-    ensures { IfOk result (λ s. string_bytes s ≡ json.with_items [] (map decimal letters.now)) }
+    ensures { IfOk result (λ s. string_bytes s ≡ with_items [] (map decimal letters.now)) }
 {
     let mut items = String::new(alloc);
     for letter in letters {
@@ -154,7 +145,7 @@ fn given_json(alloc: Global, given: &Given) -> Result<String, AllocError>
 }
 
 fn given_items(alloc: Global, given: &[Given]) -> Result<String, AllocError>
-    ensures { IfOk result (λ s. string_bytes s ≡ json.with_items [] (map json.given_json (given_values given.now))) }
+    ensures { IfOk result (λ s. string_bytes s ≡ with_items [] (map json.given_json (given_values given.now))) }
 {
     let mut items = String::new(alloc);
     for value in given {
@@ -300,7 +291,7 @@ fn unknown_json(alloc: Global, unknown: &UnknownKey) -> Result<String, AllocErro
 }
 
 fn unknown_items(alloc: Global, keys: &[UnknownKey]) -> Result<String, AllocError>
-    ensures { IfOk result (λ s. string_bytes s ≡ json.with_items [] (map json.unknown_json (all_named keys.now))) }
+    ensures { IfOk result (λ s. string_bytes s ≡ with_items [] (map json.unknown_json (all_named keys.now))) }
 {
     let mut items = String::new(alloc);
     for unknown in keys {

@@ -1,5 +1,5 @@
 pub mod Listing
-pub mod AllLines
+pub mod Waiting
 pub mod Progress
 pub mod Quiet
 pub mod Reported

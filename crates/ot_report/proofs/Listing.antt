@@ -1,5 +1,5 @@
 -- The lines of clients, one by one.
-use Rattle.std.proofs.Common.{◌≡◌, ℕ, zero, suc, ◌+◌, ◌<◌, List, [], ◌∷◌, ◌++◌, take, length, get_or, refl, sym, ap, ◌∙◌, arith, Option, Some, None}
+use Rattle.std.proofs.Common.{◌≡◌, ℕ, Bool, zero, suc, ◌+◌, ◌<◌, List, [], ◌∷◌, ◌++◌, take, length, get_or, refl, sym, ap, ◌∙◌, arith, Option, Some, None}
 use Rattle.std.specs.Prelude.{slice_get}
 use Rattle.std.specs.Option.{option_map}
 use Rattle.std.proofs.lemmas.List.{append_assoc, append-nil}
@@ -8,7 +8,8 @@ use Rattle.ot_model.specs.Table.{Client}
 use Rattle.ot_machine.specs.declared.state.Phase.{Phase}
 use Rattle.ot_machine.specs.Readers.{phase_name}
 use Rattle.ot_model.specs.declared.shown.Shown.{Shown}
-use Rattle.ot_report.specs.Printed.{client_line, client_lines, client_text, read_line, read_lines}
+use Rattle.ot_report.specs.Printed.{client_line, client_lines, client_text, read_lines, read_text}
+use Rattle.ot_report.specs.RunJson.{client_json, client_parts, clients_json}
 use Rattle.ot_values.specs.Values.{phase_word}
 
 -- one more line
@@ -36,11 +37,35 @@ line_from c (Some x) revision phase list r p l =
     let l' : x.list ≡ list = cc in
     rw (r', p', l') refl
 
+-- the same as JSON
+pub objects_more : (from i n : ℕ) (xs : List Client) (text : List ℕ) → n ≡ from + i → option_map (client_json n) (slice_get xs i) ≡ Some text
+    → clients_json from (take (suc i) xs) ≡ clients_json from (take i xs) ++ text
+objects_more from i n [] text e at = absurd cc
+objects_more from zero n (x ∷ xs) text e at =
+    let here : n ≡ from = omega (arith, e) in
+    append-nil (client_json from x) ∙ ap (λ (k : ℕ). client_json k x) (sym here) ∙ some_same (client_json n x) text at
+  where
+    some_same : (a b : List ℕ) → Some a ≡ Some b → a ≡ b
+    some_same a b same = cc
+objects_more from (suc i) n (x ∷ xs) text e at =
+    ap (λ (t : List ℕ). client_json from x ++ t) (objects_more (suc from) i n xs text (omega (arith, e)) at)
+    ∙ sym (append_assoc (client_json from x) (clients_json (suc from) (take i xs)) text)
+
+pub object_from : (c : ℕ) (o : Option Client) (revision : ℕ) (phase : Phase) (list : List Tagged)
+    → option_map (λ x. x.revision) o ≡ Some revision → option_map (λ x. phase_name x.phase) o ≡ Some phase → option_map (λ x. x.list) o ≡ Some list
+    → option_map (client_json c) o ≡ Some (client_parts c revision (phase_word phase) list)
+object_from c None revision phase list r p l = absurd cc
+object_from c (Some x) revision phase list r p l =
+    let r' : x.revision ≡ revision = cc in
+    let p' : phase_name x.phase ≡ phase = cc in
+    let l' : x.list ≡ list = cc in
+    rw (r', p', l') refl
+
 -- one more read
-pub reads_more : (i : ℕ) (xs : List Shown) (shown : Shown) → i < length xs → shown ≡ get_or xs i shown
-    → read_lines (take (suc i) xs) ≡ read_lines (take i xs) ++ read_line shown
-reads_more i [] shown there is = absurd (omega (arith, there))
-reads_more zero (x ∷ xs) shown there is = append-nil (read_line x) ∙ ap read_line (sym is)
-reads_more (suc i) (x ∷ xs) shown there is =
-    ap (λ (t : List ℕ). read_line x ++ t) (reads_more i xs shown (omega (arith, there)) is)
-    ∙ sym (append_assoc (read_line x) (read_lines (take i xs)) (read_line shown))
+pub reads_more : (json : Bool) (i : ℕ) (xs : List Shown) (shown : Shown) → i < length xs → shown ≡ get_or xs i shown
+    → read_lines json (take (suc i) xs) ≡ read_lines json (take i xs) ++ read_text json shown
+reads_more json i [] shown there is = absurd (omega (arith, there))
+reads_more json zero (x ∷ xs) shown there is = append-nil (read_text json x) ∙ ap (read_text json) (sym is)
+reads_more json (suc i) (x ∷ xs) shown there is =
+    ap (λ (t : List ℕ). read_text json x ++ t) (reads_more json i xs shown (omega (arith, there)) is)
+    ∙ sym (append_assoc (read_text json x) (read_lines json (take i xs)) (read_text json shown))

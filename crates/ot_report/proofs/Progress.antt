@@ -1,5 +1,5 @@
 -- A report that is written while its run goes.
-use Rattle.std.proofs.Common.{◌≡◌, ℕ, suc, ◌+◌, ◌≤◌, List, [], ◌∷◌, ◌++◌, length, refl, sym, ap, ◌∙◌, subst, arith, inl, inr, Option, Some, None}
+use Rattle.std.proofs.Common.{◌≡◌, ℕ, Bool, suc, ◌+◌, ◌≤◌, List, [], ◌∷◌, ◌++◌, length, refl, sym, ap, ◌∙◌, subst, arith, inl, inr, Option, Some, None}
 use Rattle.std.specs.Prelude.{slice_get, Result, Ok, Err, IfErr, IsErrAnd}
 use Rattle.std.specs.Io.KnownBytes.{Appends, Keeps}
 use Rattle.std.proofs.KnownBytes.{Appends-kept, Appends-nil, Appends-trans}
@@ -16,36 +16,36 @@ use Rattle.ot_model.specs.Runs.{opening_of, place_at}
 use Rattle.ot_model.proofs.Runs.{place_at-next}
 use Rattle.ot_machine.specs.Answers.{IsPerformed, IsRefusal}
 use Rattle.ot_machine.proofs.Stopping.{stopped_at, whole}
-use Rattle.ot_report.specs.Printed.{read_line, read_lines}
+use Rattle.ot_report.specs.Printed.{read_lines, read_text}
 use Rattle.ot_report.specs.Written.{AreGathered, Flushes, Gathers, GathersReads, GathersUpTo, ReadsUpTo, WritesFirstReads, shown_line}
 use Rattle.ot_report.specs.declared.writing.ReportFault.{ReportFault}
 use Rattle.ot_report.specs.declared.writing.ReportFault.TheVariants as fault
 
 -- ---- lines of reads
 
-pub reads_append : (xs ys : List Shown) → read_lines (xs ++ ys) ≡ read_lines xs ++ read_lines ys
-reads_append [] ys = refl
-reads_append (x ∷ xs) ys = ap (λ (t : List ℕ). read_line x ++ t) (reads_append xs ys) ∙ sym (append_assoc (read_line x) (read_lines xs) (read_lines ys))
+pub reads_append : (json : Bool) (xs ys : List Shown) → read_lines json (xs ++ ys) ≡ read_lines json xs ++ read_lines json ys
+reads_append json [] ys = refl
+reads_append json (x ∷ xs) ys = ap (λ (t : List ℕ). read_text json x ++ t) (reads_append json xs ys) ∙ sym (append_assoc (read_text json x) (read_lines json xs) (read_lines json ys))
 
 -- the lists shown by one more instruction
 shown_on : (xs ys : List Shown) (list : Option Shown) → with_shown (xs ++ ys) list ≡ xs ++ with_shown ys list
 shown_on xs ys None = refl
 shown_on xs ys (Some x) = append_assoc xs ys (x ∷ [])
 
-lines_on : (xs : List Shown) (list : Option Shown) → read_lines (with_shown xs list) ≡ read_lines xs ++ shown_line list
-lines_on xs None = sym (append-nil (read_lines xs))
-lines_on xs (Some x) = reads_append xs (x ∷ []) ∙ ap (λ (t : List ℕ). read_lines xs ++ t) (append-nil (read_line x))
+lines_on : (json : Bool) (xs : List Shown) (list : Option Shown) → read_lines json (with_shown xs list) ≡ read_lines json xs ++ shown_line json list
+lines_on json xs None = sym (append-nil (read_lines json xs))
+lines_on json xs (Some x) = reads_append json xs (x ∷ []) ∙ ap (λ (t : List ℕ). read_lines json xs ++ t) (append-nil (read_text json x))
 
 -- ---- a run under way
 
 -- p instructions are performed, and the lines of their reads are written or gathered
-pub record IsAt (s : Program) (p : ℕ) (state : State) (gathered : List ℕ) (old new : Option (List ℕ)) : Type 0 where
+pub record IsAt (json : Bool) (s : Program) (p : ℕ) (state : State) (gathered : List ℕ) (old new : Option (List ℕ)) : Type 0 where
   pub shown : List Shown
   pub at : place_at s p ≡ Some (record { state = state; shown = shown })
-  pub reads : AreGathered s shown gathered old new
+  pub reads : AreGathered json s shown gathered old new
 
-pub is_begun : (s : Program) (state : State) (gathered : List ℕ) (old : Option (List ℕ)) → state ≡ opening_of s → gathered ≡ [] → IsAt s 0 state gathered old old
-is_begun s state gathered old is empty =
+pub is_begun : (json : Bool) (s : Program) (state : State) (gathered : List ℕ) (old : Option (List ℕ)) → state ≡ opening_of s → gathered ≡ [] → IsAt json s 0 state gathered old old
+is_begun json s state gathered old is empty =
     record {
       shown = [];
       at = rw is refl;
@@ -58,45 +58,45 @@ is_begun s state gathered old is empty =
     }
 
 -- all that is gathered and written: the reads so far
-pub all_reads : (s : Program) (shown : List Shown) (gathered : List ℕ) (old new : Option (List ℕ)) (reads : AreGathered s shown gathered old new) → read_lines reads.first.place.shown ++ gathered ≡ read_lines shown
-all_reads s shown gathered old new reads =
-    ap (λ (t : List ℕ). read_lines reads.first.place.shown ++ t) reads.gathered_are
-    ∙ sym (reads_append reads.first.place.shown reads.others)
-    ∙ sym (ap read_lines reads.shown_are)
+pub all_reads : (json : Bool) (s : Program) (shown : List Shown) (gathered : List ℕ) (old new : Option (List ℕ)) (reads : AreGathered json s shown gathered old new) → read_lines json reads.first.place.shown ++ gathered ≡ read_lines json shown
+all_reads json s shown gathered old new reads =
+    ap (λ (t : List ℕ). read_lines json reads.first.place.shown ++ t) reads.gathered_are
+    ∙ sym (reads_append json reads.first.place.shown reads.others)
+    ∙ sym (ap (read_lines json) reads.shown_are)
 
-module _ (s : Program) (p : ℕ) (i : Instr) (state t : State) (gathered : List ℕ) (old mid : Option (List ℕ))
-    (is : IsAt s p state gathered old mid) (at : slice_get s.instrs p ≡ Some i) where
+module _ (json : Bool) (s : Program) (p : ℕ) (i : Instr) (state t : State) (gathered : List ℕ) (old mid : Option (List ℕ))
+    (is : IsAt json s p state gathered old mid) (at : slice_get s.instrs p ≡ Some i) where
   -- nothing more is written
-  first_kept : (new : Option (List ℕ)) → Keeps mid new → Appends old new (read_lines is.reads.first.place.shown)
-  first_kept new kept = Appends-kept old mid new (read_lines is.reads.first.place.shown) is.reads.first.written kept
+  first_kept : (new : Option (List ℕ)) → Keeps mid new → Appends old new (read_lines json is.reads.first.place.shown)
+  first_kept new kept = Appends-kept old mid new (read_lines json is.reads.first.place.shown) is.reads.first.written kept
 
   -- all that was gathered is
-  all_written : (new : Option (List ℕ)) → Appends mid new gathered → Appends old new (read_lines is.shown)
+  all_written : (new : Option (List ℕ)) → Appends mid new gathered → Appends old new (read_lines json is.shown)
   all_written new wrote =
-      subst (Appends old new) (all_reads s is.shown gathered old mid is.reads)
-      (Appends-trans old mid new (read_lines is.reads.first.place.shown) gathered is.reads.first.written wrote)
+      subst (Appends old new) (all_reads json s is.shown gathered old mid is.reads)
+      (Appends-trans old mid new (read_lines json is.reads.first.place.shown) gathered is.reads.first.written wrote)
 
   -- what the next instruction shows is gathered
-  next_gathered : (list : Option Shown) (between after : List ℕ) (new : Option (List ℕ)) → Flushes gathered between mid new → after ≡ between ++ shown_line list → AreGathered s (with_shown is.shown list) after old new
+  next_gathered : (list : Option Shown) (between after : List ℕ) (new : Option (List ℕ)) → Flushes gathered between mid new → after ≡ between ++ shown_line json list → AreGathered json s (with_shown is.shown list) after old new
   next_gathered list between after new (inl kept) is_after =
       record {
         first = record { performed = is.reads.first.performed; place = is.reads.first.place; at = is.reads.first.at; written = first_kept new kept.0 };
         others = with_shown is.reads.others list;
         shown_are = ap (λ (xs : List Shown). with_shown xs list) is.reads.shown_are ∙ shown_on is.reads.first.place.shown is.reads.others list;
-        gathered_are = is_after ∙ ap (λ (bytes : List ℕ). bytes ++ shown_line list) (kept.1 ∙ is.reads.gathered_are) ∙ sym (lines_on is.reads.others list);
+        gathered_are = is_after ∙ ap (λ (bytes : List ℕ). bytes ++ shown_line json list) (kept.1 ∙ is.reads.gathered_are) ∙ sym (lines_on json is.reads.others list);
       }
   next_gathered list between after new (inr wrote) is_after =
       record {
         first = record { performed = p; place = record { state = state; shown = is.shown }; at = is.at; written = all_written new wrote.0 };
         others = with_shown [] list;
         shown_are = ap (λ (xs : List Shown). with_shown xs list) (sym (append-nil is.shown)) ∙ shown_on is.shown [] list;
-        gathered_are = is_after ∙ ap (λ (bytes : List ℕ). bytes ++ shown_line list) wrote.1 ∙ sym (lines_on [] list);
+        gathered_are = is_after ∙ ap (λ (bytes : List ℕ). bytes ++ shown_line json list) wrote.1 ∙ sym (lines_on json [] list);
       }
 
-  pub is_next : (list : Option Shown) (after : List ℕ) (new : Option (List ℕ)) → step state i ≡ Performed t list → Gathers list gathered after mid new → IsAt s (p + 1) t after old new
+  pub is_next : (list : Option Shown) (after : List ℕ) (new : Option (List ℕ)) → step state i ≡ Performed t list → Gathers json list gathered after mid new → IsAt json s (p + 1) t after old new
   is_next list after new performed gathers =
       let more : suc p ≡ p + 1 = omega arith in
-      subst (λ (n : ℕ). IsAt s n t after old new) more
+      subst (λ (n : ℕ). IsAt json s n t after old new) more
       (record {
         shown = with_shown is.shown list;
         at = place_at-next s p (record { state = state; shown = is.shown }) i t list is.at at performed;
@@ -104,11 +104,11 @@ module _ (s : Program) (p : ℕ) (i : Instr) (state t : State) (gathered : List 
       })
 
   -- if memory ran out the lines of the first reads stand there; where a write fails, a first part of those so far
-  pub reads_missing : (new : Option (List ℕ)) → GathersUpTo fault.Memory gathered mid new → WritesFirstReads s old new
+  pub reads_missing : (new : Option (List ℕ)) → GathersUpTo fault.Memory gathered mid new → WritesFirstReads json s old new
   reads_missing new (between, inl kept) = record { performed = is.reads.first.performed; place = is.reads.first.place; at = is.reads.first.at; written = first_kept new kept.0 }
   reads_missing new (between, inr wrote) = record { performed = p; place = record { state = state; shown = is.shown }; at = is.at; written = all_written new wrote.0 }
 
-  pub reads_cut : (list : Option Shown) (f : ReportFault) (new : Option (List ℕ)) → step state i ≡ Performed t list → GathersUpTo f gathered mid new → ReadsUpTo f s old new
+  pub reads_cut : (list : Option Shown) (f : ReportFault) (new : Option (List ℕ)) → step state i ≡ Performed t list → GathersUpTo f gathered mid new → ReadsUpTo f json s old new
   reads_cut list fault.Memory new performed missing = reads_missing new missing
   reads_cut list fault.WriteFault new performed wrote =
       let allowed : IsPerformed (step state i) = rw performed tt in (
@@ -117,12 +117,12 @@ module _ (s : Program) (p : ℕ) (i : Instr) (state t : State) (gathered : List 
         (
           record { state = state; shown = is.shown },
           is.at,
-          subst (WritesPart old new) (all_reads s is.shown gathered old mid is.reads)
-              (part_after old mid new (read_lines is.reads.first.place.shown) gathered is.reads.first.written wrote),
+          subst (WritesPart old new) (all_reads json s is.shown gathered old mid is.reads)
+              (part_after old mid new (read_lines json is.reads.first.place.shown) gathered is.reads.first.written wrote),
         ),
       )
 
-  pub is_stopped : (r : Refusal) (after : State) → IsRefusal (step state i) r → after ≡ state → GathersReads s (Some (p, r)) after gathered old mid
+  pub is_stopped : (r : Refusal) (after : State) → IsRefusal (step state i) r → after ≡ state → GathersReads json s (Some (p, r)) after gathered old mid
   is_stopped r after refused same =
       rw same (record {
         place = record { state = state; shown = is.shown };
@@ -132,8 +132,8 @@ module _ (s : Program) (p : ℕ) (i : Instr) (state t : State) (gathered : List 
         reads = is.reads;
       })
 
-pub is_whole : (s : Program) (p : ℕ) (state : State) (gathered : List ℕ) (old new : Option (List ℕ)) → length s.instrs ≤ p → p ≤ length s.instrs → IsAt s p state gathered old new → GathersReads s None state gathered old new
-is_whole s p state gathered old new le ge is =
+pub is_whole : (json : Bool) (s : Program) (p : ℕ) (state : State) (gathered : List ℕ) (old new : Option (List ℕ)) → length s.instrs ≤ p → p ≤ length s.instrs → IsAt json s p state gathered old new → GathersReads json s None state gathered old new
+is_whole json s p state gathered old new le ge is =
     let fact = whole s p (record { state = state; shown = is.shown }) le ge is.at in
     record { place = record { state = state; shown = is.shown }; at = fact.0; state_is = refl; stop = fact.1; reads = is.reads }
 

@@ -1,5 +1,5 @@
 -- The report of a run, from what was gathered of it.
-use Rattle.std.proofs.Common.{◌≡◌, ℕ, zero, suc, ◌+◌, ◌<◌, ◌≤◌, ◌^◌, List, [], ◌∷◌, ◌++◌, length, take, refl, sym, ap, ◌∙◌, subst, arith, le_refl, Option, Some, None}
+use Rattle.std.proofs.Common.{◌≡◌, ℕ, Bool, zero, suc, ◌+◌, ◌<◌, ◌≤◌, ◌^◌, List, [], ◌∷◌, ◌++◌, length, take, refl, sym, ap, ◌∙◌, subst, arith, le_refl, Option, Some, None}
 use Rattle.std.specs.declared.alloc.Global.{Global}
 use Rattle.std.specs.Io.KnownBytes.{Appends}
 use Rattle.std.proofs.KnownBytes.{Appends-nil, Appends-trans}
@@ -18,7 +18,7 @@ use Rattle.ot_model.specs.Table.{State, Place, Outcome, Performed, Refused, NoRo
 use Rattle.ot_model.specs.Runs.{place_at}
 use Rattle.ot_machine.specs.declared.outcome.Run.{Run}
 use Rattle.ot_machine.specs.Ended.{reached, IsStop}
-use Rattle.ot_report.specs.Printed.{end_lines, read_lines, stop_text, IsEnd}
+use Rattle.ot_report.specs.Printed.{end_text, read_lines, stop_text, IsEndText}
 use Rattle.ot_report.specs.Written.{GathersReads, IsReportOf, ReadsUpTo, WritesFirstReads, WritesPartOfReport, WritesReport, WritesReportUpTo}
 use Rattle.ot_report.specs.declared.writing.ReportFault.{ReportFault}
 use Rattle.ot_report.specs.declared.writing.ReportFault.TheVariants as fault
@@ -68,79 +68,79 @@ replay heap state shown small stopped =
     }
 
 -- it is a run of the schedule, and each text that ends as its state does is its report
-module _ (heap : Global) (s : Program) (limits : IsProgram s) (stopped : Option (ℕ × Refusal)) (place : Place)
-    (at : place_at s (reached s stopped) ≡ Some place) (stop : IsStop s place.state stopped) (end : List ℕ) (is_end : IsEnd place.state end) where
+module _ (json : Bool) (heap : Global) (s : Program) (limits : IsProgram s) (stopped : Option (ℕ × Refusal)) (place : Place)
+    (at : place_at s (reached s stopped) ≡ Some place) (stop : IsStop s place.state stopped) (end : List ℕ) (is_end : IsEndText json place.state end) where
   abbrev its : Run
   its = replay heap place.state place.shown (shown_small s (reached s stopped) place limits at) stopped
 
   abbrev its_report : List ℕ
-  its_report = read_lines place.shown ++ stop_text stopped ++ end
+  its_report = read_lines json place.shown ++ stop_text json stopped ++ end
 
-  is_its : IsReportOf s its its_report
+  is_its : IsReportOf json s its its_report
   is_its = record { is_run = record { at = at; stop = stop }; is_report = (end, is_end, refl) }
 
-  pub reported : (old new : Option (List ℕ)) → Appends old new its_report → WritesReport s stopped old new
+  pub reported : (old new : Option (List ℕ)) → Appends old new its_report → WritesReport json s stopped old new
   reported old new written = record { run = its; stopped_is = refl; text = its_report; is = is_its; written = written }
 
-  pub part_reported : (old new : Option (List ℕ)) → WritesPart old new its_report → WritesPartOfReport s old new
+  pub part_reported : (old new : Option (List ℕ)) → WritesPart old new its_report → WritesPartOfReport json s old new
   part_reported old new written = record { run = its; text = its_report; is = is_its; written = written }
 
 -- ---- faults among the reads
 
 -- the run may stop before the next instruction, if memory runs out
-cut_short : (heap : Global) (s : Program) → IsProgram s → (old new : Option (List ℕ)) → ReadsUpTo fault.WriteFault s old new → WritesPartOfReport s old new
-cut_short heap s limits old new (p, before, (place, at, written)) =
+cut_short : (json : Bool) (heap : Global) (s : Program) → IsProgram s → (old new : Option (List ℕ)) → ReadsUpTo fault.WriteFault json s old new → WritesPartOfReport json s old new
+cut_short json heap s limits old new (p, before, (place, at, written)) =
     let quiet = quiet_or_not place.state in
-    let end : List ℕ = end_lines place.state quiet.0 in
-    part_reported heap s limits (Some (p, Memory)) place at before end (quiet.0, quiet.1, refl) old new
-    (part_of_front old new (read_lines place.shown ++ stop_text (Some (p, Memory))) end (part_of_front old new (read_lines place.shown) (stop_text (Some (p, Memory))) written))
+    let end : List ℕ = end_text json place.state quiet.0 in
+    part_reported json heap s limits (Some (p, Memory)) place at before end (quiet.0, quiet.1, refl) old new
+    (part_of_front old new (read_lines json place.shown ++ stop_text json (Some (p, Memory))) end (part_of_front old new (read_lines json place.shown) (stop_text json (Some (p, Memory))) written))
 
-pub reads_cut_short : (f : ReportFault) (heap : Global) (s : Program) → IsProgram s → (old new : Option (List ℕ)) → ReadsUpTo f s old new → WritesReportUpTo f s old new
-reads_cut_short fault.Memory heap s limits old new reads = reads
-reads_cut_short fault.WriteFault heap s limits old new reads = cut_short heap s limits old new reads
+pub reads_cut_short : (f : ReportFault) (json : Bool) (heap : Global) (s : Program) → IsProgram s → (old new : Option (List ℕ)) → ReadsUpTo f json s old new → WritesReportUpTo f json s old new
+reads_cut_short fault.Memory json heap s limits old new reads = reads
+reads_cut_short fault.WriteFault json heap s limits old new reads = cut_short json heap s limits old new reads
 
 -- nothing is written yet
-pub nothing_read : (s : Program) (old : Option (List ℕ)) → WritesFirstReads s old old
-nothing_read s old = record { performed = 0; place = begin s.clients s.present s.start; at = refl; written = Appends-nil old }
+pub nothing_read : (json : Bool) (s : Program) (old : Option (List ℕ)) → WritesFirstReads json s old old
+nothing_read json s old = record { performed = 0; place = begin s.clients s.present s.start; at = refl; written = Appends-nil old }
 
 -- ---- what is gathered, with the stop, and the end behind it
 
-module _ (heap : Global) (s : Program) (limits : IsProgram s) (stopped : Option (ℕ × Refusal)) (state : State) (gathered : List ℕ) (old mid : Option (List ℕ))
-    (reads : GathersReads s stopped state gathered old mid) (text end : List ℕ) (is_text : text ≡ gathered ++ stop_text stopped) (is_end : IsEnd state end) where
-  its_end : IsEnd reads.place.state end
-  its_end = subst (λ (t : State). IsEnd t end) (sym reads.state_is) is_end
+module _ (json : Bool) (heap : Global) (s : Program) (limits : IsProgram s) (stopped : Option (ℕ × Refusal)) (state : State) (gathered : List ℕ) (old mid : Option (List ℕ))
+    (reads : GathersReads json s stopped state gathered old mid) (text end : List ℕ) (is_text : text ≡ gathered ++ stop_text json stopped) (is_end : IsEndText json state end) where
+  its_end : IsEndText json reads.place.state end
+  its_end = subst (λ (t : State). IsEndText json t end) (sym reads.state_is) is_end
 
   its_stop : IsStop s reads.place.state stopped
   its_stop = subst (λ (t : State). IsStop s t stopped) (sym reads.state_is) reads.stop
 
   abbrev first : List ℕ
-  first = read_lines reads.reads.first.place.shown
+  first = read_lines json reads.reads.first.place.shown
 
   -- all lines but those of the end
   abbrev lines : List ℕ
-  lines = read_lines reads.place.shown ++ stop_text stopped
+  lines = read_lines json reads.place.shown ++ stop_text json stopped
 
   are_lines : first ++ text ≡ lines
   are_lines =
       ap (λ (t : List ℕ). first ++ t) is_text
-      ∙ sym (append_assoc first gathered (stop_text stopped))
-      ∙ ap (λ (t : List ℕ). t ++ stop_text stopped) (all_reads s reads.place.shown gathered old mid reads.reads)
+      ∙ sym (append_assoc first gathered (stop_text json stopped))
+      ∙ ap (λ (t : List ℕ). t ++ stop_text json stopped) (all_reads json s reads.place.shown gathered old mid reads.reads)
 
   lines_written : (later : Option (List ℕ)) → Appends mid later text → Appends old later lines
   lines_written later before = subst (Appends old later) are_lines (Appends-trans old mid later first text reads.reads.first.written before)
 
   -- a write of the text fails
-  pub text_cut : (new : Option (List ℕ)) → WritesPart mid new text → WritesPartOfReport s old new
+  pub text_cut : (new : Option (List ℕ)) → WritesPart mid new text → WritesPartOfReport json s old new
   text_cut new written =
-      part_reported heap s limits stopped reads.place reads.at its_stop end its_end old new
+      part_reported json heap s limits stopped reads.place reads.at its_stop end its_end old new
       (part_of_front old new lines end (subst (WritesPart old new) are_lines (part_after old mid new first text reads.reads.first.written written)))
 
   -- a write of the end fails
-  pub end_cut : (later new : Option (List ℕ)) → Appends mid later text → WritesPart later new end → WritesPartOfReport s old new
+  pub end_cut : (later new : Option (List ℕ)) → Appends mid later text → WritesPart later new end → WritesPartOfReport json s old new
   end_cut later new before written =
-      part_reported heap s limits stopped reads.place reads.at its_stop end its_end old new (part_after old later new lines end (lines_written later before) written)
+      part_reported json heap s limits stopped reads.place reads.at its_stop end its_end old new (part_after old later new lines end (lines_written later before) written)
 
   -- none does
-  pub all_reported : (later new : Option (List ℕ)) → Appends mid later text → Appends later new end → WritesReport s stopped old new
+  pub all_reported : (later new : Option (List ℕ)) → Appends mid later text → Appends later new end → WritesReport json s stopped old new
   all_reported later new before written =
-      reported heap s limits stopped reads.place reads.at its_stop end its_end old new (Appends-trans old later new lines end (lines_written later before) written)
+      reported json heap s limits stopped reads.place reads.at its_stop end its_end old new (Appends-trans old later new lines end (lines_written later before) written)

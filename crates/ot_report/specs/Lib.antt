@@ -1,5 +1,7 @@
+pub mod RunJson
 pub mod Printed
 pub mod Verdicts
+pub mod Members
 pub mod Findings
 pub mod Written
 pub mod Searches

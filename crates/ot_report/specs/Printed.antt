@@ -1,5 +1,5 @@
--- The lines that are printed of a run.
-use Rattle.std.specs.Prelude.{◌≡◌, ◌↔◌, ℕ, suc, List, [], ◌∷◌, ◌++◌, length, Bool, IsTrue, Option, Some, None, codes, decimal, if◌then◌else◌}
+-- The lines that are printed of a run, in words or as JSON: both are functions of the run.
+use Rattle.std.specs.Prelude.{◌≡◌, ◌↔◌, ℕ, suc, List, [], ◌∷◌, ◌++◌, length, Bool, true, false, IsTrue, Option, Some, None, codes, decimal, if◌then◌else◌}
 use Rattle.ot_isa.specs.declared.elements.Tagged.{Tagged}
 use Rattle.ot_model.specs.declared.shown.Refusal.{Refusal}
 use Rattle.ot_model.specs.declared.shown.Reader.{Reader}
@@ -9,6 +9,7 @@ use Rattle.ot_model.specs.Table.{Client, State, IsQuiet}
 use Rattle.ot_machine.specs.Readers.{phase_name}
 use Rattle.ot_machine.specs.declared.outcome.Run.{Run}
 use Rattle.ot_values.specs.Values.{phase_word, refusal_text, text_of}
+use Rattle.ot_report.specs.RunJson.{end_json, read_json, stop_json}
 
 abbrev pub line : List ℕ → List ℕ
 line text = text ++ 10 ∷ []
@@ -21,9 +22,14 @@ reader_text reader.Server = codes "read-server"
 abbrev pub read_line : Shown → List ℕ
 read_line shown = reader_text shown.who ++ 32 ∷ line (text_of shown.list)
 
-abbrev pub read_lines : List Shown → List ℕ
-read_lines [] = []
-read_lines (shown ∷ others) = read_line shown ++ read_lines others
+-- in words, or as JSON
+abbrev pub read_text : Bool → Shown → List ℕ
+read_text false shown = read_line shown
+read_text true shown = read_json shown
+
+abbrev pub read_lines : Bool → List Shown → List ℕ
+read_lines json [] = []
+read_lines json (shown ∷ others) = read_text json shown ++ read_lines json others
 
 -- stopped at I: Refusal
 abbrev pub stop_line : ℕ → Refusal → List ℕ
@@ -55,15 +61,26 @@ quiet_line quiet = line (if quiet then codes "quiet" else codes "not quiet")
 abbrev pub end_lines : State → Bool → List ℕ
 end_lines s quiet = client_lines 0 s.clients ++ server_line s ++ quiet_line quiet
 
--- the text is that of the state's end
+abbrev pub end_text : Bool → State → Bool → List ℕ
+end_text false s quiet = end_lines s quiet
+end_text true s quiet = end_json s quiet
+
+-- the text is that of the state's end, in words or as JSON
+abbrev pub IsEndText : Bool → State → List ℕ → Type 0
+IsEndText json s text = (quiet : Bool) × (IsTrue quiet ↔ IsQuiet s) × (text ≡ end_text json s quiet)
+
 abbrev pub IsEnd : State → List ℕ → Type 0
-IsEnd s text = (quiet : Bool) × (IsTrue quiet ↔ IsQuiet s) × (text ≡ end_lines s quiet)
+IsEnd s text = IsEndText false s text
 
 -- the stop, if there was one
-abbrev pub stop_text : Option (ℕ × Refusal) → List ℕ
-stop_text None = []
-stop_text (Some stop) = stop_line stop.0 stop.1
+abbrev pub stopped_text : Bool → ℕ → Refusal → List ℕ
+stopped_text false place refusal = stop_line place refusal
+stopped_text true place refusal = stop_json place refusal
+
+abbrev pub stop_text : Bool → Option (ℕ × Refusal) → List ℕ
+stop_text json None = []
+stop_text json (Some stop) = stopped_text json stop.0 stop.1
 
 -- the text is that of the run: its reads, its stop and its end
-abbrev pub IsReport : Run → List ℕ → Type 0
-IsReport run text = (end : List ℕ) × IsEnd run.machine end × (text ≡ read_lines run.shown.items ++ stop_text run.stopped ++ end)
+abbrev pub IsReport : Bool → Run → List ℕ → Type 0
+IsReport json run text = (end : List ℕ) × IsEndText json run.machine end × (text ≡ read_lines json run.shown.items ++ stop_text json run.stopped ++ end)

@@ -1,5 +1,5 @@
 -- The lines of verdicts.
-use Rattle.std.specs.Prelude.{◌≡◌, ℕ, List, [], ◌∷◌, ◌++◌, codes, decimal}
+use Rattle.std.specs.Prelude.{ℕ, List, [], ◌∷◌, ◌++◌, codes, decimal}
 use Rattle.ot_check.specs.declared.outcome.Unsettled.{Unsettled}
 use Rattle.ot_check.specs.declared.outcome.Unsettled.TheVariants as unsettled
 use Rattle.ot_check.specs.declared.outcome.Convergence.{Convergence}
@@ -39,15 +39,6 @@ convergence_line (NotQuiet what) = codes "not quiet: " ++ unsettled_text what
 convergence_line (Differs c place) = codes "differs: client " ++ (decimal c ++ (codes " place " ++ (decimal place ++ 10 ∷ [])))
 
 -- the lines of all of these, in order
-abbrev pub unsettled_lines : List Unsettled → List ℕ
-unsettled_lines [] = []
-unsettled_lines (what ∷ others) = convergence_line (NotQuiet what) ++ unsettled_lines others
-
--- the lines of all that is not settled, or quiet
-abbrev pub all_lines : List Unsettled → List ℕ
-all_lines [] = convergence_line Quiet
-all_lines (what ∷ others) = unsettled_lines (what ∷ others)
-
--- the text begins with this line
-abbrev pub BeginsWith : List ℕ → List ℕ → Type 0
-BeginsWith first text = (others : List ℕ) × (text ≡ first ++ others)
+abbrev pub settling_lines : List Convergence → List ℕ
+settling_lines [] = []
+settling_lines (c ∷ others) = convergence_line c ++ settling_lines others

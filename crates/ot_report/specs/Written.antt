@@ -9,41 +9,41 @@ use Rattle.ot_model.specs.Table.{Place, State}
 use Rattle.ot_model.specs.Runs.{done, place_at}
 use Rattle.ot_machine.specs.declared.outcome.Run.{Run}
 use Rattle.ot_machine.specs.Ended.{reached, IsRun, IsStop}
-use Rattle.ot_report.specs.Printed.{read_line, read_lines, IsReport}
+use Rattle.ot_report.specs.Printed.{read_lines, read_text, IsReport}
 use Rattle.ot_report.specs.declared.writing.ReportFault.{ReportFault}
 use Rattle.ot_report.specs.declared.writing.ReportFault.TheVariants.{Memory, WriteFault}
 
 -- the text is the report of a run of the schedule
-pub record IsReportOf (s : Program) (run : Run) (text : List ℕ) : Type 0 where
+pub record IsReportOf (json : Bool) (s : Program) (run : Run) (text : List ℕ) : Type 0 where
   pub is_run : IsRun s run
-  pub is_report : IsReport run text
+  pub is_report : IsReport json run text
 
 -- the report of the schedule's run is written, which ended in this way
-pub record WritesReport (s : Program) (stopped : Option (ℕ × Refusal)) (old new : Option (List ℕ)) : Type 0 where
+pub record WritesReport (json : Bool) (s : Program) (stopped : Option (ℕ × Refusal)) (old new : Option (List ℕ)) : Type 0 where
   pub run : Run
   pub stopped_is : run.stopped ≡ stopped
   pub text : List ℕ
-  pub is : IsReportOf s run text
+  pub is : IsReportOf json s run text
   pub written : Appends old new text
 
 -- a first part of the report of a run of the schedule is written
-pub record WritesPartOfReport (s : Program) (old new : Option (List ℕ)) : Type 0 where
+pub record WritesPartOfReport (json : Bool) (s : Program) (old new : Option (List ℕ)) : Type 0 where
   pub run : Run
   pub text : List ℕ
-  pub is : IsReportOf s run text
+  pub is : IsReportOf json s run text
   pub written : WritesPart old new text
 
 -- the lines of the reads among the first instructions are written, and nothing else
-pub record WritesFirstReads (s : Program) (old new : Option (List ℕ)) : Type 0 where
+pub record WritesFirstReads (json : Bool) (s : Program) (old new : Option (List ℕ)) : Type 0 where
   pub performed : ℕ
   pub place : Place
   pub at : place_at s performed ≡ Some place
-  pub written : Appends old new (read_lines place.shown)
+  pub written : Appends old new (read_lines json place.shown)
 
 -- what stands there after a fault: whole lines of reads if memory ran out, else a first part of the report
-abbrev pub WritesReportUpTo : ReportFault → Program → Option (List ℕ) → Option (List ℕ) → Type 0
-WritesReportUpTo Memory s old new = WritesFirstReads s old new
-WritesReportUpTo WriteFault s old new = WritesPartOfReport s old new
+abbrev pub WritesReportUpTo : ReportFault → Bool → Program → Option (List ℕ) → Option (List ℕ) → Type 0
+WritesReportUpTo Memory json s old new = WritesFirstReads json s old new
+WritesReportUpTo WriteFault json s old new = WritesPartOfReport json s old new
 
 -- WriteFault is said only where a write has failed, as the output says itself
 abbrev pub IsCaused : ReportFault → Bool → Type 0
@@ -57,13 +57,13 @@ abbrev pub Flushes : List ℕ → List ℕ → Option (List ℕ) → Option (Lis
 Flushes before after old new = (Keeps old new × (after ≡ before)) ⊎ (Appends old new before × (after ≡ []))
 
 -- the line of what an instruction showed
-abbrev pub shown_line : Option Shown → List ℕ
-shown_line None = []
-shown_line (Some shown) = read_line shown
+abbrev pub shown_line : Bool → Option Shown → List ℕ
+shown_line json None = []
+shown_line json (Some shown) = read_text json shown
 
 -- and that is gathered too
-abbrev pub Gathers : Option Shown → List ℕ → List ℕ → Option (List ℕ) → Option (List ℕ) → Type 0
-Gathers shown before after old new = (between : List ℕ) × Flushes before between old new × (after ≡ between ++ shown_line shown)
+abbrev pub Gathers : Bool → Option Shown → List ℕ → List ℕ → Option (List ℕ) → Option (List ℕ) → Type 0
+Gathers json shown before after old new = (between : List ℕ) × Flushes before between old new × (after ≡ between ++ shown_line json shown)
 
 -- what stands there where it is not
 abbrev pub GathersUpTo : ReportFault → List ℕ → Option (List ℕ) → Option (List ℕ) → Type 0
@@ -71,21 +71,21 @@ GathersUpTo Memory before old new = (between : List ℕ) × Flushes before betwe
 GathersUpTo WriteFault before old new = WritesPart old new before
 
 -- of the reads shown so far the first ones are written, and the others are gathered
-pub record AreGathered (s : Program) (shown : List Shown) (gathered : List ℕ) (old new : Option (List ℕ)) : Type 0 where
-  pub first : WritesFirstReads s old new
+pub record AreGathered (json : Bool) (s : Program) (shown : List Shown) (gathered : List ℕ) (old new : Option (List ℕ)) : Type 0 where
+  pub first : WritesFirstReads json s old new
   pub others : List Shown
   pub shown_are : shown ≡ first.place.shown ++ others
-  pub gathered_are : gathered ≡ read_lines others
+  pub gathered_are : gathered ≡ read_lines json others
 
 -- all instructions up to the stop are performed, and the lines of their reads gathered
-pub record GathersReads (s : Program) (stopped : Option (ℕ × Refusal)) (state : State) (gathered : List ℕ) (old new : Option (List ℕ)) : Type 0 where
+pub record GathersReads (json : Bool) (s : Program) (stopped : Option (ℕ × Refusal)) (state : State) (gathered : List ℕ) (old new : Option (List ℕ)) : Type 0 where
   pub place : Place
   pub at : place_at s (reached s stopped) ≡ Some place
   pub state_is : place.state ≡ state
   pub stop : IsStop s state stopped
-  pub reads : AreGathered s place.shown gathered old new
+  pub reads : AreGathered json s place.shown gathered old new
 
 -- what stands there after a fault among them: it comes before an instruction that the table performs
-abbrev pub ReadsUpTo : ReportFault → Program → Option (List ℕ) → Option (List ℕ) → Type 0
-ReadsUpTo Memory s old new = WritesFirstReads s old new
-ReadsUpTo WriteFault s old new = (p : ℕ) × (p < done s) × ((place : Place) × (place_at s p ≡ Some place) × WritesPart old new (read_lines place.shown))
+abbrev pub ReadsUpTo : ReportFault → Bool → Program → Option (List ℕ) → Option (List ℕ) → Type 0
+ReadsUpTo Memory json s old new = WritesFirstReads json s old new
+ReadsUpTo WriteFault json s old new = (p : ℕ) × (p < done s) × ((place : Place) × (place_at s p ≡ Some place) × WritesPart old new (read_lines json place.shown))

@@ -2,9 +2,10 @@
 
 ghost use Rattle.std.specs.Prelude.{◌≡◌, ◌<◌, ◌++◌, length, IfOk, OnOk, string_bytes};
 ghost use Rattle.ot_machine.specs.Readers.{ClientHas};
-ghost use Rattle.ot_report.specs.Printed.{client_line, client_lines, IsEnd};
+ghost use Rattle.ot_report.specs.Printed.{client_line, client_lines, IsEnd, IsEndText};
 
 use crate::lines::{print_client, print_server, quiet_text};
+use crate::run_json::end_json;
 use ot_machine::Machine;
 use ot_values::phase_name;
 use std::alloc::{AllocError, Global};
@@ -40,4 +41,15 @@ pub fn print_end(alloc: Global, machine: &Machine) -> Result<String, AllocError>
     text.push_str(server.as_str())?;
     text.push_str(quiet_text(machine.is_quiet()))?;
     Ok(text)
+}
+
+/// The lines of the state, in words or as JSON.
+pub(crate) fn end_text(alloc: Global, json: bool, machine: &Machine) -> Result<String, AllocError>
+    ensures { IfOk result (λ s. IsEndText json machine.now (string_bytes s)) }
+{
+    if json {
+        end_json(alloc, machine)
+    } else {
+        print_end(alloc, machine)
+    }
 }

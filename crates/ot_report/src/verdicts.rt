@@ -1,14 +1,13 @@
 //! The lines of verdicts.
 
 ghost use Rattle.std.specs.Prelude.{◌≡◌, IfOk, string_bytes};
-ghost use Rattle.ot_model.specs.Table.{IsQuiet};
-ghost use Rattle.ot_check.specs.Convergence.{all_unsettled, convergence_of};
-ghost use Rattle.ot_report.specs.Verdicts.{all_lines, at_event, convergence_line, tag_text, unsettled_lines, verdict_line, BeginsWith};
+ghost use Rattle.ot_report.specs.Members.{verdict_text};
+ghost use Rattle.ot_report.specs.Verdicts.{at_event, convergence_line, settling_lines, tag_text, verdict_line};
 
-use ot_check::{Convergence, Unsettled, all_unsettled};
+use crate::members::verdict_json;
+use ot_check::{Convergence, Unsettled};
 use ot_isa::Tag;
 use ot_judge::Verdict;
-use ot_machine::Machine;
 use std::alloc::{AllocError, Global};
 
 /// A tag: `origin:serial`.
@@ -57,6 +56,17 @@ pub fn print_verdict(alloc: Global, verdict: Verdict) -> Result<String, AllocErr
     }
 }
 
+/// The line of a judge's verdict in words, or as JSON.
+pub fn verdict_text(alloc: Global, json: bool, verdict: Verdict) -> Result<String, AllocError>
+    ensures { IfOk result (λ s. string_bytes s ≡ verdict_text json verdict) }
+{
+    if json {
+        verdict_json(alloc, verdict)
+    } else {
+        print_verdict(alloc, verdict)
+    }
+}
+
 /// The line of a comparison of all lists: `quiet`, `not quiet` with the first client or link that is not settled, or `differs` with the
 /// first client whose list is not the server's and the first place at which it is not.
 pub fn print_convergence(alloc: Global, convergence: Convergence) -> Result<String, AllocError>
@@ -79,36 +89,14 @@ pub fn print_convergence(alloc: Global, convergence: Convergence) -> Result<Stri
     }
 }
 
-// The lines of all of these, in order.
-fn unsettled_text(alloc: Global, unsettled: &[Unsettled]) -> Result<String, AllocError>
-    ensures { IfOk result (λ s. string_bytes s ≡ unsettled_lines unsettled.now) }
+/// The lines of all of these, in order.
+pub fn print_settling(alloc: Global, settling: &[Convergence]) -> Result<String, AllocError>
+    ensures { IfOk result (λ s. string_bytes s ≡ settling_lines settling.now) }
 {
     let mut text = String::new(alloc);
-    for what in unsettled {
-        let line = print_convergence(alloc, Convergence::NotQuiet(*what))?;
+    for convergence in settling {
+        let line = print_convergence(alloc, *convergence)?;
         text.push_str(line.as_str())?;
     }
-    Ok(text)
-}
-
-// The lines of all of these, or `quiet` where there is none.
-fn all_text(alloc: Global, unsettled: &[Unsettled]) -> Result<String, AllocError>
-    ensures { IfOk result (λ s. string_bytes s ≡ all_lines unsettled.now) }
-{
-    if unsettled.is_empty() {
-        return print_convergence(alloc, Convergence::Quiet);
-    }
-    unsettled_text(alloc, unsettled)
-}
-
-/// The lines of all that is not settled, one each, in the order of [`all_unsettled`](ot_check::all_unsettled): the first is the line of the
-/// machine's [`convergence`](ot_check::convergence). Where all is quiet, `quiet`.
-pub fn print_unsettled(alloc: Global, machine: &Machine) -> Result<String, AllocError>
-    ensures lines { IfOk result (λ s. string_bytes s ≡ all_lines (all_unsettled machine.now)) }
-    ensures first { IfOk result (λ s. BeginsWith (convergence_line (convergence_of machine.now)) (string_bytes s)) }
-    ensures quiet { IfOk result (λ s. IsQuiet machine.now → string_bytes s ≡ convergence_line Convergence.Quiet) }
-{
-    let unsettled = all_unsettled(alloc, machine)?;
-    let text = all_text(alloc, unsettled.as_slice())?;
     Ok(text)
 }

@@ -7,8 +7,8 @@ ghost use Rattle.ot_model.specs.Runs.{opening_of};
 ghost use Rattle.ot_machine.specs.Effects.{shown_by, IsThere};
 ghost use Rattle.ot_report.specs.Written.{Flushes, Gathers, GathersReads, GathersUpTo, IsCaused, ReadsUpTo, WritesReport, WritesReportUpTo};
 
-use crate::ending::print_end;
-use crate::lines::push_read;
+use crate::ending::end_text;
+use crate::lines::push_read_text;
 use crate::running::push_stop;
 use ot_isa::Schedule;
 use ot_machine::Machine;
@@ -67,25 +67,27 @@ fn flush_full<W: Sink>(text: &mut String, output: &mut W) -> Result<(), streams:
 // Gathers the line of a read, where there is one: it shows the machine's own list.
 fn gather<W: Sink>(
     alloc: Global,
+    json: bool,
     machine: &Machine,
     who: Option<Reader>,
     text: &mut String,
     output: &mut W,
 ) -> Result<(), ReportFault>
     requires { IfSome who (IsThere machine.now) }
-    ensures ok { OnOk result (Gathers (option_map (shown_by machine.now) who) (string_bytes text.old) (string_bytes text.new) (W.contents output.old) (W.contents output.new)) }
+    ensures ok { OnOk result (Gathers json (option_map (shown_by machine.now) who) (string_bytes text.old) (string_bytes text.new) (W.contents output.old) (W.contents output.new)) }
     ensures err { IfErr result (λ f. GathersUpTo f (string_bytes text.old) (W.contents output.old) (W.contents output.new)) }
     ensures cause { IfErr result (λ f. IsCaused f (W.failed output.new)) }
 {
     let Some(who) = who else { return Ok(()) };
     flush_full(text, output)?;
-    push_read(alloc, text, who, machine.document_of(who))?;
+    push_read_text(alloc, json, text, who, machine.document_of(who))?;
     Ok(())
 }
 
 // Performs the instructions up to the first that is not performed, and gathers and writes the lines of the reads.
 fn write_reads<W: Sink>(
     alloc: Global,
+    json: bool,
     machine: &mut Machine,
     schedule: &Schedule,
     text: &mut String,
@@ -93,8 +95,8 @@ fn write_reads<W: Sink>(
 ) -> Result<Option<(usize, Refusal)>, ReportFault>
     requires opening { machine.old ≡ opening_of schedule.now }
     requires empty { string_bytes text.old ≡ [] }
-    ensures ok { IfOk result (λ stopped. GathersReads schedule.now stopped machine.new (string_bytes text.new) (W.contents output.old) (W.contents output.new)) }
-    ensures err { IfErr result (λ f. ReadsUpTo f schedule.now (W.contents output.old) (W.contents output.new)) }
+    ensures ok { IfOk result (λ stopped. GathersReads json schedule.now stopped machine.new (string_bytes text.new) (W.contents output.old) (W.contents output.new)) }
+    ensures err { IfErr result (λ f. ReadsUpTo f json schedule.now (W.contents output.old) (W.contents output.new)) }
     ensures cause { IfErr result (λ f. IsCaused f (W.failed output.new)) }
 {
     for place in 0..schedule.len() {
@@ -102,15 +104,15 @@ fn write_reads<W: Sink>(
             unreachable!()
         };
         match machine.perform::<false>(instr) {
-            Ok(effect) => gather(alloc, machine, effect.shown, text, output)?,
+            Ok(effect) => gather(alloc, json, machine, effect.shown, text, output)?,
             Err(refusal) => return Ok(Some((place, refusal))),
         }
     }
     Ok(None)
 }
 
-/// Runs the schedule and writes its report while it goes: the line of each read, the stop if an instruction was not performed (refused,
-/// or out of memory), and the state where the run ended. What is written is what [`print_run`](crate::print_run) makes of the run. Says
+/// Runs the schedule and writes its report while it goes, in words or as lines of `json`: the line of each read, the stop if an instruction was not performed (refused,
+/// or out of memory), and the state where the run ended. What is written in words is what [`print_run`](crate::print_run) makes of the run. Says
 /// which instruction was not performed, and why.
 ///
 /// After a failed write a first part of the report is written, and `WriteFault` is said only where one has failed, as the output says itself; if memory ran out, the lines of the first reads, and these are whole; lines
@@ -119,18 +121,19 @@ fn write_reads<W: Sink>(
 pub fn write_report<W: Sink>(
     alloc: Global,
     schedule: &Schedule,
+    json: bool,
     output: &mut W,
 ) -> Result<Option<(usize, Refusal)>, ReportFault>
-    ensures ok { IfOk result (λ stopped. WritesReport schedule.now stopped (W.contents output.old) (W.contents output.new)) }
-    ensures err { IfErr result (λ f. WritesReportUpTo f schedule.now (W.contents output.old) (W.contents output.new)) }
+    ensures ok { IfOk result (λ stopped. WritesReport json schedule.now stopped (W.contents output.old) (W.contents output.new)) }
+    ensures err { IfErr result (λ f. WritesReportUpTo f json schedule.now (W.contents output.old) (W.contents output.new)) }
     ensures cause { IfErr result (λ f. IsCaused f (W.failed output.new)) }
 {
     let clients = schedule.clients();
     let mut machine = Machine::with_present(alloc, clients, schedule.present(), schedule.start())?;
     let mut text = String::new(alloc);
-    let stopped = write_reads(alloc, &mut machine, schedule, &mut text, output)?;
-    push_stop(alloc, &mut text, stopped)?;
-    let end = print_end(alloc, &machine)?;
+    let stopped = write_reads(alloc, json, &mut machine, schedule, &mut text, output)?;
+    push_stop(alloc, json, &mut text, stopped)?;
+    let end = end_text(alloc, json, &machine)?;
     output.put(text.as_bytes())?;
     output.put(end.as_bytes())?;
     Ok(stopped)

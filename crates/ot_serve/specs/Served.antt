@@ -10,6 +10,7 @@ use Rattle.ot_commands.specs.Ran.{MayReport}
 use Rattle.ot_commands.specs.Completes.{MayComplete}
 use Rattle.ot_commands.specs.Converted.{MayGiveImage, MayGiveText}
 use Rattle.ot_commands.specs.Generated.{Generates}
+use Rattle.ot_commands.specs.Listed.{Counts, Lists}
 use Rattle.ot_commands.specs.Judged.{Judges}
 use Rattle.ot_commands.specs.ExplainedTraces.{ExplainsTrace}
 use Rattle.ot_commands.specs.ExplainedPlans.{ExplainsPlan}
@@ -23,7 +24,7 @@ use Rattle.ot_threads.specs.Threaded.{Threads as DoesThreads}
 use Rattle.ot_words.specs.declared.words.Form.TheVariants as form
 use Rattle.ot_words.specs.declared.words.Subject.TheVariants as subject
 use Rattle.ot_words.specs.declared.words.Request.{Request}
-use Rattle.ot_words.specs.declared.words.Request.TheVariants.{Run, Check, Debug, Assemble, Disassemble, Judge, Steps, Explain, Conform, Complete, Generate}
+use Rattle.ot_words.specs.declared.words.Request.TheVariants.{Run, Check, Debug, Assemble, Disassemble, Judge, Steps, Explain, Conform, Complete, Generate, ListEvery, CountEvery}
 use Rattle.ot_words.specs.declared.words.Asked.{Asked}
 use Rattle.ot_words.specs.declared.words.Asked.TheVariants.{Plainly, Threads}
 
@@ -33,13 +34,13 @@ WithoutInput does text = does
 
 -- what a subcommand that needs no handle does with its input; `unread` says that the input has failed
 abbrev pub Serves : Request → Bool → List ℕ → ℕ → Streams → Type 0
-Serves (Run form.Text) unread = OfText MayReport
-Serves (Run form.Image) unread = OfImage MayReport unread
-Serves (Check all) unread = OfText (MayFind all)
+Serves (Run form.Text json) unread = OfText (MayReport json)
+Serves (Run form.Image json) unread = OfImage (MayReport json) unread
+Serves (Check all json) unread = OfText (MayFind all json)
 Serves Debug unread = Debugs
 Serves Assemble unread = OfText MayGiveImage
 Serves Disassemble unread = OfImage MayGiveText unread
-Serves Judge unread = Judges unread
+Serves (Judge json) unread = Judges json unread
 Serves (Steps documents) unread = DoesSteps documents
 Serves (Explain subject.Schedule) unread = Explains unread
 Serves (Explain subject.Image) unread = ExplainsImage unread
@@ -48,6 +49,8 @@ Serves (Explain subject.Plan) unread = ExplainsPlan unread
 Serves (Conform sparse json) unread = Compares sparse json
 Serves Complete unread = OfText MayComplete
 Serves (Generate seed shape) unread = WithoutInput (Generates shape)
+Serves (ListEvery space part) unread = WithoutInput (Lists space part)
+Serves (CountEvery space part) unread = WithoutInput (Counts space part)
 
 -- what a subcommand does with its input
 abbrev pub ServesAsked : Asked → Bool → List ℕ → ℕ → Streams → Type 0

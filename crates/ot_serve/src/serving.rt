@@ -5,14 +5,15 @@ ghost use Rattle.streams.specs.Streams.{WritesPart};
 ghost use Rattle.clap.specs.Values.{kind_of};
 ghost use Rattle.clap.specs.declared.error.kind.ErrorKind.TheVariants.{OutOfMemory};
 ghost use Rattle.streams.specs.Outcomes.{memory_fault};
+ghost use Rattle.ot_words.specs.declared.words.Request.TheVariants.{Run};
 ghost use Rattle.ot_serve.specs.Served.{Serves, ServesAsked, ServesWords};
 
 use clap::Error;
 use clap::error::ErrorKind;
 use ot_commands::{
-    assemble, check_text, complete_text, debug_text, disassemble_image, explain_plan,
-    explain_trace, generate_session, judge_input, run_conform, run_explain, run_explain_image,
-    run_image, run_steps, run_text,
+    assemble, check_text, complete_text, count_sessions, debug_text, disassemble_image,
+    explain_plan, explain_trace, generate_session, judge_input, list_sessions, run_conform,
+    run_explain, run_explain_image, run_image, run_steps, run_text,
 };
 use ot_threads::run_threads;
 use ot_words::{Asked, Form, Request, Subject, read_request};
@@ -45,6 +46,23 @@ fn no_matches<F: Write>(alloc: Global, error: &Error, faults: &mut F) -> u8
     }
 }
 
+// Runs a schedule of that form.
+fn run_form<I: Source, O: Sink, F: Write>(
+    alloc: Global,
+    form: Form,
+    json: bool,
+    input: &mut I,
+    output: &mut O,
+    faults: &mut F,
+) -> u8
+    ensures { IfSome (I.remaining input.old) (λ text. Serves (Run form json) (I.failed input.new) text result (record { output = O.contents output.old; output' = O.contents output.new; broken = O.failed output.new; faults = F.contents faults.old; faults' = F.contents faults.new })) }
+{
+    match form {
+        Form::Text => run_text(alloc, json, input, output, faults),
+        Form::Image => run_image(alloc, json, input, output, faults),
+    }
+}
+
 // Carries out a subcommand that needs no handle.
 fn carry_out<I: Source, O: Sink, F: Write>(
     alloc: Global,
@@ -56,13 +74,12 @@ fn carry_out<I: Source, O: Sink, F: Write>(
     ensures { IfSome (I.remaining input.old) (λ text. Serves request (I.failed input.new) text result (record { output = O.contents output.old; output' = O.contents output.new; broken = O.failed output.new; faults = F.contents faults.old; faults' = F.contents faults.new })) }
 {
     match request {
-        Request::Run(Form::Text) => run_text(alloc, input, output, faults),
-        Request::Run(Form::Image) => run_image(alloc, input, output, faults),
-        Request::Check(all) => check_text(alloc, all, input, output, faults),
+        Request::Run { form, json } => run_form(alloc, form, json, input, output, faults),
+        Request::Check { all, json } => check_text(alloc, all, json, input, output, faults),
         Request::Debug => debug_text(alloc, input, output, faults),
         Request::Assemble => assemble(alloc, input, output, faults),
         Request::Disassemble => disassemble_image(alloc, input, output, faults),
-        Request::Judge => judge_input(alloc, input, output, faults),
+        Request::Judge(json) => judge_input(alloc, json, input, output, faults),
         Request::Steps(documents) => run_steps(alloc, documents, input, output, faults),
         Request::Explain(Subject::Schedule) => run_explain(alloc, input, output, faults),
         Request::Explain(Subject::Image) => run_explain_image(alloc, input, output, faults),
@@ -73,6 +90,8 @@ fn carry_out<I: Source, O: Sink, F: Write>(
         }
         Request::Complete => complete_text(alloc, input, output, faults),
         Request::Generate(seed, shape) => generate_session(alloc, seed, &shape, output, faults),
+        Request::ListEvery(space, part) => list_sessions(alloc, &space, &part, output, faults),
+        Request::CountEvery(space, part) => count_sessions(alloc, &space, &part, output, faults),
     }
 }
 

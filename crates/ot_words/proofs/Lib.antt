@@ -1,3 +1,4 @@
 mod Options
+mod Parts
 mod Requested
 mod Shapes

@@ -10,15 +10,16 @@ The forms of schedules, images, traces and commands: docs/FORMATS.md; how to use
 /// Of `run`.
 pub const RUN: &str = "\
 Reads a schedule's text, or with --image its image, on standard input. Prints what each read shows, where the run stopped if
-an instruction was refused, and each client and the server at the end.
+an instruction was refused, and each client and the server at the end; with --json each of these as a line of JSON.
 Example:  printf 'clients 1\\nedit 0 [\"a\"]\\ntake 0\\nack 0\\nread 0\\n' | otbench run
 Status 0: all instructions were performed. 1: one was refused, or the input was, or a fault of reading, writing or memory.
-The form of a schedule: docs/FORMATS.md, 'The text of a schedule'.";
+The form of a schedule: docs/FORMATS.md, 'The text of a schedule'; the lines: 'Printed lines'.";
 
 /// Of `check`.
 pub const CHECK: &str = "\
 Reads a schedule's text on standard input. Prints where the run stopped if an instruction was refused; then whether all is
-quiet, or the first thing that is not, or with --all each, one on a line; then the verdict of the schedule's trace.
+quiet, or the first thing that is not, or with --all each, one on a line; then the verdict of the schedule's trace. With --json
+the same is one line of JSON.
 Example:  printf 'clients 2\\nedit 0 [\"a\"]\\ntake 0\\nack 0\\ndeliver 1\\n' | otbench check
 Status 0: all instructions were performed. 1: one was refused, the trace is too large, or the input was refused, or a fault of
 reading, writing or memory. The lines: docs/FORMATS.md, 'Verdicts of a schedule'.";
@@ -55,7 +56,7 @@ The form: docs/FORMATS.md, 'The image of a schedule'.";
 /// Of `judge`.
 pub const JUDGE: &str = "\
 Reads a trace, a JSON object that any program may have recorded, on standard input: what each replica did, saw and returned.
-Prints 'holds', or the first violation.
+Prints 'holds', or the first violation; with --json as one line of JSON.
 Example:  printf '{\"replicas\":1,\"start\":[],\"events\":[]}' | otbench judge
 Status 0: the property holds. 1: it does not, or the trace is refused, or a fault of reading, writing or memory.
 The form: docs/FORMATS.md, 'Traces'.";
@@ -114,6 +115,9 @@ reading, writing or memory. The order: docs/FORMATS.md, 'Complete'.";
 pub const GENERATE: &str = "\
 Reads nothing. Prints the canonical text of a session made at random: M instructions, each performed, and unless --open reads
 of everybody behind them, where all is quiet. The same words give the same text, on every machine.
+With --every it prints every session of C clients with at most E edits, over a start text of at most 8 characters: one for each order
+of the instructions at each machine, the smallest first. Each ends quiet with reads of everybody, and a line '%%' stands behind it.
 Example:  otbench generate --seed 7 --clients 3 --instructions 40 | otbench check
+          otbench generate --every --edits 1 --start xy --count
 Status 0: it was printed. 1: a fault of writing or memory. 2: words that are not understood, or a number out of its range.
-What sessions have: docs/FORMATS.md, 'Generated sessions'.";
+What sessions have: docs/FORMATS.md, 'Generated sessions' and 'Every small session'.";

@@ -11,6 +11,7 @@
 //! Begin reading at `otbench_app` in specs/Requests.antt, then at [`read_request`].
 #![tactic(auto)]
 
+mod every;
 mod help;
 mod words;
 

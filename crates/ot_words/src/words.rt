@@ -1,14 +1,16 @@
 //! The program's words as a request.
 
-ghost use Rattle.std.specs.Prelude.{◌≡◌, Some, IfOk, IfErr, IsSome, map, true, option_and_then, option_map, vec_items};
+ghost use Rattle.std.specs.Prelude.{◌≡◌, codes, Some, IfOk, IfErr, IsSome, map, true, option_and_then, option_map, vec_items};
 ghost use Rattle.std.specs.Str.{chars};
 ghost use Rattle.clap.specs.Words.{app_of, found_of, kind_of, rows_of, subcommand_rows_of, takes, with_rule};
-ghost use Rattle.ot_words.specs.Requests.{◌+>◌, IsPlain, chars_among, conform_among, conform_app, explain_among, explain_app, flag_among, flag_rule, form_among, generate_among, generate_app, number_among, number_if_among, option_rule, otbench_app, plain_app, request_in_rows, request_of, session_among, subject_of, top_app};
+ghost use Rattle.ot_words.specs.Requests.{◌+>◌, IsPlain, chars_among, check_among, check_app, conform_among, conform_app, explain_among, explain_app, flag_among, flag_rule, form_among, generate_among, generate_app, number_among, number_if_among, option_rule, otbench_app, plain_app, random_app, request_in_rows, request_of, run_among, run_app, session_among, sessions_among, subject_of, top_app};
 
+use crate::every::{every_in, has_every, has_random, misplaced_option, refused_every, with_every};
 use crate::help;
 use clap::error::ErrorKind;
 use clap::{Arg, ArgAction, ArgMatches, Command, Error};
 use ot_asm::read_number;
+use ot_every::{Part, Space};
 use ot_generate::Shape;
 use std::alloc::{AllocError, Global};
 use std::convert::AsStr;
@@ -36,19 +38,19 @@ pub enum Subject {
 /// A subcommand.
 #[derive(Drop)]
 pub enum Request {
-    /// Runs a schedule and prints what it shows and where it ends.
-    Run(Form),
+    /// Runs a schedule and prints what it shows and where it ends; whether as JSON.
+    Run { form: Form, json: bool },
     /// Runs a schedule and prints what is found of it: a stop, whether all is quiet, and whether its trace has the weak list property; whether
-    /// all that is not settled is listed, or the first alone.
-    Check(bool),
+    /// all that is not settled is listed, or the first alone, and whether as JSON.
+    Check { all: bool, json: bool },
     /// Steps through a schedule by commands, back and forth.
     Debug,
     /// Converts a schedule's text to its image.
     Assemble,
     /// Converts a schedule's image to its text.
     Disassemble,
-    /// Judges a trace.
-    Judge,
+    /// Judges a trace; whether the answer is JSON.
+    Judge(bool),
     /// Runs a schedule and prints what each instruction changes, as lines of JSON; whether the documents too.
     Steps(bool),
     /// Says in words what each instruction of a schedule, as text or as image, did; or what the verdict of a trace is, or what a plan is; and why
@@ -61,6 +63,10 @@ pub enum Request {
     Complete,
     /// Prints a session made at random: its seed, and what is asked of it.
     Generate(u32, Shape),
+    /// Prints the small sessions of a space, those of a part.
+    ListEvery(Space, Part),
+    /// Prints how many they are.
+    CountEvery(Space, Part),
 }
 
 /// What the words ask for: a subcommand that needs no handle, or the one that starts threads.
@@ -90,7 +96,7 @@ fn plain<'a>(alloc: Global, name: &'a str, about: &'a str, more: &'a str) -> Com
 }
 
 // The subcommand with a flag.
-fn flagged<'a>(
+pub(crate) fn flagged<'a>(
     alloc: Global,
     command: Command<'a>,
     flag: &'a str,
@@ -106,7 +112,7 @@ fn flagged<'a>(
 }
 
 // The subcommand with an option and what help calls its value.
-fn valued<'a>(
+pub(crate) fn valued<'a>(
     alloc: Global,
     command: Command<'a>,
     option: &'a str,
@@ -123,14 +129,14 @@ fn valued<'a>(
     command.arg(arg)
 }
 
-// The subcommand `generate`.
-fn generate_command<'a>(alloc: Global) -> Result<Command<'a>, AllocError>
-    ensures { IfOk result (λ c. app_of c ≡ generate_app) }
+// The words of `generate` for a session made at random.
+fn random_command<'a>(alloc: Global) -> Result<Command<'a>, AllocError>
+    ensures { IfOk result (λ c. app_of c ≡ random_app) }
 {
     let command = plain(
         alloc,
         "generate",
-        "Print a session made at random, of which no instruction is refused",
+        "Print a session made at random, of which no instruction is refused, or every small session",
         help::GENERATE,
     );
     let command = valued(
@@ -145,7 +151,7 @@ fn generate_command<'a>(alloc: Global) -> Result<Command<'a>, AllocError>
         command,
         "clients",
         "C",
-        "How many clients, 1 to 64 [4]",
+        "How many clients, 1 to 64 [4]; with --every 1 to 4 [2]",
     )?;
     let command = valued(
         alloc,
@@ -166,7 +172,7 @@ fn generate_command<'a>(alloc: Global) -> Result<Command<'a>, AllocError>
         command,
         "start",
         "TEXT",
-        "The start text [by the seed]",
+        "The start text [by the seed; with --every empty]",
     )?;
     flagged(
         alloc,
@@ -174,6 +180,14 @@ fn generate_command<'a>(alloc: Global) -> Result<Command<'a>, AllocError>
         "open",
         "Stop after M instructions, whatever is under way",
     )
+}
+
+// The subcommand `generate`.
+fn generate_command<'a>(alloc: Global) -> Result<Command<'a>, AllocError>
+    ensures { IfOk result (λ c. app_of c ≡ generate_app) }
+{
+    let command = random_command(alloc)?;
+    with_every(alloc, command)
 }
 
 // The subcommand `explain`.
@@ -206,6 +220,44 @@ fn explain_command<'a>(alloc: Global) -> Result<Command<'a>, AllocError>
     )
 }
 
+// The subcommand `run`.
+fn run_command<'a>(alloc: Global) -> Result<Command<'a>, AllocError>
+    ensures { IfOk result (λ c. app_of c ≡ run_app) }
+{
+    let command = plain(
+        alloc,
+        "run",
+        "Run a schedule: its reads, a stop if an instruction is refused, and where it ends",
+        help::RUN,
+    );
+    let command = flagged(
+        alloc,
+        command,
+        "image",
+        "Read a schedule's image in place of its text",
+    )?;
+    flagged(alloc, command, "json", "Answer with lines of JSON")
+}
+
+// The subcommand `check`.
+fn check_command<'a>(alloc: Global) -> Result<Command<'a>, AllocError>
+    ensures { IfOk result (λ c. app_of c ≡ check_app) }
+{
+    let command = plain(
+        alloc,
+        "check",
+        "Run a schedule and judge it: convergence, and the weak list specification",
+        help::CHECK,
+    );
+    let command = flagged(
+        alloc,
+        command,
+        "all",
+        "Tell all that is not settled, not the first alone",
+    )?;
+    flagged(alloc, command, "json", "Answer with one line of JSON")
+}
+
 // The subcommand `conform`.
 fn conform_command<'a>(alloc: Global) -> Result<Command<'a>, AllocError>
     ensures { IfOk result (λ c. app_of c ≡ conform_app) }
@@ -236,29 +288,9 @@ fn joined<'a>(program: Command<'a>, subcommand: Command<'a>) -> Result<Command<'
 fn command<'a>(alloc: Global) -> Result<Command<'a>, AllocError>
     ensures { IfOk result (λ c. app_of c ≡ otbench_app) }
 {
-    let run = flagged(
-        alloc,
-        plain(
-            alloc,
-            "run",
-            "Run a schedule: its reads, a stop if an instruction is refused, and where it ends",
-            help::RUN,
-        ),
-        "image",
-        "Read a schedule's image in place of its text",
-    )?;
+    let run = run_command(alloc)?;
     let program = joined(top(alloc), run)?;
-    let check = flagged(
-        alloc,
-        plain(
-            alloc,
-            "check",
-            "Run a schedule and judge it: convergence, and the weak list specification",
-            help::CHECK,
-        ),
-        "all",
-        "Tell all that is not settled, not the first alone",
-    )?;
+    let check = check_command(alloc)?;
     let program = joined(program, check)?;
     let debug = plain(
         alloc,
@@ -281,12 +313,17 @@ fn command<'a>(alloc: Global) -> Result<Command<'a>, AllocError>
         help::DIS,
     );
     let program = joined(program, dis)?;
-    let judge = plain(
+    let judge = flagged(
         alloc,
-        "judge",
-        "Judge a recorded trace (JSON) by the weak list specification",
-        help::JUDGE,
-    );
+        plain(
+            alloc,
+            "judge",
+            "Judge a recorded trace (JSON) by the weak list specification",
+            help::JUDGE,
+        ),
+        "json",
+        "Answer with one line of JSON",
+    )?;
     let program = joined(program, judge)?;
     let steps = flagged(
         alloc,
@@ -323,7 +360,7 @@ fn command<'a>(alloc: Global) -> Result<Command<'a>, AllocError>
 }
 
 // Whether a flag was given.
-fn is_set(matches: &ArgMatches<'_>, id: &str) -> bool
+pub(crate) fn is_set(matches: &ArgMatches<'_>, id: &str) -> bool
     ensures { result ≡ flag_among id.now (rows_of (found_of matches.now)) }
 {
     match matches.get_str(id) {
@@ -341,6 +378,24 @@ fn form_in(matches: &ArgMatches<'_>) -> Form
     } else {
         Form::Text
     }
+}
+
+// What the matches of `run` ask for.
+fn run_in(matches: &ArgMatches<'_>) -> Request
+    ensures { result ≡ run_among (rows_of (found_of matches.now)) }
+{
+    let form = form_in(matches);
+    let json = is_set(matches, "json");
+    Request::Run { form, json }
+}
+
+// What the matches of `check` ask for.
+fn check_in(matches: &ArgMatches<'_>) -> Request
+    ensures { result ≡ check_among (rows_of (found_of matches.now)) }
+{
+    let all = is_set(matches, "all");
+    let json = is_set(matches, "json");
+    Request::Check { all, json }
 }
 
 // What these flags say is explained; none where two are set.
@@ -379,7 +434,7 @@ fn conform_in(matches: &ArgMatches<'_>) -> Request
 }
 
 // The number that an option gives, or else this one; none where what it gives is no number.
-fn number_in(matches: &ArgMatches<'_>, id: &str, otherwise: u32) -> Option<u32>
+pub(crate) fn number_in(matches: &ArgMatches<'_>, id: &str, otherwise: u32) -> Option<u32>
     ensures { result ≡ number_among id.now otherwise (rows_of (found_of matches.now)) }
 {
     match matches.get_str(id) {
@@ -439,13 +494,29 @@ fn session_in(matches: &ArgMatches<'_>, start: Option<Vec<char>>) -> Option<Requ
     Some(Request::Generate(seed, shape))
 }
 
+// The session, or all of them, that the matches of `generate` ask for; none where a word of the other is there.
+fn sessions_in(alloc: Global, matches: &ArgMatches<'_>, start: Option<Vec<char>>) -> Option<Request>
+    ensures { result ≡ sessions_among (flag_among (codes "every") (rows_of (found_of matches.now))) (option_map vec_items start) (rows_of (found_of matches.now)) }
+{
+    if is_set(matches, "every") {
+        if has_random(matches) {
+            return None;
+        }
+        return every_in(alloc, matches, start);
+    }
+    if has_every(matches) {
+        return None;
+    }
+    session_in(matches, start)
+}
+
 #[tactic(auto, unfolding(crate::specs::Requests::generate_among))]
 // The request that the matches of `generate` say, if they say one.
 fn generate_in(alloc: Global, matches: &ArgMatches<'_>) -> Result<Option<Asked>, AllocError>
     ensures { IfOk result (λ r. r ≡ generate_among (rows_of (found_of matches.now))) }
 {
     let start = chars_in(alloc, matches, "start")?;
-    match session_in(matches, start) {
+    match sessions_in(alloc, matches, start) {
         Some(request) => Ok(Some(Asked::Plainly(request))),
         None => Ok(None),
     }
@@ -459,12 +530,12 @@ fn request_in(alloc: Global, matches: &ArgMatches<'_>) -> Result<Option<Asked>, 
         return Ok(None);
     };
     match name {
-        "run" => Ok(Some(Asked::Plainly(Request::Run(form_in(found))))),
-        "check" => Ok(Some(Asked::Plainly(Request::Check(is_set(found, "all"))))),
+        "run" => Ok(Some(Asked::Plainly(run_in(found)))),
+        "check" => Ok(Some(Asked::Plainly(check_in(found)))),
         "debug" => Ok(Some(Asked::Plainly(Request::Debug))),
         "asm" => Ok(Some(Asked::Plainly(Request::Assemble))),
         "dis" => Ok(Some(Asked::Plainly(Request::Disassemble))),
-        "judge" => Ok(Some(Asked::Plainly(Request::Judge))),
+        "judge" => Ok(Some(Asked::Plainly(Request::Judge(is_set(found, "json"))))),
         "steps" => Ok(Some(Asked::Plainly(Request::Steps(is_set(found, "documents"))))),
         "explain" => Ok(explain_in(found)),
         "conform" => Ok(Some(Asked::Plainly(conform_in(found)))),
@@ -476,7 +547,7 @@ fn request_in(alloc: Global, matches: &ArgMatches<'_>) -> Result<Option<Asked>, 
 }
 
 // Whether what an option gives, if it is there, is a number from the least to the most.
-fn is_within(matches: &ArgMatches<'_>, id: &str, least: u32, most: u32) -> bool {
+pub(crate) fn is_within(matches: &ArgMatches<'_>, id: &str, least: u32, most: u32) -> bool {
     match matches.get_str(id) {
         Some(text) => read_number(text.as_bytes()).is_some_and(|number| least <= number
             && number <= most),
@@ -484,7 +555,7 @@ fn is_within(matches: &ArgMatches<'_>, id: &str, least: u32, most: u32) -> bool 
     }
 }
 
-// The option of `generate` whose value it does not take, as its usage names it, and what it takes.
+// The option of `generate` whose value it does not take for a session made at random, as its usage names it, and what it takes.
 fn refused_option(matches: &ArgMatches<'_>) -> (&'static str, &'static str, &'static str) {
     let clients = number_in(matches, "clients", 4).unwrap_or(0);
     if !is_within(matches, "seed", 0, 999_999_999) {
@@ -514,13 +585,31 @@ fn quoted_value(
     }
 }
 
-// Why the matches of `generate` ask for no session: `clap`'s error, with the usage of `generate`.
-fn refused_session(alloc: Global, matches: &ArgMatches<'_>) -> Result<Error, AllocError> {
-    let (option, name, takes) = refused_option(matches);
+// That a value of `generate` is refused: `clap`'s error, with the usage of `generate`.
+fn refused_value(alloc: Global, matches: &ArgMatches<'_>) -> Result<Error, AllocError> {
+    let (option, name, takes) = if is_set(matches, "every") {
+        refused_every(matches)
+    } else {
+        refused_option(matches)
+    };
     let value = quoted_value(alloc, matches, option)?;
     let words = format!(in alloc; "invalid {value} for '--{option} <{name}>': it takes {takes}")?;
     let mut command = generate_command(alloc)?.bin_name("otbench generate")?;
     command.error(ErrorKind::ValueValidation, words.as_str())
+}
+
+// Why the matches of `generate` ask for no session.
+fn refused_session(alloc: Global, matches: &ArgMatches<'_>) -> Result<Error, AllocError> {
+    let Some(option) = misplaced_option(matches) else {
+        return refused_value(alloc, matches);
+    };
+    let words = if is_set(matches, "every") {
+        format!(in alloc; "the argument '--{option}' cannot be used with '--every'")?
+    } else {
+        format!(in alloc; "the argument '--{option}' cannot be used without '--every'")?
+    };
+    let mut command = generate_command(alloc)?.bin_name("otbench generate")?;
+    command.error(ErrorKind::ArgumentConflict, words.as_str())
 }
 
 // The first two flags that were given for `explain` and exclude one another.

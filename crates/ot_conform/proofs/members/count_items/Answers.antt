@@ -1,6 +1,7 @@
 use Rattle.std.proofs.Common.{◌∙◌, ◌+◌, List, ℕ, drop, sym, ap, arith, string_bytes}
 use Rattle.ot_conform.specs.Counted.{counted_keys}
-use Rattle.ot_conform.specs.Json.{count_items, with_item, with_items}
+use Rattle.ot_conform.specs.Json.{count_items}
+use Rattle.ot_values.specs.Items.{with_item, with_items}
 use Rattle.ot_conform.proofs.Places.{items_done, items_next}
 use Rattle.ot_conform.proofs.members.count_items.Goals as goal
 

@@ -1,6 +1,7 @@
 use Rattle.std.proofs.Common.{◌≡◌, [], drop, string_bytes}
 use Rattle.ot_conform.specs.Counted.{counted_keys}
-use Rattle.ot_conform.specs.Json.{count_items, with_items}
+use Rattle.ot_conform.specs.Json.{count_items}
+use Rattle.ot_values.specs.Items.{with_items}
 use Rattle.ot_conform.proofs.members.count_items.Given as goal
 
 abbrev pub invariant-loop-place : goal.invariant-loop-place

@@ -1,6 +1,6 @@
 use Rattle.std.proofs.Common.{◌≡◌, [], drop, map, string_bytes}
 use Rattle.std.specs.Prelude.{decimal}
-use Rattle.ot_conform.specs.Json.{with_items}
+use Rattle.ot_values.specs.Items.{with_items}
 use Rattle.ot_conform.proofs.members.letter_items.Given as goal
 
 abbrev pub invariant-loop-letter : goal.invariant-loop-letter

@@ -1,5 +1,6 @@
 use Rattle.std.proofs.Common.{◌≡◌, [], drop, map, string_bytes}
-use Rattle.ot_conform.specs.Json.{unknown_json, with_items}
+use Rattle.ot_conform.specs.Json.{unknown_json}
+use Rattle.ot_values.specs.Items.{with_items}
 use Rattle.ot_conform.specs.Unknown.{all_named}
 use Rattle.ot_conform.proofs.members.unknown_items.Given as goal
 

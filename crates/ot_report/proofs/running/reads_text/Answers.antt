@@ -1,5 +1,5 @@
-use Rattle.std.proofs.Common.{◌≡◌, ◌+◌, ◌++◌, List, ℕ, suc, take, sym, ap, ◌∙◌, add-one}
-use Rattle.ot_report.specs.Printed.{read_line, read_lines}
+use Rattle.std.proofs.Common.{◌≡◌, false, ◌+◌, ◌++◌, List, ℕ, suc, take, sym, ap, ◌∙◌, add-one}
+use Rattle.ot_report.specs.Printed.{read_lines, read_text}
 use Rattle.ot_report.proofs.Listing.{reads_more}
 use Rattle.ot_report.proofs.running.reads_text.Goals as goal
 
@@ -7,8 +7,8 @@ pub loop-read-preserved : goal.loop-read-preserved
 loop-read-preserved c =
     let i = c.loop-read.read-index in
     let shown = c.args.shown.now in
-    let more : read_lines (take (i + 1) shown) ≡ read_lines (take (suc i) shown) = ap (λ (n : ℕ). read_lines (take n shown)) (add-one i) in
+    let more : read_lines false (take (i + 1) shown) ≡ read_lines false (take (suc i) shown) = ap (λ (n : ℕ). read_lines false (take n shown)) (add-one i) in
     c.in_ok-push_read.ensures
-    ∙ ap (λ (t : List ℕ). t ++ read_line c.read-item.result) c.loop-read.invariant
-    ∙ sym (reads_more i shown _ c.loop-read-test.true c.read-item.is)
+    ∙ ap (λ (t : List ℕ). t ++ read_text false c.read-item.result) c.loop-read.invariant
+    ∙ sym (reads_more false i shown _ c.loop-read-test.true c.read-item.is)
     ∙ sym more

@@ -12,7 +12,7 @@ pub returns-in_err-machine-clause-err : goal.returns-in_err-machine-clause-err
 returns-in_err-machine-clause-err g c =
     let s = c.args.schedule.now in
     let old = g.W.Write.contents c.args.output.now in
-    err_is c.from_residual.result Memory (λ (f : ReportFault). WritesReportUpTo f s old old) c.from_residual.ensures.1 (nothing_read s old)
+    err_is c.from_residual.result Memory (λ (f : ReportFault). WritesReportUpTo f c.args.json s old old) c.from_residual.ensures.1 (nothing_read c.args.json s old)
 
 pub returns-in_err-stopped-clause-err : goal.returns-in_err-stopped-clause-err
 returns-in_err-stopped-clause-err g c =
@@ -20,8 +20,8 @@ returns-in_err-stopped-clause-err g c =
     let old = g.W.Write.contents c.args.output.now in
     let new = g.W.Write.contents c.write_reads.new.output in
     let f = c.in_err-stopped.field-0.0 in
-    err_is c.from_residual-in_err-stopped.result f (λ (e : ReportFault). WritesReportUpTo e s old new) c.from_residual-in_err-stopped.ensures.1
-    (reads_cut_short f c.args.alloc s c.clients-clients.ensures.limits old new c.in_err-stopped.ensures.err)
+    err_is c.from_residual-in_err-stopped.result f (λ (e : ReportFault). WritesReportUpTo e c.args.json s old new) c.from_residual-in_err-stopped.ensures.1
+    (reads_cut_short f c.args.json c.args.alloc s c.clients-clients.ensures.limits old new c.in_err-stopped.ensures.err)
 
 pub returns-in_err-put-clause-err : goal.returns-in_err-put-clause-err
 returns-in_err-put-clause-err g c =
@@ -30,8 +30,8 @@ returns-in_err-put-clause-err g c =
     let mid = g.W.Write.contents c.write_reads.new.output in
     let new = g.W.Write.contents c.put.new.self in
     let written = subst (λ (bytes : List ℕ). WritesPart mid new bytes) c.as_bytes.ensures.value c.in_err-put.ensures.err in
-    err_is c.from_residual-in_err-put.result WriteFault (λ (f : ReportFault). WritesReportUpTo f s old new) c.from_residual-in_err-put.ensures.1
-    (text_cut c.args.alloc s c.clients-clients.ensures.limits c.in_ok-stopped.stopped c.write_reads.new.machine (string_bytes c.write_reads.new.text) old mid c.in_ok-stopped.ensures.ok
+    err_is c.from_residual-in_err-put.result WriteFault (λ (f : ReportFault). WritesReportUpTo f c.args.json s old new) c.from_residual-in_err-put.ensures.1
+    (text_cut c.args.json c.args.alloc s c.clients-clients.ensures.limits c.in_ok-stopped.stopped c.write_reads.new.machine (string_bytes c.write_reads.new.text) old mid c.in_ok-stopped.ensures.ok
     (string_bytes c.push_stop.new.text) (string_bytes c.in_ok-end.end) c.in_ok-push_stop.ensures c.in_ok-end.ensures new written)
 
 pub returns-in_err-put-2-clause-err : goal.returns-in_err-put-2-clause-err
@@ -43,8 +43,8 @@ returns-in_err-put-2-clause-err g c =
     let new = g.W.Write.contents c.put-2.new.self in
     let before = subst (λ (bytes : List ℕ). Appends mid later bytes) c.as_bytes.ensures.value c.in_ok-put.ensures.ok in
     let written = subst (λ (bytes : List ℕ). WritesPart later new bytes) c.as_bytes-2.ensures.value c.in_err-put-2.ensures.err in
-    err_is c.from_residual-in_err-put-2.result WriteFault (λ (f : ReportFault). WritesReportUpTo f s old new) c.from_residual-in_err-put-2.ensures.1
-    (end_cut c.args.alloc s c.clients-clients.ensures.limits c.in_ok-stopped.stopped c.write_reads.new.machine (string_bytes c.write_reads.new.text) old mid c.in_ok-stopped.ensures.ok
+    err_is c.from_residual-in_err-put-2.result WriteFault (λ (f : ReportFault). WritesReportUpTo f c.args.json s old new) c.from_residual-in_err-put-2.ensures.1
+    (end_cut c.args.json c.args.alloc s c.clients-clients.ensures.limits c.in_ok-stopped.stopped c.write_reads.new.machine (string_bytes c.write_reads.new.text) old mid c.in_ok-stopped.ensures.ok
     (string_bytes c.push_stop.new.text) (string_bytes c.in_ok-end.end) c.in_ok-push_stop.ensures c.in_ok-end.ensures later new before written)
 
 pub returns-clause-ok : goal.returns-clause-ok
@@ -56,5 +56,5 @@ returns-clause-ok g c =
     let new = g.W.Write.contents c.put-2.new.self in
     let before = subst (λ (bytes : List ℕ). Appends mid later bytes) c.as_bytes.ensures.value c.in_ok-put.ensures.ok in
     let written = subst (λ (bytes : List ℕ). Appends later new bytes) c.as_bytes-2.ensures.value c.in_ok-put-2.ensures.ok in
-    all_reported c.args.alloc s c.clients-clients.ensures.limits c.in_ok-stopped.stopped c.write_reads.new.machine (string_bytes c.write_reads.new.text) old mid c.in_ok-stopped.ensures.ok
+    all_reported c.args.json c.args.alloc s c.clients-clients.ensures.limits c.in_ok-stopped.stopped c.write_reads.new.machine (string_bytes c.write_reads.new.text) old mid c.in_ok-stopped.ensures.ok
     (string_bytes c.push_stop.new.text) (string_bytes c.in_ok-end.end) c.in_ok-push_stop.ensures c.in_ok-end.ensures later new before written
