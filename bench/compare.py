@@ -3,7 +3,7 @@
 
     python3 bench/compare.py [--seeds S,S,..] [--runs N] [--only a,b,..] [--program PROGRAM] [--beside "NAME=PROGRAM WORD.."].. [--count] [--write] [--dir DIR]
 
-Writes the schedules of storms.py, for each seed (1), to DIR (a temporary folder by default). Runs `node oracle/run.js`, each program that is named, and `otbench run` on each, N times (3) in turns, and compares what they print.
+Writes the schedules of storms.py and editors.py, for each seed (1), to DIR (a temporary folder by default). Runs `node oracle/run.js`, each program that is named, and `otbench run` on each, N times (3) in turns, and compares what they print.
 Prints for each schedule the least processor time (user and system) and the peak memory (at least that of Python) of all, node's time in parts of otbench's, otbench's in parts of that of each program that is named, and with --count
 the same of instructions, as valgrind counts them. Last comes a table in Markdown, a row for each shape, of each figure the least and the greatest of the seeds. --write puts it into bench/README.md, and a picture of it, of the
 first seed, into bench/storms.svg.
@@ -18,9 +18,10 @@ import subprocess
 import sys
 import tempfile
 
+import editors
+import storms
 from measuring import instructions, measured
 from picture import drawn
-from storms import ALL
 
 HERE = os.path.dirname(os.path.abspath(__file__))
 TOP = os.path.dirname(HERE)
@@ -28,6 +29,7 @@ TOP = os.path.dirname(HERE)
 os.environ['OTBENCH_NEEDS_PROVED'] = '1'
 # Between these lines the table stands in README.md.
 MARKS = '<!--compare.py-->\n', '<!--end-->\n'
+ALL = storms.ALL + ',' + editors.ALL
 
 
 def beside(path, peers, runs):
@@ -120,8 +122,9 @@ def main():
     folder, rows, same = words.dir or tempfile.mkdtemp(), {}, True
     for seed in words.seeds.split(','):
         at = os.path.join(folder, seed)
-        made = [sys.executable, os.path.join(HERE, 'storms.py'), at, '--only', words.only, '--seed', seed]
-        subprocess.run(made, check=True, stdout=subprocess.DEVNULL)
+        for script in ('storms.py', 'editors.py'):
+            made = [sys.executable, os.path.join(HERE, script), at, '--only', words.only, '--seed', seed]
+            subprocess.run(made, check=True, stdout=subprocess.DEVNULL)
         for name in sorted(it[:-4] for it in os.listdir(at) if it.endswith('.txt')):
             row, well = figures(os.path.join(at, name + '.txt'), peers, words.runs, words.count)
             rows.setdefault(name, []).append(row)

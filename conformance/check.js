@@ -7,13 +7,14 @@
  * where one failed, and 2 where a word is not understood or there is no program.
  */
 
-import { execFileSync, spawnSync } from "node:child_process";
+import { spawnSync } from "node:child_process";
 import fs from "node:fs";
 import { fileURLToPath } from "node:url";
 import { parseArgs } from "node:util";
 import { storedCorpus } from "./finders.js";
 import { stepsOf } from "./lines.js";
-import { large } from "../npm/large.mjs";
+import { programPath } from "./program.js";
+import { large } from "../ports/large.mjs";
 
 const MOST_BYTES = 1 << 26;
 
@@ -21,11 +22,6 @@ const beside = (name) => fileURLToPath(new URL(name, import.meta.url));
 
 const USAGE = `usage: conformance/check [--otbench PROGRAM]
 Says whether ot.js' lines of each session of the corpus are what 'otbench steps' prints.`;
-
-/* The program that the words, the environment or the repository name. */
-function programOf(values) {
-  return values.otbench ?? process.env.OTBENCH ?? execFileSync(beside("../otbench"), ["--which"], { encoding: "utf8", stdio: ["ignore", "pipe", "inherit"] }).trimEnd();
-}
 
 /* What the program prints of a schedule, or null where it does not end well. */
 function printedBy(program, schedule) {
@@ -54,7 +50,7 @@ function check(program) {
 try {
   const { values } = parseArgs({ options: { otbench: { type: "string" }, help: { type: "boolean", short: "h" } } });
   if (values.help) console.log(USAGE);
-  else process.exitCode = check(programOf(values));
+  else process.exitCode = check(values.otbench ?? programPath());
 } catch (fault) {
   console.error(`check: ${fault.message}`);
   process.exitCode = 2;

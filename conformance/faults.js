@@ -83,6 +83,8 @@ const EDITS = [
   ["text-minus-1-is-a-deletion", "delete", "isDelete(this.ops[this.ops.length - 1])", "this.ops[this.ops.length - 1] < 0"],
   ["text-0-is-empty", "insert", "if (str === '') {", "if (str === '' || str === '0') {"],
   ["equal-texts-once", "transform", "if (isInsert(op1)) {", "if (isInsert(op1) && op1 === op2) { operation1prime.retain(op1.length); operation2prime.retain(op1.length); op1 = ops1[i1++]; op2 = ops2[i2++]; continue; } if (isInsert(op1)) {"],
+  ["texts-like-words-of-objects", "insert", "if (str === '') {", "if (str === '' || str in {}) {"],
+  ["documents-without-a-mark-in-front", "apply", "return newStr.join('');", "return newStr.join('').replace(/^\\ufeff/, '');"],
   ["texts-without-noncharacters", "insert", "this.targetLength += str.length;", "str = str.replace(/[\\ufffe\\uffff]/g, '\\ufffd'); this.targetLength += str.length;"],
   ["lengths-of-8-bits", "retain", "if (n === 0) {", "n = n & 255; if (n === 0) {"],
   ["lengths-of-15-bits", "retain", "if (n === 0) {", "n = n & 32767; if (n === 0) {"],
@@ -95,8 +97,7 @@ const EDITS = [
   ["log-cut-at-1024", "Server.receiveOperation", "slice(revision)", "slice(Math.max(revision, this.operations.length - 1024))"],
   ["log-cut-at-3000", "Server.receiveOperation", "slice(revision)", "slice(Math.max(revision, this.operations.length - 3000))"],
 
-  ["message-changed-by-a-receiver", "AwaitingConfirm.applyServer", "client.applyOperation(pair[1]);", "client.applyOperation(Object.assign(operation, pair[1]));"],
-  ["message-changed-by-its-sender", "AwaitingConfirm.applyServer", "new AwaitingConfirm(pair[0])", "new AwaitingConfirm(Object.assign(this.outstanding, pair[0]))"],
+  ["log-changed-by-a-message", "Server.receiveOperation", "operation = transform(operation, concurrentOperations[i])[0];", "var pair = transform(operation, concurrentOperations[i]); Object.assign(concurrentOperations[i], pair[1]); operation = pair[0];"],
   ["message-read-in-pieces", "Server.receiveOperation", "var concurrentOperations =", "operation = inPieces(operation); var concurrentOperations ="],
 ];
 

@@ -10,9 +10,9 @@
 
 import { parseArgs } from "node:util";
 import { generate } from "../npm/otbench.mjs";
-import { reduced } from "../npm/reduce.mjs";
-import { valuesOf, withOneUnitEach } from "../npm/schedule.mjs";
-import { randomBy } from "../npm/sessions.mjs";
+import { reduced } from "../common/reduce.mjs";
+import { valuesOf, withOneUnitEach } from "../common/schedule.mjs";
+import { randomBy } from "../ports/sessions.mjs";
 import { bugs, leaks } from "./faults.js";
 import { comparable, faultyPort, firstDifference } from "./lines.js";
 

@@ -20,11 +20,11 @@ function asStep(line) {
 
 export const stepsOf = (text) => drive(text, otjs).map((line) => asStep(line) + "\n").join("");
 
-/* A schedule, to be compared: its text in UTF-16 units, and the lines of ot.js. */
-export function comparable(text) {
-  const given = inUnits(text);
-  return { given, ours: driveUnits(given, otjs) };
-}
+/* A schedule in UTF-16 units, to be compared: its text, and the lines of ot.js. */
+export const comparableUnits = (given) => ({ given, ours: driveUnits(given, otjs) });
+
+/* The same of one in scalars. */
+export const comparable = (text) => comparableUnits(inUnits(text));
 
 /* The place of the first line that a port prints otherwise than ot.js, or null. */
 export function firstDifference({ given, ours }, port) {

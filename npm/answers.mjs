@@ -3,68 +3,45 @@
 /* A text's lines, each ended by LF. */
 const linesOf = (text) => text.split("\n").slice(0, -1);
 
+const objectsOf = (text) => linesOf(text).map((line) => JSON.parse(line));
+
+/** What `run --json` prints. */
+export function readRun(text) {
+  const run = { reads: [], stopped: null, clients: [], server: null, quiet: false };
+  for (const { do: word, client, at, stopped, end, ...state } of objectsOf(text)) {
+    if (word) run.reads.push({ client: client ?? null, ...state });
+    else if (stopped) run.stopped = { at, refusal: stopped };
+    else if (end) run.quiet = end === "quiet";
+    else if (client === null) run.server = state;
+    else run.clients.push(state);
+  }
+  return run;
+}
+
+/** What `steps` prints. */
+export const readSteps = objectsOf;
+
+/** What `check --json` prints. */
+export function readCheck(text) {
+  const { at, stopped, quiet, unsettled, verdict } = JSON.parse(text);
+  return { stopped: stopped ? { at, refusal: stopped } : null, quiet, waits: unsettled[0] ?? null, property: verdict };
+}
+
+/** What `check --all --json` prints. */
+export const readCheckOfAll = (text) => ({ ...readCheck(text), unsettled: JSON.parse(text).unsettled });
+
+/** What `judge --json` prints. */
+export function readJudge(text) {
+  const { verdict: kind, events, tags } = JSON.parse(text);
+  return kind === "holds" ? { holds: true, violation: null } : { holds: false, violation: { kind, events, tags } };
+}
+
 const STOP = /^stopped at (\d+): (\w+)$/;
 
 /* A refused instruction's place and the refusal, or null. */
 function stopIn(line) {
   const stop = STOP.exec(line);
   return stop && { at: Number(stop[1]), refusal: stop[2] };
-}
-
-const READ = /^read (\d+) (".*)$/s;
-const READ_SERVER = /^read-server (".*)$/s;
-const CLIENT = /^client (\d+) rev (\d+) (\S+) (".*)$/s;
-const SERVER = /^server rev (\d+) (".*)$/s;
-
-/** What `run` prints. */
-export function readRun(text) {
-  const run = { reads: [], stopped: null, clients: [], server: null, quiet: false };
-  for (const line of linesOf(text)) {
-    let found;
-    if ((found = READ.exec(line))) run.reads.push({ client: Number(found[1]), document: JSON.parse(found[2]) });
-    else if ((found = READ_SERVER.exec(line))) run.reads.push({ client: null, document: JSON.parse(found[1]) });
-    else if ((found = CLIENT.exec(line)))
-      run.clients.push({ revision: Number(found[2]), state: found[3], document: JSON.parse(found[4]) });
-    else if ((found = SERVER.exec(line))) run.server = { revision: Number(found[1]), document: JSON.parse(found[2]) };
-    else if ((found = stopIn(line))) run.stopped = found;
-    else run.quiet = line === "quiet";
-  }
-  return run;
-}
-
-/** What `steps` prints. */
-export const readSteps = (text) => linesOf(text).map((line) => JSON.parse(line));
-
-const WAITS = /^not quiet: (client|up|down) (\d+)$/;
-
-/* What a line of `check` says that is not settled, or null. */
-function waitIn(line) {
-  const waits = WAITS.exec(line);
-  return waits && { what: waits[1], client: Number(waits[2]) };
-}
-
-/** What `check` prints. */
-export function readCheck(text) {
-  const lines = linesOf(text);
-  const stopped = stopIn(lines[0]);
-  const first = lines[stopped ? 1 : 0];
-  return { stopped, quiet: first === "quiet", waits: waitIn(first), property: lines.at(-1) };
-}
-
-/** What `check --all` prints. */
-export function readCheckOfAll(text) {
-  const unsettled = linesOf(text).map(waitIn).filter(Boolean);
-  return { ...readCheck(text), unsettled };
-}
-
-/** What `judge` prints. */
-export function readJudge(text) {
-  const [kind, ...words] = text.trimEnd().split(" ");
-  if (kind === "holds") return { holds: true, violation: null };
-  const isTag = (word) => word.includes(":");
-  const events = words.filter((word) => !isTag(word)).map(Number);
-  const tags = words.filter(isTag).map((word) => word.split(":").map(Number));
-  return { holds: false, violation: { kind, events, tags } };
 }
 
 const DIFFERENCE = /^differs at (\d+): ([^:]*): (.*)$/s;

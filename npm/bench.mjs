@@ -6,8 +6,9 @@
 
 import { readCheck, readCheckOfAll, readConform, readJudge, readRun, readSteps } from "./answers.mjs";
 import { check, OtbenchError } from "./errors.mjs";
-import { withPlace, withStop } from "./lines.mjs";
-import { bytesOf, markIn, textOf, withRest } from "./text.mjs";
+import { withPlace, withStop } from "../common/lines.mjs";
+import { readVerdict } from "./outlook.mjs";
+import { bytesOf, markIn, textOf, withoutComments, withRest } from "../common/text.mjs";
 
 const NOTHING = new Uint8Array(0);
 
@@ -25,8 +26,8 @@ const VALUES = new Map([["trace", "the trace"], ["plan", "the plan"]]);
 /* The calls of all functions but `serve`. Each takes `signal` among its options; only the functions of a worker look at it. */
 const calls = {
   run(given, { image = false, signal } = {}) {
-    if (!image) return located(["run"], schedule(given), readRun, withStop, signal);
-    return reading(["run", "--image"], schedule(given), (text) => withStop(readRun(text), null), signal);
+    if (!image) return located(["run", "--json"], schedule(given), readRun, withStop, signal);
+    return reading(["run", "--image", "--json"], schedule(given), (text) => withStop(readRun(text), null), signal);
   },
 
   steps: (text, { documents = false, signal } = {}) =>
@@ -36,18 +37,20 @@ const calls = {
   explain: (given, { form, signal } = {}) =>
     reading(form === undefined ? ["explain"] : ["explain", `--${form}`], form === undefined ? schedule(given) : jsonOf(given, VALUES.get(form) ?? "the input"), String, signal),
 
+  verdict: (text, { signal } = {}) => reading(["explain"], withoutComments(schedule(text)), readVerdict, signal),
+
   /* A line `%%` would end the schedule: one that has such a line is refused as `run` refuses it. */
   conform(text, lines, { sparse = false, signal } = {}) {
     const bytes = schedule(text);
-    if (markIn(bytes)) return reading(["run"], bytes, readRun, signal);
+    if (markIn(bytes)) return reading(["run", "--json"], bytes, readRun, signal);
     const words = sparse ? ["conform", "--sparse"] : ["conform"];
     return reading(words, withRest(bytes, linesOf(lines)), (answer) => withPlace(readConform(answer), bytes), signal);
   },
 
   check: (text, { all = false, signal } = {}) =>
-    located(all ? ["check", "--all"] : ["check"], schedule(text), all ? readCheckOfAll : readCheck, withStop, signal),
+    located(all ? ["check", "--all", "--json"] : ["check", "--json"], schedule(text), all ? readCheckOfAll : readCheck, withStop, signal),
 
-  judge: (trace, { signal } = {}) => reading(["judge"], jsonOf(trace, VALUES.get("trace")), readJudge, signal),
+  judge: (trace, { signal } = {}) => reading(["judge", "--json"], jsonOf(trace, VALUES.get("trace")), readJudge, signal),
 
   assemble: (text, { signal } = {}) => ({ words: ["asm"], input: schedule(text), read: (answer) => check(answer).output, signal }),
 
@@ -62,7 +65,7 @@ const calls = {
 };
 
 /* The options of each function beside `signal`; those of `generate` are the program's. */
-const OPTIONS = { run: ["image"], steps: ["documents"], explain: ["form"], conform: ["sparse"], check: ["all"], judge: [], assemble: [], disassemble: [], complete: [] };
+const OPTIONS = { run: ["image"], steps: ["documents"], explain: ["form"], verdict: [], conform: ["sparse"], check: ["all"], judge: [], assemble: [], disassemble: [], complete: [] };
 
 /* The call of a function, whose options are the last it is given. One that it does not have is refused. */
 function callOf(name, ...given) {
@@ -74,8 +77,8 @@ function callOf(name, ...given) {
   return calls[name](...given);
 }
 
-/* A port's lines: a text, bytes, or an array of texts and of values. */
-function linesOf(lines) {
+/** A port's lines as bytes: of a text, of bytes, or of an array of texts and of values. @param {import("./otbench.mjs").PortLines} lines */
+export function linesOf(lines) {
   if (!Array.isArray(lines)) return bytesOf(lines, "what the port printed");
   const texts = lines.map((line) => (typeof line === "string" ? line : JSON.stringify(line)));
   return bytesOf(texts.map((line) => `${line}\n`).join(""), "the port's lines");

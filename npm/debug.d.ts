@@ -29,6 +29,7 @@ export interface Session {
   goto(place: number | string): string[];
   break(...words: Word[]): string[];
   watch(what: "doc" | "state" | "outstanding" | "buffer" | "server", client?: Client): string[];
+  unwatch(): string[];
   display(what: "doc" | "state" | "outstanding" | "buffer" | "server", client?: Client): string[];
   info(): string[];
   delete(number: number): string[];
@@ -40,11 +41,13 @@ export interface Session {
   diff(from: number | "doc", to: Client, client?: Client): string[];
   mark(name?: string): string[];
   undo(): string[];
+  where(): string[];
   verdict(): string[];
   list(from?: number, to?: number): string[];
   show(client?: Client): string[];
   print(...words: Word[]): string[];
   explain(instruction?: number): string[];
+  why(instruction?: number): string[];
   source(file: string): string[];
   save(file: string): string[];
   export(file: string, complete?: "complete"): string[];
@@ -54,7 +57,7 @@ export interface Session {
 /**
  * Opens a session, at its opening.
  * @param schedule its text
- * @param options `port`: the lines that a port printed, beside which it stops
+ * @param options `port`: the lines that a port printed, where it stops if they differ; `sparse`: instructions without a line are not compared
  * @throws {OtbenchError} where the text is refused; `line` has its line
  */
-export function openDebugger(schedule: Text, options?: { port?: Text | null }): Session;
+export function openDebugger(schedule: Text, options?: { port?: Text | null; sparse?: boolean }): Session;

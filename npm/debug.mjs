@@ -6,7 +6,7 @@ import { Debugger } from "../terminal/debugger.mjs";
 import { Recording } from "../terminal/recording.mjs";
 import { engine } from "./engine.mjs";
 import { OtbenchError, check } from "./errors.mjs";
-import { bytesOf, textOf } from "./text.mjs";
+import { bytesOf, textOf } from "../common/text.mjs";
 
 /* Commands that need a terminal. */
 const OF_TERMINAL = new Set(["edit", "reload", "quit"]);
@@ -59,10 +59,10 @@ for (const name of NAMES) {
 export const commands = Object.fromEntries(NAMES.map((name) => [name, { takes: COMMANDS[name].takes, does: COMMANDS[name].does }]));
 
 export function openDebugger(schedule, options = {}) {
-  const { port = null, ...others } = options ?? {};
+  const { port = null, sparse = false, ...others } = options ?? {};
   const [other] = Object.keys(others);
-  if (other !== undefined) throw new OtbenchError("Usage", `openDebugger has no option ${other}; its options: port`);
-  return new Session(new Recording(ask, schedule, port));
+  if (other !== undefined) throw new OtbenchError("Usage", `openDebugger has no option ${other}; its options: port, sparse`);
+  return new Session(new Recording(ask, schedule, port === null ? null : bytesOf(port, "the port's lines"), Boolean(sparse)));
 }
 
 export { OtbenchError };

@@ -1,7 +1,7 @@
 /* What the program refuses, and how a JavaScript error tells it. */
 
-import { withLine } from "./lines.mjs";
-import { textOf } from "./text.mjs";
+import { withLine } from "../common/lines.mjs";
+import { textOf } from "../common/text.mjs";
 
 /** A refused input, words that are not understood, or a fault of memory. docs/FORMATS.md has each kind. */
 export class OtbenchError extends Error {

@@ -213,6 +213,34 @@ export type OfCut = (Omit<Conforms, "conforms"> | Omit<NothingCounted, "conforms
 
 export type Conformance = Conforms | NothingCounted | Differs | NotCompared | OfCut;
 
+/** An edit that the server has not taken, or messages that a client has not received. */
+export type Waiting =
+  /** On its way to the server, or in the client's buffer; null of one with more than 40 components or 200 inserted characters. */
+  | { client: number; what: "sent" | "buffered"; operation: Operation | null }
+  | { client: number; what: "incoming"; count: number };
+
+/** Whether all documents must agree where the run ends, and to what. */
+export interface Verdict {
+  /**
+   * `must be`: all is quiet. `will be`: the documents become that in every order in which the rest arrives. `depends`: what they become may
+   * depend on whose edit the server takes first.
+   */
+  verdict: "must be" | "will be" | "depends";
+  /** What all documents are, or become; null with `depends`, and where it has more than 80 characters. */
+  document: string | null;
+  /** How many characters it has; null with `depends`. */
+  length: number | null;
+  /** What has not arrived, by client. */
+  waiting: Waiting[];
+  /** With `depends`: whose edit the server may take first, and whose `complete` takes first. */
+  choice: number[];
+  first: number | null;
+  /** The clients that have not joined. */
+  absent: number[];
+  /** The verdict as `explain` prints it, without names. */
+  text: string;
+}
+
 /** What is not settled: a client that is not synchronized, its message to the server, or messages to it. */
 export interface Waits {
   what: "client" | "up" | "down";
@@ -257,6 +285,26 @@ export interface GenerateOptions {
   open?: boolean;
 }
 
+export interface EveryOptions {
+  every: true;
+  /** 1 to 4; 2 where it is left out. */
+  clients?: number;
+  /** How many at most, 0 to 6; 2 where it is left out. */
+  edits?: number;
+  /** The start text, at most 8 characters. */
+  start?: string;
+  /** How many insertions an edit has at most, 0 to 8; 1 where it is left out. */
+  inserts?: number;
+  /** How many characters an insertion has, 1 to 8; 1 where it is left out. */
+  letters?: number;
+  /** Whether the last client joins late. */
+  join?: boolean;
+  /** `I/N`: each N-th session alone, from the I-th on. */
+  part?: string;
+  /** Whether their number alone is given. */
+  count?: boolean;
+}
+
 /** What the program gave: its status, and the bytes of standard output and standard error. */
 export interface Answer {
   status: number;
@@ -282,6 +330,8 @@ export interface Bench {
   explain(plan: object | Text, options: { form: "plan" }): string;
   /** The run of a schedule's image in words. The error of bytes that are no image says which field is wrong, what stands there and what is wanted. */
   explain(image: Uint8Array, options: { form: "image" }): string;
+  /** Whether all documents must agree where the run of a schedule ends, and to what, as the last lines of `explain` say it. */
+  verdict(schedule: Text): Verdict;
   /** Compares what a port of ot.js printed with the run of the schedule; with `sparse` instructions without a line are passed over. */
   conform(schedule: Text, lines: PortLines, options?: { sparse?: boolean }): Conformance;
   /** Whether all is quiet and one, and whether the trace has the weak list property. */
@@ -297,8 +347,8 @@ export interface Bench {
    * refusal's name, and where there would be more than 100,000 instructions, `TooMany`.
    */
   complete(schedule: Text): string;
-  /** A session made at random, of which no instruction is refused. */
-  generate(options?: GenerateOptions): string;
+  /** A session made at random, of which no instruction is refused; or every small session, each with a line `%%` behind it. */
+  generate(options?: GenerateOptions | EveryOptions): string;
 }
 
 /** The functions over an engine that the caller has compiled. */
@@ -308,6 +358,7 @@ export const serve: Bench["serve"];
 export const run: Bench["run"];
 export const steps: Bench["steps"];
 export const explain: Bench["explain"];
+export const verdict: Bench["verdict"];
 export const conform: Bench["conform"];
 export const check: Bench["check"];
 export const judge: Bench["judge"];

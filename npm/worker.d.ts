@@ -1,4 +1,4 @@
-import type { Answer, Bench, GenerateOptions, PortLines, Text } from "./otbench.js";
+import type { Answer, Bench, EveryOptions, GenerateOptions, PortLines, Text } from "./otbench.js";
 
 export { EngineFault, OtbenchError } from "./otbench.js";
 
@@ -16,13 +16,14 @@ export interface WorkerBench {
   explain(trace: object | Text, options: { form: "trace" } & Cancelled): Promise<string>;
   explain(plan: object | Text, options: { form: "plan" } & Cancelled): Promise<string>;
   explain(image: Uint8Array, options: { form: "image" } & Cancelled): Promise<string>;
+  verdict(schedule: Text, options?: Cancelled): Promise<ReturnType<Bench["verdict"]>>;
   conform(schedule: Text, lines: PortLines, options?: { sparse?: boolean } & Cancelled): Promise<ReturnType<Bench["conform"]>>;
   check(schedule: Text, options?: { all?: boolean } & Cancelled): Promise<ReturnType<Bench["check"]>>;
   judge(trace: object | Text, options?: Cancelled): Promise<ReturnType<Bench["judge"]>>;
   assemble(schedule: Text, options?: Cancelled): Promise<Uint8Array>;
   disassemble(image: Uint8Array, options?: Cancelled): Promise<string>;
   complete(schedule: Text, options?: Cancelled): Promise<string>;
-  generate(options?: GenerateOptions & Cancelled): Promise<string>;
+  generate(options?: (GenerateOptions | EveryOptions) & Cancelled): Promise<string>;
   /** Ends the worker. Calls that wait or run are rejected; a later call starts another worker. */
   close(): void;
 }
@@ -34,6 +35,7 @@ export const serve: WorkerBench["serve"];
 export const run: WorkerBench["run"];
 export const steps: WorkerBench["steps"];
 export const explain: WorkerBench["explain"];
+export const verdict: WorkerBench["verdict"];
 export const conform: WorkerBench["conform"];
 export const check: WorkerBench["check"];
 export const judge: WorkerBench["judge"];

@@ -3,7 +3,7 @@
 import { Worker } from "node:worker_threads";
 import { laterBenchOver } from "./bench.mjs";
 import { engine } from "./engine.mjs";
-import { queueOver } from "./queue.mjs";
+import { queueOver } from "../ports/queue.mjs";
 
 export { EngineFault } from "../engine/host.mjs";
 export { OtbenchError } from "./errors.mjs";
@@ -38,4 +38,4 @@ export function openWorker() {
   return { ...laterBenchOver((words, input, signal) => ask({ words, input }, signal)), close };
 }
 
-export const { serve, run, steps, explain, conform, check, judge, assemble, disassemble, complete, generate, close } = openWorker();
+export const { serve, run, steps, explain, verdict, conform, check, judge, assemble, disassemble, complete, generate, close } = openWorker();

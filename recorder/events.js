@@ -1,6 +1,6 @@
 /* What a line of the recorder's holds, and where it stands. What is missing, of another kind or misspelt is named by its key. */
 
-import { nearest } from "../terminal/nearest.mjs";
+import { nearest } from "../common/nearest.mjs";
 
 /* The key under which an event has its file and its line: { file, line }. */
 export const AT = Symbol("where an event stands");

@@ -8,8 +8,8 @@
  */
 
 import { parseArgs } from "node:util";
-import { readFile } from "../npm/files.mjs";
-import { complain, print } from "../npm/streams.mjs";
+import { readFile } from "../command/files.mjs";
+import { complain, print } from "../command/streams.mjs";
 import { decode, withoutHalf } from "./files.js";
 import { readEvents } from "./logs.js";
 import { merge } from "./merging.js";

@@ -1,7 +1,7 @@
 /* The command of npm/ over a program of this repository: node scripts/command.mjs PROGRAM ABOUT NAME WORD.. */
 
-import { main } from "../npm/command.mjs";
-import { nativeProgram } from "../npm/programs.mjs";
+import { main } from "../command/command.mjs";
+import { nativeProgram } from "../command/programs.mjs";
 
 const MORE = `
 In the repository:

@@ -1,9 +1,9 @@
 // Who inserted a character, when, and how it came to a document; and what two documents have in common. Characters are the elements of the
 // fold: one insertion is one element in every document.
 
-import { START } from "../viewer/src/document.mjs";
-import { SERVER } from "../viewer/src/fold.mjs";
-import { documentAt, stateAt } from "../viewer/src/places.mjs";
+import { START } from "../common/document.mjs";
+import { SERVER } from "../common/fold.mjs";
+import { documentAt, stateAt } from "../common/places.mjs";
 import { shortText } from "./values.mjs";
 
 const nameOf = (who) => (who === SERVER ? "the server" : `client ${who}`);

@@ -1,6 +1,6 @@
 // The words of the debugger: what each takes and does, how many words may stand behind it, and its first letters.
 
-import { nearest } from "./nearest.mjs";
+import { nearest } from "../common/nearest.mjs";
 
 const ANY = Infinity;
 
@@ -25,6 +25,7 @@ export const COMMANDS = {
   goto: { takes: "P|end|NAME", most: 1, does: "goes to place P: P instructions are performed there; to the end; or to a place with a mark" },
   break: { takes: "[P|line L|WORDS] [if CONDITION] [time N]", most: ANY, does: 'stops at place P, behind the instruction of line L, behind each with these first words, or where CONDITION begins to hold: break take 1 if doc 0 contains "x"' },
   watch: { takes: "doc|state|outstanding|buffer C, watch server", most: 2, does: "stops where that changes" },
+  unwatch: { takes: "", most: 0, does: "removes all watches" },
   display: { takes: "doc|state|outstanding|buffer C, display server", most: 2, does: "shows that behind each move" },
   info: { takes: "[breaks]", most: 1, does: "lists breaks, watches and displays with their numbers, and at how many places a break stops" },
   delete: { takes: "N", most: 1, does: "removes the break, watch or display of this number" },
@@ -36,11 +37,13 @@ export const COMMANDS = {
   diff: { takes: "P Q [C|server], diff doc C|server C|server", most: 3, does: "shows what changed between two places, in all documents or in one, or what two documents differ in" },
   mark: { takes: "[NAME]", most: 1, does: "names the place, for goto NAME; lists the names" },
   undo: { takes: "", most: 0, does: "goes back to where the last move began" },
+  where: { takes: "", most: 0, does: "says which instruction was performed or undone last, and where that led" },
   verdict: { takes: "", most: 0, does: "says whether all documents must agree at the place, and to what" },
   list: { takes: "[P [Q]]", most: 2, does: "shows the instructions around the place, around P, or from P to Q, with their lines" },
   show: { takes: "[C|server]", most: 1, does: "shows documents, states, outstanding operations, buffers and links; what is long is cut" },
-  print: { takes: "doc|outstanding|buffer|message|link C, print doc server, print instruction [N], print difference", most: 2, does: "shows the whole of one value, or of what conform answers" },
+  print: { takes: "doc|state|outstanding|buffer|message|link C, print doc server, print server, print instruction [N], print difference", most: 2, does: "shows the whole of one value, or of what conform answers" },
   explain: { takes: "[N]", most: 1, does: "describes the instruction that was performed or undone last, or instruction N, in words" },
+  why: { takes: "[N]", most: 1, does: "says by which method of ot.js the last instruction, or instruction N, led where it did, what each transform made, and its ties" },
   source: { takes: "FILE", most: 1, does: "performs the commands of a file, line by line" },
   save: { takes: "FILE", most: 1, does: "writes breaks, watches and displays as commands to a file, which must not be there yet" },
   export: { takes: "FILE [complete]", most: 2, does: "writes the schedule up to the place to a file, which must not be there yet; with complete also what is under way there" },

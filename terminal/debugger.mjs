@@ -1,24 +1,25 @@
 // The debugger without its terminal: a place in a recording, and what stops there; each command answers lines.
 
 import { readFileSync, writeFileSync } from "node:fs";
-import { SERVER } from "../viewer/src/fold.mjs";
-import { documentAt } from "../viewer/src/places.mjs";
+import { SERVER } from "../common/fold.mjs";
+import { documentAt } from "../common/places.mjs";
 import { authorsOf, differenceOf, hasDocument, whoIs } from "./authors.mjs";
 import { COMMANDS, commandOf, Complaint, helpOf, wordsIn } from "./commands.mjs";
-import { reasonOf } from "../npm/files.mjs";
+import { reasonOf } from "../command/files.mjs";
 import { named } from "./names.mjs";
-import { nearest } from "./nearest.mjs";
+import { nearest } from "../common/nearest.mjs";
 import { RefusedText } from "./recording.mjs";
 import { Stops } from "./stops.mjs";
 import { clientOf, memberOf, subjectOf, textOf, titleOf, WATCHED } from "./subjects.mjs";
-import { shortLine, shortVerdict } from "./values.mjs";
+import { shortLine, shortVerdict, shortWords } from "./values.mjs";
+import { reasonsOf } from "../common/why.mjs";
 
 const AROUND = 4; // how many instructions `list` shows before and behind the place
 const MANY = 16; // clients that `show` shows with all that they have
 
 const INSTRUCTIONS = ["edit", "take", "deliver", "ack", "join", "read", "read-server"];
 const WHOLE = ["print", "source", "blame", "diff"]; // what these show is not cut once more
-const PRINTED = ["doc", "outstanding", "buffer", "message", "link"];
+const PRINTED = [...WATCHED, "message", "link"];
 
 export class Debugger {
   /**
@@ -44,11 +45,12 @@ export class Debugger {
 
   /** What stands above the first prompt. */
   greeting() {
-    const { opening, difference, showsNothing, cut } = this.recording;
+    const { opening, difference, conforms, showsNothing, unknown, cut } = this.recording;
     const ends = cut === null ? [] : [`the schedule ends before its logs: ${cut}`];
     const said = difference ? this.#tellDifference(difference) : [];
+    if (conforms) said.push("the port conforms");
     if (showsNothing) said.push("the port's lines have no value that can be compared");
-    return [shortLine(opening), ...ends, ...said, "help lists the commands"];
+    return [shortLine(opening), ...ends, ...said, ...unknown.map(shortLine), "help lists the commands"];
   }
 
   /** That the port differs, and in which line; at the first place, to which no command goes on, with conform's answer. */
@@ -63,7 +65,7 @@ export class Debugger {
       return this.#perform(line).map((answer) => named(answer, this.recording.names));
     } catch (fault) {
       if (!(fault instanceof Complaint)) throw fault;
-      return [fault.message];
+      return [shortWords(fault.message)];
     }
   }
 
@@ -203,11 +205,17 @@ export class Debugger {
 
   _break(words) {
     if (!words.length) return this._info([]);
-    return this.stops.addBreak(words, (word) => this.#placeOf(word), (word) => this.#placeOfLine(word));
+    const [said] = this.stops.addBreak(words, (word) => this.#placeOf(word), (word) => this.#placeOfLine(word));
+    return [`${said}${this.#meant(words[0])}`];
   }
 
   _watch(words) {
     return this.#look("watch", "watching", words);
+  }
+
+  _unwatch() {
+    this.stops.removeWatches();
+    return ["no watches"];
   }
 
   _display(words) {
@@ -301,6 +309,10 @@ export class Debugger {
     return [`${title}: ${head}`, ...more];
   }
 
+  _where() {
+    return this.#moveTo(this.place);
+  }
+
   _verdict() {
     return this.recording.outlook(this.place);
   }
@@ -337,6 +349,15 @@ export class Debugger {
     return this.#told(word);
   }
 
+  /** What an instruction did, and the method of ot.js with its transforms and ties; of a refused one its reason. */
+  _why([word]) {
+    const told = this.#told(word);
+    const number = word === undefined ? this.last : Number(word);
+    if (number === null || number >= this.recording.end) return told;
+    const call = this.recording.call(number);
+    return call === null ? [...told, "  nothing is transformed"] : [...told.slice(0, -1), ...reasonsOf(call, this.recording.session.log)];
+  }
+
   /** An instruction in words: by its number, or that which was performed or undone last. */
   #told(word) {
     const { instructions, opening } = this.recording;
@@ -364,12 +385,12 @@ export class Debugger {
     for (const [i, line] of lines.entries()) {
       if (this.isOver) break;
       if (/^\s*(;.*)?$/.test(line)) continue;
-      said.push(`> ${line.trim()}`);
+      said.push(`> ${shortLine(line.trim())}`);
       try {
         said.push(...this.#perform(line));
       } catch (fault) {
         if (!(fault instanceof Complaint)) throw fault;
-        return [...said, `${file}, line ${i + 1}: ${fault.message}`];
+        return [...said, shortWords(`${file}, line ${i + 1}: ${fault.message}`)];
       }
     }
     return said;

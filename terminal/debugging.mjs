@@ -3,17 +3,17 @@
 import { spawnSync } from "node:child_process";
 import { createInterface } from "node:readline";
 import { setImmediate } from "node:timers/promises";
-import { readFile, Unreadable } from "../npm/files.mjs";
-import { complain, complainOfWriting, print } from "../npm/streams.mjs";
-import { markIn } from "../npm/text.mjs";
+import { readFile, Unreadable } from "../command/files.mjs";
+import { complain, complainOfWriting, print } from "../command/streams.mjs";
+import { markIn } from "../common/text.mjs";
 import { colouring } from "./colours.mjs";
 import { helpOf } from "./commands.mjs";
 import { Debugger } from "./debugger.mjs";
 import { openHistory } from "./history.mjs";
-import { nearest } from "./nearest.mjs";
+import { nearest } from "../common/nearest.mjs";
 import { isLong, page } from "./pager.mjs";
 import { Recording, RefusedText } from "./recording.mjs";
-import { shownOn } from "./visible.mjs";
+import { shownOn } from "../common/visible.mjs";
 
 export const USAGE = `usage: otbench debug FILE [--port PORT-LINES] [--sparse]
 Steps through the run of a schedule's text, forth and back. With the lines that a port printed, which may stand in FILE behind a line '%%', it stops where the

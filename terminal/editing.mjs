@@ -1,9 +1,9 @@
 // Writes an edit by the texts that a report names.
 
 import { appendFileSync, writeFileSync } from "node:fs";
-import { readFile, reasonOf, Unreadable } from "../npm/files.mjs";
-import { complain, print } from "../npm/streams.mjs";
-import { markIn } from "../npm/text.mjs";
+import { readFile, reasonOf, Unreadable } from "../command/files.mjs";
+import { complain, print } from "../command/streams.mjs";
+import { markIn } from "../common/text.mjs";
 import { alone, Locked } from "./lock.mjs";
 import { Recording, RefusedText } from "./recording.mjs";
 

@@ -1,6 +1,6 @@
 // What the comments of a schedule tell a person: the clients' names, and why a recorded session ends before its logs do.
 
-import { outlineOf } from "../viewer/src/schedule.mjs";
+import { outlineOf } from "../common/outline.mjs";
 
 const PLAIN = /^[^\p{C}\s"](?:[^\p{C}]*[^\p{C}\s])?$/u;
 

@@ -1,13 +1,14 @@
 // A run that can be looked at in every place. All that it knows comes from otbench: `steps` gives the values, `explain` the words, `conform` where a port differs; names stand in comments.
 
-import { fold, SERVER } from "../viewer/src/fold.mjs";
-import { namedIn, numberNamed } from "../viewer/src/numbering.mjs";
-import { documentAt, downAt, logLengthAt, quietAt, stateAt, upAt } from "../viewer/src/places.mjs";
-import { textOf } from "../viewer/src/document.mjs";
-import { splitInput } from "../viewer/src/input.mjs";
-import { outlookIn } from "../viewer/src/outlook.mjs";
-import { Port } from "../viewer/src/port.mjs";
-import { outlineOf, textUpTo } from "../viewer/src/schedule.mjs";
+import { fold, SERVER } from "../common/fold.mjs";
+import { namedIn, numberNamed } from "../common/numbering.mjs";
+import { documentAt, downAt, logLengthAt, quietAt, stateAt, upAt } from "../common/places.mjs";
+import { textOf } from "../common/document.mjs";
+import { splitInput } from "../common/input.mjs";
+import { outlookIn } from "../common/outlook.mjs";
+import { Port } from "../common/printed.mjs";
+import { outlineOf, textUpTo } from "../common/outline.mjs";
+import { readConform } from "../npm/answers.mjs";
 import { commentsOf, withoutCut } from "./names.mjs";
 import { shortOperation, shortText } from "./values.mjs";
 
@@ -50,13 +51,20 @@ function differenceIn(answer, instructions) {
 /** The lines of a port, those that are blank left out. */
 const linesIn = (port) => splitInput(`%%\n${Buffer.from(port).toString()}`).port ?? [];
 
-/** What conform says of a port: where it differs, { place, number, line, answer } or null; and whether it shows nothing, so that no value was compared. */
+/** A schedule's text, a line `%%` and a port's lines. */
+const besides = (schedule, port) => Buffer.concat([Buffer.from(schedule.replace(/\n?$/, "\n%%\n")), Buffer.from(port)]);
+
+/**
+ * What conform says of a port: where it differs, { place, number, line, answer } or null; else whether it conforms, whether it shows nothing, so that no value was
+ * compared, and which of its keys are unknown, in lines.
+ */
 function conformOf(ask, schedule, { port, isSparse }, instructions) {
-  if (port === null) return { difference: null, showsNothing: false };
-  const { output, errors } = ask(isSparse ? ["conform", "--sparse"] : ["conform"], Buffer.concat([Buffer.from(schedule.replace(/\n?$/, "\n%%\n")), Buffer.from(port)]));
+  if (port === null) return { difference: null, conforms: false, showsNothing: false, unknown: [] };
+  const { output, errors } = ask(isSparse ? ["conform", "--sparse"] : ["conform"], besides(schedule, port));
   if (errors) throw new RefusedText(errors);
-  const difference = output.startsWith("differs at ") ? differenceIn(withoutCut(output).trimEnd(), instructions) : null;
-  return { difference, showsNothing: output.startsWith("nothing compared\n") };
+  if (output.startsWith("differs at ")) return { difference: differenceIn(withoutCut(output).trimEnd(), instructions), conforms: false, showsNothing: false, unknown: [] };
+  const unknown = output.split("\n").filter((line) => line.startsWith("unknown "));
+  return { difference: null, conforms: output.startsWith("conforms\n"), showsNothing: output.startsWith("nothing compared\n"), unknown };
 }
 
 /** A run, with the state at each place. Place p is the one where p instructions are performed. */
@@ -77,7 +85,7 @@ export class Recording {
     Object.assign(this, commentsOf(schedule)); // names and cut
     this.opening = told.output.split("\n", 1)[0];
     this.session = fold(ask(["steps"], schedule).output.split("\n").filter(Boolean));
-    ({ difference: this.difference, showsNothing: this.showsNothing } = conformOf(ask, schedule, { port, isSparse }, this.instructions));
+    Object.assign(this, conformOf(ask, schedule, { port, isSparse }, this.instructions)); // difference, conforms, showsNothing, unknown
     this.port = port === null ? null : new Port(this.session, linesIn(port), [], isSparse);
   }
 
@@ -93,6 +101,20 @@ export class Recording {
   /** Whether all documents must agree at a place, and to what, in lines. @param {number} place */
   outlook(place) {
     return outlookIn(this.ask(["explain"], this.scheduleUpTo(place)).output);
+  }
+
+  /**
+   * The method of ot.js that performed an instruction, and what it was given: what conform says where a port has another value. Null where there is no method.
+   * @param {number} number @returns {import("../common/why.mjs").Call | null}
+   */
+  call(number) {
+    const place = number + 1;
+    const { do: word } = this.session.steps[place].line;
+    const key = word === "take" ? "appended" : word === "deliver" ? "applied" : "state";
+    const { output, errors } = this.ask(["conform", "--sparse"], besides(this.scheduleUpTo(place), `{"at":${place},"${key}":0}\n`));
+    if (errors) throw new RefusedText(errors);
+    const { rule = null, given } = readConform(output);
+    return rule === null ? null : { rule, given };
   }
 
   /** The last place. */

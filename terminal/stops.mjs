@@ -94,6 +94,10 @@ export class Stops {
     return `no ${this.all.splice(at, 1)[0].command} any more`;
   }
 
+  removeWatches() {
+    this.all = this.all.filter(({ kind }) => kind !== "watch");
+  }
+
   /** Removes the breaks at one place, or all breaks, watches and displays. @param {number | null} place */
   clear(place) {
     const kept = place === null ? [] : this.all.filter((stop) => stop.kind !== "break" || stop.place !== place);

@@ -1,6 +1,6 @@
 // What a command asks for of a session: a client's document, state or operation, or something of the server's.
 
-import { SERVER } from "../viewer/src/fold.mjs";
+import { SERVER } from "../common/fold.mjs";
 import { Complaint } from "./commands.mjs";
 
 /** @typedef {{ what: string, client: number | null }} Subject of a client; null: the server's */

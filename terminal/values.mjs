@@ -3,6 +3,7 @@
 const LONG = 72; // characters that a value may have and be shown whole
 const ENDS = 24; // characters that are shown of each end of a text that is cut
 const AROUND = 12; // characters that are shown before and behind a change
+const WORD = 200; // characters that a word without blanks may have and be shown whole
 const COMPONENTS = 4; // components that are shown of an operation that is cut
 const MANY = 4; // given values between the first and the last that are left out
 
@@ -39,8 +40,14 @@ function shortJson(text) {
 
 const VALUES = /\[(?:"(?:[^"\\]|\\.)*"|[^"\]])*\]|"(?:[^"\\]|\\.)*"/g;
 
-/** A line, in which long texts and operations are cut. @param {string} line */
-export const shortLine = (line) => (line.length <= LONG ? line : line.replace(VALUES, shortJson));
+/** A line, in which long words are cut; a mark behind a word is none of it. @param {string} line */
+export function shortWords(line) {
+  if (line.length <= WORD) return line;
+  return line.replace(/\S+?(?=[;:,]?(?!\S))/g, (word) => (word.length <= WORD ? word : `${word.slice(0, ENDS)}..${word.slice(-ENDS)} (${counted(word.length)} characters)`));
+}
+
+/** A line, in which long texts, operations and words are cut. @param {string} line */
+export const shortLine = (line) => (line.length <= LONG ? line : shortWords(line.replace(VALUES, shortJson)));
 
 /** Where two lists of characters part, and how many they have in common at the end behind that. */
 function parting(one, other) {

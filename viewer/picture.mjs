@@ -5,8 +5,8 @@
 import fs from "node:fs";
 import { parseArgs } from "node:util";
 import { picture } from "./src/diagram.mjs";
-import { fold } from "./src/fold.mjs";
-import { splitInput } from "./src/input.mjs";
+import { fold } from "../common/fold.mjs";
+import { splitInput } from "../common/input.mjs";
 import { rowCount } from "./src/layout.mjs";
 
 const USAGE = `usage: node viewer/picture.mjs [--at PLACE] [--dark] < LINES > PICTURE

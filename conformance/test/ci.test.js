@@ -24,7 +24,7 @@ function runJob(...words) {
   try {
     fs.symlinkSync(TOP, path.join(folder, "otbench"));
     fs.writeFileSync(path.join(folder, "my-driver"), `#!/bin/sh\nexec node otbench/examples/port/driver.js ${words.join(" ")}\n`, { mode: 0o755 });
-    const command = COMMAND.replace("otbench/otbench", "node otbench/npm/cli.mjs").replace("--tap", "--tap --sessions 5 --reduce-seconds 1");
+    const command = COMMAND.replace("otbench/otbench", "node otbench/command/cli.mjs").replace("--tap", "--tap --sessions 5 --reduce-seconds 1");
     const { status, stdout } = spawnSync("sh", ["-ec", command], { cwd: folder, encoding: "utf8", env: { ...process.env, OTBENCH: PROGRAM } });
     return { status, lines: stdout.split("\n") };
   } finally {

@@ -8,8 +8,9 @@ import { fileURLToPath } from "node:url";
 import { makePort } from "../../oracle/otjs.js";
 import { drive } from "../../oracle/scalars.js";
 import { bugs, keptBy, leaks } from "../faults.js";
-import { TOGETHER, coverage, page, readCorpus, storedCorpus } from "../finders.js";
+import { TOGETHER, coverage, page, readCorpus, smallFinder, storedCorpus } from "../finders.js";
 import { comparable, faultyPort, firstDifference, stepsOf } from "../lines.js";
+import { listing } from "../program.js";
 
 const beside = (name) => fileURLToPath(new URL(`../${name}`, import.meta.url));
 
@@ -29,27 +30,6 @@ test("where a port parts from ot.js", () => {
   const session = comparable('clients 1\nedit 0 ["a"]\nedit 0 [1,"b"]\nedit 0 [1,"c",1]\n');
   assert.equal(firstDifference(session, makePort()), null);
   assert.equal(firstDifference(session, faultyPort(bugs["buffer-replaced"])), 3);
-});
-
-/* The first key of the lines in which a faulty port parts from ot.js, leaving one out. */
-function firstKey(text, fault, left) {
-  const [ours, theirs] = [makePort(), faultyPort(bugs[fault])].map((port) => drive(text, port).map((line) => JSON.parse(line)));
-  for (const [i, line] of theirs.entries()) {
-    const key = Object.keys(line).find((name) => name !== left && JSON.stringify(line[name]) !== JSON.stringify(ours[i][name]));
-    if (key) return `${line.do} ${line.client}: ${key}`;
-  }
-  return null;
-}
-
-test("a message that was changed on its way shows as such, and without the key in what a method made of it", () => {
-  const rows = [
-    ["message-changed-by-its-sender", '[1,"a",2]', '["b",2,-1]', "take 0", "take 0: appended"],
-    ["message-changed-by-a-receiver", '["a",2,-1]', '[1,"b",2]', "deliver 2", "deliver 2: applied"],
-  ];
-  for (const [fault, first, second, last, without] of rows) {
-    const text = `clients 3\nstart "xyz"\nedit 0 ${first}\nedit 1 ${second}\ntake 1\ndeliver 0\n${last}\n`;
-    assert.deepEqual([firstKey(text, fault), firstKey(text, fault, "message")], [`${last}: message`, without]);
-  }
 });
 
 test("a schedule in UTF-16 units", () => {
@@ -78,14 +58,27 @@ test("beside each stored session stand its lines", () => {
   }
 });
 
+/* Of each fault that has one, its first small session in COVERAGE.md. */
+const SMALL = new Map([...fs.readFileSync(beside("COVERAGE.md"), "utf8").matchAll(/^\| ([a-z0-9-]+) \|.*\| (\d+): (\d+) \|$/gm)].map(([, fault, stage, number]) => [fault, { stage: Number(stage), number: Number(number) }]));
+
 let covered = null;
-const coverageOnce = () => (covered ??= coverage());
+const coverageOnce = () => (covered ??= coverage((fault) => SMALL.get(fault)));
 
 test("every fault is found, every session finds one, and COVERAGE.md says by which", () => {
   const found = coverageOnce();
   for (const { fault, sessions } of found.finders) assert.ok(sessions.length, fault);
   for (const { name, found: faults } of found.corpus) assert.ok(faults, name);
   assert.equal(fs.readFileSync(beside("COVERAGE.md"), "utf8"), page(found));
+});
+
+const PROGRAM = process.env.OTBENCH ?? [`${beside("../crates/otbench/out/otbench")}`, `${beside("../out/otbench")}`].find((file) => fs.existsSync(file));
+
+test("every fault of a rule shows in a small session, nothing reduced: in the one that COVERAGE.md says", { skip: PROGRAM === undefined && "the program is not built, and OTBENCH names none" }, () => {
+  assert.ok(SMALL.size >= 55, String(SMALL.size));
+  const firstOf = smallFinder(listing(PROGRAM));
+  for (const [fault, small] of SMALL) assert.deepEqual(firstOf(fault), small, fault);
+  const others = Object.keys(bugs).filter((fault) => !SMALL.has(fault));
+  for (const fault of others) assert.match(fault, /text|line-end|mark-in-front|length|log-|points|components|message|buffer-up-to|clients-up-to|transforms-kept/);
 });
 
 test("each fault stands in the table of FOUND.md or below it", () => {
@@ -100,6 +93,7 @@ test("each fault stands in the table of FOUND.md or below it", () => {
 
 /* Each kind of session beside the branches of ot.js, and the faults that nothing else finds. */
 const KINDS = {
+  "characters-byte-order-mark-in-front": ["documents-without-a-mark-in-front"],
   "characters-joiners": ["texts-without-joiners"],
   "characters-line-end-of-two": ["line-ends-changed"],
   "characters-normal-forms": ["texts-normalized"],
@@ -120,6 +114,7 @@ const KINDS = {
   "texts-above-100000": ["lengths-up-to-100000"],
   "texts-like-lengths": ["transforms-kept-by-text", "transforms-kept-by-words"],
   "texts-like-numbers": ["text-0-is-empty", "text-minus-1-is-a-deletion"],
+  "texts-like-words-of-objects": ["texts-like-words-of-objects"],
   [TOGETHER]: ["log-shared"],
 };
 

@@ -83,6 +83,9 @@ export function corners(ask) {
     for (const word of subcommands) for (const words of [["help", word], [word, "--help"], [word, "-h"], [word, "--"], [word, "--nonsense"], [word.slice(0, -1)]]) ask("words", words);
     for (const rest of [["--seed"], ["--seed", "x"], ["--seed", "-1"], ["--seed", `${2n ** 64n}`], ["--clients", "0"], ["--clients", "65"], ["--instructions", "100001"], ["--present", "9"], ["--start", "a\nb"], ["--start", "a".repeat(40001)], ["--start=", "--open"]])
         ask("words", ["generate", ...rest]);
+    for (const rest of [[], ["--start", "xy"], ["--start", "\u{1F600}\\"], ["--letters", "2"], ["--join", "--clients", "3", "--edits", "1"], ["--inserts", "8", "--edits", "1"], ["--part", "2/3"], ["--part", "0/1"], ["--part", "1/"], ["--count"], ["--clients", "5"], ["--edits", "7"], ["--start", "123456789"], ["--seed", "1"], ["--open"]])
+        ask("words", ["generate", "--every", ...rest]);
+    for (const rest of [["--edits", "1"], ["--part", "1/1"], ["--join"], ["--count"]]) ask("words", ["generate", ...rest]);
     for (const word of subcommands) for (const input of ["", "\n", "\0", "\ufeff", "\xff", "%%", "\n%%\n", "a".repeat(70000)]) ask("bytes", [word], Buffer.from(input, "latin1"));
     for (const depth of [60, 126, 127, 128, 129, 1000, 100_000, 1_000_000]) {
         for (const json of nested(depth)) {

@@ -4,11 +4,14 @@
  *     client ── up: at most one message {revision, operation} ──▶ server
  *            ◀── down: operations of others, null for an acknowledgement ──
  *
+ * A message is kept as its JSON, and who receives it is given an operation made of that, as over a wire: no two of the port's
+ * objects share one.
+ *
  * The port is an object with ot.js' TextOperation, Client and Server. Everything else that a session needs is here, beside
  * the port's objects; to drive a port in another language, write this file again in it.
  */
 
-/* A value as it is now: the port may change the object later, and with it what was printed. */
+/* The value of something in JSON as it is now: the port may change the object later. */
 const asItIs = (value) => JSON.parse(JSON.stringify(value));
 
 /* Where ot.js has the values that a session reads. A port that has them elsewhere is given with functions of its own. */
@@ -94,34 +97,35 @@ export class Session {
     own.sendOperation = (revision, operation) => {
       const fault = faultOfSending(client, this.acting, this.shown);
       if (fault) this.fault ??= new Error(fault);
-      client.up = { revision, operation };
+      client.up = this.shown.sent = asItIs({ revision, operation });
       client.awaits = true;
-      this.shown.sent = { revision, operation };
     };
     own.applyOperation = (operation) => {
       client.document = operation.apply(client.document);
-      this.shown.applied = operation;
+      this.shown.applied = asItIs(operation);
     };
     this.clients[number] = client;
   }
 
   #edit(client, operation) {
-    this.shown.edit = operation;
+    this.shown.edit = asItIs(operation);
     client.document = operation.apply(client.document);
     return client.own.applyClient(operation);
   }
 
   #take(client) {
     if (!client.up) throw new Error("no message under way");
-    this.shown.message = this.message = asItIs(client.up);
-    return this.server.receiveOperation(client.up.revision, client.up.operation);
+    this.shown.message = this.message = client.up;
+    return this.server.receiveOperation(client.up.revision, operationOf(this.port, client.up.operation));
   }
 
   #taken(client, appended) {
     client.up = null;
-    for (const other of this.clients) if (other) other.down.push(other === client ? null : appended);
+    if (appended === undefined || appended === null) throw new Error("receiveOperation gave no operation");
+    const message = asItIs(appended);
+    for (const other of this.clients) if (other) other.down.push(other === client ? null : message);
     const revision = this.read.operations(this.server).length;
-    return Object.assign(this.shown, { revision, appended, document: this.read.document(this.server) });
+    return Object.assign(this.shown, { revision, appended: message, document: this.read.document(this.server) });
   }
 
   #receive(client, word) {
@@ -133,8 +137,8 @@ export class Session {
       client.awaits = false;
       return client.own.serverAck();
     }
-    this.shown.message = this.message = asItIs(operation);
-    return client.own.applyServer(operation);
+    this.shown.message = this.message = operation;
+    return client.own.applyServer(operationOf(this.port, operation));
   }
 
   /* The client's values. `null` says that there is none, and is compared; what is left out is not. */

@@ -4,7 +4,7 @@
 
 import assert from "node:assert/strict";
 import { test } from "node:test";
-import { compare, conforms } from "../../npm/testing.mjs";
+import { compare, conforms } from "../../ports/testing.mjs";
 import { makePort } from "../../oracle/otjs.js";
 import { bugs } from "../port/bugs.js";
 

@@ -1,7 +1,7 @@
 /* The functions of the package in a browser's worker: each gives a promise, and takes a signal that cancels it. */
 
 import { laterBenchOver } from "../bench.mjs";
-import { queueOver } from "../queue.mjs";
+import { queueOver } from "../../ports/queue.mjs";
 import { engine } from "./engine.mjs";
 
 export { EngineFault } from "../../engine/host.mjs";
@@ -23,4 +23,4 @@ export function openWorker() {
   return { ...laterBenchOver((words, input, signal) => ask({ words, input }, signal)), close };
 }
 
-export const { serve, run, steps, explain, conform, check, judge, assemble, disassemble, complete, generate, close } = openWorker();
+export const { serve, run, steps, explain, verdict, conform, check, judge, assemble, disassemble, complete, generate, close } = openWorker();

@@ -12,7 +12,7 @@ import fs from "node:fs";
 import path from "node:path";
 import { engineIn } from "./bundle.mjs";
 import { NoRelease } from "./facts.mjs";
-import { TOP } from "./stage.mjs";
+import { TOP } from "./modules.mjs";
 
 export const DIST = path.join(TOP, "dist");
 

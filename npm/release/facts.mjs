@@ -3,7 +3,7 @@
 import { spawnSync } from "node:child_process";
 import fs from "node:fs";
 import path from "node:path";
-import { TOP } from "./stage.mjs";
+import { TOP } from "./modules.mjs";
 
 export const PROGRAM = path.join(TOP, "crates/otbench/out/otbench");
 

@@ -8,7 +8,8 @@ import { serve } from "../../engine/host.mjs";
 import { bundle, isOfTheseModules } from "./bundle.mjs";
 import { checksum, DIST, opened, seal } from "./dist.mjs";
 import { commit, isProved, NoRelease, packageVersion, PROGRAM, sources } from "./facts.mjs";
-import { pack, stage, TOP } from "./stage.mjs";
+import { TOP } from "./modules.mjs";
+import { pack, stage } from "./stage.mjs";
 
 const USAGE = `usage: ./release VERSION [--engine FILE]   builds the engine, the command and the page, and writes dist/
        ./release --check [--engine FILE]   says of which sources the release in dist/ is

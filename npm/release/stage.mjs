@@ -3,16 +3,16 @@
 import { spawnSync } from "node:child_process";
 import fs from "node:fs";
 import path from "node:path";
-import { fileURLToPath } from "node:url";
 import { examplesOf } from "../../viewer/course.mjs";
 import { page } from "../../viewer/html.mjs";
-
-export const TOP = fileURLToPath(new URL("../..", import.meta.url));
+import { TOP } from "./modules.mjs";
 
 /* Files, and folders with all that is in them. */
 const HELD = [
   "LICENSE",
   "CHANGELOG.md",
+  "command",
+  "common",
   "conformance",
   "docs/FORMATS.md",
   "docs/GUIDE.md",
@@ -21,19 +21,9 @@ const HELD = [
   "examples",
   "npm",
   "oracle/otjs.js",
+  "ports",
   "recorder",
   "terminal",
-  "viewer/src/characters.mjs",
-  "viewer/src/document.mjs",
-  "viewer/src/fold.mjs",
-  "viewer/src/input.mjs",
-  "viewer/src/noted.mjs",
-  "viewer/src/numbering.mjs",
-  "viewer/src/outlook.mjs",
-  "viewer/src/places.mjs",
-  "viewer/src/port.mjs",
-  "viewer/src/schedule.mjs",
-  "viewer/src/values.mjs",
 ];
 
 const LEFT_OUT = new Set([
@@ -66,6 +56,7 @@ export function stage(folder, engine, release) {
   for (const held of HELD) fs.cpSync(path.join(TOP, held), to(held), { recursive: true, filter: isHeld });
   for (const name of ["package.json", "README.md"]) fs.copyFileSync(path.join(TOP, "npm", name), to(name));
   fs.copyFileSync(to("recorder/recorder.js"), to("recorder/recorder.cjs")); // for require
+  fs.mkdirSync(to("viewer"));
   fs.writeFileSync(to("viewer/page.html"), viewerPage());
   fs.mkdirSync(to("engine/out"));
   fs.writeFileSync(to("engine/out/otbench.wasm"), engine);

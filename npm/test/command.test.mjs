@@ -9,7 +9,7 @@ import { fileURLToPath } from "node:url";
 import { generate, steps } from "../otbench.mjs";
 import { example, NATIVE, temporaryFolder, TOP } from "./files.mjs";
 
-const COMMAND = fileURLToPath(new URL("../cli.mjs", import.meta.url));
+const COMMAND = fileURLToPath(new URL("../../command/cli.mjs", import.meta.url));
 const folder = temporaryFolder();
 
 const TWO_CLIENTS = 'client 0 rev 2 synchronized "ba"\nclient 1 rev 2 synchronized "ba"\nserver rev 2 "ba"\nquiet\n';
@@ -294,7 +294,7 @@ test("completion lists what the help lists", { skip: spawnSync("bash", ["-c", "t
   assert.deepEqual(completed("generate", "--s"), ["--seed", "--start"]);
   assert.deepEqual(completed("debug", "--s"), ["--sparse"]);
   assert.deepEqual(completed("run", "a"), [""]);
-  assert.match(call(["completion", "zsh"])[1], /^#compdef otbench\n[^]* {8}check\) words_here=\(--all --help\) ;;\n/);
+  assert.match(call(["completion", "zsh"])[1], /^#compdef otbench\n[^]* {8}check\) words_here=\(--all --json --help\) ;;\n/);
   for (const words of [[], ["fish"], ["bash", "zsh"]]) assert.deepEqual(call(["completion", ...words]).slice(0, 2), [2, ""]);
 });
 

@@ -7,7 +7,7 @@ import { test } from "node:test";
 import { bugs } from "../../conformance/faults.js";
 import { makePort } from "../../oracle/otjs.js";
 import { steps } from "../otbench.mjs";
-import { conforms, corpus, laws } from "../testing.mjs";
+import { conforms, corpus, laws } from "../../ports/testing.mjs";
 import { temporaryFolder } from "./files.mjs";
 
 const folder = temporaryFolder();

@@ -1,6 +1,7 @@
 // The debugger as an object.
 
 import assert from "node:assert/strict";
+import { readFileSync } from "node:fs";
 import { test } from "node:test";
 import { OtbenchError, commands, openDebugger } from "../debug.mjs";
 
@@ -20,13 +21,30 @@ test("each command is a method that returns lines", () => {
   for (const name of Object.keys(commands)) assert.equal(typeof session[name], "function", name);
 });
 
+test("each method has a type", () => {
+  const types = readFileSync(new URL("../debug.d.ts", import.meta.url), "utf8");
+  for (const name of Object.keys(commands)) assert.match(types, new RegExp(`^  ${name}\\(`, "m"));
+});
+
+test("why says which transform decided", () => {
+  const said = openDebugger(TIE).why(3);
+  assert.deepEqual(said.slice(2), ["  AwaitingConfirm.applyServer", '    transform(outstanding ["b"], operation ["a b"]) makes ["b",3] and [1,"a b"]', '      tie at 0: "b", of the first argument, goes before "a b"']);
+});
+
 test("a port's lines stand beside it", () => {
   const session = openDebugger(TIE, { port: '{"at":1,"document":"x"}\n' });
   assert.match(session.run().join("\n"), /differs at 1/);
 });
 
+test("of a sparse port the instructions without a line are not compared", () => {
+  const port = '{"at":4,"document":"x"}\n';
+  assert.match(openDebugger(TIE, { port }).run().join("\n"), /differs at 1/);
+  assert.match(openDebugger(TIE, { port, sparse: true }).run().join("\n"), /differs at 4/);
+});
+
 test("a refused text, and an option that is none, are errors", () => {
   assert.throws(() => openDebugger("clients 1\nedti\n"), (fault) => fault instanceof OtbenchError && fault.kind === "UnknownWord" && fault.line === 2);
   assert.throws(() => openDebugger(TIE, { prot: "" }), (fault) => fault.kind === "Usage" && /no option prot/.test(fault.message));
+  assert.throws(() => openDebugger(TIE, { port: 3 }), /the port's lines is no string and no Uint8Array/);
   assert.throws(() => openDebugger(TIE).perform(3), OtbenchError);
 });

@@ -2,6 +2,7 @@
 
 import assert from "node:assert/strict";
 import { test } from "node:test";
+import { engineBytes } from "../engine.mjs";
 import { assemble, conform, disassemble, explain, generate, judge, OtbenchError, run, serve, steps } from "../otbench.mjs";
 
 const many = (count, line) => `${line}\n`.repeat(count);
@@ -121,4 +122,9 @@ test("what is no text and no bytes is a TypeError", () => {
   for (const given of [undefined, null, 7, ["clients 1"], {}]) assert.throws(() => run(given), TypeError);
   assert.throws(() => conform("clients 1\n", undefined), TypeError);
   assert.throws(() => judge(undefined), TypeError);
+});
+
+test("where the engine is missing the words that make it are named", () => {
+  const none = new URL("nosuch/otbench.wasm", import.meta.url);
+  assert.throws(() => engineBytes(none), { message: /^the engine is missing, .*nosuch[/\\]otbench\.wasm: a checkout is no package; \.\/release --pack makes one of it$/ });
 });

@@ -6,16 +6,16 @@ import fs from "node:fs";
 import path from "node:path";
 import { test } from "node:test";
 import { fileURLToPath } from "node:url";
-import { hintsOf } from "../hints.mjs";
-import { kindOf } from "../kinds.mjs";
+import { hintsOf } from "../../command/hints.mjs";
+import { kindOf } from "../../command/kinds.mjs";
 import { serve } from "../otbench.mjs";
-import { fileWord, quoted } from "../shell.mjs";
-import { meant, similarTo } from "../usage.mjs";
+import { fileWord, quoted } from "../../command/shell.mjs";
+import { meant, similarTo } from "../../command/usage.mjs";
 import { example, temporaryFolder, TOP } from "./files.mjs";
 
 delete process.env.OTBENCH; // the engine is what runs
 
-const COMMAND = fileURLToPath(new URL("../cli.mjs", import.meta.url));
+const COMMAND = fileURLToPath(new URL("../../command/cli.mjs", import.meta.url));
 const folder = temporaryFolder();
 const hasPty = spawnSync("python3", ["-c", "import pty"]).status === 0;
 
@@ -122,6 +122,9 @@ test("of words that are refused what may be meant", () => {
     [["generate", "--clients", "-1"], "--clients takes 1 to 64, without a sign"],
     [["generate", "--clients", "3", "--present", "-1"], "--present takes 0 to the number of clients, without a sign"],
     [["generate", "--instructions", "-1"], "--instructions takes 0 to 100000, without a sign"],
+    [["generate", "--edits", "-1", "--every"], "--edits takes 0 to 6, without a sign"],
+    [["generate", "--every", "--part", "-1/2"], "--part takes two numbers, I from 1 to N, without a sign"],
+    [["generate", "--edits", "-1"]],
     [["generate", "--start", "-x"], "a text that begins with '-' stands behind '=': --start=-x"],
     [["generate", "--seed"]],
     [["generate", "--bogus"]],
@@ -133,8 +136,8 @@ test("of words that are refused what may be meant", () => {
     [["threads", "--plan"], "threads needs no --plan"],
     [["threads", "--trace"], "--trace is an option of explain"],
     [["run", "--image", "--imgae"]],
-    [["check", "--output"], "the options of check are --all --help"],
-    [["check", "--json"], "--json is an option of conform"],
+    [["check", "--output"], "the options of check are --all --json --help"],
+    [["complete", "--json"], "--json is an option of run, check, judge and conform"],
     [["asm", "-o"], "the options of asm are --help"],
     [["run", "a", "b"]],
     [["run", "--image=a"]],

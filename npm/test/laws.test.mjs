@@ -3,7 +3,7 @@
 import assert from "node:assert/strict";
 import { test } from "node:test";
 import { makePort } from "../../oracle/otjs.js";
-import { conforms, laws } from "../testing.mjs";
+import { conforms, laws } from "../../ports/testing.mjs";
 
 const ONE = { corpus: false, sessions: 1 };
 

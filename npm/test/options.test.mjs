@@ -4,7 +4,7 @@ import assert from "node:assert/strict";
 import { test } from "node:test";
 import { makePort } from "../../oracle/otjs.js";
 import { OtbenchError } from "../otbench.mjs";
-import { compare, conforms, drive, random } from "../testing.mjs";
+import { compare, conforms, drive, random } from "../../ports/testing.mjs";
 
 /* A port that must not be touched. */
 const untouched = () => {
@@ -32,6 +32,9 @@ const REFUSED = [
   [{ open: 1 }, /^open is 1; it takes true or false$/],
   [{ start: 3 }, /^start is 3; it takes a string$/],
   [{ corpus: "no" }, /^corpus is "no"; it takes true or false$/],
+  [{ every: 4 }, /^every is 4; it takes a whole number from 0 to 3$/],
+  [{ every: "2" }, /^every is "2"; /],
+  [{ every: true }, /^every is true; /],
   [{ utf16: 0 }, /^utf16 is 0; /],
   [{ reduceSeconds: -1 }, /^reduceSeconds is -1; it takes a number of seconds, 0 to 1,000,000$/],
   [{ accessors: { revison: () => 0 } }, /^accessors is \{\}; it takes an object of functions, of revision, outstanding, buffer, document, operations$/],

@@ -3,7 +3,7 @@
 import assert from "node:assert/strict";
 import { test } from "node:test";
 import { makePort } from "../../oracle/otjs.js";
-import { compare, conforms, drive } from "../testing.mjs";
+import { compare, conforms, drive } from "../../ports/testing.mjs";
 
 const SESSION = 'clients 2\nstart "ab"\nedit 0 [1,"x",1]\nedit 0 [3,"z"]\nedit 1 [1,"y",1]\ntake 0\ntake 1\ndeliver 1\nack 0\nack 1\ndeliver 0\ntake 0\nread 1\n';
 

@@ -6,12 +6,12 @@ import fs from "node:fs";
 import path from "node:path";
 import { test } from "node:test";
 import { setTimeout as pause } from "node:timers/promises";
-import { corpus } from "../testing.mjs";
-import { portWords } from "../words.mjs";
+import { corpus } from "../../ports/testing.mjs";
+import { portWords } from "../../ports/words.mjs";
 import { temporaryFolder, TOP } from "./files.mjs";
 
 const folder = temporaryFolder();
-const CLI = path.join(TOP, "npm/cli.mjs");
+const CLI = path.join(TOP, "command/cli.mjs");
 const SAMPLE = ["node", path.join(TOP, "examples/port/driver.js"), "--faults", path.join(TOP, "conformance/faults.js")];
 const stored = (name) => path.join(TOP, `conformance/sessions/${name}.ots`);
 
@@ -49,7 +49,8 @@ test("a port that conforms, in a process for each session and in one", () => {
 test("the sessions are those of `conforms`: the corpus, and then at random", () => {
   const { status, stdout } = port(["--utf16", "--keep-driver", "--sessions", "3", "--jobs", "2"], [...SAMPLE, "--keep"]);
   assert.equal(status, 0);
-  assert.ok(stdout.startsWith(`corpus: ${[...corpus()].length} sessions conform\nat random: 3 sessions conform\ncompared `), stdout);
+  const small = /^corpus: \d+ sessions conform\n((?:every session of \d clients with up to \d edits over [^\n]*: [\d,]+ conform\n)+)at random: 3 sessions conform\ncompared /.exec(stdout);
+  assert.ok(stdout.startsWith(`corpus: ${[...corpus()].length} sessions conform\n`) && small, stdout);
 });
 
 test("a port that differs is reduced, the schedule is saved, and the words that are given try it again", () => {
@@ -269,10 +270,37 @@ test("names of a recording stand in what is said of it", () => {
   assert.match(stdout, /\n; client 0 is ann\n(.*\n)*clients 2\n(.*\n)*differs at \d+: deliver 0: client 0 \(ann\) buffer\n/);
 });
 
+/* The sample driver with something done to each line that has a message. */
+const changing = (name, change) => [
+  "node",
+  file(`${name}.mjs`, `import fs from "node:fs";
+import { drive } from ${JSON.stringify(`${TOP}examples/port/drive.js`)};
+import { makePort } from ${JSON.stringify(`${TOP}oracle/otjs.js`)};
+const lines = drive(fs.readFileSync(0, "utf8"), makePort()).map((line) => JSON.parse(line));
+for (const [i, line] of lines.entries()) if (line.message) ${change};
+process.stdout.write(lines.map((line) => JSON.stringify(line) + "\\n").join(""));
+`),
+];
+
 test("a message that was changed on its way is told", () => {
-  const { status, stdout } = port(["--utf16", ...own(stored("client-awaiting-confirm-deliver")), "--reduce-seconds", "5"], [...SAMPLE, "--bug", "message-changed-by-its-sender"]);
+  const driver = changing("changed", 'if (line.do === "take") line.message.operation.push("!")');
+  const { status, stdout } = port([...own(stored("client-awaiting-confirm-deliver")), "--reduce-seconds", "5"], driver);
   assert.equal(status, 1);
   assert.match(stdout, /\nthe message was changed on its way: between where it was sent and where it was taken\n/);
+});
+
+test("where each session has a process of its own, --keep-driver is named", () => {
+  const words = ["--utf16", "--no-corpus", "--sessions", "1"];
+  assert.match(port(words, SAMPLE).stdout, /\ncompared .*\neach session had a process of its own: with --keep-driver state that one session leaves to the next is found too\n$/);
+  assert.match(port([...words, "--keep-driver"], [...SAMPLE, "--keep"]).stdout, /\ncompared .*\n$/);
+});
+
+test("a message that is a later one of its link is told as such", () => {
+  const lost = file("lost.ots", 'clients 2\nedit 0 ["a"]\ntake 0\nack 0\nedit 0 [1,"b"]\ntake 0\nack 0\ndeliver 1\ndeliver 1\nread 0\nread 1\nread-server\n');
+  const driver = changing("losing", 'if (line.do === "deliver") line.message = lines[i + 1].message ?? line.message');
+  const { status, stdout } = port([...own(lost), "--reduce-seconds", "0"], driver);
+  assert.equal(status, 1);
+  assert.match(stdout, /\nthe message is a later one of its link: one before it was lost, or they came in another order\n/);
 });
 
 test("sessions of one's own: folders, what stands behind a line %%, and what is none", () => {
@@ -301,6 +329,8 @@ test("words that are not understood", () => {
   const rows = [
     [["--sessions", "0"], "--sessions is 0; it takes a whole number from 1 to 1,000,000"],
     [["--sessions", "-1"], "--sessions is -1; it takes a whole number from 1 to 1,000,000"],
+    [["--every", "4"], "--every is 4; it takes a whole number from 0 to 3"],
+    [["--every=all"], "--every is all; it takes a whole number from 0 to 3"],
     [["--seed", "9999999999"], "--seed is 9999999999; it takes a whole number from 0 to 999,999,999"],
     [["--clients=65"], "--clients is 65; it takes a whole number from 1 to 64"],
     [["--instructions", "200000"], "--instructions is 200000; it takes a whole number from 0 to 100,000"],

@@ -3,10 +3,10 @@
 import assert from "node:assert/strict";
 import { spawnSync } from "node:child_process";
 import { test } from "node:test";
-import { nearest } from "../nearest.mjs";
-import { crowd, Pace } from "../pace.mjs";
-import { eachInOne, keptFor } from "../processes.mjs";
-import { telling } from "../telling.mjs";
+import { nearest } from "../../common/nearest.mjs";
+import { crowd, Pace } from "../../ports/pace.mjs";
+import { eachInOne, keptFor } from "../../ports/processes.mjs";
+import { telling } from "../../ports/telling.mjs";
 
 const sh = (script) => ["sh", "-c", script];
 const told = ({ lines, trouble, isEnded }) => [lines.toString(), trouble, isEnded];
@@ -39,6 +39,23 @@ const KEPT = `n=0; while read -r line; do case $line in
 esac; last=$line; done`;
 
 const kept = (does = "", mostBytes = 1000) => keptFor(["sh", "-c", KEPT, "sh", does], mostBytes);
+
+test("a driver that uses its time, or waits, is not starved", { skip: process.platform !== "linux" && "the system does not tell it" }, async () => {
+  for (const script of ["while :; do :; done", "exec sleep 60"]) {
+    const driver = eachInOne(sh(script), 1000);
+    const end = new AbortController();
+    const performed = driver.perform("clients 1\n", { signal: end.signal });
+    let isStarved = true;
+    for (let tries = 0; isStarved && tries < 200; tries++) {
+      await new Promise((resolve) => setTimeout(resolve, 50));
+      isStarved = driver.isStarved(100);
+    }
+    assert.equal(isStarved, false, script);
+    if (!script.startsWith("exec")) assert.ok(driver.isStarved(1_000_000), "of a million milliseconds it had less than half");
+    end.abort("was ended");
+    await performed;
+  }
+});
 
 test("several sessions in one process", async () => {
   const driver = kept();
@@ -153,5 +170,5 @@ test("the line that node says", () => {
 
 test("the word that is most like another one", () => {
   const words = ["document", "sent", "state", "start"];
-  assert.deepEqual(["documnet", "documents", "sen", "stat", "why", ""].map((word) => nearest(word, words)), ["document", "document", "sent", "state", null, null]);
+  assert.deepEqual(["documnet", "documents", "sen", "stat", "why", ""].map((word) => nearest(word, words)[0] ?? null), ["document", "document", "sent", "state", null, null]);
 });

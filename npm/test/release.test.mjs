@@ -20,12 +20,12 @@ test("the command in one file answers by itself, and has the engine in it", () =
   const command = path.join(folder, "otbench.mjs");
   fs.writeFileSync(command, bundle(ENGINE, RELEASE));
   const call = (file, words, input = "") => {
-    const { status, stdout, stderr } = spawnSync(process.execPath, [file, ...words], { cwd: folder, input, encoding: "utf8" });
+    const { status, stdout, stderr } = spawnSync(process.execPath, [file, ...words], { cwd: folder, input, encoding: "utf8", maxBuffer: 8 << 20 });
     return [status, stdout, stderr];
   };
   assert.deepEqual(call(command, ["--version"]), [0, "otbench 1.2.3 (commit 0123456789abcdef, proved)\n", ""]);
   const input = `${example("weak-order.ots")}%%\n{"at":1}\n`;
-  for (const words of [["conform"], ["help"], ["run"]]) assert.deepEqual(call(command, words, input), call(`${TOP}npm/cli.mjs`, words, input));
+  for (const words of [["conform"], ["help"], ["run"]]) assert.deepEqual(call(command, words, input), call(`${TOP}command/cli.mjs`, words, input));
   const [status, page] = call(command, ["view"], input);
   assert.equal(status, 0);
   assert.match(page, /<pre hidden id="schedule">\n; /);

@@ -7,7 +7,10 @@ import { test } from "node:test";
 import { bugs } from "../../conformance/faults.js";
 import { makePort } from "../../oracle/otjs.js";
 import { run, steps } from "../otbench.mjs";
-import { compare, conforms, corpus, random } from "../testing.mjs";
+import { crowd } from "../../ports/pace.mjs";
+import { aroundDifference } from "../../ports/report.mjs";
+import { compare, conforms, corpus, random } from "../../ports/testing.mjs";
+import { triedInWorker } from "../../ports/watching.mjs";
 import { temporaryFolder } from "./files.mjs";
 
 const folder = temporaryFolder();
@@ -50,7 +53,7 @@ test("reducing ends within 3 seconds, and beside that the time of a session", as
     const once = performance.now() - began;
     let found = 0;
     const driver = async (text) => {
-      const { drive } = await import("../testing.mjs");
+      const { drive } = await import("../../ports/testing.mjs");
       if (text === schedule) found ||= performance.now();
       return drive(port, text);
     };
@@ -113,10 +116,10 @@ test("a promise that is never kept ends behind `seconds`, and its session and in
   port.Client.prototype.serverAck = () => new Promise(() => {});
   const began = performance.now();
   const error = await failing(port, { seconds: 0.3 });
-  assert.ok(performance.now() - began < 5000);
+  assert.ok(performance.now() - began < 5000 * crowd());
   assert.equal(error.answer, null);
   assert.match(error.session, /^[a-z-]+$/);
-  assert.match(error.message, /^instruction \d+, ack, did not end within 0\.3 seconds; a slow port is given more by the option seconds$/m);
+  assert.match(error.message, /^instruction \d+, ack, did not end within [\d.]+ seconds; a slow port is given more by the option seconds$/m);
   assert.match(error.schedule.trimEnd().split("\n").at(-1), /^ack \d$/);
 });
 
@@ -125,12 +128,43 @@ const module = (name) => new URL(`ports/${name}`, import.meta.url);
 test("a worker: a port that does not end is ended, and its session and instruction are named", async () => {
   const began = performance.now();
   const error = await failing(module("hangs.mjs"), { seconds: 1, sessions: 1 });
-  assert.ok(performance.now() - began < 20_000);
+  assert.ok(performance.now() - began < 20_000 * crowd());
   assert.equal(error.code, "ERR_ASSERTION", error.stack);
   assert.ok([...corpus()].some(({ name }) => name === error.session));
-  assert.match(error.message, /^instruction \d+, take, did not end within 1 seconds/m);
+  assert.match(error.message, /^instruction \d+, take, did not end within [\d.]+ seconds/m);
   assert.match(error.schedule.trimEnd().split("\n").at(-1), /^take \d$/);
   assert.ok(error.schedule.includes("-"));
+});
+
+/* A module that does something before it is ot.js. */
+function late(name, before) {
+  const file = path.join(folder, name);
+  writeFileSync(file, `${before}\nexport { TextOperation, Client, Server } from ${JSON.stringify(module("otjs.mjs").href)};\n`);
+  return new URL(`file://${file}`);
+}
+
+test("a worker: loading the module does not count, and where that does not end it is named", async () => {
+  const slow = late("slow.mjs", "Atomics.wait(new Int32Array(new SharedArrayBuffer(4)), 0, 0, 2000);");
+  assert.equal((await conforms(slow, { corpus: false, every: 0, sessions: 1, seconds: 1 })).sessions, 1);
+  const never = triedInWorker(late("never.mjs", "for (;;) continue;"), { seconds: 1 }, { begin: 100 });
+  await assert.rejects(never, { name: "AssertionError", message: /^no session began within [\d.]+ seconds: loading .*never\.mjs did not end$/ });
+});
+
+test("a worker: of a session that conforms alone it is said that the port keeps state", async () => {
+  const keeps = path.join(folder, "keeps.mjs");
+  writeFileSync(keeps, `import { makePort } from ${JSON.stringify(new URL("../../oracle/otjs.js", import.meta.url).href)};
+const port = makePort();
+const { insert } = port.TextOperation.prototype;
+let count = 0;
+port.TextOperation.prototype.insert = function (text) {
+  return insert.call(this, ++count > 400 ? "?".repeat(text.length) : text);
+};
+export const { TextOperation, Client, Server } = port;
+`);
+  const error = await failing(new URL(`file://${keeps}`), { corpus: false, every: 0, sessions: 20, reduceSeconds: 1 });
+  assert.match(error.message, /\nalone, in a worker of its own, this session conforms: the port keeps state between sessions\n$/);
+  const differs = await failing(module("throws.mjs"), { corpus: false, every: 0, sessions: 5, reduceSeconds: 1 });
+  assert.doesNotMatch(differs.message, /alone, in a worker/);
 });
 
 test("a worker: a port that conforms, with its accessors", async () => {
@@ -160,4 +194,35 @@ test("a worker: a driver as a module's default", async () => {
   const file = path.join(folder, "driver.mjs");
   writeFileSync(file, `import { steps } from ${JSON.stringify(new URL("../otbench.mjs", import.meta.url).href)};\nexport default (schedule) => steps(schedule);\n`);
   assert.equal((await conforms(new URL(`file://${file}`), { corpus: false, sessions: 2 })).sessions, 2);
+});
+
+test("long values are cut around their first difference, and its place is told", () => {
+  const text = (end) => `["${"x".repeat(5000)}${end}",3]`;
+  const said = aroundDifference(`differs at 1: edit 0: edit\nfound ${text("a")}\not.js ${text("\u{1f600}")}\nrule Synchronized.applyClient\n`);
+  assert.equal(said, [
+    "differs at 1: edit 0: edit",
+    `found .. ${"x".repeat(40)}a",3] (5,007 characters)`,
+    `ot.js .. ${"x".repeat(40)}\u{1f600}",3] (5,007 characters)`,
+    "these two lines differ from character 5,003 of the whole value on",
+    "rule Synchronized.applyClient",
+    "",
+  ].join("\n"));
+  assert.equal(aroundDifference('found "a"\not.js "b"\n'), 'found "a"\not.js "b"\n');
+  assert.match(aroundDifference(`found 1\not.js ${text("")}\n`), /^found 1\not\.js \["x+ \.\. \(5,006 characters\)\nthese two lines differ from character 1 /);
+});
+
+test("lengths of a session with characters past U+FFFF are told to be in scalars", async () => {
+  const port = faulty("insert-counts-code-points");
+  const error = await failing(port, { corpus: false, every: 0, reduceSeconds: 1 });
+  assert.match(error.message, /^lengths are in Unicode scalar values here; your port was handed UTF-16 units$/m);
+});
+
+test("laws are tried behind the first round, and end the run where they are broken", async () => {
+  const port = makePort();
+  port.TextOperation.prototype.isNoop = () => true;
+  const rounds = [];
+  const onSession = ({ name }) => rounds.push(name.replace(/\d+/g, "N"));
+  const error = await failing(port, { corpus: false, every: 2, sessions: 5, onSession });
+  assert.ok(Object.hasOwn(error.laws, "isNoop"));
+  assert.deepEqual([...new Set(rounds)], ['session N of every session of N clients with up to N edits over "", insertions of N letters']);
 });

@@ -3,10 +3,10 @@
 import assert from "node:assert/strict";
 import { test } from "node:test";
 import { generate, run } from "../otbench.mjs";
-import { reduced } from "../reduce.mjs";
-import { valuesOf, withOneUnitEach, written } from "../schedule.mjs";
-import { cutAtMark } from "../sessions.mjs";
-import { corpus, random } from "../testing.mjs";
+import { reduced } from "../../common/reduce.mjs";
+import { valuesOf, withOneUnitEach, written } from "../../common/schedule.mjs";
+import { cutAtMark } from "../../ports/sessions.mjs";
+import { corpus, random } from "../../ports/testing.mjs";
 
 const isUnusual = (schedule) => valuesOf(schedule).instructions.concat([{ edit: [valuesOf(schedule).start] }]).some(({ edit = [] }) => edit.some((it) => typeof it === "string" && /[^\x20-\x7e]/.test(it)));
 

@@ -7,7 +7,7 @@ import { test } from "node:test";
 import { fileURLToPath } from "node:url";
 import { TOP } from "./files.mjs";
 
-const CLI = path.join(TOP, "npm/cli.mjs");
+const CLI = path.join(TOP, "command/cli.mjs");
 const DRIVER = fileURLToPath(new URL("ports/port.py", import.meta.url));
 const AT_A_TIME = 4;
 

@@ -5,8 +5,8 @@ import { test } from "node:test";
 import { makePort } from "../../oracle/otjs.js";
 import { bugs } from "../../conformance/faults.js";
 import { OtbenchError, run, steps } from "../otbench.mjs";
-import { valuesOf } from "../schedule.mjs";
-import { compare, conforms, corpus, drive, random } from "../testing.mjs";
+import { valuesOf } from "../../common/schedule.mjs";
+import { compare, conforms, corpus, drive, random } from "../../ports/testing.mjs";
 
 /** ot.js with a fault planted in it. */
 function faulty(name) {
@@ -22,8 +22,8 @@ const failing = (subject, options) =>
   );
 
 test("a port that is ot.js conforms, and what was compared is counted", async () => {
-  const { sessions, compared } = await conforms(makePort(), { sessions: 10 });
-  assert.equal(sessions, [...corpus()].length + 10);
+  const { sessions, every, compared } = await conforms(makePort(), { sessions: 10 });
+  assert.equal(sessions, [...corpus()].length + every.reduce((sum, { sessions: count }) => sum + count, 0) + 10);
   assert.equal(compared.start, sessions);
   assert.ok(Object.values(compared).every((count) => count >= sessions), JSON.stringify(compared));
 });
@@ -62,7 +62,7 @@ test("a driver, of lines, of one text, and of values, now or later", async () =>
     (schedule) => steps(schedule).map((line) => JSON.stringify(line)),
     async (schedule) => steps(schedule).map((line) => JSON.stringify(line)).join("\n"),
   ];
-  for (const driver of drivers) assert.equal((await conforms(driver, { sessions: 2 })).sessions, [...corpus()].length + 2);
+  for (const driver of drivers) assert.equal((await conforms(driver, { every: 0, sessions: 2 })).sessions, [...corpus()].length + 2);
   const error = await failing((schedule) => steps(schedule).map(({ buffer, ...line }) => ({ ...line, buffer: null })));
   assert.match(error.answer.field, /buffer$/);
 });

@@ -419,7 +419,7 @@ test("bytes that are no UTF-8 are named by their line", () => {
   for (const [text, line] of rows) assert.throws(() => decode(text, "log"), { message: `log, line ${line} is no UTF-8` });
 });
 
-const command = fileURLToPath(new URL("../../npm/cli.mjs", import.meta.url));
+const command = fileURLToPath(new URL("../../command/cli.mjs", import.meta.url));
 const call = (...words) => spawnSync("node", [command, "merge", ...words], { encoding: "utf8" });
 
 test("the command line", () => {

@@ -9,7 +9,7 @@ import { COMMANDS, commandOf } from "../commands.mjs";
 import { conditionOf, holdingOf } from "../conditions.mjs";
 import { named, seen, withoutCut } from "../names.mjs";
 import { Debugger } from "../debugger.mjs";
-import { nearest as nearestOf } from "../nearest.mjs";
+import { nearest as nearestOf } from "../../common/nearest.mjs";
 import { Recording, RefusedText } from "../recording.mjs";
 import { ask, options } from "./program.mjs";
 
@@ -58,6 +58,13 @@ test("a watch stops forth behind the change, and back before it, with both value
   assert.equal(there.split("\n").at(-1), 'client 1 doc: "x" -> "cx"');
   assert.equal(there.split("\n")[0], "behind line 8, instruction 3: edit 1");
   assert.deepEqual(back.split("\n"), ["before line 16, instruction 11: deliver 1", 'client 1 doc: "cxz" -> "acz"']);
+});
+
+test("where says it again, and unwatch removes the watches alone", options, () => {
+  const [opening, , moved, where, , , , info] = answers(["where", "watch doc 0", "step", "where", "watch server", "break 3", "unwatch", "info"]);
+  assert.match(opening, /^the opening: /);
+  assert.equal(where, moved);
+  assert.match(info, /^3 break 3 [^\n]*$/);
 });
 
 test("each thing that can be watched", options, () => {
@@ -157,11 +164,13 @@ test("a difference ahead of many lines, which the program does not read, is foun
   assert.match(answers(["run"], WEAK, port)[0], /\ndiffers at 1: edit 0: client\nfound 1\not\.js 0/);
 });
 
-test("a port whose lines have no value is said to show nothing", options, () => {
+test("a port that conforms is said to, and one whose lines have no value to show nothing", options, () => {
   const greeting = (port) => new Debugger(new Recording(ask, "clients 1\nread 0\n", port)).greeting().slice(1, -1);
   for (const line of ['{"at":1}\n', '{"at":1,"client":0}\n'])
     assert.deepEqual(greeting(line), ["the port's lines have no value that can be compared"]);
-  assert.deepEqual(greeting('{"at":1,"client":0,"revision":0}\n'), []);
+  assert.deepEqual(greeting('{"at":1,"client":0,"revision":0}\n'), ["the port conforms"]);
+  assert.deepEqual(greeting('{"at":1,"document":"","docment":""}\n'), ["the port conforms", "unknown docment in line 4"]);
+  assert.ok(greeting(`{"at":1,"document":"","${"k".repeat(100_000)}":""}\n`)[1].length < 100);
   assert.deepEqual(greeting(null), []);
 });
 
@@ -233,7 +242,7 @@ test("what conform says of the cut is not said again where the port differs", ()
 
 test("completion knows commands, what is watched, and clients", options, () => {
   const session = new Debugger(new Recording(ask, WEAK));
-  assert.deepEqual(session.complete("w"), [["watch", "who"], "w"]);
+  assert.deepEqual(session.complete("w"), [["watch", "who", "where", "why"], "w"]);
   assert.deepEqual(session.complete("watch o"), [["outstanding"], "o"]);
   assert.deepEqual(session.complete("watch doc "), [["0", "1", "server"], ""]);
   assert.deepEqual(session.complete("constructor "), [[], ""]);
@@ -247,6 +256,11 @@ test("words that every object has are no commands", options, () => {
     assert.match(watched, new RegExp(`^${word} is no value of a client: `));
   }
   assert.match(answers(["break line"])[0], /^the line's number is missing; break /);
+});
+
+test("the README has each command", () => {
+  const table = readFileSync(new URL("../README.md", import.meta.url), "utf8").split("\n").filter((line) => line.startsWith("| `")).join("\n");
+  for (const name of Object.keys(COMMANDS).filter((it) => it !== "help" && it !== "quit")) assert.match(table, new RegExp(`\`${name}\\b`), name);
 });
 
 test("a word too many is named", options, () => {
@@ -297,6 +311,17 @@ test("what is shown of 64 clients and full links is short, and print has all", o
   assert.deepEqual(JSON.parse(link.split("\n")[0]), ["typed ".repeat(20)]);
 });
 
+test("of a long word that was typed both ends are shown", options, () => {
+  const word = "x".repeat(100_000);
+  const said = answers([word, `goto ${word}`, `break ${word}`, "info", `mark ${word}`, `mark ${word} ${word}`, `until ${word}`, `find "${word}"`, `why ${word}`, `source ${word}`]);
+  for (const line of said.flatMap((answer) => answer.split("\n"))) assert.ok(line.length < 500, line.slice(0, 100));
+  assert.equal(said[0], `there is no ${"x".repeat(24)}..${"x".repeat(24)} (100,000 characters); help lists all words`);
+});
+
+test("print has all that can be watched", options, () => {
+  assert.deepEqual(answers(["goto 3", "print state 0", "print outstanding 0", "print buffer 0", "print doc 0", "print server", "print doc server"]).slice(1), ["awaiting-with-buffer", '[1,"z"]', '["a",-1,1]', '"az"', "0", '"x"']);
+});
+
 test("what is watched already is not watched twice", options, () => {
   const [, again, stopped] = answers(["watch doc 1", "watch doc 1", "run"]);
   assert.equal(again, "already watching doc of client 1");
@@ -310,6 +335,7 @@ test("a break behind the first words of an instruction, with a condition and a c
   assert.equal(back.split("\n").at(-1), "break at place 7: deliver");
   assert.equal(answers(["break deliver 1 time 2", "run"])[1].split("\n").at(-1), "break at place 12: deliver 1 time 2");
   assert.equal(answers(["break take 1 time 2"])[0], "break take 1 time 2: it stops nowhere");
+  assert.equal(answers(["break delver"])[0], "break delver: it stops nowhere; nearest: deliver");
   assert.equal(answers(['break deliver if not doc 0 contains "a"'])[0], 'break deliver if not doc 0 contains "a": it stops nowhere');
   assert.equal(answers(["break deliver 1 if doc 1 is acz"])[0], "break deliver 1 if doc 1 is acz: at place 12");
 });

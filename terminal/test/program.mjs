@@ -2,13 +2,13 @@
 
 import { existsSync } from "node:fs";
 import { fileURLToPath } from "node:url";
-import { nativeProgram } from "../../npm/programs.mjs";
+import { nativeProgram } from "../../command/programs.mjs";
 
 export const PROGRAM = process.env.OTBENCH || fileURLToPath(new URL("../../crates/otbench/out/otbench", import.meta.url));
 export const options = { skip: existsSync(PROGRAM) ? false : "the program is not built" };
 
 /** The command. */
-export const COMMAND = fileURLToPath(new URL("../../npm/cli.mjs", import.meta.url));
+export const COMMAND = fileURLToPath(new URL("../../command/cli.mjs", import.meta.url));
 
 /** Asks the program. @param {string[]} words @param {string | Uint8Array} text */
 export function ask(words, text) {

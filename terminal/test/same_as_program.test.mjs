@@ -1,5 +1,5 @@
 // The debugger at a terminal and the program's `debug`: the same commands lead to the same places, for the same reasons, and show the same.
-// DEBUG_SCRIPTS says how many generated scripts, DEBUG_SEED the first one's seed.
+// DEBUG_SCRIPTS says how many generated scripts, DEBUG_SEED the seed of the first session.
 
 import assert from "node:assert/strict";
 import test from "node:test";
@@ -11,6 +11,7 @@ import { ask, options } from "./program.mjs";
 const SCRIPTS = Number(process.env.DEBUG_SCRIPTS || 100);
 const SEED = Number(process.env.DEBUG_SEED || 1);
 const COMMANDS = 14;
+const OF_A_SESSION = 5; // scripts
 
 /** A session by a seed, of which a late line may be refused. */
 function scheduleOf(seed, random) {
@@ -24,14 +25,6 @@ function commandOf(clients, end, random) {
   const place = random(end + 1);
   const all = ["run", "run", "run", "step 1", `step ${1 + random(6)}`, `back ${1 + random(6)}`, `break ${place}`, `break ${place}`, `clear ${place}`, `watch doc ${random(clients)}`, `watch state ${random(clients)}`, "watch server", "unwatch", "where", "show"];
   return all[random(all.length)];
-}
-
-/** The terminal's words for a command of the program. */
-function performed(session, command) {
-  const word = command.split(" ")[0];
-  if (word === "where") return [];
-  if (word === "unwatch") return session.stops.all.filter(({ kind }) => kind === "watch").flatMap(({ number }) => session.perform(`delete ${number}`));
-  return session.perform(command);
 }
 
 /** What the program says of a place and why it stopped there, as [place, reason]. */
@@ -56,33 +49,42 @@ function shownBy({ recording, place }) {
   return [...lines, server, quiet.split(":")[0]];
 }
 
+/** Performs a script on both, and compares them command by command; answers how many commands moved. */
+function compare(recording, schedule, commands, script) {
+  const session = new Debugger(recording);
+  const replies = ask(["debug"], `${schedule}%%\n${commands.map((command) => `${command}\n`).join("")}`).output.split("\n");
+  let moves = 0;
+  for (const [i, command] of commands.entries()) {
+    const answer = session.perform(command);
+    const where = `${script}, command ${i}: ${command}`;
+    if (command === "show") {
+      assert.deepEqual(replies.splice(0, recording.clients + 2), shownBy(session), where);
+      continue;
+    }
+    const reply = replies.shift();
+    const wanted = answer[0]?.startsWith("there was no break") ? "no such place" : "ok";
+    if (!reply.startsWith("at ")) assert.equal(reply, wanted, where);
+    else {
+      const [place, reason] = saidBy(reply);
+      assert.equal(session.place, Number(place), where);
+      if (command === "run") assert.equal(reasonOf(answer, reason), reason, `${where}: ${answer.join(" / ")}`);
+      moves++;
+    }
+  }
+  assert.deepEqual(replies, [""], script);
+  return moves;
+}
+
 test(`${SCRIPTS} generated scripts of commands: places, reasons and what is shown are those of the program`, options, () => {
-  let stops = 0;
-  for (let seed = SEED; seed < SEED + SCRIPTS; seed++) {
+  let moves = 0;
+  for (let seed = SEED; seed < SEED + SCRIPTS / OF_A_SESSION; seed++) {
     const random = chance(seed);
     const schedule = scheduleOf(seed, random);
-    const session = new Debugger(new Recording(ask, schedule));
-    const { clients, end } = session.recording;
-    const commands = Array.from({ length: COMMANDS }, () => commandOf(clients, end, random));
-    const replies = ask(["debug"], `${schedule}%%\n${commands.map((command) => `${command}\n`).join("")}`).output.split("\n");
-    for (const [i, command] of commands.entries()) {
-      const answer = performed(session, command);
-      const where = `seed ${seed}, command ${i}: ${command}`;
-      if (command === "show") {
-        assert.deepEqual(replies.splice(0, clients + 2), shownBy(session), where);
-        continue;
-      }
-      const reply = replies.shift();
-      const wanted = answer[0]?.startsWith("there was no break") ? "no such place" : "ok";
-      if (!reply.startsWith("at ")) assert.equal(reply, wanted, where);
-      else {
-        const [place, reason] = saidBy(reply);
-        assert.equal(session.place, Number(place), where);
-        if (command === "run") assert.equal(reasonOf(answer, reason), reason, `${where}: ${answer.join(" / ")}`);
-        stops++;
-      }
+    const recording = new Recording(ask, schedule);
+    for (let script = 0; script < OF_A_SESSION; script++) {
+      const commands = Array.from({ length: COMMANDS }, () => commandOf(recording.clients, recording.end, random));
+      moves += compare(recording, schedule, commands, `seed ${seed}, script ${script}`);
     }
-    assert.deepEqual(replies, [""], `seed ${seed}`);
   }
-  assert.ok(stops > SCRIPTS * 3, "commands that move");
+  assert.ok(moves > SCRIPTS * 3, "commands that move");
 });

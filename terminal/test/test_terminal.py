@@ -27,7 +27,7 @@ class Terminal:
         fcntl.ioctl(slave, termios.TIOCSWINSZ, struct.pack("HHHH", rows, 80, 0, 0))
         self.state = tempfile.TemporaryDirectory()
         environment = {**os.environ, "OTBENCH": str(PROGRAM), "TERM": "xterm", "XDG_STATE_HOME": state or self.state.name, **more}
-        self.ran = subprocess.Popen([*(call or ["node", TOP / "npm/cli.mjs", "debug"]), *words], stdin=slave, stdout=output or slave, stderr=slave, env=environment, start_new_session=True, preexec_fn=lambda: fcntl.ioctl(slave, termios.TIOCSCTTY, 0))
+        self.ran = subprocess.Popen([*(call or ["node", TOP / "command/cli.mjs", "debug"]), *words], stdin=slave, stdout=output or slave, stderr=slave, env=environment, start_new_session=True, preexec_fn=lambda: fcntl.ioctl(slave, termios.TIOCSCTTY, 0))
         os.close(slave)
         self.master = master
         self.bytes = b""
@@ -133,7 +133,7 @@ class Debugging(unittest.TestCase):
         shell = Terminal("--norc", "--noprofile", "-i", call=["bash"], PS1="$ ")
         self.addCleanup(shell.close)
         shell.until(r"\$ $")
-        shell.type(f"node {TOP}/npm/cli.mjs debug {TOP}/examples/two-clients.ots\r", r"\(0/8\) $")
+        shell.type(f"node {TOP}/command/cli.mjs debug {TOP}/examples/two-clients.ots\r", r"\(0/8\) $")
         shell.type("step\r", r"\(1/8\) $")
         for place in (1, 2):
             os.write(shell.master, b"ste")

@@ -2,7 +2,7 @@
 
 import assert from "node:assert/strict";
 import test from "node:test";
-import { shownOn, visible } from "../visible.mjs";
+import { shownOn, visible } from "../../common/visible.mjs";
 
 test("control characters and those of bidirectional text are escaped, others stay", () => {
   assert.equal(visible('"a\u202eb\x1b[2J\x7f\x9b"\n\té😀👨\u200d👩'), '"a\\u202eb\\u001b[2J\\u007f\\u009b"\n\té😀👨\u200d👩');

@@ -7,6 +7,7 @@ import { openChromium } from "./chromium.js";
 import { testByHand } from "./hand_tests.js";
 import { testInputs } from "./input_tests.js";
 import { testLong } from "./long_tests.js";
+import { testLooks } from "./looks_tests.js";
 import { skip } from "./otbench.js";
 import { testSharing } from "./sharing_tests.js";
 import { User } from "./user.js";
@@ -17,6 +18,7 @@ testInputs("Chromium", openChromium);
 testByHand("Chromium", openChromium);
 testSharing("Chromium", openChromium);
 testWriting("Chromium", openChromium);
+testLooks("Chromium", openChromium);
 testLong("Chromium", openChromium);
 
 test("what an input method composes is one edit, at its end", { skip }, async () => {

@@ -5,6 +5,7 @@ import { openFirefox } from "./firefox.js";
 import { testByHand } from "./hand_tests.js";
 import { testInputs } from "./input_tests.js";
 import { testLong } from "./long_tests.js";
+import { testLooks } from "./looks_tests.js";
 import { testSharing } from "./sharing_tests.js";
 import { testWriting } from "./writing_tests.js";
 
@@ -13,4 +14,5 @@ testInputs("Firefox", openFirefox);
 testByHand("Firefox", openFirefox);
 testSharing("Firefox", openFirefox);
 testWriting("Firefox", openFirefox);
+testLooks("Firefox", openFirefox);
 testLong("Firefox", openFirefox);

@@ -368,21 +368,23 @@ export function testIn(name, openBrowser) {
       await page.size(1440, 900);
     });
 
-    test("at 1280 x 720 both lanes and both clients' cards are seen whole, and the controls stay in two rows", async () => {
-      await page.size(1280, 720);
-      await user.open();
-      await user.until('document.getElementById("list-verdict").textContent !== ""', "the verdict");
-      await page.drawn();
-      const cut = await user.run(`(() => {
-        const room = (id) => document.getElementById(id).getBoundingClientRect();
-        const isIn = (box, { left, right, bottom }) => box.left >= left && box.right <= right && box.bottom <= bottom;
-        const lanes = [...document.querySelectorAll("#heads .lane rect")].filter((lane) => !isIn(lane.getBoundingClientRect(), room("time")));
-        const cards = [...document.querySelectorAll(".card")].filter((card) => !isIn(card.getBoundingClientRect(), room("state")));
-        return [lanes.length, cards.map((card) => card.dataset.card), document.getElementById("time").scrollWidth - document.getElementById("time").clientWidth];
-      })()`);
-      assert.deepEqual(cut, [0, [], 0]);
-      await page.size(1440, 900);
-    });
+    for (const [width, height] of [[1280, 720], [390, 844]])
+      test(`at ${width} x ${height} the first sight shows both lanes and both clients' cards whole, and what to do`, async () => {
+        await page.size(width, height);
+        await user.open();
+        await user.until('document.getElementById("list-verdict").textContent !== "" && document.getElementById("outlook").textContent !== ""', "the verdicts");
+        await page.drawn();
+        const cut = await user.run(`(() => {
+          const room = (id) => document.getElementById(id).getBoundingClientRect();
+          const isIn = (box, { left, right, bottom }) => box.left >= left && box.right <= right && box.bottom <= bottom;
+          const lanes = [...document.querySelectorAll("#heads .lane rect")].filter((lane) => !isIn(lane.getBoundingClientRect(), room("time")));
+          const cards = [...document.querySelectorAll(".card")].filter((card) => !isIn(card.getBoundingClientRect(), room("state")));
+          const hidden = (id, side) => Math.max(0, document.getElementById(id)["scroll" + side] - document.getElementById(id)["client" + side] - 2);
+          return [lanes.length, cards.map((card) => card.dataset.card), hidden("time", "Width"), hidden("notice", "Height")];
+        })()`);
+        assert.deepEqual(cut, [0, [], 0, 0]);
+        await page.size(1440, 900);
+      });
 
     test("names and titles of 3,000 characters leave the controls in sight", async () => {
       await user.open();

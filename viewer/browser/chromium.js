@@ -130,8 +130,8 @@ class Page {
     return this.run("new Promise((done) => requestAnimationFrame(() => requestAnimationFrame(() => done(1))))");
   }
 
-  async size(width, height) {
-    await this.send("Emulation.setDeviceMetricsOverride", { width, height, deviceScaleFactor: 1, mobile: false });
+  async size(width, height, scale = 1) {
+    await this.send("Emulation.setDeviceMetricsOverride", { width, height, deviceScaleFactor: scale, mobile: false });
   }
 
   async screenshot(file) {

@@ -129,8 +129,8 @@ class Page {
     return this.run("new Promise((done) => requestAnimationFrame(() => requestAnimationFrame(() => done(1))))");
   }
 
-  async size(width, height) {
-    await this.send("browsingContext.setViewport", { context: this.context, viewport: { width, height } });
+  async size(width, height, scale = 1) {
+    await this.send("browsingContext.setViewport", { context: this.context, viewport: { width, height }, devicePixelRatio: scale });
   }
 
   async screenshot(file) {

@@ -39,7 +39,7 @@ export function testByHand(name, openBrowser) {
     test("what an editor showed is compared at once, noted, shared and taken away", async () => {
       await opened(TIE, 5);
       await note(1, "ab");
-      await user.until('/ot.js has "ba" here/.test(document.getElementById("noted-answer").textContent)', "the answer");
+      await user.until('/ot.js has "ba" here.*: that is what transform gives if the text of its second argument goes first/.test(document.getElementById("noted-answer").textContent)', "the answer");
       await note(1, "ba");
       await user.until('/same text/.test(document.getElementById("noted-answer").textContent)', "the answer");
       await note(1, "<img src=x onerror=window.harm=1>\u202e");
@@ -52,16 +52,37 @@ export function testByHand(name, openBrowser) {
       const hash = await user.run("location.hash");
       await user.open(hash);
       await user.until('/differs at 5/.test(document.getElementById("conformance").textContent)', "the note of the link");
+      await user.until('document.getElementById("list-verdict").textContent !== "" && document.getElementById("outlook").textContent !== ""', "the verdicts");
+      await user.settled(5);
       await user.click('[data-note="1"]');
+      await user.until('document.getElementById("noting").open');
       assert.match(await user.run('document.getElementById("showed").value'), /^<img/);
       await user.click("#forget-note");
       await user.until('document.getElementById("conformance").hidden', "no note");
+    });
+
+    test("one click says which operations were transformed, and which text went first; a key too", async () => {
+      await opened(`; client 0 is <b>Ann</b>\n${TIE}`, 5);
+      await user.until('/all will be "ba"/.test(document.getElementById("outlook").textContent)', "the verdict");
+      assert.equal(await user.run('document.getElementById("reason").checkVisibility()'), false);
+      await user.click("#why");
+      const said = (pattern) => user.until(`${pattern}.test(document.getElementById("reason").innerText)`, `${pattern} as the reason`);
+      await said('/^deliver 1, place 5: AwaitingConfirm\\.applyServer transforms \\["b"\\] \\(client 1, outstanding\\) against \\["a"\\] \\(client 0 \\(<b>Ann<\\/b>\\), log entry 0\\)\\.\\n*Both insert at 0: transform puts the text of its first argument first, "b" before "a"\\.$/');
+      assert.equal(await user.run('document.getElementById("why").getAttribute("aria-expanded")'), "true");
+      await user.run("document.activeElement.blur()");
+      await user.press("k");
+      await said('/^take 1, place 4: Server\\.receiveOperation transforms /');
+      await user.press("k");
+      await said('/^Nothing has been transformed up to here\\.$/');
+      await user.press("w");
+      assert.equal(await user.run('document.getElementById("reason").checkVisibility()'), false);
     });
 
     test("a click on the end of a message lets it through, with those before it", async () => {
       await opened(TIE, 5);
       await user.run('document.querySelector(\'[data-let="down 0 1"]\').dispatchEvent(new MouseEvent("click", { bubbles: true }))');
       await user.shown("/deliver 1\\nack 0\\ndeliver 0\\n$/");
+      await user.until('document.getElementById("length").textContent === "of 7"', "the answer");
       assert.deepEqual((await user.documents()).slice(0, 2), ["ba", "ba"]);
     });
 

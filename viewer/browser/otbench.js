@@ -8,7 +8,7 @@ import { fileURLToPath } from "node:url";
 import { page } from "../html.mjs";
 
 const wrapper = fileURLToPath(new URL("../../otbench", import.meta.url));
-const command = fileURLToPath(new URL("../../npm/cli.mjs", import.meta.url));
+const command = fileURLToPath(new URL("../../command/cli.mjs", import.meta.url));
 const program = process.env.OTBENCH || spawnSync(wrapper, ["--which"], { encoding: "utf8", stdio: ["ignore", "pipe", "inherit"] }).stdout.trimEnd();
 
 /* What the command prints over the program for words and an input; where it cannot be run or prints a fault, that is thrown. */

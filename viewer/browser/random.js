@@ -38,7 +38,7 @@ function damaged(bytes) {
 }
 
 const KEYS = ["ArrowLeft", "ArrowRight", "ArrowUp", "ArrowDown", "Home", "End", "PageUp", "PageDown", "Enter", "Escape", "Backspace", "Delete", "Tab", "Control+z", "Control+Shift+Z", "Control+a", "Control+Home", "Control+End"];
-const LETTERS = [..."0123unqr+jkmdevtlsi?"];
+const LETTERS = [..."0123unqr+jkmdevtlsiw?"];
 
 let link = "#at=0";
 

@@ -2,11 +2,13 @@
 // changes, and for the verdicts when nothing has changed for a while.
 
 import { followLines } from "./follow.mjs";
-import { areNotes } from "./noted.mjs";
-import { outlookIn } from "./outlook.mjs";
-import { headsAt } from "./places.mjs";
-import { Port } from "./port.mjs";
-import { textUpTo } from "./schedule.mjs";
+import { areNotes, notedPlace } from "../../common/noted.mjs";
+import { outlookIn } from "../../common/outlook.mjs";
+import { headsAt } from "../../common/places.mjs";
+import { Port } from "../../common/printed.mjs";
+import { lastTransform, otherLine } from "./reason.mjs";
+import { textUpTo } from "../../common/outline.mjs";
+import { decidedAt, lineOfTie, withTie } from "./tie.mjs";
 import { caretBehind, documentNow, emptyState, isAnswered, reduce, shownPlace } from "./state.mjs";
 
 /** After how many milliseconds without a change the verdicts are asked for, and how often the time of a run is added to that. */
@@ -27,6 +29,9 @@ const linesIn = (bytes) => {
 
 /** A schedule, and behind a line %% the lines of a port, or notes. */
 const besideText = (text, port) => `${text}\n%%\n${port.join("\n")}\n`;
+
+/* The note that an answer of conform is about; undefined where it is about none. */
+const noteOf = (port, [first = ""]) => port.map((line) => JSON.parse(line)).find(({ at }) => first.startsWith(`differs at ${at}: `));
 
 /** The fault that explain reports: { line, column, kind, cause }, line 0 where it is of none, column 0 where none is given. */
 export function readFault(errors) {
@@ -125,8 +130,11 @@ export class Bench {
 
   /** What conform answers, in lines, to what a user saw of a client's document at the place. */
   async askNote(client, document) {
+    const { session } = this.state;
+    const at = notedPlace(session, client, shownPlace(this.state));
     const { text, port } = reduce({ ...this.state, port: null }, { do: "note", client, document });
-    return port ? linesIn((await this.ask(this.#conformWords(port), besideText(text, port))).output) : [];
+    const told = port ? linesIn((await this.ask(this.#conformWords(port), besideText(text, port))).output) : [];
+    return this.#withTie(told, { at, client, document }, (words, input) => this.ask(words, input));
   }
 
   /** Ends an engine that does not answer. The next change starts it again. */
@@ -257,7 +265,8 @@ export class Bench {
     try {
       await this.#judge.load();
       const told = port && (await answer(this.#conformWords(port), besideText(text, port)));
-      if (told && !isOld()) this.dispatch({ do: "beside", text, beside: new Port(session, port, told, this.isSparse(port)) });
+      const shown = told && areNotes(port) && !isOld() ? await this.#withTie(told, noteOf(port, told), (words, input) => this.#judge.ask(words, new TextEncoder().encode(input))) : told;
+      if (shown && !isOld()) this.dispatch({ do: "beside", text, beside: new Port(session, port, shown, this.isSparse(port)) });
       const verdicts = await answer(["check"], text);
       tell(verdicts.length ? verdicts : ["not judged"]);
     } catch (fault) {
@@ -269,9 +278,9 @@ export class Bench {
   }
 
   #isToLookAhead() {
-    const { text, outlook, session } = this.state;
+    const { text, outlook, session, isReasonShown } = this.state;
     if (!this.engine || this.isBusy || this.#isLooking || !session || !isAnswered(this.state)) return false;
-    return outlook?.text !== text || outlook.place !== shownPlace(this.state);
+    return outlook?.text !== text || outlook.place !== shownPlace(this.state) || (isReasonShown && outlook.reason === undefined);
   }
 
   #lookAheadSoon() {
@@ -283,17 +292,57 @@ export class Bench {
   async #lookAhead() {
     if (!this.#isToLookAhead()) return;
     this.#isLooking = true;
-    const { text, outline } = this.state;
+    const { text, isReasonShown } = this.state;
     const place = shownPlace(this.state);
-    let lines = [];
+    const outlook = { text, place, lines: [], reason: isReasonShown ? null : undefined };
     try {
       await this.#judge.load();
-      const { output } = await this.#judge.ask(["explain"], new TextEncoder().encode(textUpTo(text, outline, place)));
-      lines = outlookIn(new TextDecoder().decode(output));
+      const ask = (words, input) => this.#judge.ask(words, new TextEncoder().encode(input));
+      outlook.lines = await this.#outlookAt(place, ask);
+      if (isReasonShown) outlook.reason = await this.#reasonAt(place, ask);
     } catch {
       // the judge was given up: it is of an old text, or does not answer
     }
     this.#isLooking = false;
-    this.dispatch({ do: "outlook", outlook: { text, place, lines } });
+    this.dispatch({ do: "outlook", outlook });
+  }
+
+  /* The verdict of a place, in lines. */
+  async #outlookAt(place, ask) {
+    const { text, outline } = this.state;
+    return outlookIn(new TextDecoder().decode((await ask(["explain"], textUpTo(text, outline, place))).output));
+  }
+
+  /* The last transform up to a place: what conform says of a port that has another value there. */
+  async #reasonAt(place, ask) {
+    const last = lastTransform(this.state.session, place);
+    return last === 0 ? { place: 0, rule: "", given: [] } : { place: last, ...(await this.#conformAt(last, otherLine(this.state.session, last), ask)) };
+  }
+
+  /* What conform answers to a port's line at a place, as a value. */
+  async #conformAt(place, line, ask) {
+    const { text, outline } = this.state;
+    const { output } = await ask(["conform", "--sparse", "--json"], besideText(textUpTo(text, outline, place), [line]));
+    return JSON.parse(new TextDecoder().decode(output));
+  }
+
+  /* What conform answered on a note, with what it says of a tie broken the other way, where that leads to what was seen. */
+  async #withTie(told, note, ask) {
+    const { session } = this.state;
+    const place = note && told[0]?.startsWith("differs at ") ? decidedAt(session, note) : 0;
+    if (place === 0) return told;
+    const call = await this.#reasonAt(place, ask);
+    const line = lineOfTie(session, note, call);
+    const answer = line === null ? null : await this.#conformAt(call.place, line, ask);
+    return answer?.note ? withTie(told, answer.note, session, note, call) : told;
+  }
+
+  /** The verdict of the shown place, and what led to the texts there; nothing where the text has a fault. */
+  async sayHere() {
+    const place = shownPlace(this.state);
+    const ask = (words, input) => this.ask(words, input);
+    if (!isAnswered(this.state)) return { outlook: [], reason: null };
+    const reason = this.#reasonAt(place, ask);
+    return { outlook: await this.#outlookAt(place, ask), reason: await reason };
   }
 }

@@ -2,10 +2,10 @@
 // colour of who inserted it. Where the page can play, a client's document is an editor, and what is at the head of its links a
 // button: each button names the instruction that it puts behind the place.
 
-import { quoted, seen } from "./characters.mjs";
-import { START, sameText, walk } from "./document.mjs";
-import { SERVER } from "./fold.mjs";
-import { documentAt, downAt, headsAt, logLengthAt, receiptsIn, stateAt, upAt, versionsOf } from "./places.mjs";
+import { quoted, seen } from "../../common/characters.mjs";
+import { START, sameText, walk } from "../../common/document.mjs";
+import { SERVER } from "../../common/fold.mjs";
+import { documentAt, downAt, headsAt, logLengthAt, receiptsIn, stateAt, upAt, versionsOf } from "../../common/places.mjs";
 import { colourOf } from "./theme.mjs";
 import { tree } from "./tree.mjs";
 import { apart, nameOfMember, shortName, shownOperation, shownValue } from "./words.mjs";

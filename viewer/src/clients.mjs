@@ -1,7 +1,7 @@
 // The text of a schedule with a client more or fewer, and with one that joins later or from the opening on.
 
-import { trimmed } from "./input.mjs";
-import { NAME, lineOfPlace, outlineOf } from "./schedule.mjs";
+import { trimmed } from "../../common/input.mjs";
+import { NAME, lineOfPlace, outlineOf } from "../../common/outline.mjs";
 
 /** How many clients a schedule has at most. */
 const MOST = 64;

@@ -3,7 +3,7 @@
 
 import { cardOf, cardParts } from "./cards.mjs";
 import { element } from "./dom.mjs";
-import { SERVER } from "./fold.mjs";
+import { SERVER } from "../../common/fold.mjs";
 import { caretBox, putSelection, selectionNow } from "./selection.mjs";
 import { built, sameTrees, tree } from "./tree.mjs";
 

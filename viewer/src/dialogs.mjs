@@ -1,9 +1,9 @@
 // The page's dialogs: examples, paste, save, a client's name, what an editor showed, lanes, a judged trace.
 
-import { brief } from "./characters.mjs";
+import { brief } from "../../common/characters.mjs";
 import { element, fill, setText } from "./dom.mjs";
-import { splitInput } from "./input.mjs";
-import { noteAt, notedPlace } from "./noted.mjs";
+import { splitInput } from "../../common/input.mjs";
+import { noteAt, notedPlace } from "../../common/noted.mjs";
 import { shownPlace } from "./state.mjs";
 import { traceTable } from "./trace.mjs";
 import { built, tree } from "./tree.mjs";

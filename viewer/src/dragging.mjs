@@ -1,7 +1,7 @@
 // The diagram by hand: the ends of messages are let through by a click, and dragged to other rows.
 
 import { element } from "./dom.mjs";
-import { headsAt, logLengthAt, stateAt } from "./places.mjs";
+import { headsAt, logLengthAt, stateAt } from "../../common/places.mjs";
 import { shownPlace } from "./state.mjs";
 import { built, tree } from "./tree.mjs";
 

@@ -1,17 +1,17 @@
 // A session that follows the lines of steps as they change: the equal lines at the front are not folded again, those behind them are, a
 // slice at a time, so that a page stays in use. The session that the page shows meanwhile stays as it is.
 
-import { openSession } from "./fold.mjs";
+import { openSession } from "../../common/fold.mjs";
 
 /** How long a slice lasts, in milliseconds, and after how many lines the clock is asked. */
 const SLICE = 12;
 const LINES = 50;
 
 /**
- * @param {import("./fold.mjs").Session | null} session what the last lines gave
+ * @param {import("../../common/fold.mjs").Session | null} session what the last lines gave
  * @param {{ keep: number, rest: string }} change how many lines at the front stay, and those behind them
  * @param {() => Promise<void>} pause between two slices
- * @returns {Promise<import("./fold.mjs").Session>} the session of the lines
+ * @returns {Promise<import("../../common/fold.mjs").Session>} the session of the lines
  */
 export async function followLines(session, { keep, rest }, pause) {
   const lines = rest.split("\n");

@@ -3,8 +3,8 @@
 
 import { readEvents } from "../../recorder/logs.js";
 import { merge } from "../../recorder/merging.js";
-import { brief, seen } from "./characters.mjs";
-import { splitInput, trimmed } from "./input.mjs";
+import { brief, seen } from "../../common/characters.mjs";
+import { splitInput, trimmed } from "../../common/input.mjs";
 import { kindOf, scheduleOf, splitSchedule, textOfSchedule } from "./reader.mjs";
 import { readVerdict } from "./trace.mjs";
 

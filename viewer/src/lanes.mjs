@@ -1,8 +1,8 @@
 // The lanes: their heads, and their lines, which say a client's state: thin, thick or double.
 
-import { brief, seen } from "./characters.mjs";
-import { lastUpTo } from "./document.mjs";
-import { SERVER } from "./fold.mjs";
+import { brief, seen } from "../../common/characters.mjs";
+import { lastUpTo } from "../../common/document.mjs";
+import { SERVER } from "../../common/fold.mjs";
 import { GAP, HEAD_HEIGHT, svgText } from "./layout.mjs";
 import { colourOf } from "./theme.mjs";
 import { tree } from "./tree.mjs";

@@ -1,7 +1,7 @@
 // Where the diagram has what: a row for each place, from above to below; texts on the left, then a lane for each
 // participant, the server's in the middle.
 
-import { SERVER } from "./fold.mjs";
+import { SERVER } from "../../common/fold.mjs";
 import { tree } from "./tree.mjs";
 
 export const HEAD_HEIGHT = 30;

@@ -1,8 +1,8 @@
 // A session to and from a link.
 
-import { brief, quoted } from "./characters.mjs";
+import { brief, quoted } from "../../common/characters.mjs";
 import { faultOf } from "./intake.mjs";
-import { withName } from "./schedule.mjs";
+import { withName } from "../../common/outline.mjs";
 import { addressOf, packed, readAddress, unpacked } from "./share.mjs";
 
 /** The address, behind #, of the session and its place; a text that is no schedule has none, and the fault says so. */

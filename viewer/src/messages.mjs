@@ -1,8 +1,8 @@
 // The messages: arrows from the row in which one was sent to the row in which it was received, in the colour of who made
 // the operation; acknowledgements dashed. One that was sent or received at the place stands out, so do those under way.
 
-import { lastUpTo } from "./document.mjs";
-import { SERVER } from "./fold.mjs";
+import { lastUpTo } from "../../common/document.mjs";
+import { SERVER } from "../../common/fold.mjs";
 import { svgText } from "./layout.mjs";
 import { colourOf } from "./theme.mjs";
 import { tree } from "./tree.mjs";

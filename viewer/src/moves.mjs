@@ -1,6 +1,6 @@
 // From a place to another one.
 
-import { SERVER } from "./fold.mjs";
+import { SERVER } from "../../common/fold.mjs";
 import { shownPlace } from "./state.mjs";
 
 /** The next place in a direction at which a participant, or any, moves. */

@@ -1,25 +1,25 @@
 // Keys, clicks and files.
 
 import { Bench } from "./bench.mjs";
-import { withEscapes } from "./characters.mjs";
+import { withEscapes } from "../../common/characters.mjs";
 import { askName, askNote, openDialog, paste, showLanes, showTrace, watchDialogs } from "./dialogs.mjs";
 import { element } from "./dom.mjs";
 import { moveInstruction, watchRows } from "./dragging.mjs";
 import { Engine, wanted } from "./engine.mjs";
-import { SERVER, fold } from "./fold.mjs";
-import { splitInput, unescapeLine } from "./input.mjs";
+import { SERVER, fold } from "../../common/fold.mjs";
+import { splitInput, unescapeLine } from "../../common/input.mjs";
 import { readWhole, takeAll, takeIn } from "./intake.mjs";
 import { Keeper, tabStorage } from "./keeping.mjs";
 import { isLink, linkTo, openLink } from "./linking.mjs";
 import { otherEnd, sameMember, towards } from "./moves.mjs";
-import { documentAt } from "./places.mjs";
+import { documentAt } from "../../common/places.mjs";
 import { choose, played, watchCards } from "./playing.mjs";
-import { Port } from "./port.mjs";
+import { Port } from "../../common/printed.mjs";
 import { scheduleOf, textOfSchedule } from "./reader.mjs";
 import { reportOf } from "./report.mjs";
 import { savePicture, savePoints, saveSession } from "./saving.mjs";
 import { deck, isNarrow, setSplit, setTheme, show, showEmpty, showLegend, shownVerdicts, themeNow, timeline, toPaper, viewOf } from "./screen.mjs";
-import { lineOfPlace } from "./schedule.mjs";
+import { lineOfPlace } from "../../common/outline.mjs";
 import { readAddress } from "./share.mjs";
 import { Sheet } from "./sheet.mjs";
 import { shownPlace } from "./state.mjs";
@@ -165,7 +165,7 @@ async function copyLink() {
 async function copyReport() {
   const link = await addressed();
   if (link === null || !bench.state.session) return;
-  const report = reportOf(bench.state, shownVerdicts(), link, isOfFile());
+  const report = reportOf(bench.state, { verdicts: shownVerdicts(), ...(await bench.sayHere()), link, isOfFile: isOfFile() });
   if (await copied(report)) return say("The session is copied as Markdown, with its link.");
   element("reported").value = report;
   openDialog("reporting");
@@ -180,6 +180,12 @@ async function copied(text) {
   } catch {
     return false;
   }
+}
+
+/* An empty session of two users, and what to do with it. */
+function openNew() {
+  act("open", { text: "clients 2\n" });
+  say("Type what each user typed into the documents, and let the messages through in their order. Did an editor show another text then? Enter it at I saw …, and Report copies all for an issue.");
 }
 
 /* Dialogs. */
@@ -248,6 +254,7 @@ const KEYS_OF_PLAY = {
   "+": () => playKey("join"),
   r: () => playKey("read"),
   q: letThrough,
+  w: () => act("reason"),
   l: () => openDialog("choosing"),
   c: copyLink,
   i: copyReport,
@@ -304,8 +311,8 @@ const CLICKS = {
   conformance: goToDifference,
   undo: () => act("undo"),
   redo: () => act("redo"),
-  new: () => act("open", { text: "clients 2\n" }),
-  "new-instead": () => act("open", { text: "clients 2\n" }),
+  new: openNew,
+  "new-instead": openNew,
   "examples-instead": () => openDialog("choosing"),
   examples: () => openDialog("choosing"),
   open: openFile,
@@ -322,6 +329,7 @@ const CLICKS = {
   "text-shown": () => turnText(),
   menu: () => element("menu").setAttribute("aria-expanded", String(document.body.classList.toggle("with-menu"))),
   quiet: letThrough,
+  why: () => act("reason"),
   stop: () => bench.stop(),
   escapes: () => act("write", { text: withEscapes(bench.state.text), line: lineOfPlace(bench.state.outline, shownPlace(bench.state)), tag: null }),
   "leave-out": () => act("leaveOut"),
@@ -360,10 +368,10 @@ const resized = () =>
   });
 onresize = resized;
 
-/* In a narrow window the lanes fit the diagram without its scroll bar. */
+/* In a narrow window, and beside the text, the lanes fit the diagram without its scroll bar. */
 let width = 0;
 new ResizeObserver(([{ contentRect }]) => {
-  if (isNarrow() && contentRect.width !== width) resized();
+  if ((isNarrow() || !element("writing").hidden) && contentRect.width !== width) resized();
   width = contentRect.width;
 }).observe(element("time"));
 
@@ -547,7 +555,7 @@ async function start() {
   }
   openChoice(0);
   if (takeBack()) return undefined;
-  const notice = "Two users have typed at one place, and their messages are under way. Click a message to let it through, step on with →, or type into a document.";
+  const notice = "Two users have typed at one place. Click a message to let it through, step on with ▶, or type into a document.";
   act("notice", { notice, isWelcome: true });
   return undefined;
 }

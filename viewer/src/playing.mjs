@@ -1,8 +1,8 @@
 // Playing by keys, and typing into documents.
 
 import { element } from "./dom.mjs";
-import { SERVER } from "./fold.mjs";
-import { headsAt, receiptsIn, stateAt } from "./places.mjs";
+import { SERVER } from "../../common/fold.mjs";
+import { headsAt, receiptsIn, stateAt } from "../../common/places.mjs";
 import { deck } from "./screen.mjs";
 import { selectionNow } from "./selection.mjs";
 import { documentNow, shownPlace } from "./state.mjs";

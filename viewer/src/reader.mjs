@@ -1,7 +1,7 @@
 // What a file or a paste is: a schedule, its image, lines of `otbench steps` or of a port, a log of the recorder, a trace, or a plan.
 
-import { splitInput, trimmed } from "./input.mjs";
-import { outlineOf } from "./schedule.mjs";
+import { splitInput, trimmed } from "../../common/input.mjs";
+import { outlineOf } from "../../common/outline.mjs";
 
 const isObject = (value) => Boolean(value) && typeof value === "object" && !Array.isArray(value);
 

@@ -1,11 +1,12 @@
 // The session as Markdown, for an issue: the schedule, the verdict, what each document is at the place, what a port has otherwise, and the link.
 
-import { brief, quoted, seen } from "./characters.mjs";
-import { SERVER } from "./fold.mjs";
-import { documentAt, quietAt, stateAt } from "./places.mjs";
-import { textOf } from "./document.mjs";
-import { outlookNow, shownPlace } from "./state.mjs";
-import { nameOfMember } from "./words.mjs";
+import { brief, quoted, seen } from "../../common/characters.mjs";
+import { SERVER } from "../../common/fold.mjs";
+import { documentAt, quietAt, stateAt } from "../../common/places.mjs";
+import { textOf } from "../../common/document.mjs";
+import { shownPlace } from "./state.mjs";
+import { reasonWords } from "./reason.mjs";
+import { nameOfMember, operationText } from "./words.mjs";
 
 /* The longest run of backticks in a text. */
 const ticksIn = (text) => Math.max(0, ...(text.match(/`+/g) ?? []).map((run) => run.length));
@@ -42,21 +43,33 @@ function documentsAt(session, place, names) {
 const seenIn = ({ lines }, names) =>
   lines.filter(Boolean).map(({ at, client, document }) => `- at ${at}, ${inline(nameOfMember(client, names))}: ${inline(quoted(brief(document, MOST.document)))}`);
 
-/* Whether the documents must agree, and to what, as a paragraph. */
-const outlookAt = (state) => outlookNow(state).map((line) => `${inline(brief(line, 600))}\n\n`).join("");
+/* Whether the documents must agree, and to what, in paragraphs. */
+const outlookWords = (lines) => lines.map((line) => `${inline(brief(line, 600))}\n\n`).join("");
+
+/* Which transform led to the documents, in lines. */
+function reasonAt({ session, outline }, reason) {
+  if (!reason || reason.place === 0) return "";
+  const inWords = (part) => (typeof part === "string" ? part : operationText(part.operation, 200));
+  const lines = reasonWords(session, reason, outline.names).map((words) => inline(words.map(inWords).join("")));
+  return `${lines.join("\\\n")}\n\n`;
+}
 
 /**
  * @param {import("./state.mjs").State} state one with a session
- * @param {string[]} verdicts what the page says of the session, in its words
- * @param {string} link @param {boolean} isOfFile whether the link is to a file of this machine
+ * @param {object} said
+ * @param {string[]} said.verdicts what the page says of the session, in its words
+ * @param {string[]} [said.outlook] the verdict of the place
+ * @param {import("./reason.mjs").Reason | null} [said.reason] of the texts there
+ * @param {string} said.link
+ * @param {boolean} said.isOfFile whether the link is to a file of this machine
  */
-export function reportOf(state, verdicts, link, isOfFile) {
+export function reportOf(state, { verdicts, outlook = [], reason = null, link, isOfFile }) {
   const { session, text, title, beside, outline } = state;
   const place = shownPlace(state);
   const parts = [
     `**otbench**${title ? ` ${inline(brief(title, 80))}` : ""}: ${verdicts.map((words) => inline(brief(words, 300))).join("; ")}`,
     block(shortened(text)),
-    `At place ${place} of ${session.length} (${inline(quietAt(session, place))}):\n\n${outlookAt(state)}${documentsAt(session, place, outline.names).join("\n")}`,
+    `At place ${place} of ${session.length} (${inline(quietAt(session, place))}):\n\n${outlookWords(outlook)}${reasonAt(state, reason)}${documentsAt(session, place, outline.names).join("\n")}`,
   ];
   if (beside?.areNotes) parts.push(`What was seen in editors:\n\n${seenIn(beside, outline.names).join("\n")}`);
   if (beside?.answer.length) parts.push(`${beside.areNotes ? "That" : "What the port printed"}, beside ot.js:\n\n${block(beside.answer.join("\n"))}`);

@@ -1,7 +1,7 @@
 // The rows: each instruction's mark on its participant's lane, and its text.
 
-import { brief, quoted } from "./characters.mjs";
-import { SERVER } from "./fold.mjs";
+import { brief, quoted } from "../../common/characters.mjs";
+import { SERVER } from "../../common/fold.mjs";
 import { svgText } from "./layout.mjs";
 import { colourOf } from "./theme.mjs";
 import { tree } from "./tree.mjs";

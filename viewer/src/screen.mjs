@@ -1,19 +1,20 @@
 // What the page shows of its state.
 
 import { authorOf } from "./cards.mjs";
-import { brief, seen } from "./characters.mjs";
+import { brief, seen } from "../../common/characters.mjs";
 import { Deck } from "./deck.mjs";
 import { element, fill, setText } from "./dom.mjs";
-import { SERVER } from "./fold.mjs";
+import { SERVER } from "../../common/fold.mjs";
 import { legend } from "./legend.mjs";
-import { canNote } from "./noted.mjs";
-import { namedIn, numberNamed } from "./numbering.mjs";
-import { quietAt } from "./places.mjs";
-import { isAnswered, outlookNow, shownPlace } from "./state.mjs";
+import { canNote } from "../../common/noted.mjs";
+import { namedIn, numberNamed } from "../../common/numbering.mjs";
+import { quietAt } from "../../common/places.mjs";
+import { reasonWords } from "./reason.mjs";
+import { isAnswered, outlookNow, reasonNow, shownPlace } from "./state.mjs";
 import { variablesOf } from "./theme.mjs";
 import { Timeline } from "./timeline.mjs";
 import { tree } from "./tree.mjs";
-import { apart, instructionOf, nameOfMember, sentence, shownValue, verdictOn } from "./words.mjs";
+import { apart, instructionOf, nameOfMember, sentence, shownOperation, shownValue, verdictOn } from "./words.mjs";
 
 /** Of a session of so many instructions, above how many milliseconds of the engine's the page says that the picture comes later. */
 const LONG = 1000;
@@ -89,7 +90,7 @@ function followCard(view, frames) {
 function showHeader(state, view) {
   const { session, title, past, future, notice } = state;
   const { place, followed } = view;
-  const called = brief(seen(title), 40);
+  const called = brief(seen(title), 36);
   setText("name", called || "otbench");
   const words = title ? `${called}: otbench session` : "otbench session";
   if (document.title !== words) document.title = words;
@@ -99,6 +100,7 @@ function showHeader(state, view) {
   element("slider").value = element("place").value = place;
   fill("sentence", wordsAt(state, view));
   fill("outlook", shownOutlook(state));
+  showReason(state);
   element("slider").setAttribute("aria-valuetext", `${place} of ${session.length}: ${element("sentence").textContent}`);
   element("first").disabled = element("back").disabled = place === 0;
   element("next").disabled = element("last").disabled = place === session.length;
@@ -176,9 +178,10 @@ function setVerdict(id, words, look) {
 }
 
 /* What the line above the diagram says. */
-function wordsAt(state, { session, place, picked, port, followed, names }) {
+function wordsAt(state, { session, place, picked, port, followed, names, canPlay }) {
   const now = state.asked.length && state.took > SLOW ? waits(state.asked) : nowAt(state, place);
-  const parts = [sentence(session, place, names), tree("span", { class: "now" }, now)];
+  const isToldBelow = canPlay && now.startsWith("not quiet"); // by the verdict
+  const parts = [sentence(session, place, names), tree("span", { class: isToldBelow ? "now waits" : "now" }, now)];
   for (const { key, found, ours } of port ? port.differencesAt(place) : []) {
     const [theirs, wanted] = apart(found, ours).map(shownValue);
     parts.push(tree("span", { class: "differs" }, port.areNotes ? "The editor showed " : `The port: ${key} `, theirs, ", ot.js: ", wanted, "."));
@@ -193,6 +196,16 @@ function wordsAt(state, { session, place, picked, port, followed, names }) {
 
 /* What the documents must be, or become. The line keeps its height while that is not known. */
 const shownOutlook = (state) => outlookNow(state).flatMap((line, i) => [i > 0 && tree("br"), seen(line)]);
+
+/* Which transform led to the documents. */
+function showReason(state) {
+  const { isReasonShown, session, outline } = state;
+  const reason = reasonNow(state);
+  const shown = (part) => (typeof part === "string" ? part : shownOperation(part.operation, part.maker));
+  element("why").setAttribute("aria-expanded", String(isReasonShown));
+  element("reason").hidden = !isReasonShown;
+  fill("reason", reason && reasonWords(session, reason, outline.names).map((words) => tree("p", {}, words.map(shown))));
+}
 
 const waits = (asked) => `${asked[0]}${asked.length > 1 ? ` and ${asked.length - 1} more` : ""}: not answered yet.`;
 

@@ -1,9 +1,9 @@
 // The schedule as text: line numbers, the line of the place, and marks where something is wrong. Only the lines in sight are drawn.
 // Of a long text the field has a part, around the place: browsers lay out all of a field of 10,000 lines at each keystroke.
 
-import { unseenIn } from "./characters.mjs";
+import { unseenIn } from "../../common/characters.mjs";
 import { element, fill, setText } from "./dom.mjs";
-import { lineOfPlace, placeOfLine } from "./schedule.mjs";
+import { lineOfPlace, placeOfLine } from "../../common/outline.mjs";
 import { tree } from "./tree.mjs";
 
 const LINE = 19; // pixels, as in style.css

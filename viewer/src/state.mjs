@@ -1,18 +1,18 @@
 // What the page knows, and how each action changes it. The text of the schedule is the session: who plays puts instructions into
 // it. What the engine answers stands beside it until the text is another one.
 
-import { quoted } from "./characters.mjs";
+import { quoted } from "../../common/characters.mjs";
 import { withClient, withMoved, withOneLate, withOnePresent, withoutClient } from "./clients.mjs";
-import { insertedText, makeElements, patched } from "./document.mjs";
+import { insertedText, makeElements, patched } from "../../common/document.mjs";
 import { editOf, wellFormed } from "./edits.mjs";
-import { canNote, carriedNotes, notedPlace, withNote } from "./noted.mjs";
-import { documentAt } from "./places.mjs";
-import { outlineOf, placeOfLine, withInstructions, withName, withoutInstruction } from "./schedule.mjs";
+import { canNote, carriedNotes, notedPlace, withNote } from "../../common/noted.mjs";
+import { documentAt } from "../../common/places.mjs";
+import { outlineOf, placeOfLine, withInstructions, withName, withoutInstruction } from "../../common/outline.mjs";
 
 /**
  * @typedef {object} State
  * @property {string} text the schedule's text
- * @property {import("./schedule.mjs").Outline} outline its lines
+ * @property {import("../../common/outline.mjs").Outline} outline its lines
  * @property {string[] | null} port the lines that a port printed
  * @property {string} title
  * @property {number} place the place that is looked at
@@ -21,13 +21,14 @@ import { outlineOf, placeOfLine, withInstructions, withName, withoutInstruction 
  * @property {object[]} past what undo restores: { text, port, place, title, caret, tag }
  * @property {object[]} future what redo leads on to
  * @property {string | null} answered the text that the session is of
- * @property {import("./fold.mjs").Session | null} session
- * @property {import("./port.mjs").Port | null} beside the port's lines beside the session
+ * @property {import("../../common/fold.mjs").Session | null} session
+ * @property {import("../../common/printed.mjs").Port | null} beside the port's lines beside the session
  * @property {{ line: number, column: number, kind: string, cause: string } | null} fault of the text; line and column from 1
  * @property {{ line: number, reason: string } | null} refusal of an instruction; line from 1
  * @property {boolean} isLate whether the engine has not answered for long
  * @property {string[]} verdicts what check answered
- * @property {{ text: string, place: number, lines: string[] } | null} outlook whether the documents must agree at a place of a text, and to what
+ * @property {{ text: string, place: number, lines: string[], reason?: import("./reason.mjs").Reason | null } | null} outlook whether the documents must agree at a place of a text, and to what; the reason is undefined where it was not asked for
+ * @property {boolean} isReasonShown
  * @property {{ client: number, place: number, elements: object[] } | null} draft a client's document while its edits are not answered
  * @property {number} took how long the engine took for the last text, in milliseconds
  * @property {number | string | null} followed the participant that is stepped through
@@ -60,6 +61,7 @@ export const emptyState = () => ({
   isLate: false,
   verdicts: [],
   outlook: null,
+  isReasonShown: false,
   draft: null,
   took: 0,
   followed: null,
@@ -107,9 +109,14 @@ export const isAnswered = (state) => state.answered === state.text;
 /** The place that can be shown of the session there is: while instructions are not answered, the one that they were played at. */
 export const shownPlace = ({ session, place, stood }) => (session ? Math.max(0, Math.min(stood ?? place, session.length)) : 0);
 
+/* What was said of the shown place; null where that is not known. */
+const saidNow = (state) => (state.outlook?.text === state.text && state.outlook.place === shownPlace(state) && isAnswered(state) ? state.outlook : null);
+
 /** Whether the documents must agree at the shown place, and to what, in lines; none where that is not known. */
-export const outlookNow = (state) =>
-  state.outlook?.text === state.text && state.outlook.place === shownPlace(state) && isAnswered(state) ? state.outlook.lines : [];
+export const outlookNow = (state) => saidNow(state)?.lines ?? [];
+
+/** Which transform led to their texts; null where that is not asked for, or not known. */
+export const reasonNow = (state) => (state.isReasonShown ? saidNow(state)?.reason ?? null : null);
 
 /** The elements of a client's document as the page shows it now; null while that is not known. */
 export function documentNow(state, client) {
@@ -224,6 +231,7 @@ const REDUCERS = {
   late: (state) => ({ ...state, isLate: true }),
   verdicts: (state, { text, verdicts }) => (text === state.answered && isAnswered(state) ? { ...state, verdicts } : state),
   outlook: (state, { outlook }) => ({ ...state, outlook }),
+  reason: (state) => ({ ...state, isReasonShown: !state.isReasonShown }),
   beside: (state, { text, beside }) => (text === state.answered && isAnswered(state) ? { ...state, beside } : state),
 };
 

@@ -1,9 +1,9 @@
 // Operations and instructions in words.
 
-import { brief, isUnseen, quoted, seen } from "./characters.mjs";
+import { brief, isUnseen, quoted, seen } from "../../common/characters.mjs";
 import { colourOf } from "./theme.mjs";
-import { SERVER } from "./fold.mjs";
-import { logLengthAt, stateAt } from "./places.mjs";
+import { SERVER } from "../../common/fold.mjs";
+import { logLengthAt, stateAt } from "../../common/places.mjs";
 import { tree } from "./tree.mjs";
 
 /* A text with code points for the characters that are not seen, and for those from..to that are not of ASCII. */

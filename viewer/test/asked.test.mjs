@@ -2,8 +2,8 @@
 
 import assert from "node:assert/strict";
 import { test } from "node:test";
-import { textOf } from "../src/document.mjs";
-import { fold } from "../src/fold.mjs";
+import { textOf } from "../../common/document.mjs";
+import { fold } from "../../common/fold.mjs";
 import { played } from "../src/playing.mjs";
 import { documentNow, emptyState, isAnswered, reduce, shownPlace } from "../src/state.mjs";
 import { linesOf } from "./sessions.mjs";

@@ -3,7 +3,7 @@
 import assert from "node:assert/strict";
 import { test } from "node:test";
 import { countsOf, withClient, withMoved, withOneLate, withOnePresent, withoutClient } from "../src/clients.mjs";
-import { outlineOf } from "../src/schedule.mjs";
+import { outlineOf } from "../../common/outline.mjs";
 import { serveProgram, skip } from "./engines.mjs";
 
 const TEXT = '; client 1 is Ann\nclients 3\nstart "s"\nedit 0 ["a",1]\n take\t1\nedit 2 ["2",1]\n; client 2 is "Bob 1"\n';

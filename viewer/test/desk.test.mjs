@@ -4,7 +4,7 @@ import assert from "node:assert/strict";
 import { test } from "node:test";
 import { readFault, readRefusal } from "../src/bench.mjs";
 import { equalFront } from "../src/desk.mjs";
-import { fold } from "../src/fold.mjs";
+import { fold } from "../../common/fold.mjs";
 import { followLines } from "../src/follow.mjs";
 import { DirectEngine, skip } from "./engines.mjs";
 import { example } from "./sessions.mjs";

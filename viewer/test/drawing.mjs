@@ -3,7 +3,7 @@
 import assert from "node:assert/strict";
 import { cardOf } from "../src/cards.mjs";
 import { picture } from "../src/diagram.mjs";
-import { SERVER } from "../src/fold.mjs";
+import { SERVER } from "../../common/fold.mjs";
 import { rowCount } from "../src/layout.mjs";
 import { flat } from "../src/tree.mjs";
 import { sentence } from "../src/words.mjs";

@@ -2,9 +2,9 @@
 
 import assert from "node:assert/strict";
 import { test } from "node:test";
-import { textOf } from "../src/document.mjs";
-import { SERVER, fold } from "../src/fold.mjs";
-import { documentAt, downAt, logLengthAt, quietAt, stateAt, upAt } from "../src/places.mjs";
+import { textOf } from "../../common/document.mjs";
+import { SERVER, fold } from "../../common/fold.mjs";
+import { documentAt, downAt, logLengthAt, quietAt, stateAt, upAt } from "../../common/places.mjs";
 import { example, linesOf, portLinesOf, seededSchedule } from "./sessions.mjs";
 
 test("the lines of these tests are those of `otbench steps`", () => {

@@ -3,11 +3,11 @@
 import assert from "node:assert/strict";
 import { test } from "node:test";
 import { picture } from "../src/diagram.mjs";
-import { fold } from "../src/fold.mjs";
+import { fold } from "../../common/fold.mjs";
 import { rowCount } from "../src/layout.mjs";
 import { legend } from "../src/legend.mjs";
-import { Port } from "../src/port.mjs";
-import { outlineOf } from "../src/schedule.mjs";
+import { Port } from "../../common/printed.mjs";
+import { outlineOf } from "../../common/outline.mjs";
 import { readVerdict, traceTable } from "../src/trace.mjs";
 import { markupOf } from "../src/tree.mjs";
 import { drawn, isOwn } from "./drawing.mjs";

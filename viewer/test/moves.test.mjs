@@ -2,9 +2,9 @@
 
 import assert from "node:assert/strict";
 import { test } from "node:test";
-import { SERVER, fold } from "../src/fold.mjs";
+import { SERVER, fold } from "../../common/fold.mjs";
 import { otherEnd, sameMember, towards } from "../src/moves.mjs";
-import { headsAt } from "../src/places.mjs";
+import { headsAt } from "../../common/places.mjs";
 import { emptyState, reduce } from "../src/state.mjs";
 import { example, linesOf } from "./sessions.mjs";
 

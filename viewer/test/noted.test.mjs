@@ -5,9 +5,9 @@ import { test } from "node:test";
 import { Bench } from "../src/bench.mjs";
 import { cardOf } from "../src/cards.mjs";
 import { noteWords } from "../src/dialogs.mjs";
-import { areNotes, canNote, carriedNotes, noteAt, withNote } from "../src/noted.mjs";
+import { areNotes, canNote, carriedNotes, noteAt, withNote } from "../../common/noted.mjs";
 import { reportOf } from "../src/report.mjs";
-import { outlineOf } from "../src/schedule.mjs";
+import { outlineOf } from "../../common/outline.mjs";
 import { DirectEngine, skip } from "./engines.mjs";
 
 const TIE = 'clients 2\nedit 0 ["a"]\nedit 1 ["b"]\ntake 0\ntake 1\ndeliver 1\n';
@@ -82,10 +82,24 @@ test("a note is compared at once, and stays beside the session", { skip }, async
   assert.equal(beside.noteOf(1, 4), null, "the client had another document there");
   const [difference] = beside.noteOf(1, 5).differences;
   assert.deepEqual([difference.key, difference.found], ["document", '"</script><b>"']);
-  const report = reportOf(bench.state, ["differs"], "link", false);
+  const report = reportOf(bench.state, { verdicts: ["differs"], link: "link", isOfFile: false });
   assert.match(report, /What was seen in editors:\n\n- at 1, `client 0`: `"a"`\n- at 5/);
   bench.dispatch({ do: "undo" });
   assert.deepEqual(bench.state.port, [note(5, 1, "</script><b>")]);
+});
+
+test("what a tie broken the other way leads to is said to be that, at each client, also once all is quiet", { skip }, async () => {
+  const NOTE = "note that is what transform gives if the text of its second argument goes first";
+  const quiet = `${TIE}ack 1\nack 0\ndeliver 0\nread 0\n`;
+  for (const [client, place, where] of [[1, 5, ""], [1, 8, " (deliver 1, at 5)"], [0, 9, " (take 1, at 4)"]]) {
+    const bench = await opened(quiet, place);
+    const told = await bench.askNote(client, "ab");
+    assert.equal(told.find((line) => line.startsWith("note ")), `${NOTE}${where}`, `client ${client} at ${place}`);
+    assert.equal(told.some((line) => line.startsWith("given ")), true);
+    for (const other of ["b", "abc", ""]) assert.equal((await bench.askNote(client, other)).some((line) => line.startsWith("note that is what transform")), false);
+    bench.dispatch({ do: "note", client, document: "ab" });
+    assert.ok((await judged(bench)).answer.includes(`${NOTE}${where}`));
+  }
 });
 
 test("a client that has not changed is noted at a read of its document", { skip }, async () => {

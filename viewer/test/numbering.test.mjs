@@ -2,7 +2,7 @@
 
 import assert from "node:assert/strict";
 import { test } from "node:test";
-import { instructionNamed, lineTold, namedIn } from "../src/numbering.mjs";
+import { instructionNamed, lineTold, namedIn } from "../../common/numbering.mjs";
 
 /* Instructions 0 to 3 are lines 5, 7, 8 and 9. */
 const TEXT = '; a note\n\nclients 2\nstart "a"\nedit 0 [1,"b"]\n; another\n take\t00 \r\ntake 0\nread-server\n';

@@ -3,9 +3,9 @@
 import assert from "node:assert/strict";
 import { test } from "node:test";
 import { Bench } from "../src/bench.mjs";
-import { outlookIn } from "../src/outlook.mjs";
+import { outlookIn } from "../../common/outlook.mjs";
 import { reportOf } from "../src/report.mjs";
-import { outlineOf, textUpTo } from "../src/schedule.mjs";
+import { outlineOf, textUpTo } from "../../common/outline.mjs";
 import { outlookNow } from "../src/state.mjs";
 import { DirectEngine, skip } from "./engines.mjs";
 
@@ -38,7 +38,7 @@ test("the page knows it at each place, and has it in its report", { skip }, asyn
   assert.deepEqual(outlookNow(await at(0)), ['All documents must be "".']);
   const tied = await at(2);
   assert.match(outlookNow(tied)[0], /^They may still differ: client 0 \(Ann\)'s \["a"\] is on its way to the server; .*whose edit the server takes first, client 0 \(Ann\)'s or client 1's; complete takes client 0 \(Ann\)'s first\.$/);
-  assert.match(reportOf(tied, [], "link", false), /They may still differ/);
+  assert.match(reportOf(tied, { verdicts: [], outlook: outlookNow(tied), link: "link", isOfFile: false }), /They may still differ/);
   assert.match(outlookNow(await at(4))[0], /When everything has arrived, all will be "ba"\.$/);
   assert.deepEqual(outlookNow(await at(8)), ['All documents must be "ba".']);
 });

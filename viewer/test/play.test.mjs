@@ -5,9 +5,9 @@ import assert from "node:assert/strict";
 import { test } from "node:test";
 import { chance } from "../../recorder/test/live_session.js";
 import { Bench } from "../src/bench.mjs";
-import { textOf } from "../src/document.mjs";
-import { SERVER, fold } from "../src/fold.mjs";
-import { documentAt, downAt, headsAt, logLengthAt, quietAt, stateAt, upAt } from "../src/places.mjs";
+import { textOf } from "../../common/document.mjs";
+import { SERVER, fold } from "../../common/fold.mjs";
+import { documentAt, downAt, headsAt, logLengthAt, quietAt, stateAt, upAt } from "../../common/places.mjs";
 import { documentNow, isAnswered, shownPlace } from "../src/state.mjs";
 import { DirectEngine, serveProgram, skip } from "./engines.mjs";
 

@@ -3,9 +3,9 @@
 import assert from "node:assert/strict";
 import { test } from "node:test";
 import { bugs } from "../../examples/port/bugs.js";
-import { SERVER, fold } from "../src/fold.mjs";
-import { splitInput, unescapeLine } from "../src/input.mjs";
-import { Port } from "../src/port.mjs";
+import { SERVER, fold } from "../../common/fold.mjs";
+import { splitInput, unescapeLine } from "../../common/input.mjs";
+import { Port } from "../../common/printed.mjs";
 import { example, linesOf, portLinesOf } from "./sessions.mjs";
 
 const session = fold(linesOf(example("weak-order")));

@@ -10,9 +10,9 @@ import { bugs } from "../../examples/port/bugs.js";
 import { merge } from "../../recorder/merging.js";
 import { readEvents } from "../../recorder/logs.js";
 import { liveSession } from "../../recorder/test/live_session.js";
-import { textOf } from "../src/document.mjs";
-import { SERVER, fold } from "../src/fold.mjs";
-import { documentAt, logLengthAt, quietAt, stateAt } from "../src/places.mjs";
+import { textOf } from "../../common/document.mjs";
+import { SERVER, fold } from "../../common/fold.mjs";
+import { documentAt, logLengthAt, quietAt, stateAt } from "../../common/places.mjs";
 import { example, linesOf, portLinesOf, seededSchedule } from "./sessions.mjs";
 
 const program = process.env.OTBENCH || fileURLToPath(new URL("../../crates/otbench/out/otbench", import.meta.url));

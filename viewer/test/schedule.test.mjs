@@ -2,7 +2,7 @@
 
 import assert from "node:assert/strict";
 import { test } from "node:test";
-import { lineOfPlace, outlineOf, placeOfLine, withInstructions, withName, withoutInstruction } from "../src/schedule.mjs";
+import { lineOfPlace, outlineOf, placeOfLine, withInstructions, withName, withoutInstruction } from "../../common/outline.mjs";
 import { readEvents } from "../../recorder/logs.js";
 import { merge } from "../../recorder/merging.js";
 import { liveSession } from "../../recorder/test/live_session.js";

@@ -1,0 +1,132 @@
+/*
+ * What the command says below an answer of status 1, on standard error:
+ *
+ *     stopped at 3: LinkEmpty                                   the program
+ *     otbench: instruction 3 is line 7: deliver 0               the line of what it has named
+ *     otbench: what happened, in words: otbench explain a.ots   how to ask on
+ */
+
+import { seen } from "../terminal/names.mjs";
+import { lineTold, namedIn } from "../common/numbering.mjs";
+import { outlineOf } from "../common/outline.mjs";
+import { formOf } from "./files.mjs";
+import { kindOf } from "./kinds.mjs";
+import { below } from "./pointing.mjs";
+import { fileWord } from "./shell.mjs";
+import { markIn, textOf } from "../common/text.mjs";
+
+/**
+ * @typedef {object} Call words that were run
+ * @property {string} word
+ * @property {string[]} flags
+ * @property {string[]} files
+ * @property {string} name what the command is called, for the shell
+ * @property {(words: string[], input: Uint8Array) => import("../npm/otbench.mjs").Answer} ask the program
+ */
+
+/* What `explain` tells of an answer. */
+const TOLD = { run: "what happened", check: "what happened", steps: "what happened", complete: "what happened", judge: "what the verdict says", conform: "what ot.js does there" };
+
+/* The commands over a schedule's text whose answer names an instruction. */
+const NAMING = new Set(["run", "check", "steps", "complete", "conform"]);
+
+/* Of an input that is something else than what the command reads. */
+const KINDS = {
+  image: "this is an image, which run --image and dis read",
+  trace: "this is a trace, which judge reads",
+  plan: "this is a plan, which threads reads",
+  schedule: "this is a schedule's text, which run, check and asm read",
+};
+const LINES = "these are lines of a port, which conform reads behind the schedule, or in a second file";
+
+/* What may be wrong with the lines of a port as a whole: by the field that differs, and what was found. */
+const NO_LINE = "the port has no line there; its lines stand behind the schedule and a line '%%', or in a second file";
+const LINES_END = "the port's lines end there";
+const NO_FORM = "each line of a port is one JSON object that has at, a number: docs/FORMATS.md, What a port prints";
+const MORE_LINES = "the port has more lines than the schedule has instructions";
+const OTHER_PLACE = "at counts performed instructions, and is 1 in the first one's line; conform --sparse skips instructions without a line";
+const UNKNOWN = /^otbench: line (\d+): UnknownWord\n$/;
+const OF_PORT = "is a line of a port: conform wants a line '%%' in front of those";
+const NO_VALUE = "no line has a value that is counted: docs/FORMATS.md, What a port prints";
+
+/* Of this command alone: the second file of `debug` has commands. */
+const COMMANDS = "the second file has commands: docs/FORMATS.md, Debugger commands; the lines of a port stand behind --port";
+
+/* What names an instruction, which may stand far down in the output: `complete` says it alone, on standard error. */
+const stopOf = (ask, schedule) => textOf(ask(["complete"], schedule).errors);
+
+/* The line of what was named in a schedule's text; of a port's line among those of the schedule what is missing. */
+function lineOf(answer, text) {
+  const named = namedIn(answer.split("\n"));
+  if (named) return lineTold(named, text);
+  const number = UNKNOWN.exec(answer)?.[1];
+  return number && /^[ \t]*\{/.test(text.split("\n")[number - 1]) ? `line ${number} ${OF_PORT}` : null;
+}
+
+/* What may be wrong with a port's lines, by what conform answered. */
+function faultOfLines([first, second]) {
+  if (first === "nothing compared") return NO_VALUE;
+  const { at, what, field } = namedIn([first]) ?? {};
+  if (what === "after the end" || (what === "end" && field === "at")) return MORE_LINES;
+  if (field === "line" && second === "found nothing") return at === 1 ? NO_LINE : LINES_END;
+  if (field === "line") return NO_FORM;
+  return field === "at" ? OTHER_PLACE : null;
+}
+
+/* Words for the first file, or for what came otherwise. One file that `conform` reads has a line '%%' in it, and is no schedule. */
+function asking(kind, { word, files, name }) {
+  const words = `${name} explain${kind === "schedule" ? "" : ` --${kind}`}`;
+  const [file = "-"] = word === "conform" && kind === "schedule" && files.length < 2 ? [] : files;
+  return file === "-" ? `give the ${kind} to ${words}` : `${words} ${fileWord(file)}`;
+}
+
+const ofKind = (kind, call) => (kind === "lines" ? LINES : `${KINDS[kind]}; in words: ${asking(kind, call)}`);
+
+/* That a recorded schedule ends before its logs do, and where; `explain` and `conform` say it themselves. */
+function cutOf({ word, flags, files: [file = "-"] }, input) {
+  if (!["run", "check", "complete"].includes(word) || formOf(word, flags) !== "schedule") return [];
+  const { cut } = outlineOf(textOf(input));
+  return cut === null ? [] : [`${file === "-" ? "the schedule" : fileWord(file)} ends before its logs: ${seen(cut)}`];
+}
+
+/* Of an input that was refused: where its fault is. */
+function refused({ word, ask }, reads, input, errors) {
+  const told = word === "explain" ? errors : textOf(ask(reads === "schedule" ? ["explain"] : ["explain", `--${reads}`], input).errors);
+  return below(told, reads === "schedule" ? textOf(input) : null, word === "explain");
+}
+
+/* Of a schedule that was run, or whose lines were compared. */
+function answered(call, reads, schedule, output) {
+  const { word, ask } = call;
+  const answer = word === "conform" ? output : NAMING.has(word) && reads === "schedule" ? stopOf(ask, schedule) : "";
+  const line = answer === "" ? null : lineOf(answer, textOf(schedule));
+  const fault = word === "conform" ? faultOfLines(output.split("\n", 2)) : null;
+  return [line, fault, Object.hasOwn(TOLD, word) ? `${TOLD[word]}, in words: ${asking(reads, call)}` : null].filter(Boolean);
+}
+
+const said = (lines) => lines.map((line) => `otbench: ${line}`);
+
+/* The hints to an answer of status 1. */
+function ofFault(call, kept) {
+  const { word, flags, files } = call;
+  const [output, errors] = [textOf(kept.output), textOf(kept.errors)];
+  if (word === "conform" && output.startsWith("conforms\n")) return []; // of a schedule that is cut
+  const reads = formOf(word, flags);
+  const kind = output === "" ? (kindOf(kept.input, reads) ?? reads) : reads;
+  if (kind !== reads) return said([ofKind(kind, call)]);
+  if (word === "debug") return files.length === 2 ? said([COMMANDS]) : [];
+  const mark = reads === "schedule" ? markIn(kept.input) : null;
+  const schedule = mark ? kept.input.subarray(0, mark.start) : kept.input;
+  if (errors === "" || errors.startsWith("stopped at ")) return said(answered(call, reads, schedule, output));
+  const ofPort = reads === "schedule" ? lineOf(errors, textOf(schedule)) : null;
+  return [...refused(call, reads, schedule, errors), ...said(ofPort ? [ofPort] : [])];
+}
+
+/**
+ * The hints, a line each.
+ * @param {Call} call
+ * @param {number} status
+ * @param {{ input: Uint8Array, output: Uint8Array, errors: Uint8Array }} kept what it read; what `judge` or `conform` printed; and what it said on standard error
+ * @returns {string[]}
+ */
+export const hintsOf = (call, status, kept) => [...(status === 1 ? ofFault(call, kept) : []), ...said(status > 1 ? [] : cutOf(call, kept.input))];

@@ -1,0 +1,68 @@
+// The verdicts on sessions that drivers perform, in their order.
+
+import assert from "node:assert/strict";
+import { test } from "node:test";
+import { setTimeout as pause } from "node:timers/promises";
+import { Judge } from "../../ports/judging.mjs";
+import { conform, steps } from "../otbench.mjs";
+import { steadyPace } from "../../ports/pace.mjs";
+
+const schedule = (text) => `clients 1\nedit 0 [${JSON.stringify(text)}]\ntake 0\nack 0\nread 0\nread-server\n`;
+const right = (text) => steps(schedule(text), { documents: true });
+const wrong = (text) => right(text).map((line) => (line.document ? { ...line, document: "?" } : line));
+
+const bench = { conform };
+
+const judgeOf = (subject, bench) =>
+  new Judge({ newDriver: () => ({ isProcess: false, performed: [], perform: async (text) => ({ lines: await subject(text) }), close: async () => null }), jobs: 1, isKept: false, pace: steadyPace(10), bench });
+
+async function verdicts(subject, texts, bench, how) {
+  const found = [];
+  for await (const { fails, schedule: text } of judgeOf(subject, bench).together(texts, how)) found.push([text, fails]);
+  return found;
+}
+
+test("verdicts are in the order of the sessions", async () => {
+  const texts = [..."abcdefghijklmnopqrstuvwxyz"].map(schedule);
+  const found = await verdicts((text) => (/"[qv]"/.test(text) ? wrong(/"(.)"/.exec(text)[1]) : steps(text, { documents: true })), texts, bench);
+  assert.deepEqual(found, texts.map((text) => [text, /"[qv]"/.test(text)]));
+});
+
+test("what was performed is compared while the next session takes long", async () => {
+  const seen = [];
+  const subject = async (text) => {
+    if (text === schedule("d")) await pause(400);
+    seen.push(text);
+    return steps(text, { documents: true });
+  };
+  for await (const verdict of judgeOf(subject, bench).together([..."abcd"].map(schedule))) {
+    if (verdict.schedule === schedule("c")) assert.ok(!seen.includes(schedule("d")));
+  }
+});
+
+test("it ends where it is dropped", async () => {
+  const drop = new AbortController();
+  const subject = async (text) => {
+    if (text === schedule("c")) drop.abort();
+    return steps(text, { documents: true });
+  };
+  assert.deepEqual(await verdicts(subject, [..."abcdef"].map(schedule), bench, { dropped: drop.signal }), [..."ab"].map((it) => [schedule(it), false]));
+  assert.deepEqual(await verdicts(subject, [schedule("a")], bench, { dropped: AbortSignal.abort() }), []);
+});
+
+test("a driver that gets no processor has more time, but not without end", async () => {
+  const judgeWith = (isStarved, milliseconds) => {
+    const perform = (text, { signal }) =>
+      new Promise((resolve) => {
+        const timer = setTimeout(() => resolve({ lines: steps(text, { documents: true }) }), milliseconds);
+        signal.addEventListener("abort", () => {
+          clearTimeout(timer);
+          resolve({ lines: [], trouble: `the driver was ended: it ${signal.reason}`, isEnded: true });
+        });
+      });
+    return new Judge({ newDriver: () => ({ isProcess: true, performed: [], perform, isStarved, close: async () => null }), jobs: 1, isKept: false, pace: steadyPace(0.1, () => 1), bench });
+  };
+  assert.equal((await judgeWith(() => true, 250).judge([schedule("a")])).fails, false);
+  assert.equal((await judgeWith(() => true, 60_000).judge([schedule("a")])).trouble, "the driver was ended: it took more than 0.5 s");
+  assert.equal((await judgeWith(() => false, 60_000).judge([schedule("a")])).trouble, "the driver was ended: it took more than 0.1 s");
+});

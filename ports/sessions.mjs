@@ -1,0 +1,69 @@
+/* The sessions that a port is tried over. */
+
+import { readdirSync, readFileSync, statSync } from "node:fs";
+import path from "node:path";
+import { OtbenchError } from "../npm/errors.mjs";
+import { large } from "./large.mjs";
+import { randomOptions } from "./options.mjs";
+import { storedSessions } from "./stored.mjs";
+
+const SEEDS = 1_000_000_000;
+
+/* A text with a character that is not printable ASCII, or with an escape. */
+const UNUSUAL = /^[^;].*"[^"]*[^\x20-\x5b\x5d-\x7e\r\n]/m;
+
+/** The sessions of the corpus, each written for one rule: small ones first, and those about characters behind all others. */
+export function* corpus() {
+  const isUnusual = ({ schedule }) => Number(UNUSUAL.test(schedule));
+  yield* [...storedSessions(), ...large()].sort((a, b) => isUnusual(a) - isUnusual(b) || a.schedule.length - b.schedule.length || (a.name < b.name ? -1 : 1));
+}
+
+const LONG_START = "A line of text, with e\u0301 and \r\n".repeat(10); // 300 characters
+const MOST_INSTRUCTIONS = 100_000;
+
+/* What is otherwise in the session of a seed, and is said of it: those that end with 9 have a longer text or a longer log. */
+function varied(seed, { instructions = 60, start }) {
+  const longer = seed % 100 === 99 ? 25 : seed % 20 === 19 ? 8 : 1;
+  const count = Math.min(longer * instructions, MOST_INSTRUCTIONS);
+  if (longer > 1) return { options: { instructions: count }, said: `, ${count} instructions` };
+  if (seed % 20 === 9 && start === undefined) return { options: { start: LONG_START }, said: ", a longer start" };
+  return { options: {}, said: "" };
+}
+
+/**
+ * Sessions made at random: that of the seed and those of the seeds behind it.
+ * @param {import("./testing.mjs").RandomOptions} options
+ * @param {import("../npm/otbench.mjs").Bench["generate"]} generate
+ */
+export const randomBy = (options, generate) => made(randomOptions(options), generate);
+
+function* made({ sessions = 100, seed: first = 1, ...given }, generate) {
+  for (let number = first; number < first + sessions; number++) {
+    const seed = number % SEEDS;
+    const { options, said } = varied(seed, given);
+    yield { name: `session of seed ${seed}${said}`, schedule: generate({ seed, ...given, ...options }) };
+  }
+}
+
+/** A schedule's text without what stands behind a line `%%`. */
+export const cutAtMark = (text) => text.split(/^[ \t]*%%[ \t]*\r?$/m, 1)[0];
+
+/**
+ * Sessions of one's own: of files, and of the files .ots of folders. One that is no schedule is refused with its path.
+ * @param {string[]} files
+ * @param {import("../npm/otbench.mjs").Bench["run"]} run
+ */
+export function own(files, run) {
+  const paths = files.flatMap((file) => (statSync(file).isDirectory() ? readdirSync(file).filter((name) => name.endsWith(".ots")).sort().map((name) => path.join(file, name)) : [file]));
+  if (paths.length === 0) throw new OtbenchError("Usage", `${files.join(", ")}: the folder has no schedules, files *.ots`);
+  return paths.map((name) => {
+    const schedule = cutAtMark(readFileSync(name, "utf8"));
+    try {
+      run(schedule);
+    } catch (fault) {
+      if (!(fault instanceof OtbenchError)) throw fault;
+      throw new OtbenchError(fault.kind, `${name}: ${fault.message}`);
+    }
+    return { name, schedule };
+  });
+}

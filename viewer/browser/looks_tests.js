@@ -1,0 +1,132 @@
+/* Tests of how the page looks, for any browser: contrast, what is cut, and keys alone, in windows of all sizes and both themes. */
+
+import assert from "node:assert/strict";
+import fs from "node:fs";
+import { after, before, describe, test } from "node:test";
+import { bugs } from "../../examples/port/bugs.js";
+import { drive } from "../../examples/port/drive.js";
+import { makePort } from "../../oracle/otjs.js";
+import { skip } from "./otbench.js";
+import { User } from "./user.js";
+
+const weakOrder = fs.readFileSync(new URL("../../examples/weak-order.ots", import.meta.url), "utf8");
+
+/* In the page: the texts in sight whose contrast to what is behind them is below 4.5. What is disabled may be paler. */
+const PALE = `(() => {
+  const pixel = Object.assign(document.createElement("canvas"), { width: 1, height: 1 }).getContext("2d", { willReadFrequently: true });
+  const parts = (colour) => {
+    pixel.clearRect(0, 0, 1, 1);
+    pixel.fillStyle = colour;
+    pixel.fillRect(0, 0, 1, 1);
+    const [red, green, blue, alpha] = pixel.getImageData(0, 0, 1, 1).data;
+    return { rgb: [red, green, blue], alpha: alpha / 255 };
+  };
+  const over = ({ rgb, alpha }, below) => rgb.map((value, i) => alpha * value + (1 - alpha) * below[i]);
+  const chain = (node) => (node ? [...chain(node.parentElement), node] : []);
+  const behind = (node) => chain(node).reduce((below, part) => over(parts(getComputedStyle(part).backgroundColor), below), [255, 255, 255]);
+  const light = (rgb) => rgb.map((value) => value / 255).map((value) => (value <= 0.04045 ? value / 12.92 : ((value + 0.055) / 1.055) ** 2.4)).reduce((sum, value, i) => sum + [0.2126, 0.7152, 0.0722][i] * value, 0);
+  const ratio = (a, b) => (Math.max(light(a), light(b)) + 0.05) / (Math.min(light(a), light(b)) + 0.05);
+  const walker = document.createTreeWalker(document.querySelector("dialog[open]") ?? document.body, NodeFilter.SHOW_TEXT);
+  const found = [];
+  while (walker.nextNode()) {
+    const node = walker.currentNode.parentElement;
+    if (walker.currentNode.data.trim() === "" || !node.checkVisibility() || node.closest("script, style, option, textarea, .heard, #marks, :disabled")) continue;
+    const { color, fill } = getComputedStyle(node);
+    const below = behind(node);
+    const own = over(parts(node.closest("svg") ? fill : color), below);
+    if (ratio(own, below) < 4.5) found.push(walker.currentNode.data.slice(0, 40) + ": " + ratio(own, below).toFixed(2));
+  }
+  return [...new Set(found)];
+})()`;
+
+/* In the page: the controls that are wider than the window or that something stands over, and whether the page or two lanes are wider than their room. */
+const CUT = `(() => {
+  const root = document.querySelector("dialog[open]") ?? document.querySelector("header");
+  const controls = [...root.querySelectorAll("button, select, input")].filter((control) => control.checkVisibility());
+  const isCut = (control) => {
+    control.scrollIntoView({ block: "nearest" });
+    const { left, right, top, bottom } = control.getBoundingClientRect();
+    const hit = document.elementFromPoint((left + right) / 2, (top + bottom) / 2);
+    return left < 0 || right > innerWidth || control.scrollWidth > control.clientWidth + 2 || !(control.contains(hit) || hit?.closest("label")?.contains(control));
+  };
+  const cut = controls.filter(isCut).map((control) => control.id || control.textContent || control.value);
+  const time = document.getElementById("time");
+  const wide = [["the page", document.documentElement.scrollWidth > innerWidth], ["the diagram", time.scrollWidth > time.clientWidth]];
+  return [...cut, ...wide.filter(([, isWide]) => isWide).map(([part]) => part)];
+})()`;
+
+export function testLooks(name, openBrowser) {
+  describe(`${name}, looks`, { skip }, () => {
+    let user;
+    let page;
+    before(async () => {
+      page = await openBrowser();
+      user = new User(page);
+    });
+    after(async () => {
+      const { exceptions } = page;
+      await page.close();
+      assert.deepEqual(exceptions, []);
+    });
+
+    /* A port with a fault at its difference, and why. */
+    async function openPort(theme) {
+      await user.open(`#theme=${theme}`);
+      const port = makePort();
+      bugs.tie(port);
+      await user.paste("body", `; client 0 is Ann\n${weakOrder}%%\n${drive(weakOrder, port).join("\n")}\n`);
+      await user.until('document.getElementById("conformance").textContent.startsWith("differs at 7")', "the answer of conform");
+      await user.press("d");
+      await user.settled(7);
+      await user.press("w");
+      await user.until('/transforms/.test(document.getElementById("reason").textContent)', "the reason");
+    }
+
+    for (const theme of ["light", "dark"])
+      test(`${theme}: each text is seen, and no control is cut, in windows of 1440, 1280 and 390, and at 200 %`, async () => {
+        for (const [width, height] of [[1440, 900], [1280, 720], [390, 844], [720, 450]]) {
+          await page.size(width, height);
+          await openPort(theme);
+          const looks = async (what) => assert.deepEqual([await user.run(PALE), await user.run(CUT)], [[], []], `${what}, ${width} x ${height}`);
+          await looks("a port with a fault");
+          await user.run('document.getElementById("menu").click()');
+          await looks("with the menu");
+          await user.run('document.getElementById("menu").click()');
+          for (const [key, id] of [["l", "choosing"], ["v", "hiding"], ["s", "saving"], ["?", "keys"]]) {
+            await user.press(key);
+            await user.until(`document.getElementById("${id}").open`, id);
+            await looks(id);
+            await user.press("Escape");
+          }
+        }
+        await page.size(1440, 900);
+      });
+
+    test("what is told later leaves the diagram and the cards where they are", async () => {
+      for (const [width, height] of [[1440, 900], [390, 844]]) {
+        await page.size(width, height);
+        await user.open();
+        for (let place = 3; place <= 8; place++) {
+          await user.press("ArrowRight");
+          await user.settled(place);
+          const top = () => user.run('document.getElementById("main").getBoundingClientRect().top');
+          const before = await top();
+          await user.until('document.getElementById("outlook").textContent !== ""', "the verdict");
+          assert.equal(await top(), before, `place ${place}, ${width} x ${height}`);
+        }
+      }
+      await page.size(1440, 900);
+    });
+
+    test("what is open has the focus within, and leaves by Escape to where it was", async () => {
+      await openPort("light");
+      for (const id of ["examples", "paste", "save", "help", "lanes"]) {
+        await user.run(`document.getElementById("${id}").focus()`);
+        await user.press("Enter");
+        await user.until('document.querySelector("dialog[open]")?.contains(document.activeElement)', `the focus within what ${id} opens`);
+        await user.press("Escape");
+        assert.equal(await user.run("document.activeElement.id"), id);
+      }
+    });
+  });
+}

@@ -1,0 +1,99 @@
+/*
+ * Takes pictures of the page to be looked at: in windows of 1440, 1280 and 390 pixels, light and dark, at 200 %, with forced colours, and as it is
+ * printed; the first visit, a port with a fault and its reason, and dialogs.
+ *
+ *     node --experimental-websocket viewer/browser/pictures.js FOLDER [chromium|firefox]
+ *
+ * Forced colours and paper are Chromium's. The page is dist/otbench.html, or that which OTBENCH_PAGE names.
+ */
+
+import fs from "node:fs";
+import path from "node:path";
+import { bugs } from "../../examples/port/bugs.js";
+import { drive } from "../../examples/port/drive.js";
+import { makePort } from "../../oracle/otjs.js";
+import { openChromium } from "./chromium.js";
+import { openFirefox } from "./firefox.js";
+import { User } from "./user.js";
+
+const weakOrder = fs.readFileSync(new URL("../../examples/weak-order.ots", import.meta.url), "utf8");
+
+/* Sizes of windows; `scale` device pixels are a pixel of the page. */
+const WINDOWS = [
+  { name: "1440", width: 1440, height: 900 },
+  { name: "1280", width: 1280, height: 720 },
+  { name: "390", width: 390, height: 844 },
+  { name: "200", width: 720, height: 450, scale: 2 },
+];
+
+/* What is shown, one after the other. */
+const SHOWN = {
+  first: (user) => user.until('document.getElementById("list-verdict").textContent !== ""', "the verdict"),
+  async port(user) {
+    const port = makePort();
+    bugs.tie(port);
+    await user.paste("body", `; client 0 is Ann\n${weakOrder}%%\n${drive(weakOrder, port).join("\n")}\n`);
+    await user.until('document.getElementById("conformance").textContent.startsWith("differs at 7")', "the answer of conform");
+    await user.press("d");
+    await user.settled(7);
+    await user.press("w");
+    await user.until('/transforms/.test(document.getElementById("reason").textContent)', "the reason");
+  },
+  examples: (user) => user.press("l"),
+  clients: (user) => user.press("Escape", "v"),
+  keys: (user) => user.press("Escape", "?"),
+};
+
+async function takeAll(user, folder, name) {
+  for (const [what, prepare] of Object.entries(SHOWN)) {
+    await prepare(user);
+    await user.page.drawn();
+    await user.page.screenshot(path.join(folder, `${name}-${what}.png`));
+  }
+}
+
+/* What media queries of colours and paper see; Chromium alone can say it. */
+const media = (page, media, features = []) => page.send("Emulation.setEmulatedMedia", { media, features });
+
+async function takePaper(user, folder) {
+  await user.open();
+  await SHOWN.port(user);
+  await media(user.page, "print");
+  await user.run('dispatchEvent(new Event("beforeprint"))');
+  const height = await user.run("document.documentElement.scrollHeight");
+  await user.page.size(800, Math.min(height, 4000));
+  await user.page.drawn();
+  await user.page.screenshot(path.join(folder, "paper.png"));
+  await media(user.page, "");
+}
+
+async function take(folder, browser) {
+  const page = await { chromium: openChromium, firefox: openFirefox }[browser]();
+  const user = new User(page);
+  try {
+    for (const { name, width, height, scale = 1 } of WINDOWS)
+      for (const theme of ["light", "dark"]) {
+        await page.size(width, height, scale);
+        await user.open(`#theme=${theme}`);
+        await takeAll(user, folder, `${browser}-${name}-${theme}`);
+      }
+    if (browser !== "chromium") return;
+    await page.size(1280, 720);
+    await media(page, "", [{ name: "forced-colors", value: "active" }]);
+    await user.open();
+    await takeAll(user, folder, "forced");
+    await takePaper(user, folder);
+  } finally {
+    await page.close();
+  }
+}
+
+const [folder, browser = "chromium", ...more] = process.argv.slice(2);
+if (folder === undefined || folder.startsWith("-") || more.length > 0 || !["chromium", "firefox"].includes(browser)) {
+  console.error("usage: node --experimental-websocket viewer/browser/pictures.js FOLDER [chromium|firefox]");
+  process.exit(2);
+}
+take(folder, browser).catch((fault) => {
+  console.error(`pictures: ${fault.message}`);
+  process.exitCode = 1;
+});
