@@ -18,7 +18,7 @@ CLAIMS = "| Claim | Contract of | Lines | Beyond the first |"
 FILES = "| File | Lines | What it defines |"
 TOTAL = re.compile(r"\d+(?= lines of definitions)")
 NUMBERED = re.compile(r"### \d")
-CRATE = re.compile(r"`\w+`: `")
+CRATE = re.compile(r"`\w+`: (?:the type )?`")
 FILE = re.compile(r"`((?:\w+/specs/)?\w+\.antt)`")
 
 
@@ -169,7 +169,7 @@ class Documents:
 
 
 def listing(crates, crate, name):
-    """What a contract reaches, file after file, so that nothing stands before what it uses."""
+    """What a contract reaches, file after file."""
     items, others = crates.reached(crates.contracts(crate, name))
     counts = lines_of(items)
     for file, count in counts.items():

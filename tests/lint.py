@@ -18,7 +18,7 @@ from words import given
 TOP = pathlib.Path(__file__).resolve().parent.parent
 COMPILER = "tsc --noEmit --allowJs --checkJs --noUnusedLocals --skipLibCheck --target es2022 --module es2022 --moduleResolution node"
 # Of a name that is not known, or of a module beside the file; of one that is not exported; of one that is not used.
-NAMES = re.compile(r"error TS(?:2304|2552|2307(?=: Cannot find module '\.)|2305|2724|6133|6192|6196|6198|6199): ")
+NAMES = re.compile(r"error TS(?:2304|2552|2307(?=: Cannot find module '\.)|2305|2724|6133|6192|6196|6198|6199): |^\w*Error: ")
 NOT_YET_KNOWN = re.compile(r"'(?:Dec|C)ompressionStream'")  # of browsers, by the compiler of Debian 12
 
 # What reads a text as markup: the page (common, viewer/src) has none of these.

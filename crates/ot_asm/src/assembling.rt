@@ -1,6 +1,6 @@
 //! From a text to a schedule.
 
-ghost use Rattle.std.specs.Prelude.{◌≡◌, ◌⊎◌, ◌∷◌, ◌+◌, ◌<◌, ℕ, Ok, Err, IfOk, IfErr, length};
+ghost use Rattle.std.specs.Prelude.{◌≡◌, ◌≢◌, ◌⊎◌, ◌∷◌, ◌+◌, ◌<◌, ℕ, Ok, Err, IfOk, IfErr, length};
 ghost use Rattle.streams.specs.Lines.{lines_of};
 ghost use Rattle.ot_isa.specs.Program.{IsProgram, Program};
 ghost use Rattle.ot_asm.specs.Stepping.{ended, outcome, IsFaultlessBefore, OutOfMemoryIn};
@@ -46,16 +46,17 @@ pub fn finished(body: Option<Body>, line: u64) -> Result<Schedule, AsmFault>
     }
 }
 
-// The same with its clauses about the outcome.
-fn assembled(alloc: Global, text: &str) -> Result<Schedule, AsmFault>
+/// The schedule that the bytes of a text spell, or the fault of its first faulty line, as [`assemble`] says it.
+pub fn assemble_bytes(alloc: Global, text: &[u8]) -> Result<Schedule, AsmFault>
     ensures ok { IfOk result (λ s. outcome text.now ≡ Ok s) }
     ensures limits { IfOk result (λ s. IsProgram s) }
     ensures err { IfErr result (λ f. (f.kind ≡ Kind.Memory) ⊎ (outcome text.now ≡ Err f)) }
     ensures faultless { IfErr result (λ f. IsFaultlessBefore (lines_of text.now) f.line) }
     ensures memory { IfErr result (λ f. f.kind ≡ Kind.Memory → OutOfMemoryIn (lines_of text.now) f.line) }
+    ensures other { IfErr result (λ f. f.kind ≢ Kind.ReadFault) }
 {
     let mut body: Option<Body> = None;
-    let mut rest = text.as_bytes();
+    let mut rest = text;
     let mut line = 1;
     while !rest.is_empty() {
         let (first, below) = first_line(rest);
@@ -80,5 +81,5 @@ pub fn assemble(alloc: Global, text: &str) -> Result<Schedule, AsmFault>
     ensures faultless { IfErr result (λ f. IsFaultlessBefore (lines_of text.now) f.line) }
     ensures memory { IfErr result (λ f. f.kind ≡ Kind.Memory → OutOfMemoryIn (lines_of text.now) f.line) }
 {
-    assembled(alloc, text)
+    assemble_bytes(alloc, text.as_bytes())
 }

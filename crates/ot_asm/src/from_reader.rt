@@ -16,8 +16,7 @@ use crate::marks::ends_part;
 use crate::stepping::numbered_step;
 use ot_isa::Schedule;
 use std::alloc::Global;
-use std::io::Read;
-use streams::{LineFault, ReadAhead};
+use streams::{LineFault, ReadAhead, Source};
 
 /// The schedule at the end of lines, and how many lines were taken.
 fn finished_part(body: Option<Body>, line: u64, taken: u64) -> Result<(Schedule, u64), AsmFault>
@@ -34,7 +33,7 @@ fn finished_part(body: Option<Body>, line: u64, taken: u64) -> Result<(Schedule,
 
 /// What the lines as far as the first mark make, where marks count, or all lines; and how many lines were taken, the
 /// mark among them.
-fn assemble_part<R: Read>(
+fn assemble_part<R: Source>(
     alloc: Global,
     ahead: &mut ReadAhead,
     reader: &mut R,
@@ -43,14 +42,15 @@ fn assemble_part<R: Read>(
     ensures ok { IfOk result (λ p. IfSome (before ahead.old (R.remaining reader.old)) (λ text. outcome_of_lines (lines_before marked (lines_of text)) ≡ Ok p.0)) }
     ensures part { IfOk result (λ p. TakesPart marked (before ahead.old (R.remaining reader.old)) (before ahead.new (R.remaining reader.new)) p.1) }
     ensures end { OnOk result (marked ≡ false → IsAtEnd (before ahead.new (R.remaining reader.new))) }
-    ensures short { OnOk result (marked ≡ false → IfSome (before ahead.old (R.remaining reader.old)) (λ text. length text < may_take ahead.old)) }
+    ensures short { OnOk result (marked ≡ false → IfSome (before ahead.old (R.remaining reader.old)) (λ text. length text < may_take ahead.old (R.left reader.old))) }
     ensures err { IfErr result (λ f. f.kind ≢ Kind.Memory → f.kind ≢ Kind.ReadFault → IfSome (before ahead.old (R.remaining reader.old)) (λ text. outcome_of_lines (lines_before marked (lines_of text)) ≡ Err f)) }
     ensures faultless { IfErr result (λ f. IfSome (before ahead.old (R.remaining reader.old)) (λ text. IsFaultlessBefore (lines_before marked (lines_of text)) f.line)) }
     ensures memory { IfErr result (λ f. f.kind ≡ Kind.Memory → IfSome (before ahead.old (R.remaining reader.old)) (λ text. OutOfMemoryIn (lines_before marked (lines_of text)) f.line) ⊎ StopsIn (before ahead.old (R.remaining reader.old)) (before ahead.new (R.remaining reader.new)) f.line) }
     ensures stop { IfErr result (λ f. f.kind ≡ Kind.ReadFault → StopsIn (before ahead.old (R.remaining reader.old)) (R.remaining reader.new) f.line) }
+    ensures cause { IfErr result (λ f. f.kind ≡ Kind.ReadFault → R.failed reader.new ≡ true) }
 {
-    // For the proof: the invariant of every reader.
-    let _most = ahead.may_take();
+    // For the proof: its bound.
+    let _most = ahead.may_take(reader);
     let mut piece = Vec::new(alloc);
     let mut body: Option<Body> = None;
     let mut line = 1;
@@ -85,8 +85,8 @@ fn assemble_part<R: Read>(
 }
 
 /// The schedule that the bytes of a reader spell, or the fault of the first faulty line; `ReadFault`, where no line
-/// before was faulty, once a read failed or 2^50 bytes were read.
-pub fn assemble_from<R: Read>(alloc: Global, reader: &mut R) -> Result<Schedule, AsmFault>
+/// before was faulty, once a read failed or 2^50 bytes were read, as the reader says itself.
+pub fn assemble_from<R: Source>(alloc: Global, reader: &mut R) -> Result<Schedule, AsmFault>
     ensures ok { IfOk result (λ s. IfSome (R.remaining reader.old) (λ text. outcome text ≡ Ok s)) }
     ensures spells { IfOk result (λ s. IfSome (R.remaining reader.old) (λ text. Spells text s)) }
     // The schedule that the bytes spell is what is given, unless reading fails or memory runs out.
@@ -96,8 +96,11 @@ pub fn assemble_from<R: Read>(alloc: Global, reader: &mut R) -> Result<Schedule,
     ensures err { IfErr result (λ f. f.kind ≢ Kind.Memory → f.kind ≢ Kind.ReadFault → IfSome (R.remaining reader.old) (λ text. outcome text ≡ Err f)) }
     ensures faultless { IfErr result (λ f. IfSome (R.remaining reader.old) (λ text. IsFaultlessBefore (lines_of text) f.line)) }
     ensures stop { IfErr result (λ f. f.kind ≡ Kind.ReadFault → StopsIn (R.remaining reader.old) (R.remaining reader.new) f.line) }
+    ensures cause { IfErr result (λ f. f.kind ≡ Kind.ReadFault → R.failed reader.new ≡ true) }
 {
     let mut ahead = ReadAhead::new();
+    // For the proof: its bound.
+    let _left = reader.left();
     match assemble_part(alloc, &mut ahead, reader, false) {
         Ok((schedule, _)) => {
             // For the proof: the invariant of every schedule.
@@ -110,7 +113,7 @@ pub fn assemble_from<R: Read>(alloc: Global, reader: &mut R) -> Result<Schedule,
 
 /// The schedule that the lines of a reader as far as the first line `%%` spell, and how many lines were taken, that
 /// line among them. The lines behind it stay with `ahead` and the reader.
-pub fn assemble_until_mark<R: Read>(
+pub fn assemble_until_mark<R: Source>(
     alloc: Global,
     ahead: &mut ReadAhead,
     reader: &mut R,
@@ -122,6 +125,7 @@ pub fn assemble_until_mark<R: Read>(
     // Out of memory names a line that has no fault but one of its JSON text, or one that was not read to its end.
     ensures memory { IfErr result (λ f. f.kind ≡ Kind.Memory → IfSome (before ahead.old (R.remaining reader.old)) (λ text. OutOfMemoryIn (lines_before true (lines_of text)) f.line) ⊎ StopsIn (before ahead.old (R.remaining reader.old)) (before ahead.new (R.remaining reader.new)) f.line) }
     ensures stop { IfErr result (λ f. f.kind ≡ Kind.ReadFault → StopsIn (before ahead.old (R.remaining reader.old)) (R.remaining reader.new) f.line) }
+    ensures cause { IfErr result (λ f. f.kind ≡ Kind.ReadFault → R.failed reader.new ≡ true) }
 {
     assemble_part(alloc, ahead, reader, true)
 }

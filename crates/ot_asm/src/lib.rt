@@ -12,7 +12,7 @@
 //! read-server
 //! ```
 //!
-//! `assemble` and `assemble_from` read the lines once, from the first, and stop at the first faulty one. The schedule
+//! `assemble`, `assemble_bytes` and `assemble_from` read the lines once, from the first, and stop at the first faulty one. The schedule
 //! so far is a `Body` (none before the line `clients`); `line_step` says what one line makes of it. So every answer is
 //! about `run` over the list of lines, and `disassemble` gives the canonical text, which is `canonical`.
 //!
@@ -58,7 +58,7 @@ mod stepping;
 mod words;
 mod writing;
 
-pub use assembling::assemble;
+pub use assembling::{assemble, assemble_bytes};
 pub use comments::{Comments, comments_of, push_cut};
 pub use disassembling::disassemble;
 pub use fault::{AsmFault, Kind};

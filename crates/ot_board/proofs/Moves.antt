@@ -8,6 +8,8 @@ use Rattle.ot_isa.specs.declared.elements.Tagged.{Tagged}
 use Rattle.ot_isa.specs.declared.instruction.Instr.{Instr}
 use Rattle.ot_isa.specs.declared.instruction.Instr.TheVariants.{Edit, Deliver, Acknowledge, Read}
 use Rattle.ot_client.specs.State as state
+use Rattle.ot_client.specs.Conditions as conditions
+use Rattle.ot_client.specs.Values as client_values
 use Rattle.ot_client.specs.declared.sent.Sent.{Sent}
 use Rattle.ot_client.specs.Client.{message_of}
 use Rattle.ot_model.specs.declared.shown.Shown.{Shown}
@@ -56,7 +58,7 @@ next_deliverable x h allowed next =
     subst (IsDeliverable x.now.client) other.1 (record { revision = fits.revision; operations = fits.operations; base = fits.base })
 
 -- the same of a client of the program
-pub operations_in : (phase : state.Phase Tagged) (h : Operation Tagged) → MayDeliver (phase_in phase) h → state.MayDeliver phase h
+pub operations_in : (phase : state.Phase Tagged) (h : Operation Tagged) → MayDeliver (phase_in phase) h → conditions.MayDeliver phase h
 operations_in state.Synchronized h may = tt
 operations_in (state.AwaitingConfirm o) h may = may
 operations_in (state.AwaitingWithBuffer o b) h may = may
@@ -69,7 +71,7 @@ against_pending_in (state.AwaitingWithBuffer o b) h = refl
 -- an edit of the client's list follows what the client has made
 follows_in :
     (c : ℕ) (op : Operation Tagged) (phase : state.Phase Tagged) (start : List Tagged) (seen ahead : List Entry) (list : List Tagged) (message : Option Message)
-    → IsPhaseSound c (phase_in phase) start seen ahead list message → op.base ≡ length list → state.MayEdit phase op
+    → IsPhaseSound c (phase_in phase) start seen ahead list message → op.base ≡ length list → conditions.MayEdit phase op
 follows_in c op state.Synchronized start seen ahead list message sound fits = tt
 follows_in c op (state.AwaitingConfirm o) start seen ahead list message sound fits =
     fits ∙ ap length sound.list_is ∙ laws.apply-length o (apply_entries start seen) sound.fits
@@ -77,7 +79,7 @@ follows_in c op (state.AwaitingWithBuffer o b) start seen ahead list message sou
     fits ∙ ap length sound.list_is ∙ laws.apply-length b (apply o (apply_entries start seen)) sound.buffer_fits
 
 pub next_follows :
-    (x : Session) (phase : state.Phase Tagged) (op : Operation Tagged) → IsAllowed x → phase_in phase ≡ x.now.client.phase → op.base ≡ length x.now.client.list → state.MayEdit phase op
+    (x : Session) (phase : state.Phase Tagged) (op : Operation Tagged) → IsAllowed x → phase_in phase ≡ x.now.client.phase → op.base ≡ length x.now.client.list → conditions.MayEdit phase op
 next_follows x phase op allowed is base =
     let (s, m, rest, sound, over) = present_sound x allowed in
     let (start, text, from) = sound in
@@ -269,22 +271,22 @@ none_sent None e = refl
 none_sent (Some m) e = absurd (cc)
 
 pub acknowledged_confirm :
-    (start : ProgramPart) (steps : List Instr) (st : state.Confirming Tagged) (r : ℕ) (list : List Tagged) (count : ℕ) (incoming : List ProgramMessage) (sent : Option (Sent Tagged))
-    → r ≡ st.revision + 1 → acknowledged_now (session_in start steps (state.confirming st) list count incoming sent) ≡ Some (client_in (state.synchronized r) list count sent)
+    (start : ProgramPart) (steps : List Instr) (st : client_values.Confirming Tagged) (r : ℕ) (list : List Tagged) (count : ℕ) (incoming : List ProgramMessage) (sent : Option (Sent Tagged))
+    → r ≡ st.revision + 1 → acknowledged_now (session_in start steps (client_values.confirming st) list count incoming sent) ≡ Some (client_in (client_values.synchronized r) list count sent)
 acknowledged_confirm start steps st r list count incoming sent is =
     let risen : suc st.revision ≡ r = omega (arith, is) in
-    ap (λ (n : ℕ). Some (client_in (state.synchronized n) list count sent)) risen
+    ap (λ (n : ℕ). Some (client_in (client_values.synchronized n) list count sent)) risen
 
 pub acknowledged_buffer :
-    (start : ProgramPart) (steps : List Instr) (st copy : state.Buffering Tagged) (next : state.Confirming Tagged) (list : List Tagged) (count : ℕ) (incoming : List ProgramMessage) (sent : Option (Sent Tagged)) (new : Sent Tagged)
+    (start : ProgramPart) (steps : List Instr) (st copy : client_values.Buffering Tagged) (next : client_values.Confirming Tagged) (list : List Tagged) (count : ℕ) (incoming : List ProgramMessage) (sent : Option (Sent Tagged)) (new : Sent Tagged)
     → copy ≡ st → next ≡ record { revision = copy.revision + 1; outstanding = copy.buffer } → message_of new ≡ record { revision = copy.revision + 1; op = copy.buffer }
-    → acknowledged_now (session_in start steps (state.buffering st) list count incoming sent) ≡ Some (client_in (state.confirming next) list count (Some new))
+    → acknowledged_now (session_in start steps (client_values.buffering st) list count incoming sent) ≡ Some (client_in (client_values.confirming next) list count (Some new))
 acknowledged_buffer start steps st copy next list count incoming sent new same is puts =
     let risen : suc copy.revision ≡ copy.revision + 1 = omega arith in
-    ap (λ (z : state.Buffering Tagged). acknowledged_now (session_in start steps (state.buffering z) list count incoming sent)) (sym same)
+    ap (λ (z : client_values.Buffering Tagged). acknowledged_now (session_in start steps (client_values.buffering z) list count incoming sent)) (sym same)
     ∙ ap (λ (n : ℕ). Some (record { revision = n; phase = AwaitingConfirm copy.buffer; list = list; count = count; message = Some (record { revision = n; op = copy.buffer }) })) risen
     ∙ ap (λ (m : Message). Some (record { revision = copy.revision + 1; phase = AwaitingConfirm copy.buffer; list = list; count = count; message = Some m })) (sym puts)
-    ∙ ap (λ (z : state.Confirming Tagged). Some (client_in (state.confirming z) list count (Some new))) (sym is)
+    ∙ ap (λ (z : client_values.Confirming Tagged). Some (client_in (client_values.confirming z) list count (Some new))) (sym is)
 
 pub named : {x y : Session} {op : Operation ℕ} (n m : ℕ) → n ≡ m → IsNext x (Edit n op) None y → IsNext x (Edit m op) None y
 named {x = x} {y = y} {op = op} n m same next = subst (λ (k : ℕ). IsNext x (Edit k op) None y) same next

@@ -3,6 +3,7 @@
 ghost use Rattle.std.specs.Prelude.{◌≡◌, ◌<◌, IfOk};
 ghost use Rattle.std.specs.Option.{option_map};
 ghost use Rattle.ot_client.specs.State as state;
+ghost use Rattle.ot_client.specs.Conditions as conditions;
 ghost use Rattle.ot_client.specs.Client.{message_of, state_of};
 ghost use Rattle.ot_client.specs.declared.TheConstants.{REVISION_LIMIT};
 
@@ -26,7 +27,7 @@ pub trait ClientState: Drop {
     /// The client after another's operation, and what its list is to be changed by. This one stays as it is.
     fn delivered(&self, op: &TextOp<Tagged>) -> Result<(Self, TextOp<Tagged>), AllocError>
         requires revision { (as_state self.now).revision < REVISION_LIMIT }
-        requires operations { state.MayDeliver (as_state self.now).phase op.now }
+        requires operations { conditions.MayDeliver (as_state self.now).phase op.now }
         ensures state { IfOk result (λ given. as_state given.0 ≡ state.delivered (as_state self.now) op.now) }
         ensures applied { IfOk result (λ given. given.1 ≡ state.against_pending (as_state self.now).phase op.now) };
 }
@@ -38,13 +39,13 @@ pub trait EditedState: ClientState {
 
     /// The client after the user's edit, and what it sends. This one stays as it is.
     fn edited(&self, op: TextOp<Tagged>) -> Result<(Self::Edited, Option<Sent<Tagged>>), AllocError>
-        requires { state.MayEdit (Self.as_state self.now).phase op }
+        requires { conditions.MayEdit (Self.as_state self.now).phase op }
         ensures state { IfOk result (λ given. Self.Edited.as_state given.0 ≡ state.edited (Self.as_state self.now) op) }
         ensures sent { IfOk result (λ given. option_map message_of given.1 ≡ state.message_edited (Self.as_state self.now).revision (Self.as_state self.now).phase op) };
 }
 
 impl ClientState for Synchronized {
-    ghost use Rattle.ot_client.specs.State.{synchronized};
+    ghost use Rattle.ot_client.specs.Values.{synchronized};
 
     ghost as_state = { synchronized };
 
@@ -72,7 +73,7 @@ impl EditedState for Synchronized {
 }
 
 impl ClientState for AwaitingConfirm<Tagged> {
-    ghost use Rattle.ot_client.specs.State.{confirming};
+    ghost use Rattle.ot_client.specs.Values.{confirming};
 
     ghost as_state = { confirming };
 
@@ -104,7 +105,7 @@ impl EditedState for AwaitingConfirm<Tagged> {
 }
 
 impl ClientState for AwaitingWithBuffer<Tagged> {
-    ghost use Rattle.ot_client.specs.State.{buffering};
+    ghost use Rattle.ot_client.specs.Values.{buffering};
 
     ghost as_state = { buffering };
 

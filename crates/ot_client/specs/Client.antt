@@ -1,5 +1,6 @@
 -- The program's clients and messages as states and messages.
-use Rattle.ot_client.specs.State.{State, Message, synchronized, confirming, buffering}
+use Rattle.ot_client.specs.State.{State, Message}
+use Rattle.ot_client.specs.Values.{synchronized, confirming, buffering}
 use Rattle.ot_client.specs.declared.client.Client.{Client}
 use Rattle.ot_client.specs.declared.client.Client.TheVariants.{Synchronized, AwaitingConfirm, AwaitingWithBuffer}
 use Rattle.ot_client.specs.declared.sent.Sent.{Sent}

@@ -1,9 +1,8 @@
 -- A client: its pending operations, and what edits, deliveries and acknowledgements do to it.
-use Rattle.std.specs.Prelude.{◌≡◌, ℕ, suc, ◌+◌, ◌≤◌, length, Option, Some, None}
-use Rattle.ot_operation.specs.Operation.{Operation, news}
+use Rattle.std.specs.Prelude.{ℕ, suc, Option, Some, None}
+use Rattle.ot_operation.specs.Operation.{Operation}
 use Rattle.ot_operation.specs.Compose.{compose}
 use Rattle.ot_operation.specs.Merge.{first_after, second_after}
-use Rattle.ot_operation.specs.declared.TheConstants.{LIMIT}
 
 -- nothing under way; an operation sent and not yet confirmed; that and a buffer of later edits
 pub data Phase (A : Type 0) : Type 0 where
@@ -64,48 +63,3 @@ abbrev pub message_acknowledged : {A : Type 0} → ℕ → Phase A → Option (M
 message_acknowledged revision Synchronized = None
 message_acknowledged revision (AwaitingConfirm outstanding) = None
 message_acknowledged revision (AwaitingWithBuffer outstanding buffer) = Some (record { revision = revision; op = buffer })
-
--- what an edit asks: that it is over the client's document
-abbrev pub MayEdit : {A : Type 0} → Phase A → Operation A → Type 0
-MayEdit Synchronized op = Unit {0}
-MayEdit (AwaitingConfirm outstanding) op = op.base ≡ length outstanding.image
-MayEdit (AwaitingWithBuffer outstanding buffer) op = op.base ≡ length buffer.image
-
--- what a delivery asks: one base, and room for all that is inserted
-abbrev pub MayDeliver : {A : Type 0} → Phase A → Operation A → Type 0
-MayDeliver Synchronized op = Unit {0}
-MayDeliver (AwaitingConfirm outstanding) op =
-    (op.base ≡ outstanding.base) × (op.base + length (news outstanding.image) + length (news op.image) ≤ LIMIT)
-MayDeliver (AwaitingWithBuffer outstanding buffer) op =
-    (op.base ≡ outstanding.base)
-    × (op.base + length (news outstanding.image) + length (news buffer.image) + length (news op.image) ≤ LIMIT)
-
--- what an acknowledgement asks: that something was sent
-abbrev pub IsAwaiting : {A : Type 0} → Phase A → Type 0
-IsAwaiting Synchronized = ⊥
-IsAwaiting (AwaitingConfirm outstanding) = Unit {0}
-IsAwaiting (AwaitingWithBuffer outstanding buffer) = Unit {0}
-
--- the values of the three types of client, each a state
-pub record Confirming (A : Type 0) : Type 0 where
-  pub revision : ℕ
-  pub outstanding : Operation A
-
-pub record Buffering (A : Type 0) : Type 0 where
-  pub revision : ℕ
-  pub outstanding : Operation A
-  pub buffer : Operation A
-
--- the three values as states
-abbrev pub synchronized : {A : Type 0} → ℕ → State A
-synchronized revision = record { revision = revision; phase = Synchronized }
-
-abbrev pub confirming : {A : Type 0} → Confirming A → State A
-confirming client = record { revision = client.revision; phase = AwaitingConfirm client.outstanding }
-
-abbrev pub buffering : {A : Type 0} → Buffering A → State A
-buffering client = record { revision = client.revision; phase = AwaitingWithBuffer client.outstanding client.buffer }
-
--- the buffer is over what the outstanding operation makes
-abbrev pub IsJoined : {A : Type 0} → Buffering A → Type 0
-IsJoined client = client.buffer.base ≡ length client.outstanding.image

@@ -6,7 +6,8 @@ ghost use Rattle.ot_operation.specs.Operation.{news};
 ghost use Rattle.ot_codes.specs.Shape.{filled, shape};
 ghost use Rattle.ot_client.specs.Change.{changed, Fits};
 ghost use Rattle.ot_client.specs.declared.change.Pending.TheVariants.{Unsend};
-ghost use Rattle.ot_client.specs.State.{buffering, against_pending, confirming, delivered, edited};
+ghost use Rattle.ot_client.specs.State.{against_pending, delivered, edited};
+ghost use Rattle.ot_client.specs.Values.{buffering, confirming};
 ghost use Rattle.ot_operation.specs.declared.TheConstants.{LIMIT};
 ghost use Rattle.ot_client.specs.declared.TheConstants.{REVISION_LIMIT};
 
@@ -28,7 +29,7 @@ pub struct AwaitingConfirm<T> {
 }
 
 impl<T> Model for AwaitingConfirm<T> {
-    ghost use Rattle.ot_client.specs.State.{Confirming};
+    ghost use Rattle.ot_client.specs.Values.{Confirming};
 
     ghost Value = { Confirming T };
 

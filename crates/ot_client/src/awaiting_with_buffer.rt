@@ -9,7 +9,8 @@ ghost use Rattle.ot_operation.specs.Merge.{first_after, second_after};
 ghost use Rattle.ot_client.specs.Change.{changed, Fits};
 ghost use Rattle.ot_client.specs.Client.{message_of};
 ghost use Rattle.ot_client.specs.declared.change.Pending.TheVariants.{Confirm};
-ghost use Rattle.ot_client.specs.State.{buffering, against_pending, confirming, delivered, edited, IsJoined};
+ghost use Rattle.ot_client.specs.State.{against_pending, delivered, edited};
+ghost use Rattle.ot_client.specs.Values.{buffering, confirming, IsJoined};
 ghost use Rattle.ot_operation.specs.declared.TheConstants.{LIMIT};
 ghost use Rattle.ot_client.specs.declared.TheConstants.{REVISION_LIMIT};
 
@@ -32,11 +33,11 @@ pub struct AwaitingWithBuffer<T> {
 }
 
 impl<T> Model for AwaitingWithBuffer<T> {
-    ghost use Rattle.ot_client.specs.State.{Buffering};
+    ghost use Rattle.ot_client.specs.Values.{Buffering};
 
     ghost Value = { Buffering T };
 
-    ghost use Rattle.ot_client.specs.State.{IsJoined};
+    ghost use Rattle.ot_client.specs.Values.{IsJoined};
 
     ghost view = { λ s. record { revision = s.revision; outstanding = s.outstanding; buffer = s.buffer } };
 

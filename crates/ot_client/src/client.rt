@@ -4,7 +4,9 @@ ghost use Rattle.std.specs.Prelude.{◌≡◌, ◌+◌, ◌<◌, length, IfErr, 
 ghost use Rattle.std.specs.Option.{option_map, unwrap_or};
 ghost use Rattle.ot_client.specs.Client.{message_of, state_of};
 ghost use Rattle.ot_client.specs.Change.{changed, undoing, Fits, IsInPlace};
-ghost use Rattle.ot_client.specs.State.{buffering, against_pending, confirming, delivered, edited, message_acknowledged, message_edited, phase_acknowledged, synchronized, IsAwaiting, MayDeliver, MayEdit};
+ghost use Rattle.ot_client.specs.State.{against_pending, delivered, edited, message_acknowledged, message_edited, phase_acknowledged};
+ghost use Rattle.ot_client.specs.Conditions.{IsAwaiting, MayDeliver, MayEdit};
+ghost use Rattle.ot_client.specs.Values.{buffering, confirming, synchronized};
 ghost use Rattle.ot_client.specs.declared.TheConstants.{REVISION_LIMIT};
 
 use crate::change::Pending;

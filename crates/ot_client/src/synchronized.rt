@@ -5,7 +5,8 @@ ghost use Rattle.ot_client.specs.Client.{message_of};
 ghost use Rattle.std.specs.Option.{option_map};
 ghost use Rattle.ot_client.specs.Change.{changed, Fits};
 ghost use Rattle.ot_client.specs.declared.change.Pending.TheVariants.{Nothing};
-ghost use Rattle.ot_client.specs.State.{confirming, delivered, edited, message_edited, synchronized};
+ghost use Rattle.ot_client.specs.State.{delivered, edited, message_edited};
+ghost use Rattle.ot_client.specs.Values.{confirming, synchronized};
 ghost use Rattle.ot_client.specs.declared.TheConstants.{REVISION_LIMIT};
 
 use crate::change::Pending;

@@ -1,5 +1,5 @@
 -- Faults of the first lines are those of all.
-use Rattle.std.proofs.Common.{◌≡◌, ◌≢◌, inl, inr, ◌+◌, ◌-◌, ◌<◌, ◌≤◌, ℕ, List, [], ◌∷◌, ◌++◌, length, Option, Some, None, Result, Ok, Err, refl, ap, length-append, arith}
+use Rattle.std.proofs.Common.{◌≡◌, ◌≢◌, inl, inr, ◌⊎◌, ◌+◌, ◌-◌, ◌<◌, ◌≤◌, ℕ, Bool, List, [], ◌∷◌, ◌++◌, length, Option, Some, None, Result, Ok, Err, refl, ap, length-append, arith}
 use Rattle.std.specs.Prelude.{IsOk}
 use Rattle.std.proofs.Math.Seq.{take_all}
 use Rattle.std.proofs.lemmas.List.{take-append-le}
@@ -46,31 +46,37 @@ faultless_more lines rest line h =
 faultless_all : (lines : List (List ℕ)) (schedule : Program) → outcome_of_lines lines ≡ Ok schedule → IsFaultlessBefore lines (1 + length lines)
 faultless_all lines schedule e = (omega arith, rw (take_all ((1 + length lines) - 1) lines (omega arith)) (sound (length lines) schedule (run 1 None lines) e))
 
+-- a fault has one kind
+kinds : (kind : Kind) → kind ≡ Memory → kind ≡ ReadFault → ⊥
+kinds kind e g = cc
+
 -- ---- the first fault, where the lines could not be taken further
 
-module _ (text : List ℕ) (lines : List (List ℕ)) (stop : AsmFault) (breaks : BreaksIn text lines stop) where
-  stopped : IsFaultlessBefore (lines_of text) stop.line → IsLineFault lines stop
+module _ (unread : Bool) (text : List ℕ) (lines : List (List ℕ)) (stop : AsmFault) (breaks : BreaksIn unread text lines stop) where
+  stopped : IsFaultlessBefore (lines_of text) stop.line → IsLineFault unread lines stop
   stopped before =
       record {
-        named = λ memory read. absurd (elim breaks.cause [ inl e ↦ memory e | inr e ↦ read e ]);
+        named = λ memory read. absurd (elim breaks.cause [ inl e ↦ memory e | inr e ↦ read e.0 ]);
+        cause = λ read. elim breaks.cause [ inl e ↦ absurd (kinds stop.kind e read) | inr e ↦ e.1 ];
         faultless = rw breaks.all (faultless_more (lines_of text) breaks.rest stop.line before);
       }
 
   -- the lines that were taken are right
-  pub none_before : (schedule : Program) → outcome_of_lines (lines_of text) ≡ Ok schedule → IsLineFault lines stop
+  pub none_before : (schedule : Program) → outcome_of_lines (lines_of text) ≡ Ok schedule → IsLineFault unread lines stop
   none_before schedule e = stopped (rw breaks.number (faultless_all (lines_of text) schedule e))
 
   -- only their end is not
-  pub at_the_end : (fault : AsmFault) → IsFaultlessBefore (lines_of text) fault.line → stop.line ≤ fault.line → IsLineFault lines stop
+  pub at_the_end : (fault : AsmFault) → IsFaultlessBefore (lines_of text) fault.line → stop.line ≤ fault.line → IsLineFault unread lines stop
   at_the_end fault before behind =
       let same : fault.line ≡ stop.line = omega (arith, before.0, behind, breaks.number) in
       stopped (rw same at before)
 
   -- one of them is not
-  pub one_before : (fault : AsmFault) → (fault.kind ≢ Memory → fault.kind ≢ ReadFault → outcome_of_lines (lines_of text) ≡ Err fault) → IsFaultlessBefore (lines_of text) fault.line → fault.line < stop.line → IsLineFault lines fault
-  one_before fault is before ahead =
+  pub one_before : (fault : AsmFault) → ((fault.kind ≡ Memory) ⊎ (outcome_of_lines (lines_of text) ≡ Err fault)) → fault.kind ≢ ReadFault → IsFaultlessBefore (lines_of text) fault.line → fault.line < stop.line → IsLineFault unread lines fault
+  one_before fault is unlike before ahead =
       record {
         named = λ memory read. rw breaks.all (ap (ended (length (lines_of text ++ breaks.rest))) (faulty_more (lines_of text) breaks.rest 1 None fault
-            (in_a_line (length (lines_of text)) fault (run 1 None (lines_of text)) (is memory read) (omega (arith, ahead, breaks.number)))));
+            (in_a_line (length (lines_of text)) fault (run 1 None (lines_of text)) (elim is [ inl e ↦ absurd (memory e) | inr e ↦ e ]) (omega (arith, ahead, breaks.number)))));
+        cause = λ read. absurd (unlike read);
         faultless = rw breaks.all (faultless_more (lines_of text) breaks.rest fault.line before);
       }

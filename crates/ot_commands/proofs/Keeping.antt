@@ -1,6 +1,6 @@
 -- Lines that are kept as a text.
 use Rattle.std.proofs.Common.{◌≡◌, ◌⊎◌, ◌+◌, ◌-◌, ◌==◌, ℕ, Bool, true, false, List, [], ◌∷◌, ◌++◌, length, Option, Some, None, refl, sym, ap, ◌∙◌, append_assoc, append-nil, length-append, arith}
-use Rattle.std.specs.Prelude.{IfSome, Result, Ok, Err, ⊤, if◌then◌else◌}
+use Rattle.std.specs.Prelude.{◌||◌, IfSome, Result, Ok, Err, ⊤, if◌then◌else◌}
 use Rattle.std.specs.Result.{is_err, OnOk}
 use Rattle.streams.specs.Lines.{lacks, lines_of, onto_first}
 use Rattle.streams.specs.Taken.{TakesLine}
@@ -8,8 +8,10 @@ use Rattle.streams.proofs.Ends.{lines_piece}
 use Rattle.ot_asm.specs.Parts.{TakesPart, is_mark, lines_before, lines_behind}
 use Rattle.ot_asm.specs.declared.fault.AsmFault.{AsmFault}
 use Rattle.ot_asm.specs.declared.fault.Kind.TheVariants.{Memory, ReadFault}
+use Rattle.ot_asm.specs.Canonical.{lines_text}
+use Rattle.ot_asm.proofs.Listed.{lines_push}
 use Rattle.ot_asm.proofs.Running.{no_lines}
-use Rattle.ot_commands.specs.Part.{BreaksIn}
+use Rattle.ot_commands.specs.Part.{BreaksIn, has_mark}
 
 -- ---- lines of a text
 
@@ -94,10 +96,12 @@ pub record IsKept (all rest : List (List ℕ)) (number : ℕ) (text : List ℕ) 
   pub behind : lines_behind true rest ≡ lines_behind true all
   pub at : number ≡ 1 + length (lines_of text)
   pub count : length all + 1 ≡ number + length rest
+  pub ended : text ≡ lines_text (lines_of text)
+  pub marks : has_mark rest ≡ has_mark all
 
 start : (all : List (List ℕ)) → IsKept all all 1 []
 unfolding lines_of
-start all = record { whole = nothing_whole; ahead = refl; behind = refl; at = refl; count = omega arith }
+start all = record { whole = nothing_whole; ahead = refl; behind = refl; at = refl; count = omega arith; ended = refl; marks = refl }
 
 one_more : (all : List (List ℕ)) (bytes l : List ℕ) (ls : List (List ℕ)) (number : ℕ) (text : List ℕ) → IsKept all (l ∷ ls) number text → lines_of bytes ≡ l ∷ ls → is_mark l ≡ false → IsKept all ls (number + 1) (text ++ (l ++ 10 ∷ []))
 one_more all bytes l ls number text h is other =
@@ -113,6 +117,8 @@ one_more all bytes l ls number text h is other =
       behind = sym (behind_other l ls other) ∙ h.behind;
       at = omega (arith, h.at, ap length lines, length-append (lines_of text) (l ∷ []));
       count = omega (arith, h.count);
+      ended = ap (λ (t : List ℕ). t ++ (l ++ 10 ∷ [])) h.ended ∙ sym (lines_push (lines_of text) l) ∙ ap lines_text (sym lines);
+      marks = sym (ap (λ (b : Bool). b || has_mark ls) other) ∙ h.marks;
     }
 
 -- where the bytes are known
@@ -132,39 +138,80 @@ kept_more (Some all) None next l number text more h t other is = absurd h
 kept_more (Some all) (Some now) None l number text more h t other is = absurd t
 kept_more (Some all) (Some now) (Some next) l number text more h t other is = rw is (one_more (lines_of all) now l (lines_of next) number text (rw t at h) t other)
 
-abbrev pub IsAll : Option (List ℕ) → List ℕ → Type 0
-IsAll known text = IfSome known (λ all. lines_of text ≡ lines_before true (lines_of all))
+-- the text has the lines before the mark, and so many lines are taken
+pub record IsTaken (all : List ℕ) (rest : List (List ℕ)) (text : List ℕ) (is_marked : Bool) (number : ℕ) : Type 0 where
+  pub lines : lines_of text ≡ lines_before true (lines_of all)
+  pub ended : text ≡ lines_text (lines_before true (lines_of all))
+  pub rest_is : rest ≡ lines_behind true (lines_of all)
+  pub count : length (lines_of all) ≡ number + length rest
+  pub marked : is_marked ≡ has_mark (lines_of all)
+
+abbrev pub IsTakenKnown : Option (List ℕ) → Option (List ℕ) → List ℕ → Bool → ℕ → Type 0
+IsTakenKnown None next text is_marked number = ⊤
+IsTakenKnown (Some all) None text is_marked number = ⊥
+IsTakenKnown (Some all) (Some rest) text is_marked number = IsTaken all (lines_of rest) text is_marked number
 
 -- the next line is a mark
-pub kept_mark : (all now next : Option (List ℕ)) (l : List ℕ) (number : ℕ) (text : List ℕ) → IsKeptKnown all now number text → TakesLine now next true l → is_mark l ≡ true → IsAll all text × TakesPart true all next number
-kept_mark None now next l number text h t mark = (tt, tt)
+pub kept_mark : (all now next : Option (List ℕ)) (l : List ℕ) (number : ℕ) (text : List ℕ) → IsKeptKnown all now number text → TakesLine now next true l → is_mark l ≡ true → IsTakenKnown all next text true number
+kept_mark None now next l number text h t mark = tt
 kept_mark (Some all) None next l number text h t mark = absurd h
 kept_mark (Some all) (Some now) None l number text h t mark = absurd t
 kept_mark (Some all) (Some now) (Some next) l number text h t mark =
-    let k = rw t at h in (
-      sym (k.ahead ∙ ap (λ (ls : List (List ℕ)). lines_of text ++ ls) (before_mark l (lines_of next) mark) ∙ append-nil (lines_of text)),
-      (sym (behind_mark l (lines_of next) mark) ∙ k.behind, omega (arith, k.count)),
-    )
+    let k = rw t at h in
+    let lines = k.ahead ∙ ap (λ (ls : List (List ℕ)). lines_of text ++ ls) (before_mark l (lines_of next) mark) ∙ append-nil (lines_of text) in
+    record {
+      lines = sym lines;
+      ended = k.ended ∙ ap lines_text (sym lines);
+      rest_is = sym (behind_mark l (lines_of next) mark) ∙ k.behind;
+      count = omega (arith, k.count);
+      marked = sym (ap (λ (b : Bool). b || has_mark (lines_of next)) mark) ∙ k.marks;
+    }
 
 -- there is no next line
-pub kept_end : (all now next : Option (List ℕ)) (l : List ℕ) (number : ℕ) (text : List ℕ) → IsKeptKnown all now number text → TakesLine now next false l → IsAll all text × TakesPart true all next (number - 1)
-kept_end None now next l number text h t = (tt, tt)
+pub kept_end : (all now next : Option (List ℕ)) (l : List ℕ) (number : ℕ) (text : List ℕ) → IsKeptKnown all now number text → TakesLine now next false l → IsTakenKnown all next text false (number - 1)
+kept_end None now next l number text h t = tt
 kept_end (Some all) None next l number text h t = absurd h
 kept_end (Some all) (Some now) None l number text h t = absurd t
 kept_end (Some all) (Some now) (Some next) l number text h t =
     let none : lines_of now ≡ [] = no_lines now (omega (arith, ap length t.0)) in
     let left : lines_of next ≡ [] = no_lines next (omega (arith, ap length t.1)) in
-    let k = rw none at h in (
-      sym (k.ahead ∙ ap (λ (ls : List (List ℕ)). lines_of text ++ ls) before_none ∙ append-nil (lines_of text)),
-      rw left (sym behind_none ∙ k.behind, omega (arith, k.count, k.at)),
-    )
+    let k = rw none at h in
+    let lines = k.ahead ∙ ap (λ (ls : List (List ℕ)). lines_of text ++ ls) before_none ∙ append-nil (lines_of text) in
+    rw left (record {
+      lines = sym lines;
+      ended = k.ended ∙ ap lines_text (sym lines);
+      rest_is = sym behind_none ∙ k.behind;
+      count = omega (arith, k.count, k.at);
+      marked = k.marks;
+    })
+
+-- the parts of that
+pub taken_lines : (all next : Option (List ℕ)) (text : List ℕ) (is_marked : Bool) (number : ℕ) → IsTakenKnown all next text is_marked number → IfSome all (λ bytes. lines_of text ≡ lines_before true (lines_of bytes))
+taken_lines None next text is_marked number h = tt
+taken_lines (Some all) None text is_marked number h = absurd h
+taken_lines (Some all) (Some rest) text is_marked number h = h.lines
+
+pub taken_ended : (all next : Option (List ℕ)) (text : List ℕ) (is_marked : Bool) (number : ℕ) → IsTakenKnown all next text is_marked number → IfSome all (λ bytes. text ≡ lines_text (lines_before true (lines_of bytes)))
+taken_ended None next text is_marked number h = tt
+taken_ended (Some all) None text is_marked number h = absurd h
+taken_ended (Some all) (Some rest) text is_marked number h = h.ended
+
+pub taken_part : (all next : Option (List ℕ)) (text : List ℕ) (is_marked : Bool) (number : ℕ) → IsTakenKnown all next text is_marked number → TakesPart true all next number
+taken_part None next text is_marked number h = tt
+taken_part (Some all) None text is_marked number h = absurd h
+taken_part (Some all) (Some rest) text is_marked number h = (h.rest_is, h.count)
+
+pub taken_marked : (all next : Option (List ℕ)) (text : List ℕ) (is_marked : Bool) (number : ℕ) → IsTakenKnown all next text is_marked number → IfSome all (λ bytes. is_marked ≡ has_mark (lines_of bytes))
+taken_marked None next text is_marked number h = tt
+taken_marked (Some all) None text is_marked number h = absurd h
+taken_marked (Some all) (Some rest) text is_marked number h = h.marked
 
 -- a fault of this line
-pub kept_broken : (all now : Option (List ℕ)) (number : ℕ) (text same : List ℕ) (fault : AsmFault) → IsKeptKnown all now number text → same ≡ text → fault.line ≡ number → (fault.kind ≡ Memory) ⊎ (fault.kind ≡ ReadFault)
-    → IfSome all (λ bytes. BreaksIn same (lines_before true (lines_of bytes)) fault)
-kept_broken None now number text same fault h is here cause = tt
-kept_broken (Some all) None number text same fault h is here cause = absurd h
-kept_broken (Some all) (Some now) number text same fault h is here cause = rw is (record { rest = lines_before true (lines_of now); all = h.ahead; number = here ∙ h.at; cause = cause })
+pub kept_broken : (unread : Bool) (all now : Option (List ℕ)) (number : ℕ) (text same : List ℕ) (fault : AsmFault) → IsKeptKnown all now number text → same ≡ text → fault.line ≡ number → (fault.kind ≡ Memory) ⊎ ((fault.kind ≡ ReadFault) × (unread ≡ true))
+    → IfSome all (λ bytes. BreaksIn unread same (lines_before true (lines_of bytes)) fault)
+kept_broken unread None now number text same fault h is here cause = tt
+kept_broken unread (Some all) None number text same fault h is here cause = absurd h
+kept_broken unread (Some all) (Some now) number text same fault h is here cause = rw is (record { rest = lines_before true (lines_of now); all = h.ahead; number = here ∙ h.at; cause = cause })
 
 -- what holds of a result that is no error
 pub on_ok : {T E P : Type 0} (r : Result T E) → is_err r ≡ false → OnOk r P → P

@@ -4,6 +4,10 @@ mod Told
 mod ToldPlans
 mod Inputs
 mod FaultLines
+mod KeptFaults
 mod Judged
 mod Keeping
-mod Sessions
+mod ListedSessions
+mod Taking
+mod Walking
+mod Refused

@@ -14,11 +14,11 @@ use Rattle.streams.specs.Outcomes.{Streams}
 use Rattle.ot_commands.specs.Debugged.{loop_status, Debugs, MayConverse, TellsStop}
 
 -- each line was answered
-pub converses : (schedule : Program) (before after : Session) (faulted : Bool) (input : Option (List ℕ)) (earlier : ℕ) (old new faults : Option (List ℕ)) (broken : Bool)
+pub converses : (schedule : Program) (before after : Session) (faulted : Bool) (input : Option (List ℕ)) (earlier : ℕ) (old new faults : Option (List ℕ)) (unread broken faults_broken : Bool)
     → before ≡ started schedule → LoopsToEnd before after faulted input old new
-    → IfSome input (λ rest. MayConverse schedule (lines_of rest) earlier (loop_status faulted) (record { output = old; output' = new; broken = broken; faults = faults; faults' = faults }))
-converses schedule before after faulted None earlier old new faults broken begun said = tt
-converses schedule before after faulted (Some rest) earlier old new faults broken begun said =
+    → IfSome input (λ rest. MayConverse unread schedule (lines_of rest) earlier (loop_status faulted) (record { output = old; output' = new; broken = broken; faults = faults; faults' = faults; faults_broken = faults_broken }))
+converses schedule before after faulted None earlier old new faults unread broken faults_broken begun said = tt
+converses schedule before after faulted (Some rest) earlier old new faults unread broken faults_broken begun said =
     inl (record {
       after = after;
       text = said.text;
@@ -28,12 +28,12 @@ converses schedule before after faulted (Some rest) earlier old new faults broke
     })
 
 -- the command loop broke off
-pub breaks_off : (schedule : Program) (before after : Session) (stop : LoopStop) (input left : Option (List ℕ)) (earlier : ℕ) (old new faults faults' : Option (List ℕ)) (broken : Bool)
-    → before ≡ started schedule → LoopsPart stop earlier before after input left old new → IsCaused stop broken → TellsStop stop faults faults'
-    → IfSome input (λ rest. MayConverse schedule (lines_of rest) earlier 1 (record { output = old; output' = new; broken = broken; faults = faults; faults' = faults' }))
-breaks_off schedule before after stop None left earlier old new faults faults' broken begun said cause tells = tt
-breaks_off schedule before after stop (Some rest) None earlier old new faults faults' broken begun said cause tells = absurd said.taken
-breaks_off schedule before after stop (Some rest) (Some behind) earlier old new faults faults' broken begun said cause tells =
+pub breaks_off : (schedule : Program) (before after : Session) (stop : LoopStop) (input left : Option (List ℕ)) (earlier : ℕ) (old new faults faults' : Option (List ℕ)) (unread broken faults_broken : Bool)
+    → before ≡ started schedule → LoopsPart stop earlier before after input left old new → IsCaused stop unread broken → TellsStop stop faults faults' faults_broken
+    → IfSome input (λ rest. MayConverse unread schedule (lines_of rest) earlier 1 (record { output = old; output' = new; broken = broken; faults = faults; faults' = faults'; faults_broken = faults_broken }))
+breaks_off schedule before after stop None left earlier old new faults faults' unread broken faults_broken begun said cause tells = tt
+breaks_off schedule before after stop (Some rest) None earlier old new faults faults' unread broken faults_broken begun said cause tells = absurd said.taken
+breaks_off schedule before after stop (Some rest) (Some behind) earlier old new faults faults' unread broken faults_broken begun said cause tells =
     inr (inl (record {
       stop = stop;
       answered = said.lines;
@@ -51,14 +51,14 @@ breaks_off schedule before after stop (Some rest) (Some behind) earlier old new 
     }))
 
 -- the lines before the mark, and the command loop behind it
-pub debugged : (held : List ℕ) (known rest : Option (List ℕ)) (schedule : Program) (taken status : ℕ) (streams : Streams) → held ≡ []
+pub debugged : (held : List ℕ) (known rest : Option (List ℕ)) (unread : Bool) (schedule : Program) (taken status : ℕ) (streams : Streams) → held ≡ []
     → TakesPart true (prepend_known held known) rest taken
     → IfSome (prepend_known held known) (λ text. outcome_of_lines (lines_before true (lines_of text)) ≡ Ok schedule)
-    → IfSome rest (λ behind. MayConverse schedule (lines_of behind) taken status streams)
-    → IfSome known (λ text. Debugs text status streams)
-debugged held None rest schedule taken status streams none part spelled looped = tt
-debugged held (Some text) None schedule taken status streams none part spelled looped = absurd part
-debugged held (Some text) (Some behind) schedule taken status streams none part spelled looped =
+    → IfSome rest (λ behind. MayConverse unread schedule (lines_of behind) taken status streams)
+    → IfSome known (λ text. Debugs unread text status streams)
+debugged held None rest unread schedule taken status streams none part spelled looped = tt
+debugged held (Some text) None unread schedule taken status streams none part spelled looped = absurd part
+debugged held (Some text) (Some behind) unread schedule taken status streams none part spelled looped =
     let here = rw none at part in
     let so_many : taken ≡ length (lines_of text) - length (lines_behind true (lines_of text)) = omega (arith, here.1, ap length here.0) in
     let spells = rw none at spelled in

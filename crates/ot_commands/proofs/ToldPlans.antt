@@ -10,12 +10,12 @@ use Rattle.ot_plan.specs.declared.fault.PlanFault.TheVariants as kind
 use Rattle.ot_commands.specs.ExplainedPlans.{ExplainsPlan, IsReasonOfBytes}
 use Rattle.ot_commands.specs.ExplainedTraces.{Tells}
 
-pub told : (input : Option (List ℕ)) (unread : Bool) (bytes read : List ℕ) (fault : PlanFault) (words : List ℕ) (output : Option (List ℕ)) (broken : Bool) (faults faults' : Option (List ℕ))
+pub told : (input : Option (List ℕ)) (unread : Bool) (bytes read : List ℕ) (fault : PlanFault) (words : List ℕ) (output : Option (List ℕ)) (broken : Bool) (faults faults' : Option (List ℕ)) (faults_broken : Bool)
     → IfSome input (λ text. bytes ≡ text) → read ≡ bytes → (fault ≢ kind.Memory → plan_of_bytes read ≡ Err fault) → (fault ≢ kind.Memory → IsReasonOfBytes read fault words)
-    → Tells (fault_line fault) words faults faults'
-    → IfSome input (λ text. ExplainsPlan unread text 1 (record { output = output; output' = output; broken = broken; faults = faults; faults' = faults' }))
-told None unread bytes read fault words output broken faults faults' is same named reason tells = tt
-told (Some text) unread bytes read fault words output broken faults faults' is same named reason tells =
+    → Tells (fault_line fault) words faults faults' faults_broken
+    → IfSome input (λ text. ExplainsPlan unread text 1 (record { output = output; output' = output; broken = broken; faults = faults; faults' = faults'; faults_broken = faults_broken }))
+told None unread bytes read fault words output broken faults faults' faults_broken is same named reason tells = tt
+told (Some text) unread bytes read fault words output broken faults faults' faults_broken is same named reason tells =
     let all : read ≡ text = same ∙ is in
     inr (inl (record {
       fault = fault;

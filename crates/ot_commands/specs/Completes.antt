@@ -6,7 +6,7 @@ use Rattle.ot_generate.specs.Completed.{IsCompletion, IsIncomplete}
 use Rattle.ot_generate.specs.declared.completing.Incomplete.{Incomplete}
 use Rattle.ot_generate.specs.declared.completing.Incomplete.TheVariants.{Refused, TooMany, Memory}
 use Rattle.ot_report.specs.Printed.{stop_line}
-use Rattle.streams.specs.Outcomes.{Streams, Gives, Refuses, OutOfMemory, memory_fault}
+use Rattle.streams.specs.Outcomes.{Streams, Gives, MayRefuse, OutOfMemory, memory_fault}
 
 -- the line of a schedule that is not completed
 abbrev pub incomplete_line : Incomplete → List ℕ
@@ -25,7 +25,7 @@ pub record GivesCompletion (schedule : Program) (status : ℕ) (streams : Stream
 pub record LeavesIncomplete (schedule : Program) (status : ℕ) (streams : Streams) : Type 0 where
   pub fault : Incomplete
   pub is_incomplete : IsIncomplete schedule fault
-  pub refuses : Refuses (incomplete_line fault) status streams
+  pub refuses : MayRefuse (incomplete_line fault) status streams
 
 -- the completion, or why there is none, or out of memory
 abbrev pub MayComplete : Program → ℕ → Streams → Type 0

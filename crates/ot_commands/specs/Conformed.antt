@@ -3,14 +3,15 @@ use Rattle.std.specs.Prelude.{◌≡◌, ◌⊎◌, ◌-◌, ℕ, Bool, true, Li
 use Rattle.std.specs.Io.KnownBytes.{Keeps}
 use Rattle.streams.specs.Lines.{lines_of}
 use Rattle.ot_isa.specs.Program.{Program}
+use Rattle.ot_asm.specs.declared.fault.AsmFault.{AsmFault}
 use Rattle.ot_asm.specs.declared.fault.Kind.TheVariants as kind
 use Rattle.ot_asm.specs.Parts.{lines_before, lines_behind}
 use Rattle.ot_asm.specs.Stepping.{outcome_of_lines}
 use Rattle.ot_asm.specs.Comments.{Said}
 use Rattle.ot_commands.specs.Answered.{IsTold, Session, session_of}
-use Rattle.ot_commands.specs.Faults.{RefusesLines, line_fault}
+use Rattle.ot_commands.specs.Faults.{RefusesLinesAs, line_fault}
 use Rattle.streams.specs.Outcomes.{Streams, Complains, Gives, OutOfMemory}
-use Rattle.ot_conform.specs.Compared.{IsVerdictOf, NamesKeys, StopsBehind, verdict_status}
+use Rattle.ot_conform.specs.Compared.{IsCaused, IsVerdictOf, NamesKeys, StopsBehind, verdict_status}
 use Rattle.ot_conform.specs.Ports.{counted_lines}
 use Rattle.ot_conform.specs.Unknown.{all_named}
 use Rattle.ot_conform.specs.declared.comparison.Verdict.{Verdict}
@@ -39,32 +40,33 @@ pub record Judges (sparse json : Bool) (session : Session) (lines : List (List �
   pub unknown : NamesKeys sparse session.schedule earlier lines compared.verdict (all_named compared.unknown.items)
   pub answers : Answers json session compared status streams
 
--- the line of a comparison that broke off
-abbrev pub TellsStop : CompareStop → Option (List ℕ) → Option (List ℕ) → Type 0
-TellsStop (ReadFault number) old new = Complains (line_fault (record { line = number; kind = kind.ReadFault })) old new
-TellsStop (Memory number) old new = Complains (line_fault (record { line = number; kind = kind.Memory })) old new
+-- the fault of a comparison that broke off
+abbrev pub stop_fault : CompareStop → AsmFault
+stop_fault (ReadFault number) = record { line = number; kind = kind.ReadFault }
+stop_fault (Memory number) = record { line = number; kind = kind.Memory }
 
--- a comparison that breaks off: the first lines agree, and the next one could not be read or compared. Nothing is on the output, and the
--- fault's line counts the lines before the port's too
-pub record BreaksOff (sparse : Bool) (schedule : Program) (lines : List (List ℕ)) (earlier : ℕ) (status : ℕ) (streams : Streams) : Type 0 where
+-- a comparison that breaks off: the first lines agree, and the next one could not be read, only where the input has failed (`unread`), or memory
+-- ran out for it. Nothing is on the output, and the fault's line counts the lines before the port's too
+pub record BreaksOff (sparse unread : Bool) (schedule : Program) (lines : List (List ℕ)) (earlier : ℕ) (status : ℕ) (streams : Streams) : Type 0 where
   pub stop : CompareStop
   pub behind : StopsBehind sparse schedule stop earlier lines
   pub silent : Keeps streams.output streams.output'
-  pub tells : TellsStop stop streams.faults streams.faults'
+  pub cause : IsCaused stop unread
+  pub tells : Complains (line_fault (stop_fault stop)) streams.faults streams.faults' streams.faults_broken
   pub status_is : status ≡ 1
 
 -- the verdict, a comparison that breaks off, or out of memory for the verdict's text
-abbrev pub MayJudge : Bool → Bool → Session → List (List ℕ) → ℕ → ℕ → Streams → Type 0
-MayJudge sparse json session lines earlier status streams =
-    Judges sparse json session lines earlier status streams ⊎ BreaksOff sparse session.schedule lines earlier status streams ⊎ OutOfMemory status streams
+abbrev pub MayJudge : Bool → Bool → Bool → Session → List (List ℕ) → ℕ → ℕ → Streams → Type 0
+MayJudge sparse json unread session lines earlier status streams =
+    Judges sparse json session lines earlier status streams ⊎ BreaksOff sparse unread session.schedule lines earlier status streams ⊎ OutOfMemory status streams
 
 -- how many lines stand before those behind the mark: the schedule's, and the mark
 abbrev pub lines_up_to_mark : List (List ℕ) → ℕ
 lines_up_to_mark lines = length lines - length (lines_behind true lines)
 
 -- the lines before the mark are a schedule, and those behind it are compared with its run; the schedule's comments name the clients
-abbrev pub Compares : Bool → Bool → List ℕ → ℕ → Streams → Type 0
-Compares sparse json text status streams =
-    RefusesLines (lines_before true (lines_of text)) status streams
+abbrev pub Compares : Bool → Bool → Bool → List ℕ → ℕ → Streams → Type 0
+Compares sparse json unread text status streams =
+    RefusesLinesAs json unread (lines_before true (lines_of text)) status streams
     ⊎ ((schedule : Program) × (outcome_of_lines (lines_before true (lines_of text)) ≡ Ok schedule)
-    × MayJudge sparse json (session_of (lines_before true (lines_of text)) schedule) (lines_behind true (lines_of text)) (lines_up_to_mark (lines_of text)) status streams)
+    × MayJudge sparse json unread (session_of (lines_before true (lines_of text)) schedule) (lines_behind true (lines_of text)) (lines_up_to_mark (lines_of text)) status streams)

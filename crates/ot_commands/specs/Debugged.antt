@@ -26,14 +26,14 @@ pub record Converses (schedule : Program) (lines : List (List ℕ)) (status : �
   pub gives : Gives (loop_status faulted) text status streams
 
 -- the fault's line of a command loop that breaks off; none where writing failed
-abbrev pub TellsStop : LoopStop → Option (List ℕ) → Option (List ℕ) → Type 0
-TellsStop (stop.ReadFault number) old new = Complains (line_fault (record { line = number; kind = line.ReadFault })) old new
-TellsStop (stop.Memory number) old new = Complains (line_fault (record { line = number; kind = line.Memory })) old new
-TellsStop stop.WriteFault old new = Keeps old new
+abbrev pub TellsStop : LoopStop → Option (List ℕ) → Option (List ℕ) → Bool → Type 0
+TellsStop (stop.ReadFault number) old new failed = Complains (line_fault (record { line = number; kind = line.ReadFault })) old new failed
+TellsStop (stop.Memory number) old new failed = Complains (line_fault (record { line = number; kind = line.Memory })) old new failed
+TellsStop stop.WriteFault old new failed = Keeps old new
 
--- a command loop that breaks off: the first lines are answered, and the next one could not be read, or, only where a write failed, a reply is not
--- written whole. The fault's line counts the lines before the commands too
-pub record BreaksOff (schedule : Program) (lines : List (List ℕ)) (earlier : ℕ) (status : ℕ) (streams : Streams) : Type 0 where
+-- a command loop that breaks off: the first lines are answered, and the next one could not be read, only where the input has failed (`unread`) or
+-- memory ran out; or, only where a write failed, a reply is not written whole. The fault's line counts the lines before the commands too
+pub record BreaksOff (unread : Bool) (schedule : Program) (lines : List (List ℕ)) (earlier : ℕ) (status : ℕ) (streams : Streams) : Type 0 where
   pub stop : LoopStop
   pub answered : List (List ℕ)
   pub left : List (List ℕ)
@@ -43,23 +43,23 @@ pub record BreaksOff (schedule : Program) (lines : List (List ℕ)) (earlier : �
   pub faulted : Bool
   pub loops : Loops (started schedule) answered after text faulted
   pub written : IsWritten stop streams.output streams.output' text
-  pub cause : IsCaused stop streams.broken
+  pub cause : IsCaused stop unread streams.broken
   pub number : IsNumber stop (earlier + length answered)
-  pub tells : TellsStop stop streams.faults streams.faults'
+  pub tells : TellsStop stop streams.faults streams.faults' streams.faults_broken
   pub status_is : status ≡ 1
 
 -- a command loop about the schedule, a first part of one, or out of memory
-abbrev pub MayConverse : Program → List (List ℕ) → ℕ → ℕ → Streams → Type 0
-MayConverse schedule lines earlier status streams =
-    Converses schedule lines status streams ⊎ BreaksOff schedule lines earlier status streams ⊎ OutOfMemory status streams
+abbrev pub MayConverse : Bool → Program → List (List ℕ) → ℕ → ℕ → Streams → Type 0
+MayConverse unread schedule lines earlier status streams =
+    Converses schedule lines status streams ⊎ BreaksOff unread schedule lines earlier status streams ⊎ OutOfMemory status streams
 
 -- how many lines stand before those behind the mark: the schedule's, and the mark
 abbrev pub lines_up_to_mark : List (List ℕ) → ℕ
 lines_up_to_mark lines = length lines - length (lines_behind true lines)
 
 -- the lines before the mark are a schedule, and those behind it are answered
-abbrev pub Debugs : List ℕ → ℕ → Streams → Type 0
-Debugs text status streams =
-    RefusesLines (lines_before true (lines_of text)) status streams
+abbrev pub Debugs : Bool → List ℕ → ℕ → Streams → Type 0
+Debugs unread text status streams =
+    RefusesLines unread (lines_before true (lines_of text)) status streams
     ⊎ ((schedule : Program) × (outcome_of_lines (lines_before true (lines_of text)) ≡ Ok schedule)
-    × MayConverse schedule (lines_behind true (lines_of text)) (lines_up_to_mark (lines_of text)) status streams)
+    × MayConverse unread schedule (lines_behind true (lines_of text)) (lines_up_to_mark (lines_of text)) status streams)

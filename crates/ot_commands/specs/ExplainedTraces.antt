@@ -2,7 +2,7 @@
 use Rattle.std.specs.Prelude.{◌≡◌, ◌≢◌, ◌⊎◌, ◌++◌, ℕ, List, Bool, true, Option, Ok, Err}
 use Rattle.std.specs.Io.KnownBytes.{Keeps}
 use Rattle.std.specs.Str.{is_utf8}
-use Rattle.streams.specs.Streams.{WritesPart}
+use Rattle.streams.specs.Streams.{Writes}
 use Rattle.streams.specs.Outcomes.{Streams, Gives, GivesUp, OutOfMemory}
 use Rattle.ot_judge.specs.declared.fault.TraceFault.{TraceFault}
 use Rattle.ot_judge.specs.declared.fault.TraceFault.TheVariants as kind
@@ -18,11 +18,11 @@ use Rattle.ot_commands.specs.Judged.{trace_fault, trace_of_bytes, verdict_status
 abbrev pub IsReasonOfBytes : List ℕ → TraceFault → List ℕ → Type 0
 IsReasonOfBytes bytes fault words = is_utf8 bytes ≡ true → IsReason bytes fault words
 
--- the fault's line, and behind it the words, each as far as it could be written
-pub record Tells (line words : List ℕ) (old new : Option (List ℕ)) : Type 0 where
+-- the fault's line, and behind it the words
+pub record Tells (line words : List ℕ) (old new : Option (List ℕ)) (failed : Bool) : Type 0 where
   pub told : Option (List ℕ)
-  pub first : WritesPart old told line
-  pub behind : WritesPart told new words
+  pub first : Writes old told failed line
+  pub behind : Writes told new failed words
 
 -- an input that is no trace: nothing on the output; on the faults the fault's line, and the words that say where it is. A fault other than Memory is
 -- the input's
@@ -33,7 +33,7 @@ pub record TellsFault (bytes : List ℕ) (status : ℕ) (streams : Streams) : Ty
   pub reason : fault ≢ kind.Memory → IsReasonOfBytes bytes fault words
   pub status_is : status ≡ 1
   pub output : Keeps streams.output streams.output'
-  pub tells : Tells (trace_fault fault) words streams.faults streams.faults'
+  pub tells : Tells (trace_fault fault) words streams.faults streams.faults' streams.faults_broken
 
 -- the verdict of the trace, as `judge` prints it, and below it its words
 pub record TellsVerdict (trace : TraceView) (status : ℕ) (streams : Streams) : Type 0 where

@@ -1,12 +1,14 @@
 -- What `explain` writes and answers.
-use Rattle.std.specs.Prelude.{◌≡◌, ◌⊎◌, ℕ, List, Bool, true, Option, Ok, if◌then◌else◌}
+use Rattle.std.specs.Prelude.{◌≡◌, ◌⊎◌, ℕ, List, Bool, true, false, Option, Ok, if◌then◌else◌}
 use Rattle.std.specs.Io.KnownBytes.{Keeps}
-use Rattle.streams.specs.Streams.{WritesPart}
+use Rattle.streams.specs.Streams.{Writes}
 use Rattle.streams.specs.Lines.{lines_of}
-use Rattle.streams.specs.Outcomes.{Complains, GivesUp, Streams, memory_fault}
+use Rattle.streams.specs.Outcomes.{Complains, GivesUp, Says, Streams, memory_fault}
 use Rattle.ot_asm.specs.Stepping.{outcome}
 use Rattle.ot_asm.specs.declared.fault.AsmFault.{AsmFault}
 use Rattle.ot_commands.specs.Faults.{IsLineFault, line_fault}
+use Rattle.ot_faults.specs.Faults.{Fault, IsFault, is_of_text}
+use Rattle.ot_faults.specs.Words.{fault_words}
 use Rattle.ot_isa.specs.Program.{Program}
 use Rattle.ot_asm.specs.Comments.{Said, comments_of}
 use Rattle.ot_explain.specs.Explained.{WritesFirst, WritesPartOfRun, WritesRun}
@@ -31,26 +33,31 @@ BreaksOff lines said schedule status streams =
 -- memory ran out: whole paragraphs, and on the faults that it was
 abbrev pub OutOfMemory : List ℕ → Said → Program → ℕ → Streams → Type 0
 OutOfMemory lines said schedule status streams =
-    (status ≡ 1) × WritesFirst lines said schedule streams.output streams.output' × WritesPart streams.faults streams.faults' memory_fault
+    (status ≡ 1) × WritesFirst lines said schedule streams.output streams.output' × Says memory_fault streams
 
 abbrev pub MayExplain : List ℕ → Said → Program → ℕ → Streams → Type 0
 MayExplain lines said schedule status streams =
     WritesWords lines said schedule status streams ⊎ BreaksOff lines said schedule status streams ⊎ OutOfMemory lines said schedule status streams
 
--- the fault's line, as far as it could be written, and behind it some words
-pub record Tells (line : List ℕ) (old new : Option (List ℕ)) : Type 0 where
-  pub told : Option (List ℕ)
-  pub words : List ℕ
-  pub complains : Complains line old told
-  pub behind : WritesPart told new words
+-- of a fault of these lines where it stands, what stands there and what is wanted; of another one nothing. Either as far as memory lasts
+abbrev pub AddsWords : Bool → List (List ℕ) → AsmFault → Option (List ℕ) → Option (List ℕ) → Bool → Type 0
+AddsWords false lines fault told new failed = (new ≡ told) ⊎ Writes told new failed memory_fault
+AddsWords true lines fault told new failed =
+    ((f : Fault) × (note : List ℕ) × IsFault lines fault f × Complains (fault_words f note) told new failed) ⊎ Writes told new failed memory_fault
 
--- a text that is refused: nothing on the output; on the faults the fault's line and words about its cause
+-- the fault's line, and behind it these words
+pub record Tells (lines : List (List ℕ)) (fault : AsmFault) (old new : Option (List ℕ)) (failed : Bool) : Type 0 where
+  pub told : Option (List ℕ)
+  pub line : Complains (line_fault fault) old told failed
+  pub behind : AddsWords (is_of_text fault.kind) lines fault told new failed
+
+-- a text that is refused, which was read: nothing on the output; on the faults the fault's line, and where it stands
 pub record Refuses (text : List ℕ) (status : ℕ) (streams : Streams) : Type 0 where
   pub fault : AsmFault
-  pub is_fault : IsLineFault (lines_of text) fault
+  pub is_fault : IsLineFault false (lines_of text) fault
   pub status_is : status ≡ 1
   pub output : Keeps streams.output streams.output'
-  pub tells : Tells (line_fault fault) streams.faults streams.faults'
+  pub tells : Tells (lines_of text) fault streams.faults streams.faults' streams.faults_broken
 
 -- the text is refused, or it spells a schedule, which is explained
 abbrev pub ExplainsText : List ℕ → ℕ → Streams → Type 0

@@ -22,15 +22,15 @@ abbrev pub image_words : List ℕ → ImageFault → Option (List ℕ)
 image_words bytes fault = words_of_kind bytes fault.kind
 
 -- the words, or if memory runs out, the line that says so; where there are none nothing is written
-abbrev pub Adds : Option (List ℕ) → Option (List ℕ) → Option (List ℕ) → Type 0
-Adds None old new = new ≡ old
-Adds (Some words) old new = Complains words old new
+abbrev pub Adds : Option (List ℕ) → Option (List ℕ) → Option (List ℕ) → Bool → Type 0
+Adds None old new failed = new ≡ old
+Adds (Some words) old new failed = Complains words old new failed
 
--- the fault's line, and behind it the words, each as far as it could be written
-pub record TellsImage (bytes : List ℕ) (fault : ImageFault) (old new : Option (List ℕ)) : Type 0 where
+-- the fault's line, and behind it the words
+pub record TellsImage (bytes : List ℕ) (fault : ImageFault) (old new : Option (List ℕ)) (failed : Bool) : Type 0 where
   pub told : Option (List ℕ)
-  pub line : Complains (byte_fault fault) old told
-  pub words : Adds (image_words bytes fault) told new
+  pub line : Complains (byte_fault fault) old told failed
+  pub words : Adds (image_words bytes fault) told new failed
 
 -- bytes that are no image, or out of memory at a field before the fault: nothing on the output; on the faults the fault's line and its words
 pub record RefusesImage (bytes : List ℕ) (status : ℕ) (streams : Streams) : Type 0 where
@@ -38,7 +38,7 @@ pub record RefusesImage (bytes : List ℕ) (status : ℕ) (streams : Streams) : 
   pub is_fault : (image_of bytes ≡ Err fault) ⊎ IsWant bytes fault
   pub status_is : status ≡ 1
   pub output : Keeps streams.output streams.output'
-  pub tells : TellsImage bytes fault streams.faults streams.faults'
+  pub tells : TellsImage bytes fault streams.faults streams.faults' streams.faults_broken
 
 -- the schedule's canonical text is explained, or memory for it ran out
 abbrev pub ExplainsCanonical : Program → ℕ → Streams → Type 0

@@ -2,6 +2,7 @@ pub mod Checked
 pub mod Completes
 pub mod Converted
 pub mod Debugged
+pub mod ExplainedOutlooks
 pub mod ExplainedPlans
 pub mod ExplainedTraces
 pub mod Explains
@@ -16,3 +17,5 @@ pub mod Inputs
 pub mod Part
 pub mod Answered
 pub mod Conformed
+pub mod Sessions
+pub mod Many

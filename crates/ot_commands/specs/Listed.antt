@@ -9,7 +9,7 @@ use Rattle.ot_every.specs.Listing.{Space}
 use Rattle.ot_every.specs.Parts.{PartView, sessions_in}
 use Rattle.ot_every.specs.Printed.{reads, schedule_of}
 use Rattle.streams.specs.Streams.{WritesPart}
-use Rattle.streams.specs.Outcomes.{Streams, Gives, OutOfMemory, memory_fault}
+use Rattle.streams.specs.Outcomes.{Streams, Gives, OutOfMemory, Says, memory_fault}
 use Rattle.ot_commands.specs.declared.listing.Printer.{Printer}
 
 -- the canonical text of a session with its reads, and behind it a line `%%`
@@ -29,7 +29,7 @@ WritesFirst space part broken old new =
 -- memory ran out on the way
 abbrev pub StopsBetween : Space → PartView → ℕ → Streams → Type 0
 StopsBetween space part status streams =
-    (status ≡ 1) × WritesFirst space part streams.broken streams.output streams.output' × WritesPart streams.faults streams.faults' memory_fault
+    (status ≡ 1) × WritesFirst space part streams.broken streams.output streams.output' × Says memory_fault streams
 
 -- each session of the part, in order; or memory ran out on the way
 abbrev pub Lists : Space → PartView → ℕ → Streams → Type 0

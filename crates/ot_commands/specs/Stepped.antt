@@ -1,8 +1,7 @@
 -- What `steps` writes and answers.
 use Rattle.std.specs.Prelude.{◌≡◌, ◌⊎◌, ℕ, List, Bool, true, if◌then◌else◌}
 use Rattle.std.specs.Io.KnownBytes.{Keeps}
-use Rattle.streams.specs.Streams.{WritesPart}
-use Rattle.streams.specs.Outcomes.{Streams, memory_fault}
+use Rattle.streams.specs.Outcomes.{Streams, Says, memory_fault}
 use Rattle.ot_commands.specs.Inputs.{OfText}
 use Rattle.ot_isa.specs.Program.{Program}
 use Rattle.ot_steps.specs.Written.{WritesFirstLines, WritesPartOfRun, WritesRun}
@@ -26,12 +25,12 @@ BreaksOff documents schedule status streams =
 -- memory ran out: the first lines, and on the faults that it was
 abbrev pub OutOfMemory : Bool → Program → ℕ → Streams → Type 0
 OutOfMemory documents schedule status streams =
-    (status ≡ 1) × WritesFirstLines documents schedule streams.output streams.output' × WritesPart streams.faults streams.faults' memory_fault
+    (status ≡ 1) × WritesFirstLines documents schedule streams.output streams.output' × Says memory_fault streams
 
 abbrev pub MayStep : Bool → Program → ℕ → Streams → Type 0
 MayStep documents schedule status streams =
     WritesSteps documents schedule status streams ⊎ BreaksOff documents schedule status streams ⊎ OutOfMemory documents schedule status streams
 
 -- the text is refused, or it spells a schedule, of which the lines are written
-abbrev pub Steps : Bool → List ℕ → ℕ → Streams → Type 0
-Steps documents text status streams = OfText (MayStep documents) text status streams
+abbrev pub Steps : Bool → Bool → List ℕ → ℕ → Streams → Type 0
+Steps documents unread text status streams = OfText (MayStep documents) unread text status streams

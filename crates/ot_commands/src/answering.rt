@@ -40,8 +40,12 @@ fn with_names(
     Ok(bytes)
 }
 
-// These lines, behind them the unknown keys, and what tells of the cut.
-fn answer_words(alloc: Global, comments: &Comments, answer: &Answer) -> Result<Vec<u8>, AllocError>
+/// These lines, behind them the unknown keys, and what tells of the cut.
+pub(crate) fn answer_words(
+    alloc: Global,
+    comments: &Comments,
+    answer: &Answer,
+) -> Result<Vec<u8>, AllocError>
     ensures { IfOk result (λ v. v.items ≡ answer_words comments.now (answer_value answer.now)) }
 {
     let text = print_verdict(alloc, answer)?;
@@ -81,8 +85,8 @@ fn line_member(
     number_member(alloc, "line", line)
 }
 
-// Words of a comment, which are UTF-8.
-fn words_member(alloc: Global, name: &str, words: &[u8]) -> Result<String, AllocError>
+/// Words of a comment, or of a schedule, which are UTF-8.
+pub(crate) fn words_member(alloc: Global, name: &str, words: &[u8]) -> Result<String, AllocError>
     ensures { IfOk result (λ s. string_bytes s ≡ words_member name.now words.now) }
 {
     match read_text(words) {
@@ -128,8 +132,8 @@ fn cut_member(alloc: Global, comments: &Comments) -> Result<String, AllocError>
     }
 }
 
-// The members of the object, of a schedule whose instructions stand at these lines.
-fn answer_members(
+/// The members of the object, of a schedule whose instructions stand at these lines.
+pub(crate) fn answer_members(
     alloc: Global,
     places: &[u64],
     comments: &Comments,

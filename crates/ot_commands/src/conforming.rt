@@ -16,38 +16,29 @@ ghost use Rattle.streams.specs.Lines.{lines_of};
 ghost use Rattle.streams.specs.Taken.{before};
 ghost use Rattle.ot_conform.specs.Compared.{verdict_status};
 ghost use Rattle.ot_commands.specs.Answered.{session_value};
-ghost use Rattle.ot_commands.specs.Conformed.{Compares, MayJudge, MayWrite, TellsStop, answer_status};
+ghost use Rattle.ot_commands.specs.Conformed.{Compares, MayJudge, MayWrite, answer_status, stop_fault};
 
 use crate::answering::{Session, answer_text};
-use crate::faults::complain_of_line;
+use crate::faults::{complain_of_line, tell_fault};
 use crate::part::read_part;
 use ot_asm::{AsmFault, Comments, Kind, comments_of};
 use ot_conform::{CompareStop, Compared, Verdict, compare_lines};
 use std::alloc::Global;
-use std::io::{Read, Write};
-use streams::{ReadAhead, Sink, complain_of_memory, give};
+use streams::{ReadAhead, Sink, Source, complain_of_memory, give};
 
-// Writes why a comparison broke off.
-fn complain_of_stop<F: Write>(alloc: Global, stop: CompareStop, faults: &mut F)
-    ensures { TellsStop stop (F.contents faults.old) (F.contents faults.new) }
+/// Why a comparison broke off, as the fault of a line.
+pub(crate) fn stop_fault(stop: CompareStop) -> AsmFault
+    ensures { result ≡ stop_fault stop }
 {
     match stop {
-        CompareStop::ReadFault(line) => complain_of_line(
-            alloc,
-            AsmFault {
-                line,
-                kind: Kind::ReadFault,
-            },
-            faults,
-        ),
-        CompareStop::Memory(line) => complain_of_line(
-            alloc,
-            AsmFault {
-                line,
-                kind: Kind::Memory,
-            },
-            faults,
-        ),
+        CompareStop::ReadFault(line) => AsmFault {
+            line,
+            kind: Kind::ReadFault,
+        },
+        CompareStop::Memory(line) => AsmFault {
+            line,
+            kind: Kind::Memory,
+        },
     }
 }
 
@@ -62,8 +53,8 @@ fn verdict_status(verdict: &Verdict) -> u8
     }
 }
 
-// The status of a verdict on a schedule whose comments tell this.
-fn answer_status(comments: &Comments, verdict: &Verdict) -> u8
+/// The status of a verdict on a schedule whose comments tell this.
+pub(crate) fn answer_status(comments: &Comments, verdict: &Verdict) -> u8
     ensures { result ≡ answer_status comments.now verdict.now }
 {
     if comments.is_cut() {
@@ -74,7 +65,7 @@ fn answer_status(comments: &Comments, verdict: &Verdict) -> u8
 }
 
 // Writes what came of comparing lines for the session's schedule.
-fn write_verdict<O: Sink, F: Write>(
+fn write_verdict<O: Sink, F: Sink>(
     alloc: Global,
     json: bool,
     session: &Session<'_>,
@@ -82,7 +73,7 @@ fn write_verdict<O: Sink, F: Write>(
     output: &mut O,
     faults: &mut F,
 ) -> u8
-    ensures { MayWrite json (session_value session.now) compared result (record { output = O.contents output.old; output' = O.contents output.new; broken = O.failed output.new; faults = F.contents faults.old; faults' = F.contents faults.new }) }
+    ensures { MayWrite json (session_value session.now) compared result (record { output = O.contents output.old; output' = O.contents output.new; broken = O.failed output.new; faults = F.contents faults.old; faults' = F.contents faults.new; faults_broken = F.failed faults.new }) }
 {
     let status = answer_status(session.comments, &compared.verdict);
     match answer_text(alloc, json, session, compared) {
@@ -95,7 +86,7 @@ fn write_verdict<O: Sink, F: Write>(
 }
 
 // Compares the lines that are left with the session's run. So many lines stand before them.
-fn judge<I: Read, O: Sink, F: Write>(
+fn judge<I: Source, O: Sink, F: Sink>(
     alloc: Global,
     sparse: bool,
     json: bool,
@@ -106,12 +97,12 @@ fn judge<I: Read, O: Sink, F: Write>(
     output: &mut O,
     faults: &mut F,
 ) -> u8
-    ensures { IfSome (before ahead.old (I.remaining input.old)) (λ rest. MayJudge sparse json (session_value session.now) (lines_of rest) earlier result (record { output = O.contents output.old; output' = O.contents output.new; broken = O.failed output.new; faults = F.contents faults.old; faults' = F.contents faults.new })) }
+    ensures { IfSome (before ahead.old (I.remaining input.old)) (λ rest. MayJudge sparse json (I.failed input.new) (session_value session.now) (lines_of rest) earlier result (record { output = O.contents output.old; output' = O.contents output.new; broken = O.failed output.new; faults = F.contents faults.old; faults' = F.contents faults.new; faults_broken = F.failed faults.new })) }
 {
     match compare_lines(alloc, session.schedule, sparse, ahead, input, earlier) {
         Ok(compared) => write_verdict(alloc, json, session, compared, output, faults),
         Err(stop) => {
-            complain_of_stop(alloc, stop, faults);
+            complain_of_line(alloc, stop_fault(stop), faults);
             1
         }
     }
@@ -120,10 +111,10 @@ fn judge<I: Read, O: Sink, F: Write>(
 /// Reads a schedule's lines as far as the first line `%%`, compares the port's lines behind it with the schedule's run as they come, writes
 /// the answer with the unknown keys of these lines, in words or as one line of `json`, and gives the status. Where it is `sparse`,
 /// instructions without a line are passed over. The answer has the names that the schedule's comments give the clients, and says where the
-/// schedule is cut. The status is 0 where the port conforms; 1 where
+/// schedule is cut. The fault of a refused schedule is a line on the faults, and with `json` one of JSON on the output too. The status is 0 where the port conforms; 1 where
 /// it differs, where nothing but places and clients is compared, where the schedule is cut, where nothing can be compared for a limit of the bench, for a refused
 /// schedule, and for a fault of reading, writing or memory.
-pub fn run_conform<I: Read, O: Sink, F: Write>(
+pub fn run_conform<I: Source, O: Sink, F: Sink>(
     alloc: Global,
     sparse: bool,
     json: bool,
@@ -131,7 +122,7 @@ pub fn run_conform<I: Read, O: Sink, F: Write>(
     output: &mut O,
     faults: &mut F,
 ) -> u8
-    ensures { IfSome (I.remaining input.old) (λ text. Compares sparse json text result (record { output = O.contents output.old; output' = O.contents output.new; broken = O.failed output.new; faults = F.contents faults.old; faults' = F.contents faults.new })) }
+    ensures { IfSome (I.remaining input.old) (λ text. Compares sparse json (I.failed input.new) text result (record { output = O.contents output.old; output' = O.contents output.new; broken = O.failed output.new; faults = F.contents faults.old; faults' = F.contents faults.new; faults_broken = F.failed faults.new })) }
 {
     let mut ahead = ReadAhead::new();
     let mut text = Vec::new(alloc);
@@ -150,9 +141,6 @@ pub fn run_conform<I: Read, O: Sink, F: Write>(
                 alloc, sparse, json, &session, taken, &mut ahead, input, output, faults,
             )
         }
-        Err(fault) => {
-            complain_of_line(alloc, fault, faults);
-            1
-        }
+        Err(fault) => tell_fault(alloc, json, text.as_slice(), fault, output, faults),
     }
 }

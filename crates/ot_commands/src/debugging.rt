@@ -11,12 +11,11 @@ use ot_console::{LoopStop, command_loop};
 use ot_debug::Stepper;
 use ot_isa::Schedule;
 use std::alloc::Global;
-use std::io::{Read, Write};
-use streams::{ReadAhead, Sink, complain_of_memory};
+use streams::{ReadAhead, Sink, Source, complain_of_memory};
 
 // Writes why the command loop broke off.
-fn complain_of_stop<F: Write>(alloc: Global, stop: LoopStop, faults: &mut F)
-    ensures { TellsStop stop (F.contents faults.old) (F.contents faults.new) }
+fn complain_of_stop<F: Sink>(alloc: Global, stop: LoopStop, faults: &mut F)
+    ensures { TellsStop stop (F.contents faults.old) (F.contents faults.new) (F.failed faults.new) }
 {
     match stop {
         LoopStop::ReadFault(line) => complain_of_line(
@@ -47,7 +46,7 @@ fn loop_status(faulted: bool) -> u8
 }
 
 // Answers the commands that are left, from the schedule's opening on. So many lines stand before them.
-fn converse<I: Read, O: Sink, F: Write>(
+fn converse<I: Source, O: Sink, F: Sink>(
     alloc: Global,
     schedule: Schedule,
     earlier: u64,
@@ -56,7 +55,7 @@ fn converse<I: Read, O: Sink, F: Write>(
     output: &mut O,
     faults: &mut F,
 ) -> u8
-    ensures { IfSome (before ahead.old (I.remaining input.old)) (λ rest. MayConverse schedule (lines_of rest) earlier result (record { output = O.contents output.old; output' = O.contents output.new; broken = O.failed output.new; faults = F.contents faults.old; faults' = F.contents faults.new })) }
+    ensures { IfSome (before ahead.old (I.remaining input.old)) (λ rest. MayConverse (I.failed input.new) schedule (lines_of rest) earlier result (record { output = O.contents output.old; output' = O.contents output.new; broken = O.failed output.new; faults = F.contents faults.old; faults' = F.contents faults.new; faults_broken = F.failed faults.new })) }
 {
     let Ok(mut debugger) = Stepper::new(alloc, schedule) else {
         complain_of_memory(faults);
@@ -72,13 +71,13 @@ fn converse<I: Read, O: Sink, F: Write>(
 }
 
 /// Reads a schedule's lines as far as the first line `%%`, and answers each command behind it as it is read.
-pub fn debug_text<I: Read, O: Sink, F: Write>(
+pub fn debug_text<I: Source, O: Sink, F: Sink>(
     alloc: Global,
     input: &mut I,
     output: &mut O,
     faults: &mut F,
 ) -> u8
-    ensures { IfSome (I.remaining input.old) (λ text. Debugs text result (record { output = O.contents output.old; output' = O.contents output.new; broken = O.failed output.new; faults = F.contents faults.old; faults' = F.contents faults.new })) }
+    ensures { IfSome (I.remaining input.old) (λ text. Debugs (I.failed input.new) text result (record { output = O.contents output.old; output' = O.contents output.new; broken = O.failed output.new; faults = F.contents faults.old; faults' = F.contents faults.new; faults_broken = F.failed faults.new })) }
 {
     let mut ahead = ReadAhead::new();
     match assemble_until_mark(alloc, &mut ahead, input) {

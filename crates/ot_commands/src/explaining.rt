@@ -14,7 +14,6 @@ use ot_judge::{Trace, Verdict, judge};
 use ot_reasons::{Reason, no_text, read_or_tell};
 use ot_report::{print_verdict, print_words};
 use std::alloc::{AllocError, Global};
-use std::io::Write;
 use streams::{Sink, Source, complain, complain_of_input, complain_of_memory, give};
 
 // The trace that the bytes are, or why there is none.
@@ -30,8 +29,8 @@ fn trace_or_reason(alloc: Global, bytes: &[u8]) -> Result<Trace, Reason>
 }
 
 // Writes the line of a fault, and behind it the words.
-fn tell<F: Write>(reason: &Reason, faults: &mut F)
-    ensures { Tells (trace_fault reason.now.fault) (string_bytes reason.now.words) (F.contents faults.old) (F.contents faults.new) }
+fn tell<F: Sink>(reason: &Reason, faults: &mut F)
+    ensures { Tells (trace_fault reason.now.fault) (string_bytes reason.now.words) (F.contents faults.old) (F.contents faults.new) (F.failed faults.new) }
 {
     complain(faults, fault_line(reason.fault));
     complain(faults, reason.words.as_str());
@@ -49,13 +48,13 @@ fn verdict_text(alloc: Global, trace: &Trace, verdict: Verdict) -> Result<String
 }
 
 // Judges the trace, and prints the verdict with its words.
-fn tell_verdict<O: Sink, F: Write>(
+fn tell_verdict<O: Sink, F: Sink>(
     alloc: Global,
     trace: &Trace,
     output: &mut O,
     faults: &mut F,
 ) -> u8
-    ensures { MayTellVerdict trace.now result (record { output = O.contents output.old; output' = O.contents output.new; broken = O.failed output.new; faults = F.contents faults.old; faults' = F.contents faults.new }) }
+    ensures { MayTellVerdict trace.now result (record { output = O.contents output.old; output' = O.contents output.new; broken = O.failed output.new; faults = F.contents faults.old; faults' = F.contents faults.new; faults_broken = F.failed faults.new }) }
 {
     let Ok(verdict) = judge(alloc, trace) else {
         complain_of_memory(faults);
@@ -71,13 +70,13 @@ fn tell_verdict<O: Sink, F: Write>(
 /// Judges the trace that is the input, as `judge_input` does, and writes below the verdict's line its words: which events, which elements,
 /// and what each list has. Of an input that is no trace it writes the fault's line, and below it a line of
 /// words: where the first fault is, what stands there and what is wanted.
-pub fn explain_trace<I: Source, O: Sink, F: Write>(
+pub fn explain_trace<I: Source, O: Sink, F: Sink>(
     alloc: Global,
     input: &mut I,
     output: &mut O,
     faults: &mut F,
 ) -> u8
-    ensures { IfSome (I.remaining input.old) (λ bytes. ExplainsTrace (I.failed input.new) bytes result (record { output = O.contents output.old; output' = O.contents output.new; broken = O.failed output.new; faults = F.contents faults.old; faults' = F.contents faults.new })) }
+    ensures { IfSome (I.remaining input.old) (λ bytes. ExplainsTrace (I.failed input.new) bytes result (record { output = O.contents output.old; output' = O.contents output.new; broken = O.failed output.new; faults = F.contents faults.old; faults' = F.contents faults.new; faults_broken = F.failed faults.new })) }
 {
     let bytes = match input.read_whole(alloc) {
         Ok(bytes) => bytes,

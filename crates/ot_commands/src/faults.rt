@@ -1,16 +1,18 @@
 //! Faults of texts and images as they are printed.
 
-ghost use Rattle.std.specs.Prelude.{◌≡◌, IfOk, string_bytes};
-ghost use Rattle.ot_commands.specs.Faults.{byte_fault, byte_kind, line_fault, line_kind};
+ghost use Rattle.std.specs.Prelude.{◌≡◌, true, IfOk, string_bytes};
+ghost use Rattle.ot_commands.specs.Faults.{AnswersFault, IsFaultJson, TellsFault, byte_fault, byte_kind, fault_json, line_fault, line_kind};
+ghost use Rattle.streams.specs.Lines.{lines_of};
 ghost use Rattle.streams.specs.Outcomes.{Complains};
 
 use ot_asm::AsmFault;
+use ot_faults::{fault_members, line_fault};
 use ot_image::ImageFault;
 use std::alloc::{AllocError, Global};
-use std::io::Write;
-use streams::{complain, complain_of_memory};
+use streams::{Sink, complain, complain_of_memory, give};
 
-fn line_name(kind: ot_asm::Kind) -> &'static str
+/// The name of a fault of a text as it is printed.
+pub(crate) fn line_name(kind: ot_asm::Kind) -> &'static str
     ensures { result.now ≡ line_kind kind }
 {
     match kind {
@@ -63,8 +65,9 @@ fn byte_text(alloc: Global, fault: ImageFault) -> Result<String, AllocError>
 }
 
 /// Writes the fault of a text.
-pub fn complain_of_line<F: Write>(alloc: Global, fault: AsmFault, faults: &mut F)
-    ensures { Complains (line_fault fault) (F.contents faults.old) (F.contents faults.new) }
+pub fn complain_of_line<F: Sink>(alloc: Global, fault: AsmFault, faults: &mut F)
+    ensures line { Complains (line_fault fault) (F.contents faults.old) (F.contents faults.new) (F.failed faults.new) }
+    ensures failed { F.failed faults.old ≡ true → F.failed faults.new ≡ true }
 {
     match line_text(alloc, fault) {
         Ok(text) => complain(faults, text.as_str()),
@@ -72,9 +75,70 @@ pub fn complain_of_line<F: Write>(alloc: Global, fault: AsmFault, faults: &mut F
     }
 }
 
+// The members of the fault's JSON behind its name.
+fn members(alloc: Global, text: &[u8], fault: AsmFault) -> Result<String, AllocError>
+    ensures { IfOk result (λ s. IsFaultJson (lines_of text.now) fault (fault_json fault (string_bytes s))) }
+{
+    match line_fault(alloc, text, fault)? {
+        Some(found) => fault_members(alloc, &found),
+        None => {
+            let line = fault.line;
+            format!(in alloc; "\"line\":{line}")
+        }
+    }
+}
+
+// The fault of a text as a line of JSON.
+fn fault_json(alloc: Global, text: &[u8], fault: AsmFault) -> Result<String, AllocError>
+    ensures { IfOk result (λ s. IsFaultJson (lines_of text.now) fault (string_bytes s)) }
+{
+    let members = members(alloc, text, fault)?;
+    let name = line_name(fault.kind);
+    format!(in alloc; "{{\"fault\":\"{name}\",{members}}}\n")
+}
+
+/// Writes the fault of a text, and on the output as JSON where it stands, what stands there and what is wanted. Answers the status, which is 1.
+pub fn answer_fault<O: Sink, F: Sink>(
+    alloc: Global,
+    text: &[u8],
+    fault: AsmFault,
+    output: &mut O,
+    faults: &mut F,
+) -> u8
+    ensures { AnswersFault (lines_of text.now) fault result (record { output = O.contents output.old; output' = O.contents output.new; broken = O.failed output.new; faults = F.contents faults.old; faults' = F.contents faults.new; faults_broken = F.failed faults.new }) }
+{
+    complain_of_line(alloc, fault, faults);
+    match fault_json(alloc, text, fault) {
+        Ok(json) => give(json.as_bytes(), 1, output),
+        Err(_) => {
+            complain_of_memory(faults);
+            1
+        }
+    }
+}
+
+/// Writes the fault of a text, with `json` as JSON on the output too. Answers the status, which is 1.
+pub fn tell_fault<O: Sink, F: Sink>(
+    alloc: Global,
+    json: bool,
+    text: &[u8],
+    fault: AsmFault,
+    output: &mut O,
+    faults: &mut F,
+) -> u8
+    ensures { TellsFault json (lines_of text.now) fault result (record { output = O.contents output.old; output' = O.contents output.new; broken = O.failed output.new; faults = F.contents faults.old; faults' = F.contents faults.new; faults_broken = F.failed faults.new }) }
+{
+    if json {
+        return answer_fault(alloc, text, fault, output, faults);
+    }
+    complain_of_line(alloc, fault, faults);
+    1
+}
+
 /// Writes the fault of an image.
-pub fn complain_of_byte<F: Write>(alloc: Global, fault: ImageFault, faults: &mut F)
-    ensures { Complains (byte_fault fault) (F.contents faults.old) (F.contents faults.new) }
+pub fn complain_of_byte<F: Sink>(alloc: Global, fault: ImageFault, faults: &mut F)
+    ensures line { Complains (byte_fault fault) (F.contents faults.old) (F.contents faults.new) (F.failed faults.new) }
+    ensures failed { F.failed faults.old ≡ true → F.failed faults.new ≡ true }
 {
     match byte_text(alloc, fault) {
         Ok(text) => complain(faults, text.as_str()),

@@ -8,7 +8,6 @@ use ot_asm::read_text;
 use ot_judge::{Trace, TraceFault, Verdict, judge, read_trace};
 use ot_report::verdict_text;
 use std::alloc::Global;
-use std::io::Write;
 use streams::{Sink, Source, complain, complain_of_input, complain_of_memory, give};
 
 /// The status of a verdict.
@@ -49,14 +48,14 @@ fn trace_in(alloc: Global, bytes: &[u8]) -> Result<Trace, TraceFault>
 }
 
 // Judges the trace and prints the verdict, in words or as JSON.
-fn give_verdict<O: Sink, F: Write>(
+fn give_verdict<O: Sink, F: Sink>(
     alloc: Global,
     json: bool,
     trace: &Trace,
     output: &mut O,
     faults: &mut F,
 ) -> u8
-    ensures { MayGiveVerdict json trace.now result (record { output = O.contents output.old; output' = O.contents output.new; broken = O.failed output.new; faults = F.contents faults.old; faults' = F.contents faults.new }) }
+    ensures { MayGiveVerdict json trace.now result (record { output = O.contents output.old; output' = O.contents output.new; broken = O.failed output.new; faults = F.contents faults.old; faults' = F.contents faults.new; faults_broken = F.failed faults.new }) }
 {
     let Ok(verdict) = judge(alloc, trace) else {
         complain_of_memory(faults);
@@ -70,14 +69,14 @@ fn give_verdict<O: Sink, F: Write>(
 }
 
 /// Judges the trace that is the input, and prints the verdict, in words or as a line of `json`.
-pub fn judge_input<I: Source, O: Sink, F: Write>(
+pub fn judge_input<I: Source, O: Sink, F: Sink>(
     alloc: Global,
     json: bool,
     input: &mut I,
     output: &mut O,
     faults: &mut F,
 ) -> u8
-    ensures { IfSome (I.remaining input.old) (λ bytes. Judges json (I.failed input.new) bytes result (record { output = O.contents output.old; output' = O.contents output.new; broken = O.failed output.new; faults = F.contents faults.old; faults' = F.contents faults.new })) }
+    ensures { IfSome (I.remaining input.old) (λ bytes. Judges json (I.failed input.new) bytes result (record { output = O.contents output.old; output' = O.contents output.new; broken = O.failed output.new; faults = F.contents faults.old; faults' = F.contents faults.new; faults_broken = F.failed faults.new })) }
 {
     let bytes = match input.read_whole(alloc) {
         Ok(bytes) => bytes,

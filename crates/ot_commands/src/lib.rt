@@ -4,6 +4,7 @@
 //!    running      run: a schedule's reads, stop and end
 //!    stepping     steps: a run as lines of JSON
 //!    telling      explain: a run in words, of a text or an image
+//!    outlook      explain --json: the verdict on where a run ends
 //!    checking     check: a run's stop, whether all is quiet or what is not, the verdict of its trace
 //!    debugging    debug: back and forth through a run, by commands
 //!    converting   asm, dis: between a schedule's text and its image
@@ -15,10 +16,11 @@
 //!    completing   complete: a schedule, and behind it what brings its run to quiet
 //!    conforming   conform: the lines that a port of ot.js printed, against the run of the schedule that it performed
 //!    answering    its answer, in words or as JSON
+//!    many         conform --many: the same of many sessions; sessions takes them from the input
 //! ```
 //!
-//! Each call answers the program's status, and says by its clause what it writes: `specs/` has a file for each module (`Ran`, `Stepped`, `Explains`, `ExplainsImages`, `Checked`,
-//! `Debugged`, `Converted`, `Judged`, `ExplainedTraces`, `ExplainedPlans`, `Generated`, `Listed`, `Completes`, `Conformed`, `Answered`), over the outcomes of `streams`. Begin with [`run_text`].
+//! Each call answers the program's status, and says by its clause what it writes: `specs/` has a file for each module (`Ran`, `Stepped`, `Explains`, `ExplainsImages`, `ExplainedOutlooks`, `Checked`,
+//! `Debugged`, `Converted`, `Judged`, `ExplainedTraces`, `ExplainedPlans`, `Generated`, `Listed`, `Completes`, `Conformed`, `Answered`, `Many`, `Sessions`), over the outcomes of `streams`. Begin with [`run_text`].
 //!
 //! A schedule as the input, and its fault as a line:
 //!
@@ -44,8 +46,11 @@ mod faults;
 mod generating;
 mod judging;
 mod listing;
+mod many;
+mod outlook;
 mod part;
 mod running;
+mod sessions;
 mod stepping;
 mod telling;
 
@@ -59,6 +64,8 @@ pub use explaining::explain_trace;
 pub use generating::generate_session;
 pub use judging::judge_input;
 pub use listing::{count_sessions, list_sessions};
+pub use many::run_conform_many;
+pub use outlook::explain_outlook;
 pub use running::{run_image, run_text};
 pub use stepping::run_steps;
 pub use telling::{run_explain, run_explain_image};

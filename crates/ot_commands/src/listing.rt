@@ -20,7 +20,6 @@ use ot_asm::{disassemble, push_instr};
 use ot_every::{Part, Space, Stop, Visitor, visit_part};
 use ot_isa::{Builder, Instr, OpeningFault};
 use std::alloc::{AllocError, Global};
-use std::io::Write;
 use streams::{Sink, complain_of_memory, give};
 
 // Writes each session, between what stands before its instructions and what stands behind them.
@@ -119,14 +118,14 @@ fn print_sessions<O: Sink>(
 
 /// Writes each session of the part, in order, as its canonical text with the reads at its end, and behind each a line `%%`. The status is 0; 1 where writing failed, after
 /// a first part of this text, or memory ran out, after the first sessions.
-pub fn list_sessions<O: Sink, F: Write>(
+pub fn list_sessions<O: Sink, F: Sink>(
     alloc: Global,
     space: &Space,
     part: &Part,
     output: &mut O,
     faults: &mut F,
 ) -> u8
-    ensures { Lists space.now part.now result (record { output = O.contents output.old; output' = O.contents output.new; broken = O.failed output.new; faults = F.contents faults.old; faults' = F.contents faults.new }) }
+    ensures { Lists space.now part.now result (record { output = O.contents output.old; output' = O.contents output.new; broken = O.failed output.new; faults = F.contents faults.old; faults' = F.contents faults.new; faults_broken = F.failed faults.new }) }
 {
     match print_sessions(alloc, space, part, output) {
         Ok(()) => 0,
@@ -180,14 +179,14 @@ fn count_line(alloc: Global, space: &Space, part: &Part) -> Result<String, Alloc
 }
 
 /// Writes how many sessions the part has, and a line end.
-pub fn count_sessions<O: Sink, F: Write>(
+pub fn count_sessions<O: Sink, F: Sink>(
     alloc: Global,
     space: &Space,
     part: &Part,
     output: &mut O,
     faults: &mut F,
 ) -> u8
-    ensures { Counts space.now part.now result (record { output = O.contents output.old; output' = O.contents output.new; broken = O.failed output.new; faults = F.contents faults.old; faults' = F.contents faults.new }) }
+    ensures { Counts space.now part.now result (record { output = O.contents output.old; output' = O.contents output.new; broken = O.failed output.new; faults = F.contents faults.old; faults' = F.contents faults.new; faults_broken = F.failed faults.new }) }
 {
     match count_line(alloc, space, part) {
         Ok(line) => give(line.as_bytes(), 0, output),

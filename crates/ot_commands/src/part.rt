@@ -1,18 +1,25 @@
 //! The lines of a schedule before the line `%%`, kept as a text.
 
-ghost use Rattle.std.specs.Prelude.{◌≡◌, ◌++◌, ◌∷◌, [], ℕ, true, List, Ok, IfErr, IfOk, IfSome, OnErr, OnOk};
+ghost use Rattle.std.specs.Prelude.{◌≡◌, ◌≤◌, ◌+◌, ◌++◌, ◌∷◌, [], ℕ, Bool, true, List, Ok, IfErr, IfOk, IfSome, OnErr, OnOk};
 ghost use Rattle.streams.specs.Lines.{lines_of};
-ghost use Rattle.streams.specs.Taken.{before};
+ghost use Rattle.streams.specs.Taken.{before, may_take};
+ghost use Rattle.ot_asm.specs.Canonical.{lines_text};
 ghost use Rattle.ot_asm.specs.Parts.{TakesPart, is_mark, lines_before};
 ghost use Rattle.ot_asm.specs.Stepping.{outcome_of_lines};
 ghost use Rattle.ot_commands.specs.Faults.{IsLineFault};
-ghost use Rattle.ot_commands.specs.Part.{BreaksIn};
+ghost use Rattle.ot_commands.specs.Part.{BreaksIn, HasFaultIn, has_mark};
 
-use ot_asm::{AsmFault, Kind, assemble_from, trimmed};
+use ot_asm::{AsmFault, Kind, assemble_bytes, trimmed};
 use ot_isa::Schedule;
 use std::alloc::{AllocError, Global};
-use std::io::Read;
-use streams::{LineFault, ReadAhead};
+use streams::{LineFault, ReadAhead, Source};
+
+/// How many lines were taken, and whether the last of them is a mark.
+#[derive(Clone, Copy, Debug, PartialEq, Eq)]
+pub(crate) struct TakenPart {
+    pub lines: u64,
+    pub is_marked: bool,
+}
 
 fn is_mark(line: &[u8]) -> bool
     ensures { result ≡ is_mark line.now }
@@ -30,27 +37,36 @@ fn keep_line(text: &mut Vec<u8>, line: &mut Vec<u8>) -> Result<(), AllocError>
     Ok(())
 }
 
-// Takes the lines as far as the first mark, and keeps those before it as a text. Says how many lines were taken, the mark among them. After a
-// fault the text has the lines before that of the fault.
-fn keep_part<R: Read>(
+/// Takes the lines as far as the first mark, and keeps those before it as a text, each with its end. Says how many lines were taken, the mark among them.
+/// After a fault the text has the lines before that of the fault.
+pub(crate) fn keep_part<R: Source>(
     alloc: Global,
     ahead: &mut ReadAhead,
     input: &mut R,
     text: &mut Vec<u8>,
-) -> Result<u64, AsmFault>
+) -> Result<TakenPart, AsmFault>
     ensures ok { OnOk result (IfSome (before ahead.old (R.remaining input.old)) (λ all. lines_of text.new.items ≡ lines_before true (lines_of all))) }
-    ensures part { IfOk result (λ taken. TakesPart true (before ahead.old (R.remaining input.old)) (before ahead.new (R.remaining input.new)) taken) }
-    ensures err { IfErr result (λ f. IfSome (before ahead.old (R.remaining input.old)) (λ all. BreaksIn text.new.items (lines_before true (lines_of all)) f)) }
+    ensures err { IfErr result (λ f. IfSome (before ahead.old (R.remaining input.old)) (λ all. BreaksIn (R.failed input.new) text.new.items (lines_before true (lines_of all)) f)) }
+    ensures ended { OnOk result (IfSome (before ahead.old (R.remaining input.old)) (λ all. text.new.items ≡ lines_text (lines_before true (lines_of all)))) }
+    ensures part { IfOk result (λ taken. TakesPart true (before ahead.old (R.remaining input.old)) (before ahead.new (R.remaining input.new)) taken.lines) }
+    ensures marked { IfOk result (λ taken. IfSome (before ahead.old (R.remaining input.old)) (λ all. taken.is_marked ≡ has_mark (lines_of all))) }
+    ensures few { IfOk result (λ taken. taken.lines ≤ may_take ahead.old (R.left input.old)) }
+    ensures spent { IfOk result (λ taken. taken.is_marked ≡ true → taken.lines + may_take ahead.new (R.left input.new) ≤ may_take ahead.old (R.left input.old)) }
 {
-    // For the proof: the invariant of every reader.
-    let _most = ahead.may_take();
+    // For the proof: its bound.
+    let _most = ahead.may_take(input);
     let mut line = Vec::new(alloc);
     let mut number = 1;
     text.clear();
     loop {
         match ahead.next_line(input, &mut line) {
             Ok(true) => {}
-            Ok(false) => return Ok(number - 1),
+            Ok(false) => {
+                return Ok(TakenPart {
+                    lines: number - 1,
+                    is_marked: false,
+                });
+            }
             Err(LineFault::ReadFault) => {
                 return Err(AsmFault {
                     line: number,
@@ -65,7 +81,10 @@ fn keep_part<R: Read>(
             }
         }
         if is_mark(line.as_slice()) {
-            return Ok(number);
+            return Ok(TakenPart {
+                lines: number,
+                is_marked: true,
+            });
         }
         if keep_line(text, &mut line).is_err() {
             return Err(AsmFault {
@@ -79,18 +98,18 @@ fn keep_part<R: Read>(
 
 // The first fault of lines that could not be taken further: that of a line before, or why.
 fn first_fault(alloc: Global, text: &[u8], stop: AsmFault) -> AsmFault
-    ensures { (lines : List (List ℕ)) → BreaksIn text.now lines stop → IsLineFault lines result }
+    ensures fault { (unread : Bool) → (lines : List (List ℕ)) → BreaksIn unread text.now lines stop → IsLineFault unread lines result }
+    ensures kept { (unread : Bool) → (lines : List (List ℕ)) → BreaksIn unread text.now lines stop → HasFaultIn (lines_of text.now) lines result }
 {
-    let mut rest = text;
-    match assemble_from(alloc, &mut rest) {
+    match assemble_bytes(alloc, text) {
         Ok(_schedule) => stop,
         Err(fault) => { if fault.line < stop.line { fault } else { stop } }
     }
 }
 
 /// The schedule of the lines as far as the first mark, and how many lines were taken; the text gets the lines before the mark. Or the fault of
-/// the first faulty line.
-pub(crate) fn read_part<R: Read>(
+/// the first faulty line, which the text has, unless that line could not be kept or read.
+pub(crate) fn read_part<R: Source>(
     alloc: Global,
     ahead: &mut ReadAhead,
     input: &mut R,
@@ -99,13 +118,13 @@ pub(crate) fn read_part<R: Read>(
     ensures ok { IfOk result (λ p. IfSome (before ahead.old (R.remaining input.old)) (λ all. outcome_of_lines (lines_before true (lines_of all)) ≡ Ok p.0)) }
     ensures text { OnOk result (IfSome (before ahead.old (R.remaining input.old)) (λ all. lines_of text.new.items ≡ lines_before true (lines_of all))) }
     ensures part { IfOk result (λ p. TakesPart true (before ahead.old (R.remaining input.old)) (before ahead.new (R.remaining input.new)) p.1) }
-    ensures err { IfErr result (λ f. IfSome (before ahead.old (R.remaining input.old)) (λ all. IsLineFault (lines_before true (lines_of all)) f)) }
+    ensures err { IfErr result (λ f. IfSome (before ahead.old (R.remaining input.old)) (λ all. IsLineFault (R.failed input.new) (lines_before true (lines_of all)) f)) }
+    ensures kept { IfErr result (λ f. IfSome (before ahead.old (R.remaining input.old)) (λ all. HasFaultIn (lines_of text.new.items) (lines_before true (lines_of all)) f)) }
 {
     match keep_part(alloc, ahead, input, text) {
         Ok(taken) => {
-            let mut rest = text.as_slice();
-            match assemble_from(alloc, &mut rest) {
-                Ok(schedule) => Ok((schedule, taken)),
+            match assemble_bytes(alloc, text.as_slice()) {
+                Ok(schedule) => Ok((schedule, taken.lines)),
                 Err(fault) => Err(fault),
             }
         }

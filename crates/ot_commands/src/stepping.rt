@@ -13,18 +13,17 @@ use ot_asm::assemble_from;
 use ot_isa::Schedule;
 use ot_steps::{StepsFault, print_steps};
 use std::alloc::Global;
-use std::io::{Read, Write};
-use streams::{Sink, complain_of_memory};
+use streams::{Sink, Source, complain_of_memory};
 
 // Writes the lines of the schedule's run.
-fn write_steps<O: Sink, F: Write>(
+fn write_steps<O: Sink, F: Sink>(
     alloc: Global,
     documents: bool,
     schedule: &Schedule,
     output: &mut O,
     faults: &mut F,
 ) -> u8
-    ensures { MayStep documents schedule.now result (record { output = O.contents output.old; output' = O.contents output.new; broken = O.failed output.new; faults = F.contents faults.old; faults' = F.contents faults.new }) }
+    ensures { MayStep documents schedule.now result (record { output = O.contents output.old; output' = O.contents output.new; broken = O.failed output.new; faults = F.contents faults.old; faults' = F.contents faults.new; faults_broken = F.failed faults.new }) }
 {
     match print_steps(alloc, schedule, documents, output) {
         Ok(true) => 1,
@@ -40,14 +39,14 @@ fn write_steps<O: Sink, F: Write>(
 /// Writes the run of the schedule whose text is the input as lines of JSON, with `documents` the document of each client that moved, and
 /// answers the status: 0 where all instructions were performed; 1 where one was not, for a refused text (its fault's line on the faults,
 /// nothing on the output), and for a fault of reading, writing or memory.
-pub fn run_steps<I: Read, O: Sink, F: Write>(
+pub fn run_steps<I: Source, O: Sink, F: Sink>(
     alloc: Global,
     documents: bool,
     input: &mut I,
     output: &mut O,
     faults: &mut F,
 ) -> u8
-    ensures { IfSome (I.remaining input.old) (λ text. Steps documents text result (record { output = O.contents output.old; output' = O.contents output.new; broken = O.failed output.new; faults = F.contents faults.old; faults' = F.contents faults.new })) }
+    ensures { IfSome (I.remaining input.old) (λ text. Steps documents (I.failed input.new) text result (record { output = O.contents output.old; output' = O.contents output.new; broken = O.failed output.new; faults = F.contents faults.old; faults' = F.contents faults.new; faults_broken = F.failed faults.new })) }
 {
     match assemble_from(alloc, input) {
         Ok(schedule) => write_steps(alloc, documents, &schedule, output, faults),

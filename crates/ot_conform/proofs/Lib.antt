@@ -1,5 +1,6 @@
 pub mod Plain
 pub mod Places
+pub mod Summing
 pub mod FirstKey
 pub mod Outcomes
 pub mod Fronts

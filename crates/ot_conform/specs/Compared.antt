@@ -1,5 +1,5 @@
 -- What comes of comparing the lines of an input.
-use Rattle.std.specs.Prelude.{◌≡◌, ◌⊎◌, ◌+◌, ◌-◌, ◌^◌, min, ℕ, Bool, false, List, [], ◌∷◌, ◌++◌, length, take, if◌then◌else◌}
+use Rattle.std.specs.Prelude.{◌≡◌, ◌⊎◌, ◌+◌, ◌-◌, ◌^◌, min, ℕ, ⊤, Bool, true, false, List, [], ◌∷◌, ◌++◌, length, take, if◌then◌else◌}
 use Rattle.ot_isa.specs.Program.{Program}
 use Rattle.ot_model.specs.declared.shown.Refusal.{Refusal}
 use Rattle.ot_model.specs.declared.shown.Refusal.TheVariants.{Memory}
@@ -46,6 +46,11 @@ IsVerdictOf sparse s lines (Stopped place refusal) = (outcome sparse s lines ≡
 abbrev pub IsNumber : CompareStop → ℕ → Type 0
 IsNumber (stop.ReadFault number) compared = number ≡ min (compared + 1) (2 ^ 64 - 1)
 IsNumber (stop.Memory number) compared = number ≡ min (compared + 1) (2 ^ 64 - 1)
+
+-- ReadFault is said only where the input has failed, as it says itself
+abbrev pub IsCaused : CompareStop → Bool → Type 0
+IsCaused (stop.ReadFault number) unread = unread ≡ true
+IsCaused (stop.Memory number) unread = ⊤
 
 -- the first of these lines agree with those that are due, and behind them the comparison stopped. Its number counts these lines and those
 -- before the comparison

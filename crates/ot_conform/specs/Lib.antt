@@ -14,4 +14,5 @@ pub mod Standing
 pub mod Compared
 pub mod Ruled
 pub mod Json
+pub mod Summed
 pub mod Laws

@@ -2,6 +2,7 @@
 
 ghost use Rattle.std.specs.Prelude.{◌≡◌};
 ghost use Rattle.ot_conform.specs.Counted.{has, one_more, says_more, shows_nothing};
+ghost use Rattle.ot_conform.specs.Summed.{both_values};
 ghost use Rattle.ot_steps.specs.Held.{IsHeld, printed_of};
 
 use crate::keys::tells;
@@ -47,6 +48,16 @@ fn says_more(key: Key) -> bool
     !matches!(key, Key::Client)
 }
 
+// Those of two sessions together.
+fn together(mut counts: [u64; 15], others: &[u64; 15]) -> [u64; 15]
+    ensures { result ≡ both_values counts others.now }
+{
+    for (place, count) in others.iter().enumerate() {
+        counts[place] = counts[place].saturating_add(*count);
+    }
+    counts
+}
+
 // Whether a key's count shows nothing.
 fn shows_nothing(key: Key, count: u64) -> bool
     ensures { result ≡ shows_nothing key count }
@@ -66,6 +77,7 @@ impl Counts {
     ghost use Rattle.std.specs.Prelude.{◌≡◌};
     ghost use Rattle.serde_json.specs.View.{view};
     ghost use Rattle.ot_conform.specs.Counted.{is_nothing, no_counts, with_line, with_printed};
+    ghost use Rattle.ot_conform.specs.Summed.{both_counts};
     ghost use Rattle.ot_steps.specs.Held.{IsHeld, printed_of};
 
     /// Nothing was compared yet.
@@ -94,6 +106,15 @@ impl Counts {
             self.values[place] = one_more(has(line, *key, documents), self.values[place]);
         }
         self
+    }
+
+    /// With those of another session.
+    pub fn plus(self, other: &Counts) -> Counts
+        ensures { result ≡ both_counts self other.now }
+    {
+        Counts {
+            values: together(self.values, &other.values),
+        }
     }
 
     /// Whether no value is counted but clients: a port that printed places and clients alone, whose lines agree and show nothing.

@@ -31,6 +31,7 @@
 //!   lines with places, clients and messages alone always are. [`messages_conform`]: a port that conforms does so too where it prints the messages.
 //! - *A comparison under way* (`specs/Standing.antt`, `specs/Compared.antt`): [`Comparison`] is a machine that goes along; no run is kept
 //!   whole, so memory is bounded by a line. [`compare_lines`] compares the lines of a reader as they come.
+//! - *Many sessions* (`specs/Summed.antt`): [`Sum`] is what was compared of those that conform.
 //!
 //! Begin reading at `over` and `outcome` in specs/Differences.antt, then at [`Comparison`].
 #![tactic(auto)]
@@ -54,6 +55,7 @@ mod reading;
 mod received;
 mod ruling;
 mod same_bytes;
+mod summed;
 mod unknown;
 
 pub use answer::{Answer, answer_of};
@@ -75,4 +77,5 @@ pub use members::{
 pub use printing::{print_counts, print_verdict};
 pub use reading::{CompareStop, Compared, compare_lines};
 pub use received::Received;
+pub use summed::{Sum, print_sum, sum_members};
 pub use unknown::{Part, UnknownKey, print_unknown};

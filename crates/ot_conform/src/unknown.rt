@@ -4,6 +4,7 @@ ghost use Rattle.std.specs.Prelude.{◌≡◌, ◌++◌, IfOk, OnOk, string_byte
 ghost use Rattle.std.specs.Option.{option_map};
 ghost use Rattle.serde_json.specs.View.{members_view, view};
 ghost use Rattle.ot_conform.specs.Read.{read_as};
+ghost use Rattle.ot_conform.specs.Summed.{with_keys};
 ghost use Rattle.ot_conform.specs.Unknown.{all_named, are_word_bytes, front_of, is_known, is_named, is_of, is_part_name, is_word_byte, named_of, shown_key, unknown_row, unknown_rows, unless_known, with_key, with_members, with_object, with_unknown};
 
 use crate::answers::quoted;
@@ -90,6 +91,21 @@ fn name_key(keys: &mut Vec<UnknownKey>, key: String, line: u64) -> Result<(), Al
         return Ok(());
     }
     keys.push(UnknownKey { key, line })?;
+    Ok(())
+}
+
+/// Names these keys too. After out of memory some of them may be named.
+pub(crate) fn join_keys(
+    alloc: Global,
+    keys: &mut Vec<UnknownKey>,
+    more: &[UnknownKey],
+) -> Result<(), AllocError>
+    ensures { OnOk result (all_named keys.new.items ≡ with_keys (all_named more.now) (all_named keys.old.items)) }
+{
+    for named in more {
+        let key = String::from_str(alloc, named.key.as_str())?;
+        name_key(keys, key, named.line)?;
+    }
     Ok(())
 }
 

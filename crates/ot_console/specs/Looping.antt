@@ -70,11 +70,11 @@ IsWritten (stop.ReadFault number) old new text = Appends old new text
 IsWritten (stop.Memory number) old new text = Appends old new text
 IsWritten stop.WriteFault old new text = WritesPart old new text
 
--- WriteFault is said only where a write has failed, as the writer says itself
-abbrev pub IsCaused : LoopStop → Bool → Type 0
-IsCaused (stop.ReadFault number) failed = ⊤
-IsCaused (stop.Memory number) failed = ⊤
-IsCaused stop.WriteFault failed = failed ≡ true
+-- ReadFault is said only where the input has failed (`unread`), and WriteFault only where a write has, as these say themselves
+abbrev pub IsCaused : LoopStop → Bool → Bool → Type 0
+IsCaused (stop.ReadFault number) unread broken = unread ≡ true
+IsCaused (stop.Memory number) unread broken = ⊤
+IsCaused stop.WriteFault unread broken = broken ≡ true
 
 abbrev pub IsReadFault : LoopStop → Type 0
 IsReadFault (stop.ReadFault number) = Unit {0}

@@ -8,8 +8,7 @@ ghost use Rattle.ot_console.specs.Looping.{IsCaused, IsReadFault, LoopsToEnd, Lo
 use crate::turns::respond;
 use ot_debug::Stepper;
 use std::alloc::Global;
-use std::io::Read;
-use streams::{LineFault, ReadAhead, Sink, WriteFault};
+use streams::{LineFault, ReadAhead, Sink, Source, WriteFault};
 
 /// Why a command loop stopped before the end of its lines.
 #[derive(Clone, Copy, Debug, PartialEq, Eq)]
@@ -45,9 +44,9 @@ fn answer<W: Sink>(
 ///
 /// `earlier` lines stand before these; the number of a line where the loop stops counts them too, and is at most
 /// `u64::MAX`. The lines before that one were answered, and what they were answered with is written. Where writing
-/// failed (and only there, as the writer says itself), a first part is written of what the lines, the last one that was taken included, were answered with. In each
-/// case the debugger is as the answered lines leave it.
-pub fn command_loop<R: Read, W: Sink>(
+/// failed, a first part is written of what the lines, the last one that was taken included, were answered with. In each
+/// case the debugger is as the answered lines leave it. `ReadFault` and `WriteFault` are said only where reader and writer say themselves that they have failed.
+pub fn command_loop<R: Source, W: Sink>(
     alloc: Global,
     debugger: &mut Stepper,
     ahead: &mut ReadAhead,
@@ -58,11 +57,11 @@ pub fn command_loop<R: Read, W: Sink>(
     ensures ok { IfOk result (λ faulted. LoopsToEnd debugger.old debugger.new faulted (before ahead.old (R.remaining reader.old)) (W.contents writer.old) (W.contents writer.new)) }
     ensures end { OnOk result (IsAtEnd (before ahead.new (R.remaining reader.new))) }
     ensures err { IfErr result (λ stop. LoopsPart stop earlier debugger.old debugger.new (before ahead.old (R.remaining reader.old)) (before ahead.new (R.remaining reader.new)) (W.contents writer.old) (W.contents writer.new)) }
-    ensures cause { IfErr result (λ stop. IsCaused stop (W.failed writer.new)) }
+    ensures cause { IfErr result (λ stop. IsCaused stop (R.failed reader.new) (W.failed writer.new)) }
     ensures read_fault { IfErr result (λ stop. IsReadFault stop → ahead.new.held ≡ []) }
 {
-    // For the proof: the invariant of every reader.
-    let _most = ahead.may_take();
+    // For the proof: its bound.
+    let _most = ahead.may_take(reader);
     let mut line = Vec::new(alloc);
     let mut taken = 0u64;
     let mut faulted = false;

@@ -2,7 +2,7 @@
 use Rattle.std.proofs.Common.{◌≡◌, ℕ, zero, suc, ◌+◌, ◌-◌, ◌≤◌, ◌≢◌, List, [], ◌∷◌, ◌++◌, length, map, refl, sym, ap, ◌∙◌, subst, arith, inl, inr}
 use Rattle.std.specs.Prelude.{◌⊎◌}
 use Rattle.std.proofs.lemmas.Bool.{cases_eq}
-use Rattle.ot_operation.specs.Operation.{Item, Old, New, Operation, RisesFrom}
+use Rattle.ot_operation.specs.Operation.{Item, Old, New, Operation, IsOperation, RisesFrom}
 use Rattle.ot_operation.specs.Run.{Run, Keep, Add, Skip, with_keep, with_new, with_skip, normal_runs_from}
 use Rattle.ot_every.specs.Forms.{with_insertion, images, forms, inserted_texts, insertions}
 use Rattle.ot_every.proofs.Lists.{IsIn, in_left, in_right, in_cases, in_map, map_cases, Pairwise, pairwise_append, pairwise_map, pairwise_weaker}
@@ -194,6 +194,38 @@ forms_listed x text most count op h =
     let later : (m : ℕ) (im : List (Item ℕ)) → IsIn im (images (x ∷ text) 0 count m) → IsListed (x ∷ text) 0 count m im = λ m im k. subst (λ (n : ℕ). IsListed (x ∷ text) 0 n m im) (omega arith) (images_listed x text 0 count m im k) in
     let l = with_insertion_listed x text 0 count 0 (images (x ∷ text) 0 count) most later (images_start (x ∷ text) 0 count) r.0 r.1 in
     subst (λ (o : Operation ℕ). (o.base ≡ count) × IsListed (x ∷ text) 0 count most o.image) (sym r.2) (refl, l)
+
+-- ---- each is an operation
+
+insertion_rises : (text : List ℕ) (low base : ℕ) (following : ℕ → List (List (Item ℕ))) (most : ℕ) → ((m : ℕ) (image : List (Item ℕ)) → IsIn image (following m) → RisesFrom low base image)
+    → (image : List (Item ℕ)) → IsIn image (with_insertion text following most) → RisesFrom low base image
+insertion_rises text low base following zero rises image h = rises 0 image h
+insertion_rises text low base following (suc most) rises image h = elim (in_cases image (following (suc most)) _ h) [
+  | inl without ↦ rises (suc most) image without
+  | inr inserted ↦
+      let r = map_cases (λ later. map New text ++ later) image (following most) inserted in
+      subst (RisesFrom low base) (sym r.2) (rises_behind text low base r.0 (rises most r.0 r.1))
+]
+
+images_rise : (text : List ℕ) (from count most : ℕ) (image : List (Item ℕ)) → IsIn image (images text from count most) → RisesFrom from (from + count) image
+images_rise text from zero most image (inl e) = subst (RisesFrom from (from + 0)) (sym e) tt
+images_rise text from zero most image (inr h) = absurd h
+images_rise text from (suc count) most image h =
+    let following = images text (suc from) count in
+    let end : suc from + count ≡ from + suc count = omega arith in
+    let later : (m : ℕ) (im : List (Item ℕ)) → IsIn im (following m) → RisesFrom (suc from) (from + suc count) im = λ m im k. subst (λ (n : ℕ). RisesFrom (suc from) n im) end (images_rise text (suc from) count m im k) in
+    elim (in_cases image (map (λ im. Old from ∷ im) (with_insertion text following most)) (following most) h) [
+      | inl kept ↦
+          let r = map_cases (λ im. Old from ∷ im) image (with_insertion text following most) kept in
+          subst (RisesFrom from (from + suc count)) (sym r.2) (omega arith, omega arith, insertion_rises text (suc from) (from + suc count) following most later r.0 r.1)
+      | inr deleted ↦ rises_from from (from + suc count) image (later most image deleted)
+    ]
+
+pub forms_rise : (text : List ℕ) (most count : ℕ) (op : Operation ℕ) → IsIn op (forms text most count) → IsOperation op
+forms_rise text most count op h =
+    let r = map_cases (λ image. record { base = count; image = image }) op (with_insertion text (images text 0 count) most) h in
+    let later : (m : ℕ) (im : List (Item ℕ)) → IsIn im (images text 0 count m) → RisesFrom 0 count im = λ m im k. subst (λ (n : ℕ). RisesFrom 0 n im) (omega arith) (images_rise text 0 count m im k) in
+    subst (λ (o : Operation ℕ). IsOperation o) (sym r.2) (insertion_rises text 0 count (images text 0 count) most later r.0 r.1)
 
 -- ---- all of them
 

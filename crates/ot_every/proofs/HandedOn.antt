@@ -13,7 +13,7 @@ module _ {V O : Type 0} (visits stops : V → O → List Instr → V → O → T
   abbrev pub stops_in : Parting V → O → List Instr → Parting V → O → Type 0
   stops_in v o is w q = StopsOn stops v.left v.visitor o is w.visitor q
 
-  -- a session is handed on or left out, and then each so manieth of the others is handed on
+  -- a session is handed on or left out, and then one of each so many of the others is handed on
   handed : (v u w : Parting V) (o p q : O) (x : List Instr) (xs : List (List Instr)) (left : ℕ) → HandsOn visits v.between left v.visitor o x u.between u.left u.visitor p
       → Visits visits u.visitor p (each_from u.between u.left xs) w.visitor q → Visits visits v.visitor o (each_from v.between left (x ∷ xs)) w.visitor q
   handed v u w o p q x xs zero (between, left, visited) rest =
@@ -25,7 +25,7 @@ module _ {V O : Type 0} (visits stops : V → O → List Instr → V → O → T
       let d : Visits visits v.visitor p (each_from v.between n xs) w.visitor q = subst (λ (y : V). Visits visits y p (each_from v.between n xs) w.visitor q) visitor b in
       subst (λ (y : O). Visits visits v.visitor y (each_from v.between n xs) w.visitor q) output d
 
-  -- what is handed on of the sessions are each so manieth of them
+  -- what is handed on of the sessions is one of each so many of them
   pub parted : (v w : Parting V) (o q : O) (xs : List (List Instr)) → Visits hands v o xs w q → Visits visits v.visitor o (each_from v.between v.left xs) w.visitor q
   parted v w o q [] (a, b) = (ap (λ (p : Parting V). p.visitor) a, b)
   parted v w o q (x ∷ xs) (u, p, first, rest) = handed v u w o p q x xs v.left first (parted u w p q xs rest)

@@ -9,12 +9,16 @@ pub mod Least
 pub mod Quiet
 pub mod Complete
 pub mod Valid
+pub mod Printed
 pub mod Parts
 pub mod Unread
 pub mod Lettered
 pub mod Bound
 pub mod Whole
 pub mod Examples
+mod Nothing
+mod Remaining
+mod Leading
 mod Growing
 mod Late
 mod Lettering

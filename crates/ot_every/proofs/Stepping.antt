@@ -1,21 +1,25 @@
 -- One instruction of a walk: forth, the sessions behind it, and back.
 use Rattle.std.proofs.Common.{◌≡◌, ℕ, zero, suc, ◌+◌, ◌-◌, ◌<◌, ◌≤◌, List, [], ◌∷◌, ◌++◌, length, take, drop, map, refl, sym, ap, ◌∙◌, subst, arith, Option, Some, None, Bool, false, Result, Ok, Err}
-use Rattle.std.specs.Prelude.{IsSomeAnd, OnErr, slice_get, flat_map, filter, not, if◌then◌else◌, ◌&&◌}
+use Rattle.std.specs.declared.alloc.Global.{Global}
+use Rattle.std.specs.Prelude.{IsSomeAnd, OnErr, Vec, vec_items, slice_get, flat_map, filter, not, if◌then◌else◌, ◌&&◌}
 use Rattle.std.specs.List.{range_with_len}
 use Rattle.std.proofs.lemmas.Grind.{flat_map-append}
-use Rattle.std.proofs.lemmas.List.{append-nil}
+use Rattle.std.proofs.lemmas.List.{append-nil, length-map}
 use Rattle.ot_isa.specs.declared.instruction.Instr.{Instr}
 use Rattle.ot_isa.specs.declared.instruction.Instr.TheVariants.{Edit}
 use Rattle.ot_operation.specs.Operation.{Operation}
 use Rattle.ot_model.specs.declared.shown.Shown.{Shown}
+use Rattle.ot_model.specs.Sound.{IsSound}
 use Rattle.ot_model.specs.Table.{State, Performed, opening, step}
 use Rattle.ot_machine.specs.Undoing.{Undoes}
 use Rattle.ot_machine.specs.declared.undo.Undo.{Undo}
+use Rattle.ot_every.specs.Due.{MayEnd}
 use Rattle.ot_every.specs.Listing.{Earlier, Space, candidates, comes_late, is_empty, is_settled, sessions_from, sessions_of, texts_after, texts_from}
-use Rattle.ot_every.specs.Walking.{AreMarks, Goes, GoesOrStays, IsBegun, IsMark, IsSame, Visits, VisitsPart, behind_all, sessions_by}
+use Rattle.ot_every.specs.Walking.{AreMarks, Goes, GoesOrStays, IsBegun, IsMark, IsSame, LeadOn, Visits, VisitsPart, behind_all, sessions_by}
 use Rattle.ot_every.specs.declared.marks.Mark.{Mark}
 use Rattle.ot_every.specs.declared.walk.Walk.{Walk}
 use Rattle.ot_every.proofs.Bound.{opening_clients}
+use Rattle.ot_every.proofs.Remaining.{cannot_none, length_drop}
 use Rattle.ot_every.proofs.Late.{marks_push}
 use Rattle.ot_every.proofs.Visiting.{behind_cons, behind_nil, one_more, part_after, part_front, part_of_front, part_same, split_at, visits_append, visits_same}
 
@@ -112,10 +116,6 @@ module _ {V O : Type 0} (visits stops : V → O → List Instr → V → O → T
 
 -- ---- whole
 
-pub tried_sessions : (inserts count : ℕ) (texts : List (List ℕ)) (path : List Earlier) (s : State) (items : List Instr)
-    → items ≡ filter (λ i. not (comes_late path i)) (candidates inserts texts s) → flat_map (sessions_by inserts count texts path s) items ≡ sessions_from inserts (suc count) texts path s
-tried_sessions inserts count texts path s items is = ap (flat_map (sessions_by inserts count texts path s)) is
-
 -- where no instruction is left
 end_none : (b : Bool) → b ≡ false → ◌≡◌ {A = List (List Instr)} (if b then [] ∷ [] else []) []
 end_none b e = rw e refl
@@ -175,10 +175,18 @@ begun_sessions space w edits room inserts texts begun ts few =
     ∙ ap (λ (n : ℕ). sessions_from n room (texts_from space.letters 0 edits) [] (opening space.clients space.present space.start)) few
 
 pub whole_sessions : (before : List Instr) (inserts count n : ℕ) (texts : List (List ℕ)) (path : List Earlier) (s : State) (items : List Instr)
-    → items ≡ filter (λ i. not (comes_late path i)) (candidates inserts texts s) → count ≡ suc n
+    → LeadOn inserts n texts path s items (filter (λ i. not (comes_late path i)) (candidates inserts texts s)) → count ≡ suc n
     → behind_all before (flat_map (sessions_by inserts n texts path s) items) ≡ behind_all before (sessions_from inserts count texts path s)
-whole_sessions before inserts count n texts path s items is e =
-    ap (behind_all before) (tried_sessions inserts n texts path s items is ∙ ap (λ (k : ℕ). sessions_from inserts k texts path s) (sym e))
+whole_sessions before inserts count n texts path s items on e =
+    ap (behind_all before) (on ∙ ap (λ (k : ℕ). sessions_from inserts k texts path s) (sym e))
+
+-- where a session cannot end
+pub ends_never : (inserts count made left : ℕ) (texts : List (Vec ℕ Global)) (path : List Earlier) (s : State) → IsSound s → left ≡ length texts - made → (MayEnd left count s → ⊥)
+    → sessions_from inserts count (drop made (map vec_items texts)) path s ≡ []
+ends_never inserts count made left texts path s sound is cannot =
+    let many = length-map texts vec_items in
+    let same : length (drop made (map vec_items texts)) ≡ left = length_drop made (map vec_items texts) ∙ omega (arith, many, is) in
+    cannot_none inserts count (drop made (map vec_items texts)) path s (record { sound = sound; cannot = λ ends. cannot (subst (λ (n : ℕ). MayEnd n count s) same ends) })
 
 pub begun_same : (space : Space) (a b : Walk) → IsBegun space a → IsSame a b → IsBegun space b
 begun_same space a b begun same = record { machine = same.machine ∙ begun.machine; instrs = same.instrs ∙ begun.instrs; marks = same.marks ∙ begun.marks }

@@ -91,6 +91,6 @@ Complete =
     (space : Space) (start : List ℕ) (is : List Instr) → IsSpace space → length start ≡ length space.start → IsSession space start is
     → (js : List Instr) × Contains (sessions space) js × AreSameButLetters (without_reads is) js
 
--- of so many parts, each has each so manieth element from its own on: together they are the whole, and each element is in one
+-- part i of n has each n-th element from the i-th on: together the parts are the whole, and each element is in one
 abbrev pub Parts : Type 0
 Parts = (parts part k : ℕ) (xs : List (List Instr)) → part < parts → slice_get (part_of parts part xs) k ≡ slice_get xs (part + k * parts)

@@ -1,3 +1,4 @@
+pub mod Due
 pub mod Forms
 pub mod Listing
 pub mod Laws

@@ -1,6 +1,6 @@
 -- How the program goes through the sessions.
 use Rattle.std.specs.Prelude.{◌≡◌, ◌⊎◌, ℕ, zero, suc, ◌+◌, ◌&&◌, ◌||◌, not, if◌then◌else◌, Bool, true, false, List, [], ◌∷◌, ◌++◌, length, map, slice_get, Option, Some, None, unwrap_or, ◌≤◌}
-use Rattle.std.specs.List.{All}
+use Rattle.std.specs.List.{All, flat_map}
 use Rattle.ot_isa.specs.Program.{client_of}
 use Rattle.ot_isa.specs.declared.instruction.Instr.{Instr}
 use Rattle.ot_isa.specs.declared.instruction.Instr.TheVariants.{Edit, Take, Deliver, Acknowledge, Read, Join, ReadServer}
@@ -94,6 +94,10 @@ sessions_by inserts count texts path s i =
       | Refused r ↦ []
       | NoRow ↦ []
     ]
+
+-- the same sessions go on with these instructions as with those
+abbrev pub LeadOn : ℕ → ℕ → List (List ℕ) → List Earlier → State → List Instr → List Instr → Type 0
+LeadOn inserts count texts path s is js = flat_map (sessions_by inserts count texts path s) is ≡ flat_map (sessions_by inserts count texts path s) js
 
 -- ---- the walk
 

@@ -3,7 +3,7 @@
 //! ```text
 //!    Space ── visit_sessions ──▶ the visitor, with one session after the other
 //!
-//!    Walk        machine    goes forth by each instruction of the session, and back by its undo record
+//!    Walk        machine    goes forth by each instruction of the session, and back by its undo record; not where no session can end, or a client is stuck
 //!                instrs     the instructions so far
 //!                marks      of each of them what decides which instruction comes late
 //! ```
@@ -21,6 +21,7 @@
 #![tactic(auto)]
 
 mod candidates;
+mod due;
 mod edits;
 pub mod laws;
 mod listing;

@@ -1,12 +1,13 @@
 //! The sessions, one after the other.
 
-ghost use Rattle.std.specs.Prelude.{◌≡◌, ◌+◌, ◌≤◌, drop, length, map, suc, vec_items, Err, List, IfOk, OnErr, OnOk, ℕ};
+ghost use Rattle.std.specs.Prelude.{◌≡◌, ◌+◌, ◌-◌, ◌≤◌, drop, length, map, suc, vec_items, Err, List, IfOk, OnErr, OnOk, ℕ};
 ghost use Rattle.std.specs.List.{flat_map, range_with_len};
 ghost use Rattle.ot_every.specs.Listing.{most, sessions, sessions_from, sessions_of, texts_after, Earlier};
 ghost use Rattle.ot_every.specs.Walking.{behind_all, AreMarks, AreShort, IsBegun, IsSame, Visits, VisitsPart};
 ghost use Rattle.ot_every.specs.declared.visitor.Stop.TheVariants.{Output};
 
 use crate::candidates::candidates;
+use crate::due::may_end;
 use crate::edits::texts;
 use crate::settled::is_settled;
 use crate::space::Space;
@@ -25,6 +26,17 @@ fn made_after(instr: &Instr, made: usize) -> usize
     match instr {
         Instr::Edit(_, _) => made + 1,
         _ => made,
+    }
+}
+
+// How many edits are left.
+fn edits_left(texts: &[Vec<char>], made: usize) -> usize
+    ensures { result ≡ length texts.now - made }
+{
+    if made < texts.len() {
+        texts.len() - made
+    } else {
+        0
     }
 }
 
@@ -55,6 +67,9 @@ fn visit_from<O, V: Visitor<O>>(
             return Ok(());
         }
         return visitor.visit(walk.instrs.as_slice(), output);
+    }
+    if !may_end(&walk.machine, edits_left(texts, made), room) {
+        return Ok(());
     }
     let all = candidates(
         alloc,

@@ -5,7 +5,7 @@ ghost use Rattle.ot_every.specs.Parts.{part_if, part_in, whole};
 
 use std::marker::Model;
 
-/// One of so many parts of the sessions: each so manieth session, from that of its number on. Together the parts are the whole.
+/// One of n parts of the sessions: each n-th session, from that of its number on. Together the parts are the whole.
 #[derive(Drop)]
 pub struct Part {
     number: u32,

@@ -4,3 +4,4 @@ mod LineByLine
 mod Progress
 mod Sizes
 mod Texts
+mod Joins

@@ -2,11 +2,12 @@
 use Rattle.std.proofs.Common.{◌≡◌, ℕ, zero, suc, ◌+◌, ◌≤◌, List, [], ◌∷◌, ◌++◌, length, take, refl, sym, ap, ◌∙◌, arith, true, false, Some, append_assoc}
 use Rattle.std.proofs.lemmas.List.{append-nil}
 use Rattle.std.proofs.lemmas.Option.{same_Some}
-use Rattle.std.specs.Prelude.{slice_get}
+use Rattle.std.specs.Prelude.{codes, slice_get}
 use Rattle.ot_model.specs.Table.{State, IsQuiet}
 use Rattle.ot_steps.specs.Steps.{is_quiet}
 use Rattle.ot_steps.proofs.Quiet.{quiet_is}
 use Rattle.ot_explain.specs.Agreeing.{depends_words, ending_words, future_words, pieces}
+use Rattle.ot_explain.specs.OutlookJson.{depends_members, document_members, ending_members}
 use Rattle.ot_verdict.specs.Ending.{ending}
 use Rattle.ot_verdict.specs.First.{first_taken}
 
@@ -43,6 +44,17 @@ pub many_words : (s : State) (numbers : List ℕ) → 2 ≤ length numbers → d
 many_words s [] many = absurd (omega arith)
 many_words s (c ∷ []) many = absurd (omega arith)
 many_words s (c ∷ d ∷ more) many = refl
+
+-- the same as JSON
+pub few_members : (s : State) (numbers : List ℕ) → length numbers ≤ 1 → document_members (codes "will be") (ending s) ≡ ending_members s numbers
+few_members s [] few = refl
+few_members s (c ∷ []) few = refl
+few_members s (c ∷ d ∷ more) few = absurd (omega arith)
+
+pub many_members : (s : State) (numbers : List ℕ) → 2 ≤ length numbers → depends_members numbers (first_taken s) ≡ ending_members s numbers
+many_members s [] many = absurd (omega arith)
+many_members s (c ∷ []) many = absurd (omega arith)
+many_members s (c ∷ d ∷ more) many = refl
 
 -- whether all is quiet, as the verdict has it
 pub agreed_quiet : (s : State) → IsQuiet s → true ≡ is_quiet s

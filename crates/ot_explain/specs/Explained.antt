@@ -43,13 +43,13 @@ abbrev pub first_text : List ℕ → Said → Program → ℕ → List ℕ
 first_text lines said s p = opening_words s ++ first_paragraphs lines said s p
 
 -- the instruction at which a run stopped in the state s, if it did
-abbrev pub stop_at : List ℕ → ℕ → Refusal → State → Option Instr → List ℕ
-stop_at lines number refusal s None = []
-stop_at lines number refusal s (Some i) = refused_paragraph (line_at lines number) number i s refusal
+abbrev pub stop_at : List ℕ → List Instr → ℕ → Refusal → State → Option Instr → List ℕ
+stop_at lines is number refusal s None = []
+stop_at lines is number refusal s (Some i) = refused_paragraph lines is number i s refusal
 
 abbrev pub stop_text : List ℕ → Program → State → Option (ℕ × Refusal) → List ℕ
 stop_text lines s state None = []
-stop_text lines s state (Some stop) = stop_at lines stop.0 stop.1 state (slice_get s.instrs stop.0)
+stop_text lines s state (Some stop) = stop_at lines s.instrs stop.0 stop.1 state (slice_get s.instrs stop.0)
 
 abbrev pub end_words : Bool → List ℕ
 end_words quiet = if quiet then codes "the end: all is quiet\n" else codes "the end: not all is quiet\n"

@@ -1,9 +1,10 @@
 -- Why an instruction is refused, and what would repair it.
-use Rattle.std.specs.Prelude.{ℕ, List, [], ◌+◌, ◌++◌, ◌-◌, ◌==◌, length, nat_lt, slice_get, Option, Some, None, codes, decimal, if◌then◌else◌}
+use Rattle.std.specs.Prelude.{ℕ, suc, Bool, false, List, [], ◌∷◌, ◌+◌, ◌++◌, ◌-◌, ◌==◌, get_or, length, nat_lt, slice_get, Option, Some, None, codes, decimal, if◌then◌else◌}
 use Rattle.std.specs.List.{count_by}
+use Rattle.ot_isa.specs.Program.{client_of}
 use Rattle.ot_isa.specs.declared.elements.Tagged.{Tagged}
 use Rattle.ot_isa.specs.declared.instruction.Instr.{Instr}
-use Rattle.ot_isa.specs.declared.instruction.Instr.TheVariants.{Edit, Take, Deliver, Acknowledge}
+use Rattle.ot_isa.specs.declared.instruction.Instr.TheVariants.{Edit, Take, Deliver, Acknowledge, Join}
 use Rattle.ot_model.specs.declared.shown.Refusal.{Refusal}
 use Rattle.ot_model.specs.declared.shown.Refusal.TheVariants.{NoSuchClient, StepsFull, NotJoined, AlreadyJoined, BadBase, ClientFull, LinkEmpty, WrongHead, Memory}
 use Rattle.ot_model.specs.Operation.{Operation, inserted}
@@ -65,24 +66,44 @@ abbrev pub of_edit : Instr → State → (ℕ → Operation ℕ → Client → L
 of_edit (Edit c op) s words = of_client s c (words c op)
 of_edit _ s words = []
 
--- why the instruction is refused in the state s
-abbrev pub reason : Refusal → Instr → State → List ℕ
-reason NoSuchClient i s = codes "the client is not there"
-reason StepsFull i s = codes "a machine performs at most 1000000 instructions"
-reason NotJoined i s = codes "the client has not joined: join comes first"
-reason AlreadyJoined i s = codes "the client is there already: it joined before, or was there at the opening, as all clients are without a line `present P`"
-reason BadBase i s = of_edit i s (λ c op x. base_words c op.base x.list)
-reason ClientFull i s = of_edit i s (λ c op x. full_words c x.count (inserted op))
-reason LinkEmpty i s = empty_words i s
-reason WrongHead i s = head_words i s
-reason Memory i s = codes "no memory was found"
+-- where the first `join` of a client stands among instructions, the first of which has this number
+abbrev pub joins : ℕ → Instr → Bool
+joins c (Join k) = k == c
+joins c _ = false
+
+abbrev pub join_from : ℕ → ℕ → List Instr → Option ℕ
+join_from c n [] = None
+join_from c n (i ∷ is) = if joins c i then Some n else join_from c (suc n) is
+
+-- the line of that instruction, where instructions stand at these lines
+abbrev pub join_words : List ℕ → Option ℕ → List ℕ
+join_words lines None = codes ", and no line says it"
+join_words lines (Some n) = codes ", and stands in line " ++ decimal (get_or lines n 0)
+
+-- a client that has not joined
+abbrev pub absent_words : List ℕ → List Instr → Option ℕ → List ℕ
+absent_words lines is None = []
+absent_words lines is (Some c) =
+    number (codes "client ") c (codes " has not joined: join ") ++ ((decimal c ++ codes " comes first") ++ join_words lines (join_from c 0 is))
+
+-- why the instruction of a schedule is refused in the state s
+abbrev pub reason : List ℕ → List Instr → Refusal → Instr → State → List ℕ
+reason lines is NoSuchClient i s = codes "the client is not there"
+reason lines is StepsFull i s = codes "a machine performs at most 1000000 instructions"
+reason lines is NotJoined i s = absent_words lines is (client_of i)
+reason lines is AlreadyJoined i s = codes "the client is there already: it joined before, or was there at the opening, as all clients are without a line `present P`"
+reason lines is BadBase i s = of_edit i s (λ c op x. base_words c op.base x.list)
+reason lines is ClientFull i s = of_edit i s (λ c op x. full_words c x.count (inserted op))
+reason lines is LinkEmpty i s = empty_words i s
+reason lines is WrongHead i s = head_words i s
+reason lines is Memory i s = codes "no memory was found"
 
 -- the edit that was tried
 abbrev pub tried : Instr → List ℕ
 tried (Edit c op) = user_words c op ++ codes "\n"
 tried _ = []
 
--- a paragraph for an instruction that is refused
-abbrev pub refused_paragraph : ℕ → ℕ → Instr → State → Refusal → List ℕ
-refused_paragraph line place i s r =
-    heading line place i ++ (tried i ++ ((codes "  refused: " ++ (refusal_text r ++ codes ": ")) ++ (reason r i s ++ codes "\n")))
+-- a paragraph for an instruction that is refused; `lines` are those of the instructions `is`
+abbrev pub refused_paragraph : List ℕ → List Instr → ℕ → Instr → State → Refusal → List ℕ
+refused_paragraph lines is place i s r =
+    heading (get_or lines place 0) place i ++ (tried i ++ ((codes "  refused: " ++ (refusal_text r ++ codes ": ")) ++ (reason lines is r i s ++ codes "\n")))

@@ -17,8 +17,8 @@ use ot_text::{Doc, TextOp};
 use ot_verdict::{Outlook, Verdict, Waiting, verdict_on};
 use std::alloc::{AllocError, Global};
 
-// The operation on its way from the client to the server, if there is one.
-fn sent(machine: &Machine, client: u16) -> Option<&TextOp<Tagged>>
+/// The operation on its way from the client to the server, if there is one.
+pub(crate) fn sent(machine: &Machine, client: u16) -> Option<&TextOp<Tagged>>
     ensures { operations result ≡ sent_of (client_in machine.now client).message }
 {
     if client >= machine.clients() {
@@ -28,8 +28,8 @@ fn sent(machine: &Machine, client: u16) -> Option<&TextOp<Tagged>>
     Some(&message.op)
 }
 
-// The client's buffer, if it has one.
-fn buffered(machine: &Machine, client: u16) -> Option<&TextOp<Tagged>>
+/// The client's buffer, if it has one.
+pub(crate) fn buffered(machine: &Machine, client: u16) -> Option<&TextOp<Tagged>>
     ensures { operations result ≡ buffer_of (client_in machine.now client).phase }
 {
     if client >= machine.clients() {

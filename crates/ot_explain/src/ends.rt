@@ -3,7 +3,7 @@
 ghost use Rattle.std.specs.Prelude.{◌≡◌, ◌++◌, IfOk, OnOk, string_bytes};
 ghost use Rattle.ot_steps.specs.Steps.{is_quiet};
 ghost use Rattle.ot_explain.specs.Reasons.{refused_paragraph, tried};
-ghost use Rattle.ot_explain.specs.Explained.{end_text, end_words, last_text, line_at, stop_text};
+ghost use Rattle.ot_explain.specs.Explained.{end_text, end_words, last_text, stop_text};
 
 use crate::agreeing::push_verdict;
 use crate::paragraphs::{push_heading, push_user};
@@ -30,17 +30,18 @@ fn push_refused(
     text: &mut String,
     machine: &Machine,
     lines: &[u64],
+    schedule: &Schedule,
     number: usize,
     instr: &Instr,
     refusal: Refusal,
 ) -> Result<(), AllocError>
-    ensures { OnOk result (string_bytes text.new ≡ string_bytes text.old ++ refused_paragraph (line_at lines.now number) number instr.now machine.now refusal) }
+    ensures { OnOk result (string_bytes text.new ≡ string_bytes text.old ++ refused_paragraph lines.now schedule.now.instrs number instr.now machine.now refusal) }
 {
     push_heading(text, lines, number, instr)?;
     push_tried(text, instr)?;
     let name = refusal_name(refusal);
     write!(text, "  refused: {name}: ")?;
-    push_reason(text, machine, instr, refusal)?;
+    push_reason(text, machine, lines, schedule, instr, refusal)?;
     text.push_str("\n")
 }
 
@@ -58,7 +59,7 @@ fn push_stop(
         return Ok(());
     };
     match schedule.get(number) {
-        Some(instr) => push_refused(text, machine, lines, number, instr, refusal),
+        Some(instr) => push_refused(text, machine, lines, schedule, number, instr, refusal),
         None => Ok(()),
     }
 }

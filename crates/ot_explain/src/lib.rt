@@ -1,4 +1,4 @@
-//! A schedule's run in words: a paragraph for each instruction, one for the instruction that is refused, and why a text is no schedule.
+//! A schedule's run in words: a paragraph for each instruction, and one for the instruction that is refused.
 //!
 //! ```text
 //!    heading     line 7, instruction 3: take 1                                       its line of the text, its number
@@ -9,26 +9,26 @@
 //!
 //! - *What an instruction did* (`specs/Told.antt`): `paragraph`, a text made of the written table's states before and after the instruction
 //!   (`ot_model`'s specs/Table.antt), by way of what a line of `ot_steps` says (`applies`, `outstanding_of`, `last_of`).
-//! - *The verdict* (`specs/Agreeing.antt`): `verdict_words`, behind the end: whether all documents must agree, and to what (`ot_verdict`).
+//! - *The verdict* (`specs/Agreeing.antt`): `verdict_words`, behind the end: whether all documents must agree, and to what (`ot_verdict`). [`outlook_json`] gives the
+//!   same as a line of JSON (`specs/OutlookJson.antt`), of a run that [`run_end`] performs.
 //! - *Why one is refused* (`specs/Reasons.antt`): `reason`, of the refusal and the state in which the run stands.
 //! - *Where an instruction stands* (`specs/Placed.antt`): [`places`], the lines of a text that are neither blank, nor comments, nor those
 //!   above the instructions.
 //! - *A run* (`specs/Explained.antt`): [`explain`] writes it while the run goes, each paragraph with the clients' names (`ot_asm`), and
 //!   after a fault a first part of it stands.
-//! - *Why a text is no schedule*: [`fault_words`], the column and the cause behind a fault of `ot_asm`. No contract speaks of these words.
 //!
 //! Begin reading at `paragraph` in specs/Told.antt, then at [`explain`].
 #![tactic(auto)]
 
 mod agreeing;
-mod causes;
 mod ends;
+mod outlooks;
 mod paragraphs;
 mod placing;
 mod reasons;
 mod values;
 mod writing;
 
-pub use causes::fault_words;
+pub use outlooks::{outlook_json, run_end};
 pub use placing::places;
 pub use writing::explain;

@@ -19,8 +19,8 @@ use ot_steps::{buffer, last_operation, outstanding, word};
 use ot_text::TextOp;
 use std::alloc::{AllocError, Global};
 
-// The line of an instruction.
-fn line_at(lines: &[u64], number: usize) -> u64
+/// The line of an instruction.
+pub(crate) fn line_at(lines: &[u64], number: usize) -> u64
     ensures { result ≡ line_at lines.now number }
 {
     match lines.get(number) {

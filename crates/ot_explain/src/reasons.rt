@@ -4,10 +4,11 @@ ghost use Rattle.std.specs.Prelude.{◌≡◌, ◌+◌, ◌++◌, ◌<◌, lengt
 ghost use Rattle.ot_model.specs.Operation.{inserted};
 ghost use Rattle.ot_machine.specs.Effects.{client_in};
 ghost use Rattle.ot_explain.specs.Reasons as words;
-ghost use Rattle.ot_explain.specs.Reasons.{base_words, empty_words, full_words, gap_words, head_words, next_words, of_edit, unconfirmed, units_words, wide};
+ghost use Rattle.ot_explain.specs.Reasons.{absent_words, base_words, empty_words, full_words, gap_words, head_words, join_from, join_words, joins, next_words, of_edit, unconfirmed, units_words, wide};
 
+use crate::paragraphs::line_at;
 use crate::values::push_entry;
-use ot_isa::{Instr, Tagged};
+use ot_isa::{Instr, Schedule, Tagged};
 use ot_machine::{Machine, Refusal};
 use ot_text::Doc;
 use std::alloc::AllocError;
@@ -155,19 +156,76 @@ fn push_head(text: &mut String, machine: &Machine, instr: &Instr) -> Result<(), 
     }
 }
 
-/// Adds why the instruction is refused by the machine as it is, for this refusal.
+// Whether an instruction is the `join` of this client.
+fn joins(client: u16, instr: &Instr) -> bool
+    ensures { result ≡ joins client instr.now }
+{
+    match instr {
+        Instr::Join(other) => *other == client,
+        _ => false,
+    }
+}
+
+// The number of the first `join` of this client.
+fn join_of(schedule: &Schedule, client: u16) -> Option<usize>
+    ensures { result ≡ join_from client 0 schedule.now.instrs }
+{
+    for number in 0..schedule.len() {
+        let Some(instr) = schedule.get(number) else {
+            unreachable!()
+        };
+        if joins(client, instr) {
+            return Some(number);
+        }
+    }
+    None
+}
+
+// The line of a `join`, if there is one.
+fn push_join(text: &mut String, lines: &[u64], join: Option<usize>) -> Result<(), AllocError>
+    ensures { OnOk result (string_bytes text.new ≡ string_bytes text.old ++ join_words lines.now join) }
+{
+    match join {
+        Some(number) => {
+            let line = line_at(lines, number);
+            write!(text, ", and stands in line {line}")
+        }
+        None => text.push_str(", and no line says it"),
+    }
+}
+
+// A client that has not joined.
+fn push_absent(
+    text: &mut String,
+    lines: &[u64],
+    schedule: &Schedule,
+    client: Option<u16>,
+) -> Result<(), AllocError>
+    ensures { OnOk result (string_bytes text.new ≡ string_bytes text.old ++ absent_words lines.now schedule.now.instrs client) }
+{
+    let Some(client) = client else {
+        return Ok(());
+    };
+    write!(text, "client {client} has not joined: join ")?;
+    write!(text, "{client} comes first")?;
+    push_join(text, lines, join_of(schedule, client))
+}
+
+/// Adds why the instruction of a schedule is refused by the machine as it is, for this refusal. `lines` are those of the schedule's instructions.
 pub(crate) fn push_reason(
     text: &mut String,
     machine: &Machine,
+    lines: &[u64],
+    schedule: &Schedule,
     instr: &Instr,
     refusal: Refusal,
 ) -> Result<(), AllocError>
-    ensures { OnOk result (string_bytes text.new ≡ string_bytes text.old ++ words.reason refusal instr.now machine.now) }
+    ensures { OnOk result (string_bytes text.new ≡ string_bytes text.old ++ words.reason lines.now schedule.now.instrs refusal instr.now machine.now) }
 {
     match refusal {
         Refusal::NoSuchClient => text.push_str("the client is not there"),
         Refusal::StepsFull => text.push_str("a machine performs at most 1000000 instructions"),
-        Refusal::NotJoined => text.push_str("the client has not joined: join comes first"),
+        Refusal::NotJoined => push_absent(text, lines, schedule, instr.client()),
         Refusal::AlreadyJoined => text.push_str(
             "the client is there already: it joined before, or was there at the opening, as all clients are without a line `present P`",
         ),

@@ -7,7 +7,8 @@ use Rattle.ot_codes.proofs.Mapped.{compose-mapped, first_after-mapped, second_af
 use Rattle.ot_operation.specs.Operation.{Operation}
 use Rattle.ot_operation.specs.Merge.{first_after, second_after}
 use Rattle.ot_client.specs.State.{Phase, Synchronized, AwaitingConfirm, AwaitingWithBuffer, State, phase_edited, edited, phase_delivered, delivered, against_pending, phase_acknowledged, message_edited, message_acknowledged}
-use Rattle.ot_server.specs.History.{Entry, History, base_at, inserted_in, length_at, longest_at, fault_of, transform_over, with_entry, received}
+use Rattle.ot_server.specs.History.{Entry, History, transform_over, with_entry, received}
+use Rattle.ot_server.specs.Faults.{base_at, inserted_in, length_at, longest_at, fault_of}
 use Rattle.ot_letters.specs.Elements.{mapped_phase, mapped_client, mapped_message, mapped_entry, mapped_log, mapped_history}
 use Rattle.ot_letters.proofs.Operations.{apply-mapped, length-news-mapped}
 

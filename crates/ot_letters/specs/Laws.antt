@@ -6,7 +6,7 @@ use Rattle.ot_operation.specs.Operation.{Operation, apply, invert}
 use Rattle.ot_operation.specs.Compose.{compose}
 use Rattle.ot_operation.specs.Merge.{first_after, second_after}
 use Rattle.ot_client.specs.State as client
-use Rattle.ot_server.specs.History as server
+use Rattle.ot_server.specs.Faults as server_faults
 use Rattle.ot_server.specs.History.{Entry, History, transform_over, received}
 use Rattle.ot_isa.specs.Program.{Program}
 use Rattle.ot_isa.specs.declared.instruction.Instr.{Instr}
@@ -65,7 +65,7 @@ AcknowledgeMaps A B =
 abbrev pub ReceiveMaps : Type 0 → Type 0 → Type 0
 ReceiveMaps A B =
     (f : A → B) (history : History A) (maker revision : ℕ) (op : Operation A)
-    → (server.fault_of (mapped_history f history) revision (mapped f op) ≡ server.fault_of history revision op)
+    → (server_faults.fault_of (mapped_history f history) revision (mapped f op) ≡ server_faults.fault_of history revision op)
     × (transform_over (mapped f op) (mapped_log f history.log) ≡ mapped f (transform_over op history.log))
     × (received (mapped_history f history) maker revision (mapped f op) ≡ mapped_history f (received history maker revision op))
 

@@ -7,8 +7,10 @@ use Rattle.ot_isa.specs.declared.elements.Tagged.{Tagged}
 use Rattle.ot_operation.specs.Operation.{apply}
 use Rattle.std.specs.Option.{is_some}
 use Rattle.std.proofs.lemmas.List.{take-append-drop}
-use Rattle.ot_server.specs.History.{History, base_at, length_at, longest_at, fault_of, transform_over, received, with_entry}
+use Rattle.ot_server.specs.History.{History, transform_over, received, with_entry}
+use Rattle.ot_server.specs.Faults.{base_at, length_at, longest_at, fault_of}
 use Rattle.ot_server.specs.History as server
+use Rattle.ot_server.specs.Faults as server_faults
 use Rattle.ot_model.specs.Operation.{Operation, inserted, news}
 use Rattle.ot_model.specs.Table.{Entry, Message, Phase, NotJoined, Synchronized, AwaitingConfirm, AwaitingWithBuffer, is_joined}
 use Rattle.ot_model.specs.Sound.{Fits, IsUnderway, IsPhaseSound, apply_entries, FitAll, inserted_in, pending, news_sent, news_kept}
@@ -26,13 +28,13 @@ base_at_is d zero (h ∷ log) fit = fit.0.base
 base_at_is d (suc q) [] fit = refl
 base_at_is d (suc q) (h ∷ log) fit = base_at_is (apply h.op d) q log fit.1
 
-inserted_same : (log : List Entry) → server.inserted_in log ≡ inserted_in log
+inserted_same : (log : List Entry) → server_faults.inserted_in log ≡ inserted_in log
 inserted_same [] = refl
 inserted_same (h ∷ log) = omega (arith, sum_by-cons (λ (e : Entry). inserted e.op) h log, inserted_same log)
 
 no_fault :
     (s : History Tagged) (m : Message) (base many : ℕ) → m.revision ≤ length s.log → m.op.base ≡ base → length s.log < 1000000
-    → base + (many + inserted m.op) ≤ 1000000 → length_at s m.revision ≡ base → server.inserted_in (drop m.revision s.log) ≡ many
+    → base + (many + inserted m.op) ≤ 1000000 → length_at s m.revision ≡ base → server_faults.inserted_in (drop m.revision s.log) ≡ many
     → fault_of s m.revision m.op ≡ None
 no_fault s m base many known fits below room at ins =
     let long : longest_at s m.revision m.op ≤ 1000000 = omega (arith, at, ins, room) in

@@ -5,7 +5,8 @@ use Rattle.std.proofs.lemmas.Option.{slice_get-map, slice_get_read, same_Some}
 use Rattle.std.specs.Prelude.{slice_get}
 use Rattle.ot_machine.specs.declared.seat.Seat.{Seat}
 use Rattle.ot_isa.specs.declared.elements.Tagged.{Tagged}
-use Rattle.ot_server.specs.History.{Names, History}
+use Rattle.ot_server.specs.History.{History}
+use Rattle.ot_server.specs.Faults.{Names}
 use Rattle.ot_server.specs.declared.fault.ServerFault.{ServerFault}
 use Rattle.ot_server.specs.declared.fault.ServerFault.TheVariants as fault
 use Rattle.ot_model.specs.Table.{Message}

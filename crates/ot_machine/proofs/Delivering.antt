@@ -6,6 +6,7 @@ use Rattle.ot_isa.specs.declared.instruction.Instr.TheVariants.{Deliver}
 use Rattle.ot_operation.specs.Operation.{Operation, apply}
 use Rattle.ot_operation.proofs.LengthLaws.{second_after-base}
 use Rattle.ot_client.specs.State as state
+use Rattle.ot_client.specs.Conditions as conditions
 use Rattle.ot_client.specs.Client.{state_of}
 use Rattle.ot_client.specs.declared.client.Client as program
 use Rattle.ot_client.specs.declared.client.Client.TheVariants as client
@@ -57,7 +58,7 @@ pub may :
     (c : ℕ) (here : program.Client Tagged) (start : List Tagged) (seen ahead : List Entry) (list : List Tagged) (message : Option Message) (h : Entry)
     → FitAll start seen → FitAll (apply_entries start seen) (h ∷ ahead) → h.maker ≢ c → IsPhaseSound c (phase_of (Some here)) start seen (h ∷ ahead) list message
     → length (apply_entries start seen) + (inserted_in (h ∷ ahead) + length (news_sent message ++ news_kept (phase_of (Some here)))) ≤ 1000000
-    → state.MayDeliver (state_of here).phase h.op × ((state.against_pending (state_of here).phase h.op).base ≡ length list)
+    → conditions.MayDeliver (state_of here).phase h.op × ((state.against_pending (state_of here).phase h.op).base ≡ length list)
 may c (client.Synchronized here) start seen ahead list message h before all other now room = (tt, all.0.base ∙ ap length (sym now.list_is))
 may c (client.AwaitingConfirm here) start seen ahead list message h before all other now room =
     let o = here.outstanding in

@@ -7,7 +7,8 @@ use Rattle.ot_isa.specs.declared.elements.Tagged.{Tagged}
 use Rattle.ot_operation.specs.Operation.{Operation}
 use Rattle.ot_client.specs.declared.sent.Sent.{Sent}
 use Rattle.ot_client.specs.Client.{message_of}
-use Rattle.ot_server.specs.History.{History, IsUndo, transform_over}
+use Rattle.ot_server.specs.History.{History, transform_over}
+use Rattle.ot_server.specs.Undo.{IsUndo}
 use Rattle.ot_model.specs.declared.shown.Shown.{Shown}
 use Rattle.ot_model.specs.Table.{Phase, State, Outcome, Performed, Refused, NoRow, is_joined, taken, with_client}
 use Rattle.ot_model.specs.Table as table

@@ -5,6 +5,7 @@ use Rattle.std.specs.Prelude.{slice_get, ◌==◌}
 use Rattle.std.specs.Option.{option_map}
 use Rattle.ot_isa.specs.declared.elements.Tagged.{Tagged}
 use Rattle.ot_client.specs.State as state
+use Rattle.ot_client.specs.Conditions as conditions
 use Rattle.ot_client.specs.Client.{state_of}
 use Rattle.ot_client.specs.declared.client.Client as program
 use Rattle.ot_model.specs.Operation.{Operation}
@@ -23,7 +24,7 @@ joined_in (state.AwaitingConfirm o) = refl
 joined_in (state.AwaitingWithBuffer o b) = refl
 
 -- the table's condition is the program's, and so is what is applied
-may_in : (phase : state.Phase Tagged) (op : Operation Tagged) → laws.MayDeliver (phase_in phase) op → state.MayDeliver phase op
+may_in : (phase : state.Phase Tagged) (op : Operation Tagged) → laws.MayDeliver (phase_in phase) op → conditions.MayDeliver phase op
 may_in state.Synchronized op may = tt
 may_in (state.AwaitingConfirm o) op may = may
 may_in (state.AwaitingWithBuffer o b) op may = may
@@ -41,7 +42,7 @@ module _ (s : State) (c : ℕ) (seat : Seat) (here : program.Client Tagged) (h :
   fits : IsDeliverable (client_of seat) h.op
   fits = deliverable s c (client_of seat) h sound at (ap is_joined phase_is ∙ joined_in (state_of here).phase) (sym head) (eqb-false h.maker c other)
 
-  pub may_receive : state.MayDeliver (state_of here).phase h.op
+  pub may_receive : conditions.MayDeliver (state_of here).phase h.op
   may_receive = may_in (state_of here).phase h.op (subst (λ p. laws.MayDeliver p h.op) phase_is fits.operations)
 
   pub received_base : (applied : Operation Tagged) → applied ≡ state.against_pending (state_of here).phase h.op → ClientHas s c (λ x. length x.list) applied.base

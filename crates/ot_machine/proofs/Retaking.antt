@@ -8,7 +8,8 @@ use Rattle.ot_isa.specs.declared.elements.Tagged.{Tagged}
 use Rattle.ot_operation.specs.Operation.{Operation}
 use Rattle.ot_client.specs.declared.sent.Sent.{Sent}
 use Rattle.ot_client.specs.Client.{message_of}
-use Rattle.ot_server.specs.History.{History, IsUndo}
+use Rattle.ot_server.specs.History.{History}
+use Rattle.ot_server.specs.Undo.{IsUndo}
 use Rattle.ot_model.specs.Table.{Client, Message, State, is_joined}
 use Rattle.ot_model.specs.Sound.{IsSound}
 use Rattle.ot_machine.specs.declared.seat.Seat.{Seat}

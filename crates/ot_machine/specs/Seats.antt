@@ -2,12 +2,14 @@
 use Rattle.std.specs.Prelude.{◌≡◌, ℕ, zero, suc, ◌-◌, Option, Some, None, true, List, [], ◌∷◌, ◌++◌, ◌<◌, ◌≤◌, map, length, slice_get, if◌then◌else◌}
 use Rattle.ot_server.specs.declared.fault.ServerFault.{ServerFault}
 use Rattle.ot_server.specs.declared.fault.ServerFault.TheVariants as fault
-use Rattle.ot_server.specs.History.{History, fault_of, received}
+use Rattle.ot_server.specs.History.{History, received}
+use Rattle.ot_server.specs.Faults.{fault_of}
 use Rattle.ot_model.specs.Sound.{IsSound}
 use Rattle.ot_model.specs.Operation.{Operation}
 use Rattle.std.specs.Option.{option_map}
 use Rattle.ot_isa.specs.declared.elements.Tagged.{Tagged}
 use Rattle.ot_client.specs.State as state
+use Rattle.ot_client.specs.Conditions as conditions
 use Rattle.ot_client.specs.declared.client.Client as program
 use Rattle.ot_client.specs.declared.sent.Sent.{Sent}
 use Rattle.ot_client.specs.Client.{state_of, message_of}
@@ -125,7 +127,7 @@ HaveRoomFrom i seats = (c : ℕ) (seat : Seat) → i ≤ c → slice_get seats c
 
 -- what a delivery needs of the client's state: of its revision, and what ot.js' client asks of the operations
 abbrev pub MayDeliverState : state.State Tagged → Operation Tagged → Type 0
-MayDeliverState client op = (client.revision < REVISION_LIMIT) × state.MayDeliver client.phase op
+MayDeliverState client op = (client.revision < REVISION_LIMIT) × conditions.MayDeliver client.phase op
 
 -- and of its list
 abbrev pub MayDeliverTo : Option (program.Client Tagged) → Operation Tagged → List Tagged → Type 0

@@ -7,7 +7,7 @@ use Rattle.ot_client.specs.Change.{changed, Fits}
 use Rattle.ot_client.specs.declared.change.Change.{Change}
 use Rattle.ot_client.specs.declared.sent.Sent.{Sent}
 use Rattle.ot_client.specs.Client.{message_of}
-use Rattle.ot_server.specs.History.{IsUndo}
+use Rattle.ot_server.specs.Undo.{IsUndo}
 use Rattle.ot_model.specs.Table.{Client, Message, State, by_rule, phase_in, absent, taken, with_client}
 use Rattle.ot_model.specs.Sound.{IsSound}
 use Rattle.ot_machine.specs.declared.kept.Before.{Before}

@@ -8,8 +8,9 @@ use Rattle.std.proofs.lemmas.Option.{slice_get-get_or, slice_get_within}
 use Rattle.ot_operation.proofs.LengthLaws.{second_after-base}
 use Rattle.ot_server.proofs.Faults.{fault_none}
 use Rattle.ot_isa.specs.declared.elements.Tagged.{Tagged}
-use Rattle.ot_server.specs.History.{History, base_at, length_at, longest_at, fault_of}
-use Rattle.ot_server.specs.History as server
+use Rattle.ot_server.specs.History.{History}
+use Rattle.ot_server.specs.Faults.{base_at, length_at, longest_at, fault_of}
+use Rattle.ot_server.specs.Faults as server_faults
 use Rattle.ot_model.specs.Operation.{Operation, apply, inserted, news, second_after}
 use Rattle.ot_model.specs.Table.{Phase, NotJoined, Synchronized, AwaitingConfirm, AwaitingWithBuffer, is_joined, Client, State, Entry, Message, against_pending}
 use Rattle.ot_model.specs.Sound.{Fits, apply_entries, FitAll, IsPhaseSound, IsSoundFrom, IsSound, pending, news_sent, news_kept, inserted_in}
@@ -102,7 +103,7 @@ base_at_is d zero (h ∷ log) fit = fit.0.base
 base_at_is d (suc q) [] fit = refl
 base_at_is d (suc q) (h ∷ log) fit = base_at_is (apply h.op d) q log fit.1
 
-inserted_same : (log : List Entry) → server.inserted_in log ≡ inserted_in log
+inserted_same : (log : List Entry) → server_faults.inserted_in log ≡ inserted_in log
 inserted_same [] = refl
 inserted_same (h ∷ log) = omega (arith, sum_by-cons (λ (e : Entry). inserted e.op) h log, inserted_same log)
 

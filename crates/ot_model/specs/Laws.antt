@@ -3,8 +3,9 @@ use Rattle.std.specs.Prelude.{◌≡◌, ℕ, ◌<◌, ◌≤◌, ◌≢◌, ◌
 use Rattle.ot_isa.specs.Program.{Program, IsProgram}
 use Rattle.ot_isa.specs.declared.elements.Tagged.{Tagged}
 use Rattle.ot_isa.specs.declared.instruction.Instr.{Instr}
-use Rattle.ot_client.specs.State as client
-use Rattle.ot_server.specs.History.{History, fault_of}
+use Rattle.ot_client.specs.Conditions as conditions
+use Rattle.ot_server.specs.History.{History}
+use Rattle.ot_server.specs.Faults.{fault_of}
 use Rattle.ot_model.specs.Operation.{Operation}
 use Rattle.ot_model.specs.Table.{Phase, by_rule, is_joined, Client, State, Place, Entry, Message, opening, begin, run, step, against_pending, IsQuiet}
 use Rattle.ot_model.specs.Sound.{IsSound, IsInstr, AreInstrs, IsOutcomeSound}
@@ -60,7 +61,7 @@ LengthsFit = (s : State) → IsSound s → IsWithinLimits s
 
 -- what a delivery of h asks of the client's operations
 abbrev pub MayDeliver : Phase → Operation Tagged → Type 0
-MayDeliver phase h = by_rule (Unit {0}) (λ p. client.MayDeliver p h) phase
+MayDeliver phase h = by_rule (Unit {0}) (λ p. conditions.MayDeliver p h) phase
 
 -- what an entry of another asks of the client that it is delivered to
 pub record IsDeliverable (x : Client) (h : Operation Tagged) : Type 0 where

@@ -5,7 +5,6 @@ use Rattle.std.proofs.lemmas.List.{drop_all, drop_more}
 use Rattle.serde_json.specs.Data.{Data}
 use Rattle.serde_json.specs.View.{view, items_view}
 use Rattle.serde_json.specs.declared.value.Value.{Value}
-use Rattle.ot_reasons.specs.declared.namings.Namings.{Namings}
 use Rattle.ot_reasons.specs.declared.place.Fault.{Fault}
 use Rattle.ot_reasons.specs.declared.place.Place.{Place}
 use Rattle.ot_reasons.specs.declared.place.Wanted.TheVariants as wanted
@@ -35,13 +34,13 @@ fault-end f vs i whole le before = ap (λ ws. each_fault f i (items_view ws)) (s
 
 -- ---- what is noted
 
-pub note-more : (f : ℕ → Data → Namings → Namings) (vs : List Value) (i : ℕ) (v : Value) (found new whole : Namings) → i < length vs → v ≡ get_or vs i v → new ≡ f i (view v) found
+pub note-more : {A : Type 0} (f : ℕ → Data → A → A) (vs : List Value) (i : ℕ) (v : Value) (found new whole : A) → i < length vs → v ≡ get_or vs i v → new ≡ f i (view v) found
     → note_each f i (items_view (drop i vs)) found ≡ whole → note_each f (i + 1) (items_view (drop (i + 1) vs)) new ≡ whole
 note-more f vs i v found new whole lt at is before =
     ap (λ n. note_each f (i + 1) (items_view (drop (i + 1) vs)) n) (is ∙ ap (λ w. f i (view w) found) at)
     ∙ ap (λ ws. note_each f i (items_view ws) found) (sym (drop_more vs i v lt)) ∙ before
 
-pub note-end : (f : ℕ → Data → Namings → Namings) (vs : List Value) (i : ℕ) (found whole : Namings) → length vs ≤ i → note_each f i (items_view (drop i vs)) found ≡ whole → found ≡ whole
+pub note-end : {A : Type 0} (f : ℕ → Data → A → A) (vs : List Value) (i : ℕ) (found whole : A) → length vs ≤ i → note_each f i (items_view (drop i vs)) found ≡ whole → found ≡ whole
 note-end f vs i found whole le before = ap (λ ws. note_each f i (items_view ws) found) (sym (drop_all i vs le)) ∙ before
 
 -- ---- how many items there are

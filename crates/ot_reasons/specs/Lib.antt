@@ -5,3 +5,4 @@ pub mod Namings
 pub mod Words
 pub mod PlanFaults
 pub mod PlanWords
+pub mod Ignored

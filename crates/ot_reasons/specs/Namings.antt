@@ -28,7 +28,7 @@ abbrev pub note : Bool → Place → Namings → Namings
 note here p found = if here then with_place p found.first found.second else found
 
 -- what each item notes, in order, the first having this number
-abbrev pub note_each : (ℕ → Data → Namings → Namings) → ℕ → Items → Namings → Namings
+abbrev pub note_each : {A : Type 0} → (ℕ → Data → A → A) → ℕ → Items → A → A
 note_each f k no_items found = found
 note_each f k (item d ds) found = note_each f (k + 1) ds (f k d found)
 
@@ -38,7 +38,7 @@ note_tag a p k d found = note (is_named a (tag_of d)) (in_item p k) found
 abbrev pub note_placed : Tag → Place → ℕ → Data → Namings → Namings
 note_placed a p k d found = note (is_named a (option_map (λ (x : Placed). x.tag) (placed_of d))) (in_item p k) found
 
-abbrev pub note_all : (Items → Namings → Namings) → Option Items → Namings → Namings
+abbrev pub note_all : {A : Type 0} → (Items → A → A) → Option Items → A → A
 note_all f None found = found
 note_all f (Some ds) found = f ds found
 

@@ -17,12 +17,14 @@
 //! - *The first fault of a plan* (`specs/PlanFaults.antt`): `plan_fault`, of the kinds of `ot_plan` in their order: what its shape lacks, numbers,
 //!   lengths, how many actions. [`plan_fault`] finds it, and its contract says that its kind is the fault of `ot_plan`, and
 //!   of what stands there the same as for a trace.
+//! - *Keys that are not read* (`specs/Ignored.antt`): [`ignored_keys`] names those of a plan, since a misspelled key says nothing.
 //! - *Words* (`specs/Words.antt`, `specs/PlanWords.antt`): [`read_or_tell`] and [`read_plan_or_tell`] read a trace and a plan, or tell why there is none.
 //!
 //! Begin with `trace_fault` in specs/Faults.antt, then with [`read_or_tell`].
 #![tactic(auto)]
 
 mod checks;
+mod ignored;
 mod json_faults;
 mod namings;
 mod place;
@@ -33,10 +35,11 @@ mod reading;
 mod shape;
 mod words;
 
+pub use ignored::{Ignored, Part, ignored_keys, ignored_text};
 pub use namings::{Namings, namings_of};
 pub use place::{Fault, Field, Place, Wanted};
 pub use plan_faults::{PlanRefusal, plan_fault};
-pub use plan_reading::{PlanReason, no_plan_text, read_plan_or_tell};
+pub use plan_reading::{PlanReason, ReadPlan, no_plan_text, read_plan_or_tell};
 pub use plan_words::plan_text;
 pub use reading::{Reason, no_text, read_or_tell};
 pub use shape::shape_fault;

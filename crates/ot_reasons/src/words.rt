@@ -61,8 +61,8 @@ fn field_text(alloc: Global, field: Field, place: Place) -> Result<String, Alloc
     format!(in alloc; "{name}{item}{part}{key}")
 }
 
-// A place: `event 3, insert[2][1]`, `typing[1][3], insert`; `whole` is what the whole value is called.
-fn place_text(alloc: Global, whole: &str, place: Place) -> Result<String, AllocError>
+/// A place: `event 3, insert[2][1]`, `typing[1][3], insert`; `whole` is what the whole value is called.
+pub(crate) fn place_text(alloc: Global, whole: &str, place: Place) -> Result<String, AllocError>
     ensures { IfOk result (λ s. string_bytes s ≡ place_text whole.now place) }
 {
     match (place.event, place.field) {

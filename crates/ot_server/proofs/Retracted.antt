@@ -3,7 +3,9 @@ use Rattle.std.proofs.Common.{◌≡◌, ℕ, zero, suc, ◌+◌, ◌<◌, List,
 use Rattle.ot_operation.specs.Operation.{Operation, apply, invert}
 use Rattle.ot_operation.proofs.ApplyLaws.{length-apply}
 use Rattle.ot_operation.proofs.InvertLaws.{apply-invert}
-use Rattle.ot_server.specs.History.{Entry, History, IsChain, IsUndo}
+use Rattle.ot_server.specs.History.{Entry, History}
+use Rattle.ot_server.specs.Faults.{IsChain}
+use Rattle.ot_server.specs.Undo.{IsUndo}
 
 take_front : {X : Type 0} (xs : List X) (y : X) (n : ℕ) → n ≡ length xs → take n (xs ++ y ∷ []) ≡ xs
 take_front [] y zero e = refl

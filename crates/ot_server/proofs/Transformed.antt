@@ -7,7 +7,8 @@ use Rattle.ot_operation.specs.Merge.{first_after}
 use Rattle.ot_operation.proofs.OrderLaws.{length-image}
 use Rattle.ot_operation.proofs.LengthLaws.{first_after-base}
 use Rattle.ot_operation.proofs.TransformedLaws.{news-first_after}
-use Rattle.ot_server.specs.History.{Entry, base_at, IsChain, inserted_in, transform_over}
+use Rattle.ot_server.specs.History.{Entry, transform_over}
+use Rattle.ot_server.specs.Faults.{base_at, IsChain, inserted_in}
 
 pub rest_is : {X : Type 0} (xs : List X) (i : ℕ) (x : X) → i < length xs → x ≡ get_or xs i x → drop i xs ≡ x ∷ drop (suc i) xs
 rest_is [] i x within here = absurd (omega arith)

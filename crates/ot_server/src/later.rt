@@ -2,7 +2,8 @@
 
 ghost use Rattle.std.specs.Prelude.{◌≡◌, ◌+◌, ◌≤◌, length, IfOk, IsTrue, ◌↔◌};
 ghost use Rattle.ot_operation.specs.Operation.{IsOperation, news};
-ghost use Rattle.ot_server.specs.History.{IsChain, base_at, inserted_in, transform_over};
+ghost use Rattle.ot_server.specs.History.{transform_over};
+ghost use Rattle.ot_server.specs.Faults.{IsChain, base_at, inserted_in};
 
 use crate::Entry;
 use ot_algebra::transform_in_place;

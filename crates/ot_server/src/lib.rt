@@ -21,7 +21,9 @@
 
 ghost use Rattle.std.specs.Prelude.{◌≡◌, ◌<◌, ◌≤◌, [], length, drop, IfOk, OnErr, OnOk};
 ghost use Rattle.ot_operation.specs.Operation.{IsOperation, invert};
-ghost use Rattle.ot_server.specs.History.{History, IsChain, IsRetractable, IsUndo, Names, fault_of, received, transform_over, with_entry};
+ghost use Rattle.ot_server.specs.History.{History, received, transform_over, with_entry};
+ghost use Rattle.ot_server.specs.Faults.{IsChain, Names, fault_of};
+ghost use Rattle.ot_server.specs.Undo.{IsRetractable, IsUndo};
 
 mod entry;
 mod fault;
@@ -46,7 +48,8 @@ pub struct Server<T: Element> {
 
 impl<T: Element> Model for Server<T> {
     ghost use Rattle.std.specs.Prelude.{length, ◌≤◌};
-    ghost use Rattle.ot_server.specs.History.{History, IsChain};
+    ghost use Rattle.ot_server.specs.History.{History};
+    ghost use Rattle.ot_server.specs.Faults.{IsChain};
 
     ghost Value = { History T };
 

@@ -126,12 +126,14 @@ fn read<'a>(machine: &'a Machine, client: u16, place: usize) -> Reading<'a>
 /// The main theorem. A client, `at` a machine of any state, is there; the other arguments are any.
 ///
 /// - *Instruction by instruction*: `steps`, `refuses`, `memory`, `unchanged`. What the machine does to an instruction is the table's row.
-/// - *For every schedule*: `runs`, `stops`. A run performs the instructions from the table's opening on, up to the first that the table refuses, memory aside.
+/// - *For every schedule*: `runs`, `stops`. A run performs the instructions from the table's opening on. Where it stops, it is before an instruction that the table
+///   refuses for that reason, or that the table performs and for which memory ran out.
 /// - *Documents, client states, links and revisions*: `document` to `server`. Each reader of a machine in any state returns that field of the state.
 /// - *Assembling and loading*: `spells`, `assembles`, `is_image`, `loads`. A text or image of a schedule is read as that schedule, memory aside.
 /// - *Debugging*: `opens`, `keeps`, `debugs`. After any commands the machine is that of the run of the same schedule, after as many instructions as the position says.
-/// - *The record of a session on threads*: `replays`. Replayed from its opening, the record ends in the state of the board's machine.
-/// - *Documents equal the server's*: `quiet`, `converges`.
+/// - *The record of a session on threads*: `finished`, `replays`, `unfinished`. A finished board gives its record and its machine, and the record, replayed from its opening,
+///   ends in the machine's state. `finish` refuses only while a client is lent; the board then comes back.
+/// - *Their documents equal the server's*: `quiet`, `converges`. In a quiet state of the machine every joined client's list is the server's.
 pub fn main_theorem<'a>(
     alloc: Global,
     machine: &mut Machine,
@@ -154,7 +156,7 @@ pub fn main_theorem<'a>(
     ensures memory { IfErr result.stepped (λ r. r ≡ Memory → (s : table.State) × (list : Option Shows) × (step machine.old instr.now ≡ Performed s list)) }
     ensures unchanged { OnErr result.stepped (machine.new ≡ machine.old) }
     ensures runs { IfOk result.ran (λ run. run.stopped ≡ None → table.run schedule.now.instrs (begin schedule.now.clients schedule.now.present schedule.now.start) ≡ Some (record { state = run.machine; shown = run.shown.items })) }
-    ensures stops { IfOk result.ran (λ run. IfSome run.stopped (λ stop. (table.run (take stop.0 schedule.now.instrs) (begin schedule.now.clients schedule.now.present schedule.now.start) ≡ Some (record { state = run.machine; shown = run.shown.items })) × ((stop.1 ≡ Memory) ⊎ ((i : Instr) × (slice_get schedule.now.instrs stop.0 ≡ Some i) × (step run.machine i ≡ Refused stop.1))))) }
+    ensures stops { IfOk result.ran (λ run. IfSome run.stopped (λ stop. (table.run (take stop.0 schedule.now.instrs) (begin schedule.now.clients schedule.now.present schedule.now.start) ≡ Some (record { state = run.machine; shown = run.shown.items })) × ((i : Instr) × (slice_get schedule.now.instrs stop.0 ≡ Some i) × ((step run.machine i ≡ Refused stop.1) ⊎ ((stop.1 ≡ Memory) × ((s : table.State) × (list : Option Shows) × (step run.machine i ≡ Performed s list))))))) }
     ensures document { option_map (λ (x : table.Client). x.list) (slice_get at.now.clients client) ≡ Some result.read.document.now }
     ensures joined { IfSome result.read.client (λ given. option_map (λ (x : table.Client). x.phase) (slice_get at.now.clients client) ≡ Some (phase_in (state_of given.now).phase)) }
     ensures absent { IfNone result.read.client (option_map (λ (x : table.Client). x.phase) (slice_get at.now.clients client) ≡ Some NotJoined) }
@@ -171,7 +173,9 @@ pub fn main_theorem<'a>(
     ensures opens { IfOk result.opened (λ d. d.schedule ≡ opened) }
     ensures keeps { debugger.new.schedule ≡ debugger.old.schedule }
     ensures debugs { table.run (take session.now.position session.now.schedule.instrs) (begin session.now.schedule.clients session.now.schedule.present session.now.schedule.start) ≡ Some (record { state = result.debugged.now; shown = session.now.place.shown }) }
+    ensures finished { IfOk result.finished (λ f. (f.schedule ≡ board.recorded) × (f.machine ≡ board.state)) }
     ensures replays { IfOk result.finished (λ f. (shown : List Shows) × (table.run f.schedule.instrs (begin f.schedule.clients f.schedule.present f.schedule.start) ≡ Some (record { state = f.machine; shown = shown }))) }
+    ensures unfinished { IfErr result.finished (λ e. (slice_get board.out e.0.0 ≡ Some true) × (e.1 ≡ board)) }
     ensures quiet { IsTrue result.read.quiet ↔ IsQuiet at.now }
     ensures converges { IsQuiet at.now → (c : ℕ) (x : table.Client) → slice_get at.now.clients c ≡ Some x → is_joined x.phase ≡ true → x.list ≡ at.now.server }
 {

@@ -7,7 +7,7 @@ use Rattle.ot_isa.specs.declared.elements.Tagged.{Tagged}
 use Rattle.ot_isa.specs.declared.instruction.Instr.{Instr}
 use Rattle.ot_isa.specs.declared.instruction.Instr.TheVariants.{Edit, Take, Deliver, Acknowledge, Join, Read, ReadServer}
 use Rattle.ot_model.specs.declared.shown.Shown.{Shown}
-use Rattle.ot_model.specs.Sound.{IsInstr, IsOutcomeSound, IsSound}
+use Rattle.ot_model.specs.Sound.{AreInstrs, IsInstr, IsOutcomeSound, IsSound}
 use Rattle.ot_model.specs.Table.{Client, absent, Entry, Message, Place, State, Outcome, Performed, Refused, NoRow, is_joined, run, step, with_shown, IsQuiet}
 use Rattle.ot_model.proofs.Algebra.{laws}
 use Rattle.ot_model.proofs.Steps.{quiet_same, step_sound}
@@ -33,6 +33,10 @@ no_edit_is (Acknowledge c) free = tt
 no_edit_is (Join c) free = tt
 no_edit_is (Read c) free = tt
 no_edit_is ReadServer free = tt
+
+pub no_edits_are : (is : List Instr) → AreNoEdits is → AreInstrs is
+no_edits_are [] free = tt
+no_edits_are (i ∷ is) free = (no_edit_is i free.0, no_edits_are is free.1)
 
 -- what each instruction keeps, the whole run keeps
 run_keeps : (P : State → Type 0) → ((s : State) (i : Instr) → IsNoEdit i → IsSound s → P s → Kept P (step s i))

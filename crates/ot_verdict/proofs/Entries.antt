@@ -6,6 +6,7 @@ use Rattle.std.proofs.lemmas.Option.{same_Some, slice_get-get_or}
 use Rattle.std.specs.Prelude.{◌==◌, slice_get}
 use Rattle.ot_isa.specs.declared.elements.Tagged.{Tagged}
 use Rattle.ot_client.specs.State as client
+use Rattle.ot_client.specs.Conditions as conditions
 use Rattle.ot_client.specs.declared.TheConstants.{REVISION_LIMIT}
 use Rattle.ot_model.specs.Operation.{Operation, apply}
 use Rattle.ot_model.specs.Laws as laws_of
@@ -37,12 +38,12 @@ against_in client.Synchronized h = refl
 against_in (client.AwaitingConfirm o) h = refl
 against_in (client.AwaitingWithBuffer o b) h = refl
 
-may_in : (p : client.Phase Tagged) (h : Operation Tagged) → laws_of.MayDeliver (phase_in p) h → client.MayDeliver p h
+may_in : (p : client.Phase Tagged) (h : Operation Tagged) → laws_of.MayDeliver (phase_in p) h → conditions.MayDeliver p h
 may_in client.Synchronized h may = may
 may_in (client.AwaitingConfirm o) h may = may
 may_in (client.AwaitingWithBuffer o b) h may = may
 
-awaiting_in : (x y : Client) (p : client.Phase Tagged) → acknowledged x (phase_in p) ≡ Some y → client.IsAwaiting p
+awaiting_in : (x y : Client) (p : client.Phase Tagged) → acknowledged x (phase_in p) ≡ Some y → conditions.IsAwaiting p
 awaiting_in x y client.Synchronized e = absurd (cc)
 awaiting_in x y (client.AwaitingConfirm o) e = tt
 awaiting_in x y (client.AwaitingWithBuffer o b) e = tt
@@ -83,12 +84,12 @@ module _ (s : State) (c : ℕ) (now : client.State Tagged) (list : List Tagged) 
       let same = r.revision in
       omega arith
 
-  pub may_acknowledge : (h : Entry) → slice_get s.log now.revision ≡ Some h → h.maker ≡ c → client.IsAwaiting now.phase
+  pub may_acknowledge : (h : Entry) → slice_get s.log now.revision ≡ Some h → h.maker ≡ c → conditions.IsAwaiting now.phase
   may_acknowledge h head own =
       let kept = acknowledged_kept laws r.sound.0 r.sound.1 r.state c r.client h r.sound.2 r.at (head_now h head) own joined_now in
       awaiting_in r.client kept.0 now.phase (ap (acknowledged r.client) (sym r.phase) ∙ kept.1)
 
-  pub fits_now : (h : Entry) → slice_get s.log now.revision ≡ Some h → h.maker ≢ c → client.MayDeliver now.phase h.op × ((client.against_pending now.phase h.op).base ≡ length list)
+  pub fits_now : (h : Entry) → slice_get s.log now.revision ≡ Some h → h.maker ≢ c → conditions.MayDeliver now.phase h.op × ((client.against_pending now.phase h.op).base ≡ length list)
   fits_now h head other =
       let may = deliverable r.state c r.client h r.sound r.at joined_now (head_now h head) other in (
         may_in now.phase h.op (subst (λ (p : Phase). laws_of.MayDeliver p h.op) r.phase may.operations),

@@ -80,7 +80,7 @@ only first (y ∷ clients) c e = go (λ rest. only (suc first) clients c rest) (
 
 -- ---- what an idle client has
 
-or_false : (a b : Bool) → (a || b) ≡ false → (a ≡ false) × (b ≡ false)
+pub or_false : (a b : Bool) → (a || b) ≡ false → (a ≡ false) × (b ≡ false)
 or_false true b e = absurd (cc)
 or_false false b e = (refl, e)
 

@@ -4,5 +4,6 @@ pub mod Ending
 pub mod Examples
 pub mod Arrivals
 pub mod First
+pub mod Named
 mod Gathering
 mod Entries

@@ -1,6 +1,6 @@
 //! The laws of what is still to arrive, each as the contract of a function that does nothing: a proof that calls one has its law.
 
-ghost use Rattle.ot_verdict.specs.First.{CompletionTakes};
+ghost use Rattle.ot_verdict.specs.First.{CompletionTakes, NamedAreTaken};
 ghost use Rattle.ot_verdict.specs.Laws.{ArrivalsEnd, CompletionEnds, EveryOrderEnds, WhatWaitsCanCome};
 
 /// Where at most one client has edits that the server has not taken: whatever comes but an edit, takes, receipts, joins and reads in any order, once everything
@@ -25,4 +25,9 @@ pub fn arrivals_end()
 /// that of the first client with a buffer. No message is taken if there is no such client.
 pub fn completion_takes()
     ensures { CompletionTakes }
+{}
+
+/// Whatever comes but an edit, in any order: until everything has arrived, the server takes a message of each client that has edits that it has not taken, and of no other.
+pub fn named_are_taken()
+    ensures { NamedAreTaken }
 {}

@@ -14,7 +14,7 @@ use Rattle.ot_words.specs.declared.words.Form.TheVariants as form
 use Rattle.ot_words.specs.declared.words.Subject.{Subject}
 use Rattle.ot_words.specs.declared.words.Subject.TheVariants as subject
 use Rattle.ot_words.specs.declared.words.Request.{Request}
-use Rattle.ot_words.specs.declared.words.Request.TheVariants.{Run, Check, Debug, Assemble, Disassemble, Judge, Steps, Explain, Conform, Complete, Generate, ListEvery, CountEvery}
+use Rattle.ot_words.specs.declared.words.Request.TheVariants.{Run, Check, Debug, Assemble, Disassemble, Judge, Steps, Explain, Conform, ConformMany, Complete, Generate, ListEvery, CountEvery}
 use Rattle.ot_words.specs.declared.words.Asked.{Asked}
 use Rattle.ot_words.specs.declared.words.Asked.TheVariants.{Plainly, Threads}
 
@@ -35,7 +35,7 @@ flagged_app name flag = with_rule (new_app name) (flag_rule flag)
 
 -- the subcommand `explain`
 abbrev pub explain_app : App
-explain_app = with_rule (with_rule (flagged_app (codes "explain") (codes "trace")) (flag_rule (codes "plan"))) (flag_rule (codes "image"))
+explain_app = with_rule (with_rule (with_rule (flagged_app (codes "explain") (codes "trace")) (flag_rule (codes "plan"))) (flag_rule (codes "image"))) (flag_rule (codes "json"))
 
 -- the subcommands `run` and `check`
 abbrev pub run_app : App
@@ -46,7 +46,7 @@ check_app = with_rule (flagged_app (codes "check") (codes "all")) (flag_rule (co
 
 -- the subcommand `conform`
 abbrev pub conform_app : App
-conform_app = with_rule (flagged_app (codes "conform") (codes "sparse")) (flag_rule (codes "json"))
+conform_app = with_rule (with_rule (with_rule (flagged_app (codes "conform") (codes "sparse")) (flag_rule (codes "json"))) (flag_rule (codes "many"))) (flag_rule (codes "all"))
 
 -- the words of a session made at random
 abbrev pub random_app : App
@@ -118,25 +118,37 @@ run_among rows = Run (form_among rows) (flag_among (codes "json") rows)
 abbrev pub check_among : List Row → Request
 check_among rows = Check (flag_among (codes "all") rows) (flag_among (codes "json") rows)
 
--- what is explained, by whether `--trace`, `--plan` and `--image` were given: they exclude one another
-abbrev pub subject_of : Bool → Bool → Bool → Option Subject
-subject_of false false false = Some subject.Schedule
-subject_of true false false = Some subject.Trace
-subject_of false true false = Some subject.Plan
-subject_of false false true = Some subject.Image
-subject_of true true image = None
-subject_of true false true = None
-subject_of false true true = None
+-- what is explained, by whether `--trace`, `--plan`, `--image` and `--json` were given: they exclude one another
+abbrev pub subject_of : Bool → Bool → Bool → Bool → Option Subject
+subject_of false false false false = Some subject.Schedule
+subject_of true false false false = Some subject.Trace
+subject_of false true false false = Some subject.Plan
+subject_of false false true false = Some subject.Image
+subject_of false false false true = Some subject.Outlook
+subject_of true true image json = None
+subject_of true false true json = None
+subject_of false true true json = None
+subject_of true false false true = None
+subject_of false true false true = None
+subject_of false false true true = None
 
 abbrev pub explains : Option Subject → Option Asked
 explains None = None
 explains (Some what) = Some (Plainly (Explain what))
 
 abbrev pub explain_among : List Row → Option Asked
-explain_among rows = explains (subject_of (flag_among (codes "trace") rows) (flag_among (codes "plan") rows) (flag_among (codes "image") rows))
+explain_among rows =
+    explains (subject_of (flag_among (codes "trace") rows) (flag_among (codes "plan") rows) (flag_among (codes "image") rows) (flag_among (codes "json") rows))
 
-abbrev pub conform_among : List Row → Request
-conform_among rows = Conform (flag_among (codes "sparse") rows) (flag_among (codes "json") rows)
+-- what is compared, by whether `--many` and `--all` were given: one session, or many. `--all` is of many alone
+abbrev pub conform_request : Bool → Bool → Bool → Bool → Option Request
+conform_request false false sparse json = Some (Conform sparse json)
+conform_request false true sparse json = None
+conform_request true all sparse json = Some (ConformMany all sparse json)
+
+abbrev pub conform_among : List Row → Option Asked
+conform_among rows =
+    option_map Plainly (conform_request (flag_among (codes "many") rows) (flag_among (codes "all") rows) (flag_among (codes "sparse") rows) (flag_among (codes "json") rows))
 
 -- the number of an option's text, or this one where there is none
 abbrev pub number_or : ℕ → Option Text → Option ℕ
@@ -230,7 +242,7 @@ request_in_rows p =
     (if bytes_eq p.0 (codes "judge") then Some (Plainly (Judge (flag_among (codes "json") p.1))) else
     (if bytes_eq p.0 (codes "steps") then Some (Plainly (Steps (flag_among (codes "documents") p.1))) else
     (if bytes_eq p.0 (codes "explain") then explain_among p.1 else
-    (if bytes_eq p.0 (codes "conform") then Some (Plainly (conform_among p.1)) else
+    (if bytes_eq p.0 (codes "conform") then conform_among p.1 else
     (if bytes_eq p.0 (codes "threads") then Some Threads else
     (if bytes_eq p.0 (codes "complete") then Some (Plainly Complete) else
     (if bytes_eq p.0 (codes "generate") then generate_among p.1 else None)))))))))))

@@ -74,6 +74,8 @@ pub const EXPLAIN: &str = "\
 Reads a schedule's text on standard input. Tells its run in words: what each instruction did, with its line of the text and its
 number, why one is refused and what would repair it; and at the end whether the documents must agree, and to what. Of a text that
 is no schedule: the column and the cause of its fault.
+With --json it prints one line of JSON in place of the words: how many instructions were performed, why the next one was refused, and
+whether the documents must agree.
 With --image it reads a schedule's image and tells the run of the text that 'otbench dis' writes of it; of bytes that are no image: the
 field of the first fault, what stands there and what is wanted.
 With --trace it reads a trace as 'otbench judge' does, and judges it. With --plan it reads a plan as 'otbench threads' does, and
@@ -91,6 +93,8 @@ Reads a schedule's text, a line '%%', and the lines that a port of ot.js printed
 was found and what ot.js has. A key that the port does not print is not compared; one that 'otbench steps' does not have is named.
 With --sparse an instruction without a line is passed over too, so that a line for one instruction is enough; its place says which.
 With --json the answer is one line of JSON, made of the same values.
+With --many the input is sessions, each a schedule's text, a line '%%', the port's lines and a line '%%'. Says how many conform and how
+much was compared of all, or the number of the first that does not conform, its schedule and its answer; with --all that of each.
 Example:  printf 'clients 1\\nedit 0 [\"a\"]\\n%%%%\\n{\"at\":1,\"document\":\"a\"}\\n' | otbench conform
 Status 0: conforms. 1: differs, or nothing was compared, or nothing can be compared for a limit of otbench, or the schedule was
 refused, or a fault of reading, writing or memory. The lines and the answer: docs/FORMATS.md, 'Conform'.";

@@ -3,7 +3,7 @@
 ghost use Rattle.std.specs.Prelude.{◌≡◌, codes, Some, IfOk, IfErr, IsSome, map, true, option_and_then, option_map, vec_items};
 ghost use Rattle.std.specs.Str.{chars};
 ghost use Rattle.clap.specs.Words.{app_of, found_of, kind_of, rows_of, subcommand_rows_of, takes, with_rule};
-ghost use Rattle.ot_words.specs.Requests.{◌+>◌, IsPlain, chars_among, check_among, check_app, conform_among, conform_app, explain_among, explain_app, flag_among, flag_rule, form_among, generate_among, generate_app, number_among, number_if_among, option_rule, otbench_app, plain_app, random_app, request_in_rows, request_of, run_among, run_app, session_among, sessions_among, subject_of, top_app};
+ghost use Rattle.ot_words.specs.Requests.{◌+>◌, IsPlain, chars_among, check_among, check_app, conform_among, conform_app, conform_request, explain_among, explain_app, flag_among, flag_rule, form_among, generate_among, generate_app, number_among, number_if_among, option_rule, otbench_app, plain_app, random_app, request_in_rows, request_of, run_among, run_app, session_among, sessions_among, subject_of, top_app};
 
 use crate::every::{every_in, has_every, has_random, misplaced_option, refused_every, with_every};
 use crate::help;
@@ -27,6 +27,8 @@ pub enum Form {
 pub enum Subject {
     /// The run of a schedule's text.
     Schedule,
+    /// The verdict on where the run of a schedule's text ends, as JSON.
+    Outlook,
     /// The run of a schedule's image.
     Image,
     /// A trace.
@@ -53,12 +55,14 @@ pub enum Request {
     Judge(bool),
     /// Runs a schedule and prints what each instruction changes, as lines of JSON; whether the documents too.
     Steps(bool),
-    /// Says in words what each instruction of a schedule, as text or as image, did; or what the verdict of a trace is, or what a plan is; and why
-    /// it is refused.
+    /// Says in words what each instruction of a schedule, as text or as image, did; or as JSON the verdict on where its run ends; or what the verdict of a
+    /// trace is, or what a plan is; and why it is refused.
     Explain(Subject),
     /// Compares the lines that a port printed with the run of its schedule; whether instructions without a line are passed over, and whether
     /// the answer is JSON.
     Conform { sparse: bool, json: bool },
+    /// The same of many sessions: whether each is answered, or the first alone that does not conform.
+    ConformMany { all: bool, sparse: bool, json: bool },
     /// Prints a schedule, and behind it what brings its run to quiet.
     Complete,
     /// Prints a session made at random: its seed, and what is asked of it.
@@ -212,11 +216,17 @@ fn explain_command<'a>(alloc: Global) -> Result<Command<'a>, AllocError>
         "plan",
         "Read a plan (JSON) in place of a schedule: tell what it is, or why it is refused",
     )?;
-    flagged(
+    let command = flagged(
         alloc,
         command,
         "image",
         "Read a schedule's image in place of its text",
+    )?;
+    flagged(
+        alloc,
+        command,
+        "json",
+        "Answer with the verdict on where the run ends, as one line of JSON",
     )
 }
 
@@ -274,7 +284,14 @@ fn conform_command<'a>(alloc: Global) -> Result<Command<'a>, AllocError>
         "sparse",
         "Pass over the instructions that have no line",
     )?;
-    flagged(alloc, command, "json", "Answer with one line of JSON")
+    let command = flagged(alloc, command, "json", "Answer with one line of JSON")?;
+    let command = flagged(
+        alloc,
+        command,
+        "many",
+        "Compare many sessions, each with a line '%%' behind it",
+    )?;
+    flagged(alloc, command, "all", "With --many: answer of each session")
 }
 
 // The program with one subcommand more.
@@ -399,14 +416,15 @@ fn check_in(matches: &ArgMatches<'_>) -> Request
 }
 
 // What these flags say is explained; none where two are set.
-fn subject_of(trace: bool, plan: bool, image: bool) -> Option<Subject>
-    ensures { result ≡ subject_of trace plan image }
+fn subject_of(trace: bool, plan: bool, image: bool, json: bool) -> Option<Subject>
+    ensures { result ≡ subject_of trace plan image json }
 {
-    match (trace, plan, image) {
-        (false, false, false) => Some(Subject::Schedule),
-        (true, false, false) => Some(Subject::Trace),
-        (false, true, false) => Some(Subject::Plan),
-        (false, false, true) => Some(Subject::Image),
+    match (trace, plan, image, json) {
+        (false, false, false, false) => Some(Subject::Schedule),
+        (true, false, false, false) => Some(Subject::Trace),
+        (false, true, false, false) => Some(Subject::Plan),
+        (false, false, true, false) => Some(Subject::Image),
+        (false, false, false, true) => Some(Subject::Outlook),
         _ => None,
     }
 }
@@ -418,19 +436,36 @@ fn explain_in(matches: &ArgMatches<'_>) -> Option<Asked>
     let trace = is_set(matches, "trace");
     let plan = is_set(matches, "plan");
     let image = is_set(matches, "image");
-    match subject_of(trace, plan, image) {
+    let json = is_set(matches, "json");
+    match subject_of(trace, plan, image, json) {
         Some(subject) => Some(Asked::Plainly(Request::Explain(subject))),
         None => None,
     }
 }
 
-// What the matches of `conform` ask for.
-fn conform_in(matches: &ArgMatches<'_>) -> Request
+// What these flags say is compared; none for `--all` without `--many`.
+fn conform_request(many: bool, all: bool, sparse: bool, json: bool) -> Option<Request>
+    ensures { result ≡ conform_request many all sparse json }
+{
+    match (many, all) {
+        (false, false) => Some(Request::Conform { sparse, json }),
+        (false, true) => None,
+        (true, _) => Some(Request::ConformMany { all, sparse, json }),
+    }
+}
+
+// The request that the matches of `conform` say, if they say one.
+fn conform_in(matches: &ArgMatches<'_>) -> Option<Asked>
     ensures { result ≡ conform_among (rows_of (found_of matches.now)) }
 {
+    let many = is_set(matches, "many");
+    let each = is_set(matches, "all");
     let sparse = is_set(matches, "sparse");
     let json = is_set(matches, "json");
-    Request::Conform { sparse, json }
+    match conform_request(many, each, sparse, json) {
+        Some(request) => Some(Asked::Plainly(request)),
+        None => None,
+    }
 }
 
 // The number that an option gives, or else this one; none where what it gives is no number.
@@ -538,7 +573,7 @@ fn request_in(alloc: Global, matches: &ArgMatches<'_>) -> Result<Option<Asked>, 
         "judge" => Ok(Some(Asked::Plainly(Request::Judge(is_set(found, "json"))))),
         "steps" => Ok(Some(Asked::Plainly(Request::Steps(is_set(found, "documents"))))),
         "explain" => Ok(explain_in(found)),
-        "conform" => Ok(Some(Asked::Plainly(conform_in(found)))),
+        "conform" => Ok(conform_in(found)),
         "threads" => Ok(Some(Asked::Threads)),
         "complete" => Ok(Some(Asked::Plainly(Request::Complete))),
         "generate" => generate_in(alloc, found),
@@ -613,34 +648,49 @@ fn refused_session(alloc: Global, matches: &ArgMatches<'_>) -> Result<Error, All
 }
 
 // The first two flags that were given for `explain` and exclude one another.
-fn two_subjects(matches: &ArgMatches<'_>) -> &'static str {
-    if !is_set(matches, "trace") {
-        return "the argument '--plan' cannot be used with '--image'";
-    }
-    if is_set(matches, "plan") {
-        "the argument '--trace' cannot be used with '--plan'"
-    } else {
-        "the argument '--trace' cannot be used with '--image'"
+fn two_subjects(matches: &ArgMatches<'_>) -> (&'static str, &'static str) {
+    let trace = is_set(matches, "trace");
+    let plan = is_set(matches, "plan");
+    let image = is_set(matches, "image");
+    match (trace, plan, image) {
+        (true, true, _) => ("trace", "plan"),
+        (true, false, true) => ("trace", "image"),
+        (true, false, false) => ("trace", "json"),
+        (false, true, true) => ("plan", "image"),
+        (false, true, false) => ("plan", "json"),
+        _ => ("image", "json"),
     }
 }
 
-// That the matches of `explain` ask for two subjects: `clap`'s error, with the usage of `explain`.
+// That the matches of `explain` have two flags that exclude one another: `clap`'s error, with the usage of `explain`.
 fn refused_subject(alloc: Global, matches: &ArgMatches<'_>) -> Result<Error, AllocError> {
+    let (first, second) = two_subjects(matches);
+    let words = format!(in alloc; "the argument '--{first}' cannot be used with '--{second}'")?;
     let mut command = explain_command(alloc)?.bin_name("otbench explain")?;
-    command.error(ErrorKind::ArgumentConflict, two_subjects(matches))
+    command.error(ErrorKind::ArgumentConflict, words.as_str())
+}
+
+// That the matches of `conform` ask for each of one session: `clap`'s error, with the usage of `conform`.
+fn refused_all(alloc: Global) -> Result<Error, AllocError> {
+    let mut command = conform_command(alloc)?.bin_name("otbench conform")?;
+    command.error(
+        ErrorKind::ArgumentConflict,
+        "the argument '--all' cannot be used without '--many'",
+    )
 }
 
 // Why the matches ask for nothing that the program does.
 fn refused_request(alloc: Global, matches: &ArgMatches<'_>) -> Result<Error, AllocError> {
     match matches.subcommand() {
         Some((name, found)) if name == "explain" => refused_subject(alloc, found),
+        Some((name, _)) if name == "conform" => refused_all(alloc),
         Some((_, found)) => refused_session(alloc, found),
         None => command(alloc)?.error(ErrorKind::MissingSubcommand, "a subcommand is missing"),
     }
 }
 
 /// What the words ask for, the program's name being the first of them. Where they ask for nothing that the program does, for a session with
-/// a number out of its range, for `explain` of two kinds of input at once, or for help, the answer is `clap`'s error with its text: of a
+/// a number out of its range, for `explain` with two flags that exclude one another, for `conform` of each of one session, or for help, the answer is `clap`'s error with its text: of a
 /// number that is refused, the option, what it takes and the usage of `generate`. `ErrorKind::OutOfMemory` means out of memory.
 pub fn read_request<'a, S: AsStr>(alloc: Global, words: &'a [S]) -> Result<Asked, Error>
     ensures ok { IfOk result (λ r. request_of (map S.text words.entry.now) ≡ Some r) }

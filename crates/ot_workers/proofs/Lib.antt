@@ -5,3 +5,6 @@ mod Receipted
 mod Uplinks
 mod Seen
 pub mod Fresh
+mod Takes
+mod Shortages
+mod Unsettled

@@ -20,10 +20,10 @@ from_append n m (x ∷ xs) ys is first rest =
     let long = length-append x.steps.items (steps_in xs) in
     (first.0, from_append (n + length x.steps.items) m xs ys (omega arith) first.1 rest)
 
-steps_none : (p : Program) → with_steps p [] ≡ p
+pub steps_none : (p : Program) → with_steps p [] ≡ p
 steps_none p = ap (λ (is : List Instr). record { clients = p.clients; present = p.present; start = p.start; instrs = is }) (append-nil p.instrs)
 
-steps_twice : (p : Program) (xs ys : List Instr) → with_steps (with_steps p xs) ys ≡ with_steps p (xs ++ ys)
+pub steps_twice : (p : Program) (xs ys : List Instr) → with_steps (with_steps p xs) ys ≡ with_steps p (xs ++ ys)
 steps_twice p xs ys = ap (λ (is : List Instr). record { clients = p.clients; present = p.present; start = p.start; instrs = is }) (append_assoc p.instrs xs ys)
 
 -- nothing is recorded
@@ -71,6 +71,7 @@ replayed_all b a x r made whole =
     record {
       recorded = made.recorded.recorded ∙ ap (with_steps b.recorded) (take_all made.count x.steps (omega (arith, all)));
       out_is = made.recorded.out_is;
+      parked_is = made.recorded.parked_is;
     }
 
 -- the receipt of those that were performed

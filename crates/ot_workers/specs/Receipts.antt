@@ -22,7 +22,8 @@ pub record HasReceipts (b : BoardView) (before : List Receipt) (a : BoardView) (
   pub recorded : a.recorded ≡ with_steps b.recorded (steps_in more)
   pub places : AreFrom (length b.recorded.instrs) more
 
--- all of the session's steps are recorded, and its client is in
+-- all of the session's steps are recorded, its client is in, and nothing else is done
 pub record IsSettled (x : Session) (b a : BoardView) : Type 0 where
   pub recorded : a.recorded ≡ with_steps b.recorded x.steps
   pub out_is : a.out ≡ set b.out x.start.number false
+  pub parked_is : a.parked ≡ b.parked

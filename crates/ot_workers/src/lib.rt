@@ -15,7 +15,7 @@
 //! receipts are that record. What is proved of the workers' own steps stands on `play`: it makes exactly the steps of a turn, or with a fault
 //! the first ones of them (`turn_steps` and `IsCutShort` in `specs/Playing.antt`). Which client a turn takes is `choice` in
 //! `specs/Choosing.antt`, and what a board and its users' actions have to be is `MayShare` in `specs/Sharing.antt`. What a turn does under the
-//! lock is `begin_turn` and `end_turn` in `turns.rt`: the first is `IsNextOf` in `specs/Turns.antt`, and exactly what either records has its
+//! lock is `begin_turn` and `end_turn` in `turns.rt`: the first is `IsNextOf` in `specs/Turns.antt`, the second `IsLeft` there, and exactly what either records has its
 //! receipts (`HasReceipts` in `specs/Receipts.antt`). Both are public: with `play` between them they make a turn without threads or a lock. Only `work` and `run_workers` may wait; no contract speaks of the order in which threads run,
 //! or says that they make progress.
 //!

@@ -1,11 +1,17 @@
 //! What a turn does under the lock.
 
-ghost use Rattle.std.specs.Prelude.{◌≡◌, ◌<◌, false, length, set, IfOk, OnOk, Some, option_copied, vec_capacity, vec_len, ℕ};
-ghost use Rattle.ot_board.specs.Boards.{with_parked};
+ghost use Rattle.std.specs.Prelude.{◌≡◌, ◌⊎◌, ◌<◌, Bool, false, true, length, set, IfErr, IfOk, IsTrue, OnErr, OnOk, Some, option_copied, vec_capacity, vec_len, ℕ};
+ghost use Rattle.ot_isa.specs.declared.instruction.Instr.TheVariants.{Take};
+ghost use Rattle.ot_model.specs.Table.{step, Refused};
+ghost use Rattle.ot_model.specs.declared.shown.Refusal.TheVariants.{LinkEmpty};
+ghost use Rattle.ot_board.specs.Boards.{with_parked, IsJoined};
 ghost use Rattle.ot_board.specs.Lents.{session_of};
+ghost use Rattle.ot_workers.specs.Choosing as choosing;
 ghost use Rattle.ot_workers.specs.Choosing.{IsHad};
 ghost use Rattle.ot_workers.specs.Receipts.{HasReceipts, IsSettled};
-ghost use Rattle.ot_workers.specs.Turns.{AreSeen, AreUplinksEmpty, EndsAs, IsHadFrom, IsLeft, IsMarked, IsMarkedBy, IsNextOf, IsPlay, IsSeen, IsUplinkEmpty, is_any_out, next_action, parks, typed_by, with_action, with_typed};
+ghost use Rattle.ot_workers.specs.Turns.{AreSeen, AreTaken, AreUplinksEmpty, EndsAs, HasJoined, IsHadFrom, IsLeft, IsMarked, IsMarkedBy, IsNextOf, IsNotBegun, IsPlay, IsSeen, IsShortage, IsUnsettled, IsUplinkEmpty, is_any_out, next_action, parks, typed_by, with_action, with_typed};
+ghost use Rattle.ot_workers.specs.declared.choosing.Seat.{Seat as Seen};
+ghost use Rattle.ot_workers.specs.declared.choosing.Way.TheVariants.{Join};
 
 use crate::choosing::{Seat, Way, choose};
 use crate::fault::WorkFault;
@@ -37,12 +43,17 @@ pub enum Ended {
     Fault(WorkFault),
 }
 
-// Whether a message of the client is under way to the server.
+// Whether a message of the client is under way to the server. The client then has joined.
 fn sends(board: &Board, client: u16) -> bool
-    ensures { result ≡ false → IsUplinkEmpty board.now.state client }
+    ensures none { result ≡ false → IsUplinkEmpty board.now.state client }
+    ensures there { result ≡ true → client < board.now.recorded.clients }
+    ensures joined { result ≡ true → IsJoined board.now client true }
+    ensures some { result ≡ true → step board.now.state (Take client) ≡ Refused LinkEmpty → ⊥ }
 {
+    // For the proof: the invariant of every board.
+    let _kept = board.steps();
     let machine = board.machine();
-    if client >= machine.clients() {
+    if client >= machine.clients() || !machine.joined(client) {
         return false;
     }
     machine.up(client).is_some()
@@ -53,6 +64,8 @@ fn take_one(board: &mut Board, receipts: &mut Vec<Receipt>, client: u16) -> Resu
     ensures taken { OnOk result (IsUplinkEmpty board.new.state client) }
     ensures others { (c : ℕ) → IsUplinkEmpty board.old.state c → IsUplinkEmpty board.new.state c }
     ensures clients { length board.new.state.clients ≡ length board.old.state.clients }
+    ensures takes { AreTaken board.old board.new }
+    ensures short { IfErr result (λ fault. IsShortage board.new fault) }
     ensures receipts { HasReceipts board.old receipts.old.items board.new receipts.new.items }
 {
     if !sends(board, client) {
@@ -67,6 +80,8 @@ fn take_one(board: &mut Board, receipts: &mut Vec<Receipt>, client: u16) -> Resu
 // The server takes each message that is under way, by client.
 fn take_all(board: &mut Board, receipts: &mut Vec<Receipt>) -> Result<(), WorkFault>
     ensures taken { OnOk result (AreUplinksEmpty board.new.state) }
+    ensures takes { AreTaken board.old board.new }
+    ensures short { IfErr result (λ fault. IsShortage board.new fault) }
     ensures receipts { HasReceipts board.old receipts.old.items board.new receipts.new.items }
 {
     for client in 0..board.machine().clients() {
@@ -133,8 +148,12 @@ fn have(
     ensures room { OnOk result (vec_len receipts.new < vec_capacity receipts.new) }
     ensures fresh { IfOk result (λ lent. IsHad way (session_of lent)) }
     ensures had { IfOk result (λ lent. IsHadFrom board.old client way (session_of lent) board.new) }
+    ensures joined { OnErr result ((board.new ≡ board.old) ⊎ ((way ≡ Join) × HasJoined board.old client board.new)) }
+    ensures short { IfErr result (λ fault. (seat : Seen) (untyped : Bool) → IsSeen board.old untyped client seat → choosing.way seat ≡ Some way → IsShortage board.new fault) }
     ensures receipts { HasReceipts board.old receipts.old.items board.new receipts.new.items }
 {
+    // For the proof: the invariant of every board.
+    let _kept = board.steps();
     receipts.reserve(2)?;
     match way {
         Way::PickUp => {
@@ -170,7 +189,8 @@ fn begin<'a>(
     turn: u64,
 ) -> Result<Next<'a>, WorkFault>
     ensures room { IfOk result (λ next. IsPlay next → vec_len receipts.new < vec_capacity receipts.new) }
-    ensures next { IfOk result (λ next. IsNextOf typing.now worker turn inside.new next) }
+    ensures next { IfOk result (λ next. IsNextOf typing.now worker turn inside.old inside.new next) }
+    ensures fault { IfErr result (λ fault. IsNotBegun typing.now worker turn inside.old inside.new.seats.items inside.new.board fault) }
     ensures mark { IfOk result (λ next. IsMarked next inside.old.stopped inside.new.stopped) }
     ensures typed { inside.new.typed ≡ inside.old.typed }
     ensures receipts { HasReceipts inside.old.board receipts.old.items inside.new.board receipts.new.items }
@@ -185,23 +205,31 @@ fn begin<'a>(
         typing,
         inside.seats.as_mut_slice(),
     );
+    // For the proof: the invariants of every board and machine.
+    let _kept = inside.board.steps();
+    let _few = inside.board.machine().clients();
     match choose(inside.seats.as_slice(), worker, turn) {
         Some((client, way)) => {
             let Ok(number) = u16::try_from(client) else {
-                return Err(WorkFault::Refused);
+                unreachable!()
             };
             let lent = have(&mut inside.board, receipts, number, way)?;
             let action = next_action(inside.typed.as_slice(), typing, client);
             Ok(Next::Play(in_hand(lent, way, action)))
         }
-        None if is_any_out(inside.seats.as_slice()) => Ok(Next::Wait),
-        None => Ok(Next::End(None)),
+        None => {
+            if is_any_out(inside.seats.as_slice()) {
+                return Ok(Next::Wait);
+            }
+            Ok(Next::End(None))
+        }
     }
 }
 
-/// The first two steps of a worker's turn, which a worker makes under the lock: where the stop mark is set, the end with `Stopped`; else the server takes what
-/// is under way, and the client that `choose` gives is picked up or lent, or there is none. The typing is by client. A refusal sets the stop mark. What is recorded
-/// has its receipts, also before a refusal, and no action counts as typed yet.
+/// The first two steps of a worker's turn, which a worker makes under the lock. Where the stop mark is set, nothing is done, and the turn ends with `Stopped`. Else the server takes
+/// what is under way, and the client that `choose` gives is picked up or lent, or there is none. The typing is by client, and no action counts as typed yet. The turn ends with
+/// `RecordFull` where 64 more steps may not fit into the record, or with `Memory`: the stop mark is then set, some messages are taken, and the chosen client may have joined.
+/// What is recorded has its receipts, also before a fault.
 pub fn begin_turn<'a>(
     inside: &mut Inside,
     typing: &'a [Vec<Typing>],
@@ -210,7 +238,7 @@ pub fn begin_turn<'a>(
     turn: u64,
 ) -> Next<'a>
     ensures room { IsPlay result → vec_len receipts.new < vec_capacity receipts.new }
-    ensures next { IsNextOf typing.now worker turn inside.new result }
+    ensures next { IsNextOf typing.now worker turn inside.old inside.new result }
     ensures mark { IsMarked result inside.old.stopped inside.new.stopped }
     ensures typed { inside.new.typed ≡ inside.old.typed }
     ensures receipts { HasReceipts inside.old.board receipts.old.items inside.new.board receipts.new.items }
@@ -229,6 +257,7 @@ pub fn begin_turn<'a>(
 fn settle(board: &mut Board, receipts: &mut Vec<Receipt>, lent: Lent) -> Result<(), WorkFault>
     requires { vec_len receipts.old < vec_capacity receipts.old }
     ensures settled { OnOk result (IsSettled (session_of lent) board.old board.new) }
+    ensures unsettled { IfErr result (λ fault. IsUnsettled (session_of lent) board.old board.new fault) }
     ensures receipts { HasReceipts board.old receipts.old.items board.new receipts.new.items }
 {
     match board.replay(lent) {
@@ -243,18 +272,15 @@ fn settle(board: &mut Board, receipts: &mut Vec<Receipt>, lent: Lent) -> Result<
     }
 }
 
-// Parks the session, or settles it where that is refused.
-fn park(board: &mut Board, receipts: &mut Vec<Receipt>, lent: Lent) -> Result<(), WorkFault>
-    requires { vec_len receipts.old < vec_capacity receipts.old }
+// Parks the session. Where that is refused, its client is not lent or is parked already, and the board would not settle it either.
+fn park(board: &mut Board, lent: Lent) -> Result<(), WorkFault>
     ensures parked { OnOk result (board.new ≡ with_parked board.old (session_of lent).start.number (Some (session_of lent))) }
-    ensures receipts { HasReceipts board.old receipts.old.items board.new receipts.new.items }
+    ensures unsettled { IfErr result (λ fault. IsUnsettled (session_of lent) board.old board.new fault) }
+    ensures recorded { board.new.recorded ≡ board.old.recorded }
 {
     match board.hold(lent) {
         Ok(()) => Ok(()),
-        Err((refusal, lent)) => {
-            let _ = settle(board, receipts, lent);
-            Err(WorkFault::from(refusal))
-        }
+        Err((refusal, _stranger)) => Err(WorkFault::from(refusal)),
     }
 }
 
@@ -268,7 +294,7 @@ fn leave(
 ) -> Ended
     requires { vec_len receipts.old < vec_capacity receipts.old }
     ensures ended { EndsAs parks result }
-    ensures left { IsLeft (session_of lent) board.old board.new result }
+    ensures left { IsLeft fault (session_of lent) board.old board.new result }
     ensures receipts { HasReceipts board.old receipts.old.items board.new receipts.new.items }
 {
     if let Some(fault) = fault {
@@ -276,7 +302,7 @@ fn leave(
         return Ended::Fault(fault);
     }
     if parks {
-        return match park(board, receipts, lent) {
+        return match park(board, lent) {
             Ok(()) => Ended::Parked,
             Err(fault) => Ended::Fault(fault),
         };
@@ -313,8 +339,10 @@ fn parks(turn: u64, task: Task<'_>) -> bool
     turn % 4 == 3 && matches!(task, Task::Enter(_))
 }
 
-/// The last step of a worker's turn, which a worker makes under the lock: the session is parked, where it was lent in each fourth turn, or settled, and what was typed is counted; after a
-/// fault it is settled, if that can be done, and the stop mark is set. What is recorded has its receipts, also before a fault.
+/// The last step of a worker's turn, which a worker makes under the lock: the session is parked, where it was lent in each fourth turn, or settled, and what was typed is counted. After a
+/// fault of the play, which is then the turn's, it is settled, if that can be done. A session of a client that is not lent here, or is parked, is `Refused`, and so is a step that
+/// the table refuses. After a fault nothing counts as typed, and the stop mark is set. What is recorded has its receipts, also before a fault. A session that is not settled is
+/// dropped: the board is as it was, or the first steps are recorded and the client is in.
 pub fn end_turn(
     inside: &mut Inside,
     receipts: &mut Vec<Receipt>,
@@ -325,7 +353,7 @@ pub fn end_turn(
 ) -> Ended
     requires { vec_len receipts.old < vec_capacity receipts.old }
     ensures ended { EndsAs (parks turn task.entry) result }
-    ensures left { IsLeft (session_of lent) inside.old.board inside.new.board result }
+    ensures left { IsLeft fault (session_of lent) inside.old.board inside.new.board result }
     ensures mark { IsMarkedBy result inside.old.stopped inside.new.stopped }
     ensures typed { inside.new.typed.items ≡ typed_by task.entry result (session_of lent).start.number inside.old.typed.items }
     ensures receipts { HasReceipts inside.old.board receipts.old.items inside.new.board receipts.new.items }

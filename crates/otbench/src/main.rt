@@ -33,7 +33,7 @@ fn main(rt: HostRuntime) -> ExitCode {
     };
     let mut input = Device::new(rt.reader());
     let mut output = Device::new(io::writer(&rt));
-    let mut faults = rt.stderr();
+    let mut faults = Device::new(rt.stderr());
     let status = serve(&rt, words.as_slice(), &mut input, &mut output, &mut faults);
     ExitCode::from(status)
 }

@@ -1,14 +1,15 @@
 //! Bytes in and out, over any reader and writer: whole reads and whole writes, lines, and what a subcommand leaves. Each error of the device is a fault.
 //!
 //! std's `write_all` and `read_to_end` try an `Interrupted` call again, and say nothing of the bytes at an error. [`put`] and
-//! [`Source::read_whole`] call `write` and `read` themselves: `Interrupted` is a fault, and so is a write that takes no byte; and after a
-//! fault the writer has got a first part of the bytes (`WritesPart`), the reader has lost bytes at its front (`Loses`).
+//! the calls of [`Source`] call `write` and `read` themselves: `Interrupted` is a fault, and so is a write that takes no byte; and after a
+//! fault the writer has got a first part of the bytes (`WritesPart`), a whole read has lost bytes at the reader's front (`Loses`).
 //! Both definitions stand in `specs/Streams.antt`. [`ReadAhead`] (`ahead.rt`) takes one line of a reader at a time, and `outcomes.rt` has what a
 //! subcommand leaves on its output, on the faults and as its status.
 //!
 //! ```text
 //!    Device<D> ── Sink::put ──────────▶ failed: a write has failed
-//!              ── Source::read_whole ─▶ failed: a read has failed, or there are too many bytes
+//!              ── Source::read_whole ─▶ failed: a read has failed, or there are more than 2^30 bytes
+//!              ── Source::read_some ──▶ failed: a read has failed, or 2^50 bytes were read
 //! ```
 //!
 //! A [`Sink`] is a writer, and a [`Source`] a reader, that reports whether it has failed. Nobody but its own calls can make it say so, and so a
@@ -19,12 +20,12 @@ mod ahead;
 mod outcomes;
 mod splitting;
 
-ghost use Rattle.std.specs.Prelude.{◌≡◌, ◌≤◌, ℕ, List, length, Bool, true, false, IfSome, IfOk, IfErr, OnOk, OnErr, vec_len};
-ghost use Rattle.std.specs.Io.KnownBytes.{Appends, Consumes, IsAtEnd};
+ghost use Rattle.std.specs.Prelude.{◌≡◌, ◌≤◌, ◌<◌, ◌+◌, ◌-◌, ◌^◌, ℕ, List, length, take, Bool, true, false, IfSome, IfOk, IfErr, OnOk, OnErr, vec_len};
+ghost use Rattle.std.specs.Io.KnownBytes.{Appends, Consumes, IsAtEnd, Keeps};
 ghost use Rattle.streams.specs.Streams.{WritesPart, Loses};
-ghost use Rattle.streams.specs.declared.InputFault.TheVariants.{Memory, Read as ReadFault};
+ghost use Rattle.streams.specs.declared.InputFault.TheVariants.{Memory, Read as IsRead};
 
-pub use ahead::{LineFault, MOST_BYTES, ReadAhead};
+pub use ahead::{LineFault, ReadAhead};
 pub use outcomes::{complain, complain_of_input, complain_of_memory, give};
 pub use splitting::split_line;
 use std::alloc::{AllocError, Global};
@@ -33,6 +34,9 @@ use std::io::{Read, Write};
 
 /// The most bytes that are read whole: 2^30.
 pub const MOST: usize = 1 << 30;
+
+/// The most bytes that are read piece by piece: 2^50.
+pub const MOST_BYTES: u64 = 1 << 50;
 
 /// Why an input was not read.
 #[derive(Clone, Copy, Debug, PartialEq, Eq)]
@@ -54,6 +58,10 @@ impl From<AllocError> for InputFault {
 /// A write failed, or took no byte.
 #[derive(Clone, Copy, Debug, PartialEq, Eq)]
 pub struct WriteFault;
+
+/// A read failed, or 2^50 bytes were read.
+#[derive(Clone, Copy, Debug, PartialEq, Eq)]
+pub struct ReadFault;
 
 /// Writes the bytes and nothing else. After a fault the writer has got a first part of them.
 pub fn put<W: Write>(writer: &mut W, bytes: &[u8]) -> Result<(), WriteFault>
@@ -105,8 +113,11 @@ pub trait Sink: Write {
 
 /// A reader that reports whether it has failed.
 pub trait Source: Read {
-    // Whether by now it could not be read whole: a read has failed, or there were more than 2^30 bytes.
+    // Whether a read has failed by now, or there were more bytes than are read: 2^30 whole, 2^50 piece by piece.
     ghost failed: { Self → Bool };
+
+    // How many bytes it may yet give piece by piece.
+    ghost left: { Self → ℕ };
 
     /// All bytes that the reader has left, at most 2^30. After a fault the bytes that were read are lost.
     fn read_whole(&mut self, alloc: Global) -> Result<Vec<u8>, InputFault>
@@ -114,7 +125,23 @@ pub trait Source: Read {
         ensures most { IfOk result (λ v. vec_len v ≤ MOST) }
         ensures end { OnOk result (IsAtEnd (Self.remaining self.new)) }
         ensures err { OnErr result (Loses (Self.remaining self.old) (Self.remaining self.new)) }
-        ensures cause { IfErr result (λ f. f ≡ ReadFault → failed self.new ≡ true) };
+        ensures cause { IfErr result (λ f. f ≡ IsRead → failed self.new ≡ true) };
+
+    /// The next bytes of the reader, as many as come at once; none only at the end. A fault loses no byte.
+    fn read_some(&mut self, buffer: &mut [u8]) -> Result<usize, ReadFault>
+        requires { 0 < length buffer.old }
+        ensures bytes { IfOk result (λ n. Consumes (Self.remaining self.old) (Self.remaining self.new) (take n buffer.new)) }
+        ensures most { IfOk result (λ n. n ≤ length buffer.new) }
+        ensures end { IfOk result (λ n. n ≡ 0 → IsAtEnd (Self.remaining self.new) × (0 < left self.new)) }
+        ensures left { IfOk result (λ n. left self.new + n ≡ left self.old) }
+        ensures err { OnErr result (Keeps (Self.remaining self.old) (Self.remaining self.new)) }
+        ensures err_left { OnErr result (left self.new ≡ left self.old) }
+        ensures cause { OnErr result (failed self.new ≡ true) };
+
+    /// How many bytes [`read_some`](Source::read_some) may yet give.
+    fn left(&self) -> u64
+        ensures value { result ≡ left self.now }
+        ensures most { result ≤ 2 ^ 50 };
 }
 
 /// A reader or a writer, and whether it has failed.
@@ -122,6 +149,8 @@ pub trait Source: Read {
 pub struct Device<D> {
     inner: D,
     failed: bool,
+    // How many bytes it has given piece by piece.
+    given: u64,
 }
 
 impl<D> Device<D> {
@@ -129,10 +158,12 @@ impl<D> Device<D> {
     pub fn new(inner: D) -> Device<D>
         ensures inner { result.inner ≡ inner }
         ensures failed { result.failed ≡ false }
+        ensures given { result.given ≡ 0 }
     {
         Device {
             inner,
             failed: false,
+            given: 0,
         }
     }
 
@@ -184,11 +215,36 @@ impl<R: Read> Read for Device<R> {
 impl<R: Read> Source for Device<R> {
     ghost failed = { λ d. d.failed };
 
+    ghost left = { λ d. 2 ^ 50 - d.given };
+
     fn read_whole(&mut self, alloc: Global) -> Result<Vec<u8>, InputFault> {
         let bytes = read_whole(alloc, &mut self.inner);
         if let Err(InputFault::Read) = bytes {
             self.failed = true;
         }
         bytes
+    }
+
+    fn read_some(&mut self, buffer: &mut [u8]) -> Result<usize, ReadFault> {
+        let most = (buffer.len() as u64).min(self.left()) as usize;
+        if most == 0 {
+            self.failed = true;
+            return Err(ReadFault);
+        }
+        let (front, _) = buffer.split_at_mut(most);
+        match self.inner.read(front) {
+            Ok(count) => {
+                self.given += count as u64;
+                Ok(count)
+            }
+            Err(_) => {
+                self.failed = true;
+                Err(ReadFault)
+            }
+        }
+    }
+
+    fn left(&self) -> u64 {
+        MOST_BYTES.saturating_sub(self.given)
     }
 }

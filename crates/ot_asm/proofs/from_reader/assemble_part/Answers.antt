@@ -70,7 +70,7 @@ loop-body-preserved g c =
     let taken = rw c.in-Ok-true.field-0-test at c.in-Ok-true.ensures.ok in
     let other : (c.args.marked && is_mark c.next_line.new.line.items) ≡ false = search rules in
     let step = rw c.as_slice-in-loop-body.ensures.value at c.in-Ok.ensures.ok in
-    let less : may_take c.next_line.new.self < may_take c.loop-body.ahead = c.in-Ok-true.ensures.less c.in-Ok-true.field-0-test in
+    let less : may_take c.next_line.new.self (g.R.Source.left c.next_line.new.reader) < may_take c.loop-body.ahead (g.R.Source.left c.loop-body.reader) = c.in-Ok-true.ensures.less c.in-Ok-true.field-0-test in
     record {
       taken = stepped_known c.args.marked (before c.args.ahead.now (remaining c.args.reader.now)) (before c.loop-body.ahead (remaining c.loop-body.reader)) (before c.next_line.new.self (remaining c.next_line.new.reader)) c.next_line.new.line.items c.loop-body.line c.loop-body.body c.numbered_step.new.body c.loop-body.invariant.taken taken other step;
       spent = spends_more _ _ _ _ _ _ c.loop-body.invariant.spent c.in-Ok-true.ensures.spent;

@@ -9,10 +9,10 @@ invariant-loop-body g l =
     let remaining = g.R.Read.remaining in
     record {
       taken : IsTakenKnown l.fn.marked (before l.fn.ahead (remaining l.fn.reader)) (before l.ahead (remaining l.reader)) l.line l.body;
-      spent : Spends (may_take l.fn.ahead) (may_take l.ahead) (before l.fn.ahead (remaining l.fn.reader)) (before l.ahead (remaining l.reader));
+      spent : Spends (may_take l.fn.ahead (g.R.Source.left l.fn.reader)) (may_take l.ahead (g.R.Source.left l.reader)) (before l.fn.ahead (remaining l.fn.reader)) (before l.ahead (remaining l.reader));
       low : 1 ≤ l.line;
-      few : l.line + may_take l.ahead ≤ 1 + may_take l.fn.ahead;
+      few : l.line + may_take l.ahead (g.R.Source.left l.reader) ≤ 1 + may_take l.fn.ahead (g.R.Source.left l.fn.reader);
     }
 
 abbrev pub decreases-loop-body : goal.decreases-loop-body
-decreases-loop-body g l = may_take l.ahead
+decreases-loop-body g l = may_take l.ahead (g.R.Source.left l.reader)

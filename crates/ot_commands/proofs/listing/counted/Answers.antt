@@ -1,6 +1,6 @@
 use Rattle.std.proofs.Common.{refl}
 use Rattle.ot_every.specs.Parts.{sessions_in}
-use Rattle.ot_commands.proofs.Sessions.{counted}
+use Rattle.ot_commands.proofs.ListedSessions.{counted}
 use Rattle.ot_commands.proofs.listing.counted.Goals as goal
 
 pub returns-in-Ok : goal.returns-in-Ok

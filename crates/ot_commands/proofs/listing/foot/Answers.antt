@@ -2,7 +2,7 @@ use Rattle.std.proofs.Common.{◌≡◌, ◌++◌, ◌∷◌, [], ap, sym, ◌�
 use Rattle.std.specs.List.{range_with_len}
 use Rattle.ot_isa.specs.declared.instruction.Instr.TheVariants.{Read, ReadServer}
 use Rattle.ot_asm.specs.Canonical.{instr_text, lines_text}
-use Rattle.ot_commands.proofs.Sessions.{read_more, reads_lines}
+use Rattle.ot_commands.proofs.ListedSessions.{read_more, reads_lines}
 use Rattle.ot_commands.proofs.listing.foot.Goals as goal
 
 pub loop-client-preserved : goal.loop-client-preserved

@@ -1,4 +1,4 @@
-use Rattle.ot_commands.proofs.Sessions.{always_err, listed, listed_part, lists_nothing}
+use Rattle.ot_commands.proofs.ListedSessions.{always_err, listed, listed_part, lists_nothing}
 use Rattle.ot_commands.proofs.listing.print_sessions.Goals as goal
 
 pub returns-in_err-printer-clause-err : goal.returns-in_err-printer-clause-err

@@ -4,7 +4,7 @@ use Rattle.std.proofs.lemmas.List.{append-nil, append_assoc, take_all}
 use Rattle.std.proofs.lemmas.Option.{slice_get_read}
 use Rattle.ot_isa.specs.declared.instruction.Instr.{Instr}
 use Rattle.ot_asm.specs.Canonical.{instr_text, lines_text}
-use Rattle.ot_commands.proofs.Sessions.{line_more}
+use Rattle.ot_commands.proofs.ListedSessions.{line_more}
 use Rattle.ot_commands.proofs.listing.session_text.Goals as goal
 
 pub loop-place-init : goal.loop-place-init

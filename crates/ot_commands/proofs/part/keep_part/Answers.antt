@@ -1,7 +1,7 @@
-use Rattle.std.proofs.Common.{rules, arith, ◌≡◌, true, false, ◌∙◌, sym}
+use Rattle.std.proofs.Common.{rules, arith, ◌≡◌, ◌-◌, true, false, ◌∙◌, sym}
 use Rattle.streams.specs.Taken.{before}
 use Rattle.ot_asm.specs.Parts.{is_mark}
-use Rattle.ot_commands.proofs.Keeping.{kept_start, kept_more, kept_mark, kept_end, on_ok}
+use Rattle.ot_commands.proofs.Keeping.{kept_start, kept_more, kept_mark, kept_end, on_ok, taken_ended, taken_lines, taken_marked, taken_part}
 use Rattle.ot_commands.proofs.part.keep_part.Goals as goal
 
 pub loop-line-init : goal.loop-line-init
@@ -11,31 +11,61 @@ pub returns-in-Ok-false-clause-ok : goal.returns-in-Ok-false-clause-ok
 returns-in-Ok-false-clause-ok g c =
     let remaining = g.R.Read.remaining in
     let taken = rw c.in-Ok-false.field-0-test at c.in-Ok-false.ensures.ok in
-    let p = kept_end (before c.args.ahead.now (remaining c.args.input.now)) (before c.loop-line.ahead (remaining c.loop-line.input)) (before c.next_line.new.self (remaining c.next_line.new.reader)) c.next_line.new.line.items c.loop-line.number c.loop-line.text.items c.loop-line.invariant.kept taken in
-    p.0
+    taken_lines (before c.args.ahead.now (remaining c.args.input.now)) (before c.next_line.new.self (remaining c.next_line.new.reader)) c.loop-line.text.items false (c.loop-line.number - 1)
+    (kept_end (before c.args.ahead.now (remaining c.args.input.now)) (before c.loop-line.ahead (remaining c.loop-line.input)) (before c.next_line.new.self (remaining c.next_line.new.reader)) c.next_line.new.line.items c.loop-line.number c.loop-line.text.items c.loop-line.invariant.kept taken)
+
+pub returns-in-Ok-false-clause-ended : goal.returns-in-Ok-false-clause-ended
+returns-in-Ok-false-clause-ended g c =
+    let remaining = g.R.Read.remaining in
+    let taken = rw c.in-Ok-false.field-0-test at c.in-Ok-false.ensures.ok in
+    taken_ended (before c.args.ahead.now (remaining c.args.input.now)) (before c.next_line.new.self (remaining c.next_line.new.reader)) c.loop-line.text.items false (c.loop-line.number - 1)
+    (kept_end (before c.args.ahead.now (remaining c.args.input.now)) (before c.loop-line.ahead (remaining c.loop-line.input)) (before c.next_line.new.self (remaining c.next_line.new.reader)) c.next_line.new.line.items c.loop-line.number c.loop-line.text.items c.loop-line.invariant.kept taken)
 
 pub returns-in-Ok-false-clause-part : goal.returns-in-Ok-false-clause-part
 returns-in-Ok-false-clause-part g c =
     let remaining = g.R.Read.remaining in
     let taken = rw c.in-Ok-false.field-0-test at c.in-Ok-false.ensures.ok in
-    let p = kept_end (before c.args.ahead.now (remaining c.args.input.now)) (before c.loop-line.ahead (remaining c.loop-line.input)) (before c.next_line.new.self (remaining c.next_line.new.reader)) c.next_line.new.line.items c.loop-line.number c.loop-line.text.items c.loop-line.invariant.kept taken in
-    p.1
+    taken_part (before c.args.ahead.now (remaining c.args.input.now)) (before c.next_line.new.self (remaining c.next_line.new.reader)) c.loop-line.text.items false (c.loop-line.number - 1)
+    (kept_end (before c.args.ahead.now (remaining c.args.input.now)) (before c.loop-line.ahead (remaining c.loop-line.input)) (before c.next_line.new.self (remaining c.next_line.new.reader)) c.next_line.new.line.items c.loop-line.number c.loop-line.text.items c.loop-line.invariant.kept taken)
+
+pub returns-in-Ok-false-clause-marked : goal.returns-in-Ok-false-clause-marked
+returns-in-Ok-false-clause-marked g c =
+    let remaining = g.R.Read.remaining in
+    let taken = rw c.in-Ok-false.field-0-test at c.in-Ok-false.ensures.ok in
+    taken_marked (before c.args.ahead.now (remaining c.args.input.now)) (before c.next_line.new.self (remaining c.next_line.new.reader)) c.loop-line.text.items false (c.loop-line.number - 1)
+    (kept_end (before c.args.ahead.now (remaining c.args.input.now)) (before c.loop-line.ahead (remaining c.loop-line.input)) (before c.next_line.new.self (remaining c.next_line.new.reader)) c.next_line.new.line.items c.loop-line.number c.loop-line.text.items c.loop-line.invariant.kept taken)
 
 pub returns-then-is_mark-clause-ok : goal.returns-then-is_mark-clause-ok
 returns-then-is_mark-clause-ok g c =
     let remaining = g.R.Read.remaining in
     let taken = rw c.in-Ok-true.field-0-test at c.in-Ok-true.ensures.ok in
     let mark : is_mark c.next_line.new.line.items ≡ true = search rules in
-    let p = kept_mark (before c.args.ahead.now (remaining c.args.input.now)) (before c.loop-line.ahead (remaining c.loop-line.input)) (before c.next_line.new.self (remaining c.next_line.new.reader)) c.next_line.new.line.items c.loop-line.number c.loop-line.text.items c.loop-line.invariant.kept taken mark in
-    p.0
+    taken_lines (before c.args.ahead.now (remaining c.args.input.now)) (before c.next_line.new.self (remaining c.next_line.new.reader)) c.loop-line.text.items true (c.loop-line.number)
+    (kept_mark (before c.args.ahead.now (remaining c.args.input.now)) (before c.loop-line.ahead (remaining c.loop-line.input)) (before c.next_line.new.self (remaining c.next_line.new.reader)) c.next_line.new.line.items c.loop-line.number c.loop-line.text.items c.loop-line.invariant.kept taken mark)
+
+pub returns-then-is_mark-clause-ended : goal.returns-then-is_mark-clause-ended
+returns-then-is_mark-clause-ended g c =
+    let remaining = g.R.Read.remaining in
+    let taken = rw c.in-Ok-true.field-0-test at c.in-Ok-true.ensures.ok in
+    let mark : is_mark c.next_line.new.line.items ≡ true = search rules in
+    taken_ended (before c.args.ahead.now (remaining c.args.input.now)) (before c.next_line.new.self (remaining c.next_line.new.reader)) c.loop-line.text.items true (c.loop-line.number)
+    (kept_mark (before c.args.ahead.now (remaining c.args.input.now)) (before c.loop-line.ahead (remaining c.loop-line.input)) (before c.next_line.new.self (remaining c.next_line.new.reader)) c.next_line.new.line.items c.loop-line.number c.loop-line.text.items c.loop-line.invariant.kept taken mark)
 
 pub returns-then-is_mark-clause-part : goal.returns-then-is_mark-clause-part
 returns-then-is_mark-clause-part g c =
     let remaining = g.R.Read.remaining in
     let taken = rw c.in-Ok-true.field-0-test at c.in-Ok-true.ensures.ok in
     let mark : is_mark c.next_line.new.line.items ≡ true = search rules in
-    let p = kept_mark (before c.args.ahead.now (remaining c.args.input.now)) (before c.loop-line.ahead (remaining c.loop-line.input)) (before c.next_line.new.self (remaining c.next_line.new.reader)) c.next_line.new.line.items c.loop-line.number c.loop-line.text.items c.loop-line.invariant.kept taken mark in
-    p.1
+    taken_part (before c.args.ahead.now (remaining c.args.input.now)) (before c.next_line.new.self (remaining c.next_line.new.reader)) c.loop-line.text.items true (c.loop-line.number)
+    (kept_mark (before c.args.ahead.now (remaining c.args.input.now)) (before c.loop-line.ahead (remaining c.loop-line.input)) (before c.next_line.new.self (remaining c.next_line.new.reader)) c.next_line.new.line.items c.loop-line.number c.loop-line.text.items c.loop-line.invariant.kept taken mark)
+
+pub returns-then-is_mark-clause-marked : goal.returns-then-is_mark-clause-marked
+returns-then-is_mark-clause-marked g c =
+    let remaining = g.R.Read.remaining in
+    let taken = rw c.in-Ok-true.field-0-test at c.in-Ok-true.ensures.ok in
+    let mark : is_mark c.next_line.new.line.items ≡ true = search rules in
+    taken_marked (before c.args.ahead.now (remaining c.args.input.now)) (before c.next_line.new.self (remaining c.next_line.new.reader)) c.loop-line.text.items true (c.loop-line.number)
+    (kept_mark (before c.args.ahead.now (remaining c.args.input.now)) (before c.loop-line.ahead (remaining c.loop-line.input)) (before c.next_line.new.self (remaining c.next_line.new.reader)) c.next_line.new.line.items c.loop-line.number c.loop-line.text.items c.loop-line.invariant.kept taken mark)
 
 pub loop-line-preserved : goal.loop-line-preserved
 loop-line-preserved g c =

@@ -10,8 +10,8 @@ invariant-loop-line g l =
     record {
       kept : IsKeptKnown (before l.fn.ahead (remaining l.fn.input)) (before l.ahead (remaining l.input)) l.number l.text.items;
       low : 1 ≤ l.number;
-      few : l.number + may_take l.ahead ≤ 1 + may_take l.fn.ahead;
+      few : l.number + may_take l.ahead (g.R.Source.left l.input) ≤ 1 + may_take l.fn.ahead (g.R.Source.left l.fn.input);
     }
 
 abbrev pub decreases-loop-line : goal.decreases-loop-line
-decreases-loop-line g l = may_take l.ahead
+decreases-loop-line g l = may_take l.ahead (g.R.Source.left l.input)

@@ -12,5 +12,6 @@ returns g c =
       broken = g.O.Sink.failed c.explain_text.new.output;
       faults = g.F.Write.contents c.args.faults.now;
       faults' = g.F.Write.contents c.explain_text.new.faults;
+      faults_broken = g.F.Sink.failed c.explain_text.new.faults;
     } in
     inl (subst (λ (text : List ℕ). ExplainsText text c.explain_text.result streams) (c.as_bytes.ensures.value ∙ c.in-Ok.ensures.text) c.explain_text.ensures)

@@ -6,10 +6,10 @@ use Rattle.ot_commands.specs.Explains.{MayExplain}
 use Rattle.ot_commands.proofs.telling.explain_text.Goals as goal
 
 pub returns-in_default : goal.returns-in_default
-returns-in_default g c = inr (c.in-Ok.schedule, c.in-Ok.ensures.ok, inr (inr (refl, inl (Keeps-refl (g.O.Write.contents c.args.output.now)), c.complain_of_memory.ensures)))
+returns-in_default g c = inr (c.in-Ok.schedule, c.in-Ok.ensures.ok, inr (inr (refl, inl (Keeps-refl (g.O.Write.contents c.args.output.now)), c.complain_of_memory.ensures.line)))
 
 pub returns-in_default-comments_of : goal.returns-in_default-comments_of
-returns-in_default-comments_of g c = inr (c.in-Ok.schedule, c.in-Ok.ensures.ok, inr (inr (refl, inl (Keeps-refl (g.O.Write.contents c.args.output.now)), c.complain_of_memory-in_default-comments_of.ensures)))
+returns-in_default-comments_of g c = inr (c.in-Ok.schedule, c.in-Ok.ensures.ok, inr (inr (refl, inl (Keeps-refl (g.O.Write.contents c.args.output.now)), c.complain_of_memory-in_default-comments_of.ensures.line)))
 
 pub returns-in-Ok-comments_of : goal.returns-in-Ok-comments_of
 returns-in-Ok-comments_of g c =
@@ -20,6 +20,7 @@ returns-in-Ok-comments_of g c =
       broken = g.O.Sink.failed c.write_words.new.output;
       faults = g.F.Write.contents c.args.faults.now;
       faults' = g.F.Write.contents c.write_words.new.faults;
+      faults_broken = g.F.Sink.failed c.write_words.new.faults;
     } in
     inr (
       c.in-Ok.schedule,

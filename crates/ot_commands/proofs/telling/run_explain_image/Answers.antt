@@ -10,5 +10,6 @@ returns-in-Ok g c =
       broken = g.O.Sink.failed c.explain_bytes.new.output;
       faults = g.F.Write.contents c.args.faults.now;
       faults' = g.F.Write.contents c.explain_bytes.new.faults;
+      faults_broken = g.F.Sink.failed c.explain_bytes.new.faults;
     })
     c.in-Ok.ensures.bytes c.as_slice.ensures.value c.explain_bytes.ensures

@@ -43,7 +43,7 @@ pub taking-preserved : goal.taking-preserved
 taking-preserved g c =
     let remaining = g.R.Read.remaining in
     let more = rw c.in-Ok-true.field-0-test at c.in-Ok-true.ensures.ok in
-    let less : may_take c.next_line.new.self < may_take c.taking.ahead = c.in-Ok-true.ensures.less c.in-Ok-true.field-0-test in
+    let less : may_take c.next_line.new.self (g.R.Source.left c.next_line.new.reader) < may_take c.taking.ahead (g.R.Source.left c.taking.reader) = c.in-Ok-true.ensures.less c.in-Ok-true.field-0-test in
     let leads = subst (λ (bytes : List ℕ). Leads c.args.schedule.now c.taking.comparison (counted_lines (bytes ∷ [])) c.take_bytes.new.comparison) c.as_slice-bytes.ensures.value (c.in-Ok-None.ensures.goes c.in-Ok-None.field-0-is) in
     let number : c.saturating_add-number.result ≡ line_number (c.args.earlier + c.taking.taken) = omega arith in
     record {

@@ -10,8 +10,8 @@ invariant-taking g l =
     let remaining = g.R.Read.remaining in
     record {
       naming : IsNaming l.sparse l.schedule l.comparison l.taken (before l.fn.ahead (remaining l.fn.reader)) (before l.ahead (remaining l.reader)) l.earlier (all_named l.unknown.items);
-      few : l.taken + may_take l.ahead ≤ may_take l.fn.ahead;
+      few : l.taken + may_take l.ahead (g.R.Source.left l.reader) ≤ may_take l.fn.ahead (g.R.Source.left l.fn.reader);
     }
 
 abbrev pub decreases-taking : goal.decreases-taking
-decreases-taking g l = may_take l.ahead
+decreases-taking g l = may_take l.ahead (g.R.Source.left l.reader)

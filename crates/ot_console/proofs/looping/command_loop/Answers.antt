@@ -30,7 +30,7 @@ loop-taken-preserved g c =
     let contents = g.W.Write.contents in
     let more = rw c.in-Ok-true.field-0-test at c.in-Ok-true.ensures.ok in
     let turn = rw c.as_slice.ensures.value at c.in-Ok.ensures.ok in
-    let less : may_take c.next_line.new.self < may_take c.loop-taken.ahead = c.in-Ok-true.ensures.less c.in-Ok-true.field-0-test in
+    let less : may_take c.next_line.new.self (g.R.Source.left c.next_line.new.reader) < may_take c.loop-taken.ahead (g.R.Source.left c.loop-taken.reader) = c.in-Ok-true.ensures.less c.in-Ok-true.field-0-test in
     record {
       looped = one_more c.args.debugger.now c.loop-taken.debugger c.answer.new.debugger c.loop-taken.faulted c.in-Ok.fault c.loop-taken.taken
           (before c.args.ahead.now (remaining c.args.reader.now)) (before c.loop-taken.ahead (remaining c.loop-taken.reader)) (before c.next_line.new.self (remaining c.next_line.new.reader))

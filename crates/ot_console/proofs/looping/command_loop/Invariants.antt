@@ -10,8 +10,8 @@ invariant-loop-taken g l =
     let contents = g.W.Write.contents in
     record {
       looped : IsLooped l.fn.debugger l.debugger l.faulted l.taken (before l.fn.ahead (remaining l.fn.reader)) (before l.ahead (remaining l.reader)) (contents l.fn.writer) (contents l.writer);
-      few : l.taken + may_take l.ahead ≤ may_take l.fn.ahead;
+      few : l.taken + may_take l.ahead (g.R.Source.left l.reader) ≤ may_take l.fn.ahead (g.R.Source.left l.fn.reader);
     }
 
 abbrev pub decreases-loop-taken : goal.decreases-loop-taken
-decreases-loop-taken g l = may_take l.ahead
+decreases-loop-taken g l = may_take l.ahead (g.R.Source.left l.reader)

@@ -8,7 +8,7 @@ use Rattle.ot_model.specs.Table.{State}
 use Rattle.ot_every.specs.Listing.{Earlier, sessions_from}
 use Rattle.ot_every.specs.Walking.{AreMarks, AreShort, Goes, GoesOrStays, behind_all, sessions_by}
 use Rattle.ot_every.specs.declared.marks.Mark.{Mark}
-use Rattle.ot_every.proofs.Stepping.{always_err, ends_short, goes_next, gone_back, gone_marks, gone_sessions, part_here, part_inside, part_whole, visits_none, whole_sessions}
+use Rattle.ot_every.proofs.Stepping.{always_err, ends_never, ends_short, goes_next, gone_back, gone_marks, gone_sessions, part_here, part_inside, part_whole, visits_none, whole_sessions}
 use Rattle.ot_every.proofs.Visiting.{part_none, part_same, visits_same}
 use Rattle.ot_every.proofs.listing.+visit_from.Goals as goal
 
@@ -19,6 +19,13 @@ returns-then-made-texts-clause-ok g t c path are =
     visits_none g.V.Visitor.visits g.V.Visitor.stops c.args.visitor.now c.args.output.now a0.instrs.items
     (sessions_from c.args.inserts c.args.room (drop c.args.made (map vec_items c.args.texts.now)) path a0.machine)
     (ends_short c.args.inserts c.args.room c.args.made (map vec_items c.args.texts.now) path a0.machine c.if-room-eq0.true (omega (arith, c.if-made-texts.true, many)))
+
+pub returns-then-not-may_end-clause-ok : goal.returns-then-not-may_end-clause-ok
+returns-then-not-may_end-clause-ok g t c path are =
+    let a0 = c.args.walk.now in
+    visits_none g.V.Visitor.visits g.V.Visitor.stops c.args.visitor.now c.args.output.now a0.instrs.items
+    (sessions_from c.args.inserts c.args.room (drop c.args.made (map vec_items c.args.texts.now)) path a0.machine)
+    (ends_never c.args.inserts c.args.room c.args.made c.edits_left.result c.args.texts.now path a0.machine c.may_end.ensures.sound c.edits_left.ensures (c.may_end.ensures.ends c.if-not-may_end.true))
 
 pub returns-in_err-all-clause-err : goal.returns-in_err-all-clause-err
 returns-in_err-all-clause-err g t c path are = always_err c.from_residual.result (part_none g.V.Visitor.visits g.V.Visitor.stops c.args.visitor.now c.args.output.now _)
@@ -32,7 +39,7 @@ returns-in_err-undo-clause-err g t c path are =
     let f = sessions_by c.args.inserts (c.args.room - 1) texts path a0.machine in
     let before = a0.instrs.items in
     let marked : AreMarks path (length c.as_slice-2.result.now) c.as_slice-2.result.now = subst (λ (ms : List Mark). AreMarks path (length ms) ms) (sym c.as_slice-2.ensures.value) are in
-    let tried = c.as_slice-next.ensures.value ∙ c.in_ok-all.ensures path marked in
+    let tried = ap (flat_map (sessions_by c.args.inserts (c.args.room - 1) texts path a0.machine)) c.as_slice-next.ensures.value ∙ c.in_ok-all.ensures (c.args.room - 1) path marked in
     let items = c.as_slice-next.result.now in
     let whole = whole_sessions before c.args.inserts c.args.room (c.args.room - 1) texts path a0.machine items tried (omega (arith, c.if-room-eq0.false)) in
     let at : slice_get items c.loop-place.place ≡ Some c.index-next-place.result =
@@ -51,7 +58,7 @@ returns-in_err-visit_from-clause-err g t c path are =
     let f = sessions_by c.args.inserts (c.args.room - 1) texts path a0.machine in
     let before = a0.instrs.items in
     let marked : AreMarks path (length c.as_slice-2.result.now) c.as_slice-2.result.now = subst (λ (ms : List Mark). AreMarks path (length ms) ms) (sym c.as_slice-2.ensures.value) are in
-    let tried = c.as_slice-next.ensures.value ∙ c.in_ok-all.ensures path marked in
+    let tried = ap (flat_map (sessions_by c.args.inserts (c.args.room - 1) texts path a0.machine)) c.as_slice-next.ensures.value ∙ c.in_ok-all.ensures (c.args.room - 1) path marked in
     let items = c.as_slice-next.result.now in
     let whole = whole_sessions before c.args.inserts c.args.room (c.args.room - 1) texts path a0.machine items tried (omega (arith, c.if-room-eq0.false)) in
     let at : slice_get items c.loop-place.place ≡ Some c.index-next-place.result =
@@ -79,7 +86,7 @@ returns-in_err-back-clause-err g t c path are =
     let f = sessions_by c.args.inserts (c.args.room - 1) texts path a0.machine in
     let before = a0.instrs.items in
     let marked : AreMarks path (length c.as_slice-2.result.now) c.as_slice-2.result.now = subst (λ (ms : List Mark). AreMarks path (length ms) ms) (sym c.as_slice-2.ensures.value) are in
-    let tried = c.as_slice-next.ensures.value ∙ c.in_ok-all.ensures path marked in
+    let tried = ap (flat_map (sessions_by c.args.inserts (c.args.room - 1) texts path a0.machine)) c.as_slice-next.ensures.value ∙ c.in_ok-all.ensures (c.args.room - 1) path marked in
     let items = c.as_slice-next.result.now in
     let whole = whole_sessions before c.args.inserts c.args.room (c.args.room - 1) texts path a0.machine items tried (omega (arith, c.if-room-eq0.false)) in
     let at : slice_get items c.loop-place.place ≡ Some c.index-next-place.result =
@@ -135,7 +142,7 @@ returns-clause-ok g t c path are =
     let f = sessions_by c.args.inserts (c.args.room - 1) texts path a0.machine in
     let before = a0.instrs.items in
     let marked : AreMarks path (length c.as_slice-2.result.now) c.as_slice-2.result.now = subst (λ (ms : List Mark). AreMarks path (length ms) ms) (sym c.as_slice-2.ensures.value) are in
-    let tried = c.as_slice-next.ensures.value ∙ c.in_ok-all.ensures path marked in
+    let tried = ap (flat_map (sessions_by c.args.inserts (c.args.room - 1) texts path a0.machine)) c.as_slice-next.ensures.value ∙ c.in_ok-all.ensures (c.args.room - 1) path marked in
     let items = c.as_slice-next.result.now in
     let whole = whole_sessions before c.args.inserts c.args.room (c.args.room - 1) texts path a0.machine items tried (omega (arith, c.if-room-eq0.false)) in
     visits_same R S c.args.visitor.now c.loop-place.visitor c.args.output.now c.loop-place.output (behind_all before (flat_map f (take c.loop-place.place items)))

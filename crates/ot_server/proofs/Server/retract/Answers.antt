@@ -1,6 +1,6 @@
 use Rattle.std.proofs.Common.{◌-◌, arith}
 use Rattle.std.specs.Vec.{vec_len}
-use Rattle.ot_server.specs.History.{IsUndo}
+use Rattle.ot_server.specs.Undo.{IsUndo}
 use Rattle.ot_server.proofs.Retracted.{undo_fits, document_back, log_back, some, chain_back, retracted}
 use Rattle.ot_server.proofs.Server.retract.Goals as goal
 

@@ -1,5 +1,5 @@
 use Rattle.std.proofs.Common.{◌≡◌, ◌+◌, ◌≤◌, drop}
-use Rattle.ot_server.specs.History.{inserted_in}
+use Rattle.ot_server.specs.Faults.{inserted_in}
 use Rattle.ot_server.proofs.later.has_room.Given as goal
 
 abbrev pub invariant-loop-entry : goal.invariant-loop-entry

@@ -1,6 +1,7 @@
 use Rattle.std.proofs.Common.{◌∙◌, ap, sym, subst}
 use Rattle.ot_client.specs.Client.{state_of}
 use Rattle.ot_client.specs.State as client
+use Rattle.ot_client.specs.Conditions as conditions
 use Rattle.ot_isa.specs.declared.elements.Tagged.{Tagged}
 use Rattle.ot_model.specs.Operation.{Operation, apply}
 use Rattle.ot_verdict.proofs.Entries.{below_limit, fits_now, may_acknowledge, next_other, next_own}
@@ -27,7 +28,7 @@ pub deliver-requires-clause-operations : goal.deliver-requires-clause-operations
 deliver-requires-clause-operations c =
     let now = state_of c.args.client in
     let fits = fits_now c.args.machine.now c.args.number now c.args.list.now c.requires.receiving c.args.entry.now c.requires.next (λ e. c.if-maker-number.false (c.maker.ensures ∙ e)) in
-    subst (client.MayDeliver now.phase) (sym (c.in_ok-copy.ensures ∙ c.operation.ensures)) fits.0
+    subst (conditions.MayDeliver now.phase) (sym (c.in_ok-copy.ensures ∙ c.operation.ensures)) fits.0
 
 pub change-requires : goal.change-requires
 change-requires c =

@@ -7,4 +7,6 @@ use Rattle.ot_words.proofs.words.conform_command.Goals as goal
 pub returns : goal.returns
 returns c =
     let one = c.in_ok-command.ensures ∙ ap (λ (a : App). with_rule a (flag_rule (codes "sparse"))) c.plain-command.ensures in
-    IfOk-weaker c.flagged-2.result _ _ (λ r h. h ∙ ap (λ (a : App). with_rule a (flag_rule (codes "json"))) one) c.flagged-2.ensures
+    let two = c.in_ok-command-2.ensures ∙ ap (λ (a : App). with_rule a (flag_rule (codes "json"))) one in
+    let three = c.in_ok-command-3.ensures ∙ ap (λ (a : App). with_rule a (flag_rule (codes "many"))) two in
+    IfOk-weaker c.flagged-4.result _ _ (λ r h. h ∙ ap (λ (a : App). with_rule a (flag_rule (codes "all"))) three) c.flagged-4.ensures

@@ -8,4 +8,5 @@ pub returns : goal.returns
 returns c =
     let one = c.in_ok-command.ensures ∙ ap (λ (a : App). with_rule a (flag_rule (codes "trace"))) c.plain-command.ensures in
     let two = c.in_ok-command-2.ensures ∙ ap (λ (a : App). with_rule a (flag_rule (codes "plan"))) one in
-    IfOk-weaker c.flagged-3.result _ _ (λ r h. h ∙ ap (λ (a : App). with_rule a (flag_rule (codes "image"))) two) c.flagged-3.ensures
+    let three = c.in_ok-command-3.ensures ∙ ap (λ (a : App). with_rule a (flag_rule (codes "image"))) two in
+    IfOk-weaker c.flagged-4.result _ _ (λ r h. h ∙ ap (λ (a : App). with_rule a (flag_rule (codes "json"))) three) c.flagged-4.ensures

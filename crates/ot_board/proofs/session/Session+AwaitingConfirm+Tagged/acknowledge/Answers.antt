@@ -1,5 +1,5 @@
 use Rattle.std.proofs.Common.{◌<◌, rules, sym, subst}
-use Rattle.ot_client.specs.State.{confirming, synchronized}
+use Rattle.ot_client.specs.Values.{confirming, synchronized}
 use Rattle.ot_model.specs.Session.{Session, IsAllowed}
 use Rattle.ot_board.proofs.Moves.{next_below, moved_acknowledged, acknowledged_confirm}
 use Rattle.ot_board.proofs.session.Session+AwaitingConfirm+Tagged.acknowledge.Goals as goal

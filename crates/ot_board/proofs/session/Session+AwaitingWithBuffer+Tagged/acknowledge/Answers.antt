@@ -1,5 +1,5 @@
 use Rattle.std.proofs.Common.{◌≡◌, ℕ, ◌<◌, Some, None, ap, rules, sym, subst}
-use Rattle.ot_client.specs.State.{Buffering, buffering, confirming}
+use Rattle.ot_client.specs.Values.{Buffering, buffering, confirming}
 use Rattle.ot_isa.specs.declared.elements.Tagged.{Tagged}
 use Rattle.ot_isa.specs.declared.instruction.Instr.TheVariants.{Acknowledge}
 use Rattle.ot_model.specs.Session.{Session, IsAllowed}

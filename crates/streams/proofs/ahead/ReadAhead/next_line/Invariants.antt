@@ -9,8 +9,8 @@ invariant-loop-self g l =
     let remaining = g.R.Read.remaining in
     record {
       piece : IsPiece (before l.fn.self (remaining l.fn.reader)) (before l.self (remaining l.reader)) l.line.items;
-      count : may_take l.self + length l.line.items ≡ may_take l.fn.self;
+      count : may_take l.self (g.R.Source.left l.reader) + length l.line.items ≡ may_take l.fn.self (g.R.Source.left l.fn.reader);
     }
 
 abbrev pub decreases-loop-self : goal.decreases-loop-self
-decreases-loop-self g l = may_take l.self
+decreases-loop-self g l = may_take l.self (g.R.Source.left l.reader)

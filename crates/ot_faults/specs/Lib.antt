@@ -1,0 +1,5 @@
+pub mod Reached
+pub mod Nearest
+pub mod Shown
+pub mod Faults
+pub mod Words
