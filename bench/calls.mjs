@@ -10,7 +10,7 @@ let program = 0;
 
 /* Instances whose program is timed. */
 const Plain = WebAssembly.Instance;
-WebAssembly.Instance = function (...given) {
+function Timed(...given) {
   const { exports } = new Plain(...given);
   const timed = () => {
     const began = performance.now();
@@ -21,7 +21,8 @@ WebAssembly.Instance = function (...given) {
     }
   };
   return { exports: { ...exports, _start: timed } };
-};
+}
+Object.assign(WebAssembly, { Instance: Timed });
 
 const { conform, generate, run, steps } = await import("../npm/otbench.mjs");
 

@@ -1,7 +1,7 @@
 """Writes traces within the limits that are hard to judge, and times `otbench judge` on each.
 
 Each has the weak list property. Beside it stands the same trace whose last event inserts one element twice: it is read as a whole and refused before it is judged, so that its
-time is the time of reading. `python3 bench/hostile.py [--program PATH] [SHAPE..]` times all shapes or those that are named, `--write FOLDER` writes them there.
+time is the time of reading. `python3 bench/hostile.py [--program PATH] [--beside PATH] [SHAPE..]` times all shapes or those that are named, `--write FOLDER` writes them there.
 """
 import json
 import os

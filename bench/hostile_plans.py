@@ -1,7 +1,7 @@
 """Writes plans within the limits that are hard to carry out, and times `otbench threads` on each.
 
-`python3 bench/hostile_plans.py [--program PATH] [SHAPE..]` times all shapes or those that are named, and prints processor time, peak memory and the status, then those of
-`otbench run` on the record that was printed; `--write FOLDER` writes the plans there.
+`python3 bench/hostile_plans.py [--program PATH] [--beside PATH] [SHAPE..]` times all shapes or those that are named, and prints processor time, peak memory and the status;
+`--write FOLDER` writes the plans there.
 """
 import json
 import random
@@ -74,7 +74,7 @@ def write(given, path):
 
 
 def measure(program, given, room):
-    """Of `threads`, and of `run` on what it recorded: processor time, peak memory, and the status."""
+    """Of `threads`: processor time, peak memory, and the status."""
     path = f"{room}/plan.json"
     write(given, path)
     used, memory, status, _ = run(program, "threads", path)

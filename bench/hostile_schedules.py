@@ -1,6 +1,6 @@
 """Writes schedules within the limits that are hard to run or to debug, and times the program on each.
 
-`python3 bench/hostile_schedules.py [--program PATH] [SHAPE..]` times all shapes or those that are named, and prints processor time and peak memory
+`python3 bench/hostile_schedules.py [--program PATH] [--beside PATH] [SHAPE..]` times all shapes or those that are named, and prints processor time and peak memory
 of `run`, `check`, `steps` (but where it would write tens of gigabytes), `explain`, and `conform` on the lines of a port that prints places alone; `--write FOLDER` writes them there. Those that are debugged carry a line `%%` and
 their commands, those that are compared alone a line `%%` and a port's lines.
 """

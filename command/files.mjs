@@ -55,7 +55,7 @@ export function formOf(word, flags) {
 export class Unreadable extends Error {}
 
 /** The options that the program has for commands that read files. Behind another one a word may be its value. */
-export const OPTIONS = new Set([...Object.keys(FORMS), "--documents", "--all", "--sparse", "--json"]);
+export const OPTIONS = new Set([...Object.keys(FORMS), "--documents", "--all", "--sparse", "--many", "--json"]);
 
 const REASONS = { ENOENT: "there is no such file", EISDIR: "is a folder", EACCES: "cannot be read", EEXIST: "is there already" };
 

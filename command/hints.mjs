@@ -7,11 +7,13 @@
  */
 
 import { seen } from "../terminal/names.mjs";
-import { lineTold, namedIn } from "../common/numbering.mjs";
+import { conformCall, readAnswer } from "../common/conformance.mjs";
+import { placeTold, stopTold } from "../common/numbering.mjs";
 import { outlineOf } from "../common/outline.mjs";
 import { formOf } from "./files.mjs";
 import { kindOf } from "./kinds.mjs";
-import { below } from "./pointing.mjs";
+import { misspelled, misspelledIn } from "./misspelled.mjs";
+import { pointing, wordsBelow } from "./pointing.mjs";
 import { fileWord } from "./shell.mjs";
 import { markIn, textOf } from "../common/text.mjs";
 
@@ -27,8 +29,8 @@ import { markIn, textOf } from "../common/text.mjs";
 /* What `explain` tells of an answer. */
 const TOLD = { run: "what happened", check: "what happened", steps: "what happened", complete: "what happened", judge: "what the verdict says", conform: "what ot.js does there" };
 
-/* The commands over a schedule's text whose answer names an instruction. */
-const NAMING = new Set(["run", "check", "steps", "complete", "conform"]);
+/* The commands over a schedule's text that say which instruction is refused. */
+const RUNNING = new Set(["run", "check", "steps", "complete"]);
 
 /* Of an input that is something else than what the command reads. */
 const KINDS = {
@@ -45,32 +47,30 @@ const LINES_END = "the port's lines end there";
 const NO_FORM = "each line of a port is one JSON object that has at, a number: docs/FORMATS.md, What a port prints";
 const MORE_LINES = "the port has more lines than the schedule has instructions";
 const OTHER_PLACE = "at counts performed instructions, and is 1 in the first one's line; conform --sparse skips instructions without a line";
-const UNKNOWN = /^otbench: line (\d+): UnknownWord\n$/;
 const OF_PORT = "is a line of a port: conform wants a line '%%' in front of those";
 const NO_VALUE = "no line has a value that is counted: docs/FORMATS.md, What a port prints";
 
 /* Of this command alone: the second file of `debug` has commands. */
 const COMMANDS = "the second file has commands: docs/FORMATS.md, Debugger commands; the lines of a port stand behind --port";
 
-/* What names an instruction, which may stand far down in the output: `complete` says it alone, on standard error. */
-const stopOf = (ask, schedule) => textOf(ask(["complete"], schedule).errors);
+/* What `check` says of a schedule: its fault, or which instruction is refused. */
+const checked = (ask, schedule) => JSON.parse(textOf(ask(["check", "--json"], schedule).output) || "{}");
 
-/* The line of what was named in a schedule's text; of a port's line among those of the schedule what is missing. */
-function lineOf(answer, text) {
-  const named = namedIn(answer.split("\n"));
-  if (named) return lineTold(named, text);
-  const number = UNKNOWN.exec(answer)?.[1];
-  return number && /^[ \t]*\{/.test(text.split("\n")[number - 1]) ? `line ${number} ${OF_PORT}` : null;
+/* What conform answers, as a value; null where the schedule is refused. */
+function conformanceOf({ flags, ask }, input) {
+  return readAnswer(textOf(ask([...conformCall(flags.includes("--sparse")), "--json"], input).output));
 }
 
+/* Of a port's line among those of the schedule what is missing. */
+const ofPortLine = ({ fault, line }, text) => (fault === "UnknownWord" && /^[ \t]*\{/.test(text.split("\n")[line - 1]) ? [`line ${line} ${OF_PORT}`] : []);
+
 /* What may be wrong with a port's lines, by what conform answered. */
-function faultOfLines([first, second]) {
-  if (first === "nothing compared") return NO_VALUE;
-  const { at, what, field } = namedIn([first]) ?? {};
-  if (what === "after the end" || (what === "end" && field === "at")) return MORE_LINES;
-  if (field === "line" && second === "found nothing") return at === 1 ? NO_LINE : LINES_END;
-  if (field === "line") return NO_FORM;
-  return field === "at" ? OTHER_PLACE : null;
+function faultOfLines({ verdict, at, instruction, key, found }) {
+  if (verdict === "nothing compared") return NO_VALUE;
+  if (instruction === "after the end" || (instruction === "end" && key === "at")) return MORE_LINES;
+  if (key === "line" && found === "nothing") return at === 1 ? NO_LINE : LINES_END;
+  if (key === "line") return NO_FORM;
+  return key === "at" ? OTHER_PLACE : null;
 }
 
 /* Words for the first file, or for what came otherwise. One file that `conform` reads has a line '%%' in it, and is no schedule. */
@@ -90,43 +90,47 @@ function cutOf({ word, flags, files: [file = "-"] }, input) {
 }
 
 /* Of an input that was refused: where its fault is. */
-function refused({ word, ask }, reads, input, errors) {
-  const told = word === "explain" ? errors : textOf(ask(reads === "schedule" ? ["explain"] : ["explain", `--${reads}`], input).errors);
-  return below(told, reads === "schedule" ? textOf(input) : null, word === "explain");
+function refused({ word, flags, ask }, reads, input, errors) {
+  const isTold = word === "explain" && !flags.includes("--json");
+  const told = isTold ? errors : textOf(ask(reads === "schedule" ? ["explain"] : ["explain", `--${reads}`], input).errors);
+  const below = reads === "schedule" ? pointing(ask, input) : reads === "image" ? [] : said(misspelledIn(reads, input));
+  return [...wordsBelow(told, isTold), ...below];
 }
 
-/* Of a schedule that was run, or whose lines were compared. */
-function answered(call, reads, schedule, output) {
-  const { word, ask } = call;
-  const answer = word === "conform" ? output : NAMING.has(word) && reads === "schedule" ? stopOf(ask, schedule) : "";
-  const line = answer === "" ? null : lineOf(answer, textOf(schedule));
-  const fault = word === "conform" ? faultOfLines(output.split("\n", 2)) : null;
-  return [line, fault, Object.hasOwn(TOLD, word) ? `${TOLD[word]}, in words: ${asking(reads, call)}` : null].filter(Boolean);
+/* Of an input that was answered: the line of what is named, what may be wrong with a port's lines, and how to ask on. */
+function answered(call, reads, named) {
+  const { word } = call;
+  return [...named, Object.hasOwn(TOLD, word) ? `${TOLD[word]}, in words: ${asking(reads, call)}` : null].filter(Boolean);
 }
 
 const said = (lines) => lines.map((line) => `otbench: ${line}`);
 
 /* The hints to an answer of status 1. */
 function ofFault(call, kept) {
-  const { word, flags, files } = call;
+  const { word, flags, files, ask } = call;
+  if (flags.includes("--many")) return []; // what is read is many inputs
   const [output, errors] = [textOf(kept.output), textOf(kept.errors)];
-  if (word === "conform" && output.startsWith("conforms\n")) return []; // of a schedule that is cut
   const reads = formOf(word, flags);
-  const kind = output === "" ? (kindOf(kept.input, reads) ?? reads) : reads;
+  const isRefused = output === "" || errors !== "";
+  const kind = isRefused ? (kindOf(kept.input, reads) ?? reads) : reads;
   if (kind !== reads) return said([ofKind(kind, call)]);
   if (word === "debug") return files.length === 2 ? said([COMMANDS]) : [];
   const mark = reads === "schedule" ? markIn(kept.input) : null;
   const schedule = mark ? kept.input.subarray(0, mark.start) : kept.input;
-  if (errors === "" || errors.startsWith("stopped at ")) return said(answered(call, reads, schedule, output));
-  const ofPort = reads === "schedule" ? lineOf(errors, textOf(schedule)) : null;
-  return [...refused(call, reads, schedule, errors), ...said(ofPort ? [ofPort] : [])];
+  const conformance = word === "conform" && errors === "" ? conformanceOf(call, kept.input) : null;
+  if (conformance?.verdict === "conforms") return []; // of a schedule that is cut
+  if (conformance) return said(answered(call, reads, [placeTold(conformance, textOf(schedule)), faultOfLines(conformance), ...misspelled(conformance.unknown)]));
+  const told = reads === "schedule" ? checked(ask, schedule) : {};
+  const isStopped = RUNNING.has(word) && told.stopped !== undefined;
+  if (errors === "" || isStopped) return said(answered(call, reads, [isStopped ? stopTold(told.at, textOf(schedule)) : null]));
+  return [...refused(call, reads, schedule, errors), ...said(ofPortLine(told, textOf(schedule)))];
 }
 
 /**
  * The hints, a line each.
  * @param {Call} call
  * @param {number} status
- * @param {{ input: Uint8Array, output: Uint8Array, errors: Uint8Array }} kept what it read; what `judge` or `conform` printed; and what it said on standard error
+ * @param {{ input: Uint8Array, output: Uint8Array, errors: Uint8Array }} kept what it read; of `judge` and `conform` what was printed; and what it said on standard error
  * @returns {string[]}
  */
 export const hintsOf = (call, status, kept) => [...(status === 1 ? ofFault(call, kept) : []), ...said(status > 1 ? [] : cutOf(call, kept.input))];

@@ -1,18 +1,18 @@
 /*
  * Where a fault is: what `explain` says below it, and of a schedule's text its line, with a caret below the column.
  *
- *     otbench: line 2: BadOperation                          the program
- *       column 14: a comment stands on a line of its own
- *       edit 0 ["a"] ; Ann
- *                    ^
+ *     otbench: line 2: UnknownWord                           the program
+ *       line 2, column 1: found "edti"; wanted edit, take, ..
+ *       edti 0 ["a"]
+ *       ^
  */
 
+import { readFault } from "../common/faults.mjs";
+import { textOf } from "../common/text.mjs";
 import { visible } from "../common/visible.mjs";
 
 const MOST = 72; // characters of a line that are shown
 const LONGEST = 1 << 20; // a line of more is not looked through for them
-
-const FAULT = /^otbench: line (\d+): \w+\n(?: {2}column (\d+): )?/;
 
 /* The characters of a line that are shown, around one of them, and which of these that is. */
 function windowOf(characters, at) {
@@ -40,12 +40,18 @@ function caretBelow(number, column, text) {
 /**
  * The lines below a fault.
  * @param {string} told what `explain` said of the input, on standard error
- * @param {string | null} text the schedule's text; null of another input
- * @param {boolean} isTold whether what `explain` said stands there already
+ * @param {boolean} isTold whether that stands there already
  * @returns {string[]}
  */
-export function below(told, text, isTold) {
-  const words = isTold ? [] : told.split("\n").slice(1, -1);
-  const [, number, column] = FAULT.exec(told) ?? [];
-  return text === null || column === undefined ? words : [...words, ...caretBelow(Number(number), Number(column), text)];
+export const wordsBelow = (told, isTold) => (isTold ? [] : told.split("\n").slice(1, -1).map(visible));
+
+/**
+ * The line of a schedule's text with a caret below its fault.
+ * @param {(words: string[], input: Uint8Array) => import("../npm/otbench.mjs").Answer} ask the program
+ * @param {Uint8Array} schedule
+ * @returns {string[]}
+ */
+export function pointing(ask, schedule) {
+  const { line, column } = readFault(textOf(ask(["check", "--json"], schedule).output)) ?? {};
+  return column === undefined ? [] : caretBelow(line, column, textOf(schedule));
 }

@@ -3,7 +3,8 @@
 import { gzipSync } from "node:zlib";
 import { announce, FILES, inputOf, split, Unreadable } from "./files.mjs";
 import { engineIfThere, viewer } from "./parts.mjs";
-import { below } from "./pointing.mjs";
+import { pointing } from "./pointing.mjs";
+import { conformCall, isWordy, readAnswer, wordsOf } from "../common/conformance.mjs";
 import { complain, print, STDIN } from "./streams.mjs";
 import { bytesOf, joined, markIn, textOf } from "../common/text.mjs";
 
@@ -14,7 +15,7 @@ Prints a page for a browser with the session in it. --sparse: instructions witho
 
 const utf8 = (text) => bytesOf(text, "the text");
 
-/* The fault of a schedule with its column and cause, as `explain` tells it; it tells none where there is no memory for that. */
+/* The fault of a schedule and where it stands, as `explain` tells it; it tells none where there is no memory for that. */
 function faultOf(serve, schedule, errors) {
   const told = serve(["explain"], schedule).errors;
   return told.length > 0 ? told : errors;
@@ -22,7 +23,7 @@ function faultOf(serve, schedule, errors) {
 
 /**
  * The lines that the page shows, or null where the schedule is refused: those of `steps`; and behind a line `%%` the port's, and behind
- * another what `conform` answers.
+ * another what `conform` answers, its value and its words.
  * @param {(words: string[], input: Uint8Array) => import("../npm/otbench.mjs").Answer} serve
  * @param {Uint8Array} input a schedule; maybe a line `%%` and what a port printed
  * @param {boolean} isSparse whether instructions without a line are not compared
@@ -33,8 +34,17 @@ export function shownOf(serve, input, isSparse = false) {
   const schedule = mark ? input.subarray(0, mark.start) : input;
   const { output, errors } = serve(["steps"], schedule);
   if (!isWhole(output)) return { schedule, isSparse, lines: null, errors: faultOf(serve, schedule, errors) };
-  const port = mark ? [utf8("%%\n"), input.subarray(mark.end), utf8("\n%%\n"), serve(isSparse ? ["conform", "--sparse"] : ["conform"], input).output] : [];
+  const port = mark ? [utf8("%%\n"), input.subarray(mark.end), utf8("\n%%\n"), ...conformed(serve, input, isSparse)] : [];
   return { schedule, isSparse, lines: joined([output, ...port]), errors };
+}
+
+/* What conform answers: its value, and where that says that there is more, its words. Nothing where memory runs out. */
+function conformed(serve, input, isSparse) {
+  const call = conformCall(isSparse);
+  const value = serve([...call, "--json"], input).output;
+  const answer = readAnswer(textOf(value));
+  if (answer === null) return [];
+  return isWordy(answer) ? [value, ...wordsOf(answer, textOf(serve(call, input).output)).map((line) => utf8(`${line}\n`))] : [value];
 }
 
 /* Whether the last line is that of the end. */
@@ -103,6 +113,6 @@ export async function view(ask, words) {
   const { errors, ...shown } = shownOf(ask, joined(parts), flags.length > 0);
   complain(textOf(errors));
   if (shown.lines !== null) return print(pageOf(await viewer(), shown, await engineIfThere())) ? 0 : 1;
-  below(textOf(errors), textOf(shown.schedule), true).forEach((line) => complain(`${line}\n`));
+  pointing(ask, shown.schedule).forEach((line) => complain(`${line}\n`));
   return 1;
 }

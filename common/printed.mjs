@@ -23,9 +23,6 @@ function readLine(text) {
   return { text };
 }
 
-/* The line in which conform says that the schedule is cut: the page says it by itself. */
-const TELLS_OF_CUT = /^the schedule ends before its logs(: |$)/;
-
 /* What the recorder's last line {"cut":".."} says of why its lines end before its logs do; null where there is none. */
 function cutIn(texts) {
   try {
@@ -72,8 +69,11 @@ function linesByPlace(lines, isSparse) {
 }
 
 export class Port {
-  /** @param {boolean} isSparse whether instructions without a line are skipped */
-  constructor(session, texts, answer, isSparse = false) {
+  /**
+   * @param {import("./conformance.mjs").Told | null} told what conform answers; null where it was not asked
+   * @param {boolean} isSparse whether instructions without a line are skipped
+   */
+  constructor(session, texts, told, isSparse = false) {
     this.session = session;
     this.areNotes = areNotes(texts);
     this.isSparse = isSparse || this.areNotes;
@@ -81,16 +81,15 @@ export class Port {
     this.memo = new Map();
     this.moves = new Map([SERVER, ...session.members.keys()].map((who) => [who, [0]]));
     session.steps.forEach((step, place) => step && this.lines[place] && this.moves.get(step.moved).push(place));
-    this.answer = answer.filter((line) => !TELLS_OF_CUT.test(line));
+    this.answer = told?.answer ?? null;
+    this.words = told?.words ?? [];
     this.cut = cutIn(texts);
     this.first = this.#first();
   }
 
   /* The place that conform names, else the first one with a difference that is seen here; null where there is none. */
   #first() {
-    const named = /^differs at (\d+):/.exec(this.answer[0] || "");
-    if (named) return Number(named[1]);
-    if (this.answer.length) return null;
+    if (this.answer) return this.answer.verdict === "differs" ? this.answer.at : null;
     for (let place = 1; place <= this.session.length; place++) if (this.differencesAt(place).length) return place;
     return null;
   }

@@ -77,8 +77,8 @@ function applied(operation, text) {
   return pieces.join("");
 }
 
-/* An operation over a text, with lengths in units. */
-function unitsOf(operation, text) {
+/** An operation over a text, the lengths of both in scalars, with lengths in units. @param {(string | number)[]} operation @param {string} text */
+export function unitsOf(operation, text) {
   const characters = [...text];
   let place = 0;
   return operation.map((component) => {

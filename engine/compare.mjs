@@ -22,7 +22,7 @@ import { serve } from "./host.mjs";
 
 const TOP = path.dirname(path.dirname(fileURLToPath(import.meta.url)));
 const MOST_OUTPUT = 2 ** 30;
-const SUBCOMMANDS = ["run", "check", "debug", "asm", "dis", "judge", "steps", "explain", "conform", "threads", "generate", "help"];
+const SUBCOMMANDS = ["run", "check", "debug", "asm", "dis", "judge", "steps", "explain", "conform", "threads", "generate", "complete", "help"];
 
 /** @typedef {{status: number | string, output: Buffer, errors: Buffer}} Ran */
 

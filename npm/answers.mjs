@@ -1,4 +1,7 @@
-/* The lines that the program prints, as values. docs/FORMATS.md has each line. A text in them may hold U+2028, which `.` leaves out without `s`. */
+/* What the program prints as data, as the values of the package. docs/FORMATS.md has each. */
+
+import { isConforming } from "../common/conformance.mjs";
+import { lineNamed } from "../common/numbering.mjs";
 
 /* A text's lines, each ended by LF. */
 const linesOf = (text) => text.split("\n").slice(0, -1);
@@ -36,77 +39,24 @@ export function readJudge(text) {
   return kind === "holds" ? { holds: true, violation: null } : { holds: false, violation: { kind, events, tags } };
 }
 
-const STOP = /^stopped at (\d+): (\w+)$/;
+/* What the answer of a difference may lack. */
+const LACKING = { place: null, points: null, rule: null, given: [], note: null };
 
-/* A refused instruction's place and the refusal, or null. */
-function stopIn(line) {
-  const stop = STOP.exec(line);
-  return stop && { at: Number(stop[1]), refusal: stop[2] };
-}
+/** What `conform --json` prints of the lines beside a schedule. Where that is cut, nothing conforms. @param {string} text @param {string} schedule */
+export const readConform = (text, schedule) => conformIn(JSON.parse(text), schedule);
 
-const DIFFERENCE = /^differs at (\d+): ([^:]*): (.*)$/s;
-
-const CUT = /^the schedule ends before its logs(?:: (.*))?$/s;
-
-const UNKNOWN = /^unknown (.*) in line (\d+)$/s;
-
-/* A key that `steps` does not have, and the line of the input that has it, or null. */
-function unknownIn(line) {
-  const unknown = UNKNOWN.exec(line);
-  return unknown && { key: unknown[1].startsWith('"') ? JSON.parse(unknown[1]) : unknown[1], line: Number(unknown[2]) };
+function conformIn(answer, schedule) {
+  answer.conforms = isConforming(answer);
+  if (!("at" in answer)) return answer;
+  return { ...(answer.verdict === "differs" && LACKING), ...answer, line: lineNamed(answer, schedule) };
 }
 
 /**
- * What `conform` prints. `unknown` has the keys that `steps` does not have. Where the schedule is cut, nothing conforms, and `cut` has the
- * words of the last line.
+ * What `conform --many --json` prints. Its lines are of the whole input.
+ * @param {string} text @param {(line: number) => { session: number, line: number }} placeOf
  */
-export function readConform(text) {
-  const lines = linesOf(text);
-  const cut = CUT.exec(lines.at(-1));
-  if (cut) lines.pop();
-  const unknown = lines.map(unknownIn).filter(Boolean);
-  const answer = { ...verdictIn(lines.slice(0, lines.length - unknown.length), text), unknown };
-  return cut ? { ...answer, conforms: false, cut: cut[1] ?? "" } : answer;
-}
-
-function verdictIn([first, ...lines], text) {
-  if (first === "conforms") return { verdict: "conforms", conforms: true, compared: countsIn(lines[0]), text };
-  if (first === "nothing compared") return { verdict: "nothing", conforms: false, compared: countsIn(lines[0]), text };
-  const stopped = stopIn(first);
-  if (stopped) return { verdict: "stopped", conforms: false, ...stopped, text };
-  const [, at, what, field] = DIFFERENCE.exec(first);
-  return { verdict: "differs", conforms: false, at: Number(at), what, field, ...detailsIn(lines), text };
-}
-
-/* "compared clients 1 present 1 .." */
-function countsIn(line) {
-  const counts = {};
-  for (const [, word, count] of line.matchAll(/ (\S+) (\d+)/g)) counts[word] = Number(count);
-  return counts;
-}
-
-/* The lines under a difference. */
-function detailsIn(lines) {
-  const details = { found: "", otjs: "", place: null, points: null, rule: null, given: [], note: null };
-  for (const line of lines) {
-    const [, word, rest] = /^(\S+) (.*)$/s.exec(line);
-    if (word === "found") details.found = rest;
-    else if (word === "ot.js") details.otjs = rest;
-    else if (word === "place") details.place = Number(rest);
-    else if (word === "points") details.points = pointsIn(rest);
-    else if (word === "given") details.given.push(givenIn(rest));
-    else details[word] = rest;
-  }
-  return details;
-}
-
-/* "U+0065 U+0301 | U+00E9" */
-function pointsIn(text) {
-  const [found, otjs] = text.split("|").map((points) => points.split(" ").filter(Boolean));
-  return { found, otjs };
-}
-
-function givenIn(text) {
-  const [, name, value] = /^(\S+) (.*)$/s.exec(text);
-  return { name, value };
+export function readConformMany(text, placeOf) {
+  const answer = JSON.parse(text);
+  if (!("session" in answer)) return { ...answer, conforms: isConforming(answer), unknown: answer.unknown.map(({ key, line }) => ({ key, ...placeOf(line) })) };
+  return conformIn({ ...answer, unknown: answer.unknown.map(({ key, line }) => ({ key, line: placeOf(line).line })) }, answer.schedule);
 }

@@ -4,72 +4,136 @@
  *     arguments ── call ──▶ words, input ── serve ──▶ status, output, errors ── read ──▶ a value, or an OtbenchError
  */
 
-import { readCheck, readCheckOfAll, readConform, readJudge, readRun, readSteps } from "./answers.mjs";
+import { readCheck, readCheckOfAll, readConform, readConformMany, readJudge, readRun, readSteps } from "./answers.mjs";
+import { conformCall } from "../common/conformance.mjs";
 import { check, OtbenchError } from "./errors.mjs";
-import { withPlace, withStop } from "../common/lines.mjs";
+import { lineOf } from "../common/numbering.mjs";
 import { readVerdict } from "./outlook.mjs";
-import { bytesOf, markIn, textOf, withoutComments, withRest } from "../common/text.mjs";
+import { placeAmong, sessionOf } from "./many.mjs";
+import { bytesOf, joined, markIn, textOf, withoutComments, withRest } from "../common/text.mjs";
 
 const NOTHING = new Uint8Array(0);
 
-/* A call that gives a value of what was printed. */
-const reading = (words, input, read, signal) => ({ words, input, read: (answer) => read(textOf(check(answer).output)), signal });
+/* Asks the program, and gives what it printed. */
+function* printed(words, input) {
+  return textOf(check(yield { words, input }).output);
+}
 
-/* A call whose value names places of a schedule's text: `locate` puts their lines into it. */
-const located = (words, input, read, locate, signal) => reading(words, input, (text) => locate(read(text), input), signal);
+/* The same of many sessions. The line of a fault is that of its session. */
+function* printedOfMany(words, sessions) {
+  const answer = yield { words, input: joined(sessions) };
+  try {
+    return textOf(check(answer).output);
+  } catch (error) {
+    if (error.line) error.line = placeAmong(sessions, error.line).line;
+    throw error;
+  }
+}
 
 const schedule = (given) => bytesOf(given, "the schedule");
 
 /* What is given as a value or as its JSON, with its name. */
 const VALUES = new Map([["trace", "the trace"], ["plan", "the plan"]]);
 
-/* The calls of all functions but `serve`. Each takes `signal` among its options; only the functions of a worker look at it. */
+/* What `run` or `check` gave, the line of a refused instruction in it; null of an image. */
+function withLine(result, text) {
+  const { stopped } = result;
+  return stopped ? { ...result, stopped: { ...stopped, line: text && lineOf(stopped.at, textOf(text)) } } : result;
+}
+
+/* What `conform` reads. */
+const besides = (text, lines) => withRest(schedule(text), linesOf(lines));
+
+/* The calls of all functions but `serve`: each yields what the program is asked, is given what that answers, and gives a value. */
 const calls = {
-  run(given, { image = false, signal } = {}) {
-    if (!image) return located(["run", "--json"], schedule(given), readRun, withStop, signal);
-    return reading(["run", "--image", "--json"], schedule(given), (text) => withStop(readRun(text), null), signal);
+  *run(given, { image = false } = {}) {
+    const text = schedule(given);
+    return withLine(readRun(yield* printed(image ? ["run", "--image", "--json"] : ["run", "--json"], text)), image ? null : text);
   },
 
-  steps: (text, { documents = false, signal } = {}) =>
-    reading(documents ? ["steps", "--documents"] : ["steps"], schedule(text), readSteps, signal),
+  *steps(text, { documents = false } = {}) {
+    return readSteps(yield* printed(documents ? ["steps", "--documents"] : ["steps"], schedule(text)));
+  },
 
   /* A form that the program does not know is refused by it. */
-  explain: (given, { form, signal } = {}) =>
-    reading(form === undefined ? ["explain"] : ["explain", `--${form}`], form === undefined ? schedule(given) : jsonOf(given, VALUES.get(form) ?? "the input"), String, signal),
+  *explain(given, { form } = {}) {
+    if (form === undefined) return yield* printed(["explain"], schedule(given));
+    return yield* printed(["explain", `--${form}`], jsonOf(given, VALUES.get(form) ?? "the input"));
+  },
 
-  verdict: (text, { signal } = {}) => reading(["explain"], withoutComments(schedule(text)), readVerdict, signal),
+  *verdict(text) {
+    const unnamed = withoutComments(schedule(text));
+    return readVerdict(yield* printed(["explain", "--json"], unnamed), yield* printed(["explain"], unnamed));
+  },
 
   /* A line `%%` would end the schedule: one that has such a line is refused as `run` refuses it. */
-  conform(text, lines, { sparse = false, signal } = {}) {
+  *conform(text, lines, { sparse = false } = {}) {
     const bytes = schedule(text);
-    if (markIn(bytes)) return reading(["run", "--json"], bytes, readRun, signal);
-    const words = sparse ? ["conform", "--sparse"] : ["conform"];
-    return reading(words, withRest(bytes, linesOf(lines)), (answer) => withPlace(readConform(answer), bytes), signal);
+    if (markIn(bytes)) yield* printed(["run", "--json"], bytes);
+    return readConform(yield* printed([...conformCall(sparse), "--json"], besides(bytes, lines)), textOf(bytes));
   },
 
-  check: (text, { all = false, signal } = {}) =>
-    located(all ? ["check", "--all", "--json"] : ["check", "--json"], schedule(text), all ? readCheckOfAll : readCheck, withStop, signal),
-
-  judge: (trace, { signal } = {}) => reading(["judge", "--json"], jsonOf(trace, VALUES.get("trace")), readJudge, signal),
-
-  assemble: (text, { signal } = {}) => ({ words: ["asm"], input: schedule(text), read: (answer) => check(answer).output, signal }),
-
-  disassemble: (image, { signal } = {}) => reading(["dis"], schedule(image), String, signal),
-
-  complete(text, { signal } = {}) {
-    const bytes = schedule(text);
-    return { words: ["complete"], input: bytes, read: (answer) => textOf(check(answer, bytes).output), signal };
+  /* Up to the first session that the program would take for two, which has a line `%%` of its own: that one is compared alone, and does not conform. */
+  *conformMany(sessions, { sparse = false } = {}) {
+    const given = Array.from(sessions, ({ schedule: text, lines }) => [schedule(text), linesOf(lines)]);
+    const alone = given.findIndex((parts) => parts.some(markIn));
+    const among = given.slice(0, alone < 0 ? given.length : alone).map(sessionOf);
+    const answer = readConformMany(yield* printedOfMany([...conformCall(sparse), "--many", "--json"], among), (line) => placeAmong(among, line));
+    if (alone < 0 || "session" in answer) return answer;
+    const [text, lines] = given[alone];
+    return { ...(yield* calls.conform(text, lines, { sparse })), session: alone + 1, schedule: textOf(text) };
   },
 
-  generate: ({ signal, ...options } = {}) => reading(["generate", ...wordsOf(options)], NOTHING, String, signal),
+  *check(text, { all = false } = {}) {
+    const bytes = schedule(text);
+    const told = yield* printed(all ? ["check", "--all", "--json"] : ["check", "--json"], bytes);
+    return withLine(all ? readCheckOfAll(told) : readCheck(told), bytes);
+  },
+
+  *judge(trace) {
+    return readJudge(yield* printed(["judge", "--json"], jsonOf(trace, VALUES.get("trace"))));
+  },
+
+  *assemble(text) {
+    return check(yield { words: ["asm"], input: schedule(text) }).output;
+  },
+
+  *disassemble(image) {
+    return yield* printed(["dis"], schedule(image));
+  },
+
+  /* Of an instruction that is refused `check` says which. */
+  *complete(text) {
+    const bytes = schedule(text);
+    const answer = yield { words: ["complete"], input: bytes };
+    const { stopped } = answer.status === 1 ? withLine(yield* stopOf(bytes), bytes) : {};
+    if (stopped) throw new OtbenchError(stopped.refusal, textOf(answer.errors).trimEnd(), stopped);
+    return textOf(check(answer).output);
+  },
+
+  *generate(options = {}) {
+    const { signal, ...others } = options;
+    return yield* printed(["generate", ...wordsOf(others)], NOTHING);
+  },
 };
 
+/* Which instruction of a schedule is refused; nothing where the schedule is. */
+function* stopOf(text) {
+  const { output, errors } = yield { words: ["check", "--json"], input: text };
+  return errors.length === 0 ? readCheck(textOf(output)) : {};
+}
+
+/* What the program is asked for the words of an answer of conform. */
+const wordsOfConform = (text, lines, { sparse = false } = {}) => ({ words: conformCall(sparse), input: besides(text, lines) });
+
 /* The options of each function beside `signal`; those of `generate` are the program's. */
-const OPTIONS = { run: ["image"], steps: ["documents"], explain: ["form"], verdict: [], conform: ["sparse"], check: ["all"], judge: [], assemble: [], disassemble: [], complete: [] };
+const OPTIONS = { run: ["image"], steps: ["documents"], explain: ["form"], verdict: [], conform: ["sparse"], conformMany: ["sparse"], check: ["all"], judge: [], assemble: [], disassemble: [], complete: [] };
+
+const optionsOf = (name, given) => given[name === "generate" ? 0 : name === "conform" ? 2 : 1];
 
 /* The call of a function, whose options are the last it is given. One that it does not have is refused. */
 function callOf(name, ...given) {
-  const options = given[name === "conform" ? 2 : 1];
+  const options = optionsOf(name, given);
   const own = OPTIONS[name];
   const other = own && Object.keys(options ?? {}).find((option) => option !== "signal" && !own.includes(option));
   if (name === "generate" && given[0] !== undefined && Object(given[0]) !== given[0]) throw new OtbenchError("Usage", "generate takes its options as an object, such as { instructions: 5 }");
@@ -101,6 +165,16 @@ function checkWords(words) {
       throw new OtbenchError("Usage", `${JSON.stringify(word)} holds a NUL or half of a surrogate pair`);
 }
 
+/* Gives a value, which is made when it is first looked at. */
+function withText(answer, textOfIt) {
+  const get = () => {
+    const value = textOfIt();
+    Object.defineProperty(answer, "text", { value, enumerable: true });
+    return value;
+  };
+  return Object.defineProperty(answer, "text", { get, enumerable: true, configurable: true });
+}
+
 /**
  * All functions over one that serves.
  * @param {(words: string[], input: Uint8Array) => import("./otbench.mjs").Answer} serveBytes
@@ -111,11 +185,15 @@ export function benchOver(serveBytes) {
     checkWords(words);
     return serveBytes(words, bytesOf(input, "the input"));
   };
+  const ask = ({ words, input }) => serve(words, input);
   const called = (name) => (...given) => {
-    const { words, input, read } = callOf(name, ...given);
-    return read(serve(words, input));
+    const call = callOf(name, ...given);
+    let step = call.next();
+    while (!step.done) step = call.next(ask(step.value));
+    return step.value;
   };
-  return { serve, ...mapped(called) };
+  const conform = (...given) => withText(called("conform")(...given), () => textOf(ask(wordsOfConform(...given)).output));
+  return { serve, ...mapped(called), conform };
 }
 
 /**
@@ -129,10 +207,18 @@ export function laterBenchOver(serveBytes) {
     return serveBytes(words, bytesOf(input, "the input"), signal);
   };
   const called = (name) => async (...given) => {
-    const { words, input, read, signal } = callOf(name, ...given);
-    return read(await serve(words, input, { signal }));
+    const { signal } = optionsOf(name, given) ?? {};
+    const call = callOf(name, ...given);
+    let step = call.next();
+    while (!step.done) step = call.next(await serve(step.value.words, step.value.input, { signal }));
+    return step.value;
   };
-  return { serve, ...mapped(called) };
+  const conform = async (...given) => {
+    const answer = await called("conform")(...given);
+    const { words, input } = wordsOfConform(...given);
+    return { ...answer, text: textOf((await serve(words, input, given[2])).output) };
+  };
+  return { serve, ...mapped(called), conform };
 }
 
 const mapped = (called) => Object.fromEntries(Object.keys(calls).map((name) => [name, called(name)]));

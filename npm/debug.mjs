@@ -3,6 +3,7 @@
 import { serve } from "../engine/host.mjs";
 import { COMMANDS } from "../terminal/commands.mjs";
 import { Debugger } from "../terminal/debugger.mjs";
+import { files } from "../terminal/filing.mjs";
 import { Recording } from "../terminal/recording.mjs";
 import { engine } from "./engine.mjs";
 import { OtbenchError, check } from "./errors.mjs";
@@ -16,7 +17,7 @@ const NAMES = Object.keys(COMMANDS).filter((name) => !OF_TERMINAL.has(name));
 /* What the debugger asks: the engine. A refused text is thrown as the package's error. */
 function ask(words, text) {
   const input = bytesOf(text, "the schedule");
-  const { status, output, errors } = check(serve(engine(), words, input), input);
+  const { status, output, errors } = check(serve(engine(), words, input));
   return { status, output: textOf(output), errors: textOf(errors) };
 }
 
@@ -27,7 +28,7 @@ class Session {
   #debugger;
 
   constructor(recording) {
-    this.#debugger = new Debugger(recording);
+    this.#debugger = new Debugger(recording, { files });
   }
 
   get place() {

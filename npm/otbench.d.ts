@@ -51,6 +51,8 @@ export class OtbenchError extends Error {
   readonly line: number | null;
   /** The byte of a refused image, from 0. */
   readonly byte: number | null;
+  /** Of `conformMany`: which session is refused, from 1. */
+  readonly session?: number;
 }
 
 /** The engine did not come to its end: there was no memory for it, or its stack ran out. The message says which. */
@@ -162,7 +164,7 @@ export interface Conforms {
 
 /** Nothing differs, and no value beside `at` and `client` was compared: the port printed places alone, perhaps. */
 export interface NothingCounted {
-  verdict: "nothing";
+  verdict: "nothing compared";
   conforms: false;
   compared: Record<ComparedKey, number>;
   unknown: UnknownKey[];
@@ -178,15 +180,19 @@ export interface Differs {
   /** The line of that instruction in the schedule, from 1; of the end, that of the last instruction performed; null where there is none. */
   line: number | null;
   /** `opening`, the instruction (`deliver 0`), `end` or `after the end`. */
-  what: string;
-  /** `line`, or the value, with whose it is: `client 0 buffer`. */
-  field: string;
+  instruction: string;
+  /** The client whose value it is; null of the server's; left out where it is nobody's. */
+  client?: number | null;
+  /** What the schedule's comments call that client. */
+  name?: string;
+  /** The value: a key of `steps`, `message`, `sent revision` and the like; or `line`. */
+  key: string;
   found: string;
   otjs: string;
   /** How many characters at the front of two texts are equal. */
   place: number | null;
-  /** Where the two may look alike: the code points of both from where they first differ, four at most, as `U+00E9`. */
-  points: { found: string[]; otjs: string[] } | null;
+  /** Where the two may look alike: the code points of both from where they first differ, four at most. */
+  points: { found: number[]; otjs: number[] } | null;
   /** The method of ot.js that makes the value, and what it was given. */
   rule: string | null;
   given: { name: string; value: string }[];
@@ -211,12 +217,27 @@ export type OfCut = (Omit<Conforms, "conforms"> | Omit<NothingCounted, "conforms
   cut: string;
 };
 
+/** All of many sessions conform; or there is none, and nothing was compared. */
+export interface AllConform {
+  verdict: "conforms" | "nothing compared";
+  conforms: boolean;
+  /** How many they are. */
+  sessions: number;
+  /** How often each value was printed and equal, in all together. */
+  compared: Record<ComparedKey, number>;
+  /** The unknown keys of all: the session, from 1, and the line in it, as that of `conform`. */
+  unknown: (UnknownKey & { session: number })[];
+}
+
+/** The first of many sessions that does not conform: its number, from 1, its text, and what `conform` gives for it, without its words. */
+export type FirstOfMany = Omit<Conformance, "text"> & { session: number; schedule: string };
+
 export type Conformance = Conforms | NothingCounted | Differs | NotCompared | OfCut;
 
 /** An edit that the server has not taken, or messages that a client has not received. */
 export type Waiting =
-  /** On its way to the server, or in the client's buffer; null of one with more than 40 components or 200 inserted characters. */
-  | { client: number; what: "sent" | "buffered"; operation: Operation | null }
+  /** On its way to the server, or in the client's buffer. */
+  | { client: number; what: "sent" | "buffered"; operation: Operation }
   | { client: number; what: "incoming"; count: number };
 
 /** Whether all documents must agree where the run ends, and to what. */
@@ -226,7 +247,7 @@ export interface Verdict {
    * depend on whose edit the server takes first.
    */
   verdict: "must be" | "will be" | "depends";
-  /** What all documents are, or become; null with `depends`, and where it has more than 80 characters. */
+  /** What all documents are, or become; null with `depends`. */
   document: string | null;
   /** How many characters it has; null with `depends`. */
   length: number | null;
@@ -330,10 +351,12 @@ export interface Bench {
   explain(plan: object | Text, options: { form: "plan" }): string;
   /** The run of a schedule's image in words. The error of bytes that are no image says which field is wrong, what stands there and what is wanted. */
   explain(image: Uint8Array, options: { form: "image" }): string;
-  /** Whether all documents must agree where the run of a schedule ends, and to what, as the last lines of `explain` say it. */
+  /** Whether all documents must agree where the run of a schedule ends, and to what, as `explain --json` says it. */
   verdict(schedule: Text): Verdict;
   /** Compares what a port of ot.js printed with the run of the schedule; with `sparse` instructions without a line are passed over. */
   conform(schedule: Text, lines: PortLines, options?: { sparse?: boolean }): Conformance;
+  /** Compares many sessions, one by one, in one call of the program, up to the first that does not conform. The error of a refused schedule has its `session`, from 1. */
+  conformMany(sessions: Iterable<{ schedule: Text; lines: PortLines }>, options?: { sparse?: boolean }): AllConform | FirstOfMany;
   /** Whether all is quiet and one, and whether the trace has the weak list property. */
   check(schedule: Text, options?: { all?: boolean }): Check;
   /** Judges a recorded trace: a value, or its JSON. */
@@ -360,6 +383,7 @@ export const steps: Bench["steps"];
 export const explain: Bench["explain"];
 export const verdict: Bench["verdict"];
 export const conform: Bench["conform"];
+export const conformMany: Bench["conformMany"];
 export const check: Bench["check"];
 export const judge: Bench["judge"];
 export const assemble: Bench["assemble"];

@@ -12,4 +12,4 @@ export const benchOf = (module) => benchOver((words, input) => serveIn(module, w
 
 const bench = benchOver((words, input) => serveIn(engine(), words, input));
 
-export const { serve, run, steps, explain, verdict, conform, check, judge, assemble, disassemble, complete, generate } = bench;
+export const { serve, run, steps, explain, verdict, conform, conformMany, check, judge, assemble, disassemble, complete, generate } = bench;

@@ -18,6 +18,7 @@ export interface WorkerBench {
   explain(image: Uint8Array, options: { form: "image" } & Cancelled): Promise<string>;
   verdict(schedule: Text, options?: Cancelled): Promise<ReturnType<Bench["verdict"]>>;
   conform(schedule: Text, lines: PortLines, options?: { sparse?: boolean } & Cancelled): Promise<ReturnType<Bench["conform"]>>;
+  conformMany(sessions: Iterable<{ schedule: Text; lines: PortLines }>, options?: { sparse?: boolean } & Cancelled): Promise<ReturnType<Bench["conformMany"]>>;
   check(schedule: Text, options?: { all?: boolean } & Cancelled): Promise<ReturnType<Bench["check"]>>;
   judge(trace: object | Text, options?: Cancelled): Promise<ReturnType<Bench["judge"]>>;
   assemble(schedule: Text, options?: Cancelled): Promise<Uint8Array>;
@@ -37,6 +38,7 @@ export const steps: WorkerBench["steps"];
 export const explain: WorkerBench["explain"];
 export const verdict: WorkerBench["verdict"];
 export const conform: WorkerBench["conform"];
+export const conformMany: WorkerBench["conformMany"];
 export const check: WorkerBench["check"];
 export const judge: WorkerBench["judge"];
 export const assemble: WorkerBench["assemble"];

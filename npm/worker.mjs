@@ -38,4 +38,4 @@ export function openWorker() {
   return { ...laterBenchOver((words, input, signal) => ask({ words, input }, signal)), close };
 }
 
-export const { serve, run, steps, explain, verdict, conform, check, judge, assemble, disassemble, complete, generate, close } = openWorker();
+export const { serve, run, steps, explain, verdict, conform, conformMany, check, judge, assemble, disassemble, complete, generate, close } = openWorker();

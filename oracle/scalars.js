@@ -6,6 +6,7 @@
  *     inUnits   the schedule itself in UTF-16 units, for a port that is to see the pairs
  */
 
+import { unitsOf } from "../common/units.mjs";
 import { drive as driveUnits } from "../examples/port/drive.js";
 import { readSchedule } from "../examples/port/schedule.js";
 import { Session } from "../examples/port/session.js";
@@ -25,18 +26,6 @@ const withUnits = (line) => line.replace(ESCAPE, (escape, high, low, one) => (on
 export function drive(text, port, options) {
   const interner = new Interner();
   return driveUnits(interner.inward(withPairs(text)), port, options).map((line) => interner.outward(withUnits(line)));
-}
-
-/* An operation over a text, the lengths of both in scalars, with lengths in UTF-16 units. */
-function unitsOf(operation, text) {
-  const characters = [...text];
-  let place = 0;
-  return operation.map((component) => {
-    if (typeof component === "string") return component;
-    const from = place;
-    place += Math.abs(component);
-    return Math.sign(component) * characters.slice(from, place).join("").length;
-  });
 }
 
 /* A schedule's text with lengths in UTF-16 units. An edit that is refused, and what stands behind it, is as it was. */

@@ -85,7 +85,7 @@ function lawsError(broken) {
  * Tries a port or a driver; throws where it does not conform.
  * @param {import("./testing.mjs").Subject} subject
  * @param {import("./testing.mjs").ConformsOptions} given checked ones
- * @param {Pick<import("../npm/otbench.mjs").Bench, "conform" | "generate" | "serve" | "steps">} bench
+ * @param {Pick<import("../npm/otbench.mjs").Bench, "conform" | "conformMany" | "generate" | "steps">} bench
  * @param {{ onBegin?: Function, onInstruction?: Function, onFailure?: Function }} [watcher] is told what is under way, so that a hang can be named
  */
 export async function conforming(subject, given, bench, { onBegin, onInstruction, onFailure } = {}) {

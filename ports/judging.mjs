@@ -1,18 +1,27 @@
 /*
  * Drivers over sessions, several at a time, and the verdict on each:
  *
- *     sessions ── a driver that is free ──▶ lines ── conform ──▶ a verdict, in the order of the sessions
+ *     sessions ── a driver that is free ──▶ lines ── conform, of several at once ──▶ a verdict, in the order of the sessions
  *
  * A port in this process is one driver; those that are processes may be as many as there are processors.
  */
 
-import { setImmediate } from "node:timers/promises";
+import { setImmediate, setTimeout as pause } from "node:timers/promises";
+import { answersOf, partOf } from "./many.mjs";
 import { UnderWay } from "./underway.mjs";
 import { verdictOf } from "./verdict.mjs";
 
+const TOGETHER = 20; // milliseconds that a session waits to be compared with others
 const MOST_MORE = 4; // times that a driver which gets no processor has as long again
 
 const seconds = (milliseconds) => Number((milliseconds / 1000).toPrecision(3));
+
+/* Whether something ends before a time of `performance.now`. */
+async function endsBefore(time, result) {
+  const left = time - performance.now();
+  const ends = () => true;
+  return left > 0 && Promise.race([result.then(ends, ends), pause(left, false, { ref: false })]);
+}
 
 /* A signal that is aborted by another one, until that is forgotten, and by `drop`. */
 function droppable(dropped) {
@@ -33,7 +42,7 @@ export class Judge {
    * @param {number} made.jobs how many drivers there are
    * @param {boolean} made.isKept whether each of them is one process for several sessions
    * @param {{ most: (size: number) => number, add: (size: number, took: number) => void }} made.pace
-   * @param {Pick<import("../npm/otbench.mjs").Bench, "conform">} made.bench
+   * @param {Pick<import("../npm/otbench.mjs").Bench, "conform" | "conformMany">} made.bench
    * @param {(at: number) => void} [made.onInstruction]
    * @param {AbortSignal} [made.signal] ends whatever is under way
    */
@@ -97,10 +106,16 @@ export class Judge {
   }
 
   /* The verdict on what a driver gave. */
-  #verdict({ schedule, driven, took, process }) {
-    const verdict = verdictOf(() => this.bench.conform(schedule, driven.lines), schedule, driven, took, process);
+  #verdict({ schedule, driven, took, process }, conform = () => this.bench.conform(schedule, driven.lines)) {
+    const verdict = verdictOf(conform, schedule, driven, took, process);
     if (!verdict.fails) this.pace.add(schedule.length, took);
     return verdict;
+  }
+
+  /* The verdicts on what drivers gave, in its order: on the sessions at the front that conform by one call of the program. */
+  *#verdictsOn(performed, parts) {
+    const answers = answersOf(this.bench.conformMany, parts);
+    for (const [at, its] of performed.entries()) yield this.#verdict(its, at < answers.length ? () => answers[at] : undefined);
   }
 
   /* What a driver gives, unless it takes longer; null where it is dropped. A process is ended by the signal that it is given, a port in this process is left alone. */
@@ -159,13 +174,25 @@ export class Judge {
     const { signal, drop, forget } = droppable(dropped);
     const perform = (schedule) => this.#with(false, (driver) => this.#performed(driver, schedule, limit(schedule.length), signal));
     const under = new UnderWay(schedules, this.jobs, perform);
+    let [performed, parts, since] = [[], [], 0];
     try {
       for (let first; (first = under.first()); ) {
+        if (performed.length > 0 && !(await endsBefore(since + TOGETHER, first.result))) {
+          yield* this.#verdictsOn(performed, parts);
+          [performed, parts] = [[], []];
+        }
         await meanwhile(first.given, first.result);
         const its = await under.taken();
         if (its === null) break;
-        yield this.#verdict(its);
+        const part = partOf(its);
+        if (performed.length === 0) since = performance.now();
+        performed.push(its);
+        if (part !== null) parts.push(part);
+        if (part !== null && performance.now() - since < TOGETHER) continue;
+        yield* this.#verdictsOn(performed, parts);
+        [performed, parts] = [[], []];
       }
+      yield* this.#verdictsOn(performed, parts);
     } finally {
       forget();
       drop();

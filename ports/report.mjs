@@ -2,7 +2,7 @@
 
 import { AssertionError } from "node:assert";
 import { writeFileSync } from "node:fs";
-import { lineTold } from "../common/numbering.mjs";
+import { placeTold } from "../common/numbering.mjs";
 import { behindOnLink } from "./link.mjs";
 import { valuesOf, withOneUnitEach } from "../common/schedule.mjs";
 import { isOfState, isOfTheWay, saidOf, sessionsOf } from "./verdict.mjs";
@@ -43,23 +43,27 @@ function part(characters, place) {
   return `${from > 0 ? ".. " : ""}${characters.slice(from, to).join("")}${to < characters.length ? " .." : ""} (${characters.length.toLocaleString("en")} characters)`;
 }
 
-/** What conform says; a long value that was found, and that of ot.js, cut around their first difference. @param {string} said */
-export const aroundDifference = (said) =>
-  said.replace(/^found ([^\n]*)\not\.js ([^\n]*)$/m, (whole, found, otjs) => {
-    if (Math.max(found.length, otjs.length) <= MOST_WIDTH) return whole;
-    const [ours, theirs] = [[...otjs], [...found]];
-    const first = theirs.findIndex((it, at) => it !== ours[at]);
-    const place = first < 0 ? theirs.length : first;
-    return `found ${part(theirs, place)}\not.js ${part(ours, place)}\nthese two lines differ from character ${(place + 1).toLocaleString("en")} of the whole value on`;
-  });
+/**
+ * What is said of a difference; a long value that was found, and that of ot.js, cut around where they first differ.
+ * @param {string} said @param {{ found?: string, otjs?: string }} answer of conform
+ */
+export function aroundDifference(said, { found = "", otjs = "" }) {
+  if (Math.max(found.length, otjs.length) <= MOST_WIDTH) return said;
+  const [ours, theirs] = [[...otjs], [...found]];
+  const first = theirs.findIndex((it, at) => it !== ours[at]);
+  const place = first < 0 ? theirs.length : first;
+  const shown = `found ${part(theirs, place)}\not.js ${part(ours, place)}\nthese two lines differ from character ${(place + 1).toLocaleString("en")} of the whole value on`;
+  return said.replace(`found ${found}\not.js ${otjs}`, () => shown);
+}
 
 const linesIn = (text) => text.split("\n").length - 1;
 
 /* What is said of the last session, and in which line of the whole text its answer's instruction is. */
 function toldOf(verdict, text) {
-  const last = verdict.schedule;
-  const line = verdict.answer && lineTold(verdict.answer, ";\n".repeat(linesIn(text) - linesIn(last)) + last);
-  const said = aroundDifference(saidOf(verdict));
+  const { schedule, answer } = verdict;
+  const before = linesIn(text) - linesIn(schedule);
+  const line = answer && placeTold({ ...answer, line: answer.line && answer.line + before }, ";\n".repeat(before) + schedule);
+  const said = aroundDifference(saidOf(verdict), answer ?? {});
   return said === "" ? [] : fewLines(said + (line ? `${line}\n` : ""));
 }
 

@@ -25,6 +25,7 @@ export const STAGES = [
   { clients: 3, edits: 2, start: "x", count: 598 },
   { clients: 2, edits: 2, start: "xy", count: 1279 },
   { clients: 2, edits: 3, start: "", letters: 2, count: 9181 },
+  { clients: 3, edits: 3, start: "", count: 4390 },
   { clients: 2, edits: 3, start: "x", count: 14_459 },
   { clients: 2, edits: 3, start: "xy", count: 118_939 },
 ];

@@ -204,7 +204,7 @@ export interface Session {
  *
  * `otbench port` of the command tries a driver that is a program in the same way.
  *
- * A port that may not end is given as the URL of a module that exports `TextOperation`, `Client` and `Server`, and `accessors` where it needs them,
+ * A port that is given as its classes runs in this process, and is not ended where it loops. One that may do so is given as the URL of a module that exports `TextOperation`, `Client` and `Server`, and `accessors` where it needs them,
  * or a driver as `default`. It is tried in a worker, which is ended `seconds` after a session began. The first session has to begin within 30 seconds.
  */
 export function conforms(

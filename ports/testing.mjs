@@ -9,7 +9,7 @@
 import { conforming } from "./conforming.mjs";
 import { driverOf } from "./driving.mjs";
 import { conformsOptions, driveOptions } from "./options.mjs";
-import { conform, generate, serve, steps } from "../npm/otbench.mjs";
+import { conform, conformMany, generate, steps } from "../npm/otbench.mjs";
 import { checkPort } from "./port.mjs";
 import { corpus, randomBy } from "./sessions.mjs";
 import { triedInWorker } from "./watching.mjs";
@@ -37,5 +37,5 @@ export const compare = async (subject, schedule, options = {}) => conform(schedu
 /** Tries a port; the promise is rejected at the first session that fails. A port that may hang is given by its module's URL. */
 export async function conforms(subject, options = {}) {
   if (subject instanceof URL) return triedInWorker(subject, conformsOptions(options));
-  return conforming(subject, conformsOptions(options), { conform, generate, serve, steps });
+  return conforming(subject, conformsOptions(options), { conform, conformMany, generate, steps });
 }

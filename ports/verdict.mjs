@@ -29,7 +29,7 @@ function answered(conform, schedule, lines) {
   }
 }
 
-const CONFORM = ["conforms", "nothing"]; // of lines that do not differ; whether what is needed was compared is said of all sessions together
+const CONFORM = ["conforms", "nothing compared"]; // of lines that do not differ; whether what is needed was compared is said of all sessions together
 
 /**
  * @param {import("../npm/otbench.mjs").Bench["conform"]} conform
@@ -52,7 +52,7 @@ export function verdictOf(conform, schedule, { lines, thrown, trouble, isEnded =
 export const sessionsOf = ({ process }) => process.performed.slice(0, process.count);
 
 /** Whether a message was changed between where it was sent and where it was taken. @param {Verdict} verdict */
-export const isOfTheWay = ({ answer }) => answer?.verdict === "differs" && /(?:^| )message(?: revision| operation)?$/.test(answer.field);
+export const isOfTheWay = ({ answer }) => answer?.verdict === "differs" && /^message\b/.test(answer.key);
 
 /** How a driver begins to tell of state that an earlier session left. */
 export const LEFT = "state is left from an earlier session";
@@ -69,9 +69,9 @@ const ENDED = /^the driver (ended with status \d+|was ended by signal \w+|was en
 export function kindOf(verdict) {
   const { answer, trouble, isSlow, isRefused } = verdict;
   if (answer?.verdict === "differs") {
-    const what = /^(?:after the end|[a-z-]+)/.exec(answer.what)[0];
+    const what = /^(?:after the end|[a-z-]+)/.exec(answer.instruction)[0];
     if (isOfTheWay(verdict)) return `${what}: message`;
-    return `${answer.rule ?? what}: ${/(?:sent revision|sent operation|\w+)$/.exec(answer.field)[0]}`;
+    return `${answer.rule ?? what}: ${answer.key}`;
   }
   if (isOfState(verdict)) return `port: ${LEFT}`;
   if (isSlow) return "driver: was ended: it took too long";

@@ -2,7 +2,7 @@
 
 import { parentPort, workerData } from "node:worker_threads";
 import { conforming } from "./conforming.mjs";
-import { conform, generate, serve, steps } from "../npm/otbench.mjs";
+import { conform, conformMany, generate, steps } from "../npm/otbench.mjs";
 import { compare } from "./testing.mjs";
 
 const { module, options, at, alone } = workerData;
@@ -46,7 +46,7 @@ try {
   const { subject, accessors } = await subjectOf();
   const read = { ...options, ...(accessors && { accessors }) };
   const all = { ...read, onSession: post("done"), ...(options.tap && { tap: post("line") }) };
-  const result = alone === undefined ? await conforming(subject, all, { conform, generate, serve, steps }, watcher) : await compare(subject, alone, read);
+  const result = alone === undefined ? await conforming(subject, all, { conform, conformMany, generate, steps }, watcher) : await compare(subject, alone, read);
   parentPort.postMessage({ result });
 } catch (error) {
   parentPort.postMessage({ error: told(error) });

@@ -1,11 +1,9 @@
 // The debugger without its terminal: a place in a recording, and what stops there; each command answers lines.
 
-import { readFileSync, writeFileSync } from "node:fs";
 import { SERVER } from "../common/fold.mjs";
 import { documentAt } from "../common/places.mjs";
 import { authorsOf, differenceOf, hasDocument, whoIs } from "./authors.mjs";
 import { COMMANDS, commandOf, Complaint, helpOf, wordsIn } from "./commands.mjs";
-import { reasonOf } from "../command/files.mjs";
 import { named } from "./names.mjs";
 import { nearest } from "../common/nearest.mjs";
 import { RefusedText } from "./recording.mjs";
@@ -21,14 +19,20 @@ const INSTRUCTIONS = ["edit", "take", "deliver", "ack", "join", "read", "read-se
 const WHOLE = ["print", "source", "blame", "diff"]; // what these show is not cut once more
 const PRINTED = [...WATCHED, "message", "link"];
 
+/** @typedef {{ read: (file: string) => string, write: (file: string, text: string) => void }} Files a file that is there is not written; faults are complaints */
+
 export class Debugger {
   /**
    * @param {import("./recording.mjs").Recording} recording
-   * @param {{ open: () => import("./recording.mjs").Recording, edit: () => void } | null} source reads the recording's files again; opens the schedule in an editor
+   * @param {object} [around]
+   * @param {{ open: () => import("./recording.mjs").Recording, edit: () => string | null } | null} [around.source] reads the recording's files again; opens the schedule in an editor
+   * @param {Files | null} [around.files] those of `source`, `save` and `export`
+   * @param {number} [around.place] where it begins
    */
-  constructor(recording, source = null) {
+  constructor(recording, { source = null, files = null, place = 0 } = {}) {
     this.recording = recording;
     this.source = source;
+    this.files = files;
     this.stops = new Stops(recording);
     this.marks = new Map();
     this.jumps = []; // the places from which the moves began
@@ -37,10 +41,17 @@ export class Debugger {
     this.isOver = false;
     this.isSourcing = false;
     this.repeated = "";
+    this.#moveTo(place);
   }
 
   get prompt() {
     return `(${this.place}/${this.recording.end}) `;
+  }
+
+  /** The first line of what is said where the port differs, as it is answered; or null. */
+  get difference() {
+    const { difference, names } = this.recording;
+    return difference && named(shortLine(difference.words[0]), names);
   }
 
   /** What stands above the first prompt. */
@@ -54,9 +65,33 @@ export class Debugger {
   }
 
   /** That the port differs, and in which line; at the first place, to which no command goes on, with conform's answer. */
-  #tellDifference({ place, line, answer }) {
+  #tellDifference({ place, line, words }) {
     const where = `the port differs at place ${place}${line === null ? "" : `, line ${line}`}`;
-    return place === 0 ? [where, ...shortVerdict(answer.split("\n")).map((it) => named(it, this.recording.names))] : [`${where}: run stops there`];
+    return place === 0 ? [where, ...shortVerdict(words).map((it) => named(it, this.recording.names))] : [`${where}: run stops there`];
+  }
+
+  /** Goes to a place that was chosen in another way than by a command; `undo` goes back from it. @param {number} place */
+  goTo(place) {
+    if (place === this.place) return;
+    this.jumps.push(this.place);
+    this.#moveTo(place);
+  }
+
+  /**
+   * Goes on in another recording. The place, at most its end, and breaks, watches and marks stay as far as they are there.
+   * @param {import("./recording.mjs").Recording} recording @returns {string[]} which of them are not
+   */
+  goOnIn(recording) {
+    const kept = this.stops.all;
+    this.recording = recording;
+    this.stops = new Stops(recording);
+    this.jumps = [];
+    this.last = null;
+    this.place = Math.min(this.place, recording.end);
+    for (const [name, place] of this.marks) if (place > recording.end) this.marks.delete(name);
+    const said = kept.flatMap(({ command }) => this.#set(command));
+    this.#moveTo(this.place);
+    return said;
   }
 
   /** Performs a line and answers lines, with the clients' names. @param {string} line @returns {string[]} */
@@ -338,7 +373,7 @@ export class Debugger {
   _print([what, word]) {
     const { recording, place } = this;
     if (what === "instruction") return this.#told(word);
-    if (what === "difference" && word === undefined) return recording.difference?.answer.split("\n") ?? ["none"];
+    if (what === "difference" && word === undefined) return recording.difference?.words ?? ["none"];
     const { client } = subjectOf(word === undefined ? [what] : [what, word], recording.clients, PRINTED);
     const links = { link: () => recording.link(client, place), message: () => recording.message(client, place) };
     const found = Object.hasOwn(links, what) ? links[what]() : [recording.value({ what, client }, place)];
@@ -369,7 +404,7 @@ export class Debugger {
   _source([file]) {
     if (file === undefined) throw new Complaint("a file is missing");
     if (this.isSourcing) throw new Complaint("a file of commands sources no other");
-    const lines = this.#withFile(file, () => readFileSync(file, "utf8")).split("\n");
+    const lines = this.#files().read(file).split("\n");
     this.isSourcing = true;
     try {
       return this.#performAll(file, lines);
@@ -399,7 +434,7 @@ export class Debugger {
   _save([file]) {
     if (file === undefined) throw new Complaint("a file is missing");
     const commands = this.stops.all.map(({ command }) => `${command}\n`);
-    this.#withFile(file, () => writeFileSync(file, commands.join(""), { flag: "wx" }));
+    this.#files().write(file, commands.join(""));
     return [`${commands.length} commands in ${file}; source ${file} performs them`];
   }
 
@@ -407,29 +442,26 @@ export class Debugger {
     if (file === undefined) throw new Complaint("a file is missing");
     if (word !== undefined && word !== "complete") throw new Complaint(`${word} is not known`);
     const text = this.recording.scheduleUpTo(this.place, word === "complete");
-    this.#withFile(file, () => writeFileSync(file, text, { flag: "wx" }));
+    this.#files().write(file, text);
     return [`${this.place} instructions in ${file}${word === "complete" ? ", and what was under way behind them" : ""}`];
   }
 
   _reload() {
     if (this.source === null) throw new Complaint("there is no file to read again");
+    let recording;
     try {
-      this.recording = this.source.open();
+      recording = this.source.open();
     } catch (fault) {
       if (fault instanceof RefusedText) return [...fault.message.trimEnd().split("\n"), "the run stays as it was"];
       throw fault;
     }
-    const kept = this.stops.all;
-    this.stops = new Stops(this.recording);
-    const said = kept.flatMap(({ command }) => this.#set(command));
-    this.jumps = [];
-    this.last = null;
-    for (const [name, place] of this.marks) if (place > this.recording.end) this.marks.delete(name);
+    const said = this.goOnIn(recording);
     return [...this.greeting().slice(0, -1), ...said, ...this.#moveTo(this.place)];
   }
 
   /** Sets a break, watch or display once more; where that is not possible, it says so. */
   #set(command) {
+    const { repeated } = this;
     try {
       this.#perform(command);
       return [];
@@ -437,7 +469,7 @@ export class Debugger {
       if (!(fault instanceof Complaint)) throw fault;
       return [`no ${command} any more: ${fault.message}`];
     } finally {
-      this.repeated = "reload";
+      this.repeated = repeated;
     }
   }
 
@@ -447,13 +479,9 @@ export class Debugger {
     return fault === null ? this._reload() : [fault];
   }
 
-  #withFile(file, call) {
-    try {
-      return call();
-    } catch (fault) {
-      if (!fault.code) throw fault;
-      throw new Complaint(reasonOf(file, fault));
-    }
+  #files() {
+    if (this.files === null) throw new Complaint("there are no files here");
+    return this.files;
   }
 
   _help([word]) {
@@ -496,9 +524,8 @@ export class Debugger {
     else if (place < this.place) this.last = place;
     else if (this.last === null && place > 0) this.last = place - 1;
     this.place = place;
-    if (this.last === null) return [recording.opening];
-    const said = this.#whereIs(recording.instructions[this.last], this.last >= place);
-    return wanted > recording.end || (place === recording.end && this.last < place) ? [...said, ...this.#ending()] : said;
+    const said = this.last === null ? [recording.opening] : this.#whereIs(recording.instructions[this.last], this.last >= place);
+    return wanted > recording.end || (place === recording.end && this.last !== null && this.last < place) ? [...said, ...this.#ending()] : said;
   }
 
   /** Where the place is, and, behind an instruction, where that led. */
@@ -509,13 +536,13 @@ export class Debugger {
 
   #ending() {
     const { refused, end } = this.recording;
-    return refused ? [`the end: line ${refused.line}, instruction ${refused.number}: ${refused.words} is refused`, refused.told.split("\n").at(-1)] : [`the end: ${this.recording.server(end)[1]}`];
+    return refused ? [`the end: line ${refused.line}, instruction ${refused.number}: ${refused.words} is refused`, refused.told.split("\n").at(-1)] : [`the end: ${this.recording.server(end).at(-1)}`];
   }
 
   /** What conform says of the port's difference, where it is such a one. */
   #differenceIf(isIt) {
     const { difference } = this.recording;
-    return difference && isIt(difference) ? shortVerdict(difference.answer.split("\n")) : [];
+    return difference && isIt(difference) ? shortVerdict(difference.words) : [];
   }
 
   /** Which instruction was performed or undone last, and which comes next. */

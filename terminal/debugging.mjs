@@ -9,6 +9,7 @@ import { markIn } from "../common/text.mjs";
 import { colouring } from "./colours.mjs";
 import { helpOf } from "./commands.mjs";
 import { Debugger } from "./debugger.mjs";
+import { files } from "./filing.mjs";
 import { openHistory } from "./history.mjs";
 import { nearest } from "../common/nearest.mjs";
 import { isLong, page } from "./pager.mjs";
@@ -27,9 +28,9 @@ const HELP = `${USAGE}\n${helpOf().join("\n")}\n`;
  * A session: prompts where the input is a terminal, and answers each line. Lines are edited, and the prompt stands, on the output, or on standard error where
  * that is the terminal. Ends with the first fault of the output, or null.
  * @param {Debugger} session @param {import("node:tty").ReadStream} input @param {import("node:tty").WriteStream} output
- * @returns {Promise<NodeJS.ErrnoException | null>}
+ * @returns {Promise<Error | null>}
  */
-export async function converse(session, input, output) {
+async function converse(session, input, output) {
   const shown = input.isTTY ? [output, process.stderr].find(({ isTTY }) => isTTY) : undefined;
   const history = shown === undefined ? null : openHistory();
   const reader = createInterface({ input, output: shown, terminal: shown !== undefined, completer: (line) => session.complete(line), history: history?.lines });
@@ -40,7 +41,7 @@ export async function converse(session, input, output) {
   });
   const colour = colouring(output);
   const say = (lines) => {
-    const text = lines.map((line) => `${colour(shownOn(output, line))}\n`).join("");
+    const text = lines.map((line) => `${colour(shownOn(output, line), line === session.difference)}\n`).join("");
     if (!isLong(lines, input, output) || !page(text, input)) output.write(text);
   };
   const prompt = () => {
@@ -164,13 +165,14 @@ class Source {
 /**
  * The whole command. Answers its status: 0; 1 where a file cannot be read or is refused, or the output cannot be written; 2 where words are not understood.
  * @param {string[]} words @param {import("./recording.mjs").Ask} ask
+ * @param {import("node:stream").Readable} input of the commands @param {import("node:stream").Writable} output of the answers
  */
-export async function debug(words, ask) {
+export async function debug(words, ask, input = process.stdin, output = process.stdout) {
   if (words.some(isHelp)) return print(HELP) ? 0 : 1;
   try {
     const source = new Source(wordsOf(words), ask);
-    const session = new Debugger(source.open(), source);
-    const fault = await converse(session, process.stdin, process.stdout);
+    const session = new Debugger(source.open(), { source, files });
+    const fault = await converse(session, input, output);
     if (fault === null) return 0;
     complainOfWriting(fault);
     return 1;

@@ -17,9 +17,6 @@ export function commentsOf(schedule) {
   return { names, cut: cut === null ? null : seen(cut) };
 }
 
-/** What conform answers, without the line that tells of the cut: the greeting tells of it. */
-export const withoutCut = (answer) => answer.replace(/^the schedule ends before its logs(: .*)?\n$/m, "");
-
 /** A line with the names in it: `client 1` becomes `client 1 (ben)`, but not inside of a string, and not where otbench has named the client. */
 export function named(line, names) {
   if (names.size === 0) return line;

@@ -1,15 +1,16 @@
 // A run that can be looked at in every place. All that it knows comes from otbench: `steps` gives the values, `explain` the words, `conform` where a port differs; names stand in comments.
 
+import { conformCall, isConforming, isWordy, wordsOf } from "../common/conformance.mjs";
 import { fold, SERVER } from "../common/fold.mjs";
-import { namedIn, numberNamed } from "../common/numbering.mjs";
+import { lineNamed } from "../common/numbering.mjs";
 import { documentAt, downAt, logLengthAt, quietAt, stateAt, upAt } from "../common/places.mjs";
 import { textOf } from "../common/document.mjs";
+import { bytesOf, textOf as textOfBytes, withRest } from "../common/text.mjs";
 import { splitInput } from "../common/input.mjs";
-import { outlookIn } from "../common/outlook.mjs";
 import { Port } from "../common/printed.mjs";
 import { outlineOf, textUpTo } from "../common/outline.mjs";
-import { readConform } from "../npm/answers.mjs";
-import { commentsOf, withoutCut } from "./names.mjs";
+import { partsOf } from "../common/told.mjs";
+import { commentsOf } from "./names.mjs";
 import { shortOperation, shortText } from "./values.mjs";
 
 /**
@@ -24,47 +25,46 @@ const LINK = 4; // messages of a link that are all shown
 
 /** @typedef {{ number: number, line: number, words: string, told: string, refused: boolean }} Instruction */
 
-const HEAD = /^line (\d+), instruction (\d+): (.*)$/;
-
-/** The instructions of a run, from the paragraphs of `explain`; a refused one comes last. */
-function instructionsOf(told) {
-  const instructions = [];
-  for (const text of told.split("\n")) {
-    const head = HEAD.exec(text);
-    if (head) instructions.push({ number: Number(head[2]), line: Number(head[1]), words: head[3], told: text, refused: false });
-    else if (text.startsWith("  ")) {
-      const last = instructions.at(-1);
-      last.told += `\n${text}`;
-      last.refused ||= text.startsWith("  refused: ");
-    }
-  }
-  return instructions;
-}
-
-/** A difference that conform tells: its place, and the number and the line of the instruction that it names, -1 and null where it names none. */
-function differenceIn(answer, instructions) {
-  const named = namedIn(answer.split("\n"));
-  const number = numberNamed(named, (of) => instructions[of]?.words);
-  return { place: named.at, number, line: instructions[number]?.line ?? null, answer };
+/** The instructions of a run, with what explain tells of each; a refused one comes last. */
+function instructionsOf({ steps, stop }, { lines }, told) {
+  const performed = [...steps.slice(1).map(({ line }) => line), ...(stop ? [stop] : [])];
+  return performed.map((step, number) => ({
+    number,
+    line: lines[number] + 1,
+    words: step.client === undefined ? step.do : `${step.do} ${step.client}`,
+    told: told[number],
+    refused: step === stop,
+  }));
 }
 
 /** The lines of a port, those that are blank left out. */
-const linesIn = (port) => splitInput(`%%\n${Buffer.from(port).toString()}`).port ?? [];
+const linesIn = (port) => splitInput(`%%\n${textOfBytes(port)}`).port ?? [];
+
+const linesOfPort = (port) => bytesOf(port, "the port's lines");
 
 /** A schedule's text, a line `%%` and a port's lines. */
-const besides = (schedule, port) => Buffer.concat([Buffer.from(schedule.replace(/\n?$/, "\n%%\n")), Buffer.from(port)]);
+const besides = (schedule, port) => withRest(bytesOf(schedule, "the schedule"), linesOfPort(port));
+
+const ALIKE = { difference: null, conforms: false, showsNothing: false, unknown: [] };
 
 /**
- * What conform says of a port: where it differs, { place, number, line, answer } or null; else whether it conforms, whether it shows nothing, so that no value was
+ * What conform says of a port: where it differs, { place, number, line, words } or null; else whether it conforms, whether it shows nothing, so that no value was
  * compared, and which of its keys are unknown, in lines.
  */
-function conformOf(ask, schedule, { port, isSparse }, instructions) {
-  if (port === null) return { difference: null, conforms: false, showsNothing: false, unknown: [] };
-  const { output, errors } = ask(isSparse ? ["conform", "--sparse"] : ["conform"], besides(schedule, port));
+function conformOf(ask, schedule, { port, isSparse }, { lines }) {
+  if (port === null) return ALIKE;
+  const input = besides(schedule, port);
+  const { output, errors } = ask([...conformCall(isSparse), "--json"], input);
   if (errors) throw new RefusedText(errors);
-  if (output.startsWith("differs at ")) return { difference: differenceIn(withoutCut(output).trimEnd(), instructions), conforms: false, showsNothing: false, unknown: [] };
-  const unknown = output.split("\n").filter((line) => line.startsWith("unknown "));
-  return { difference: null, conforms: output.startsWith("conforms\n"), showsNothing: output.startsWith("nothing compared\n"), unknown };
+  const answer = JSON.parse(output);
+  const { verdict, at } = answer;
+  const words = isWordy(answer) ? wordsOf(answer, ask(conformCall(isSparse), input).output) : [];
+  const unknown = words.splice(words.length - answer.unknown.length);
+  if (verdict === "differs") {
+    const line = lineNamed(answer, schedule);
+    return { ...ALIKE, difference: { place: at, number: lines.indexOf(line - 1), line, words } };
+  }
+  return { ...ALIKE, conforms: isConforming(answer), showsNothing: verdict === "nothing compared", unknown };
 }
 
 /** A run, with the state at each place. Place p is the one where p instructions are performed. */
@@ -78,15 +78,17 @@ export class Recording {
   constructor(ask, text, port = null, isSparse = false) {
     const told = ask(["explain"], text);
     if (told.errors) throw new RefusedText(told.errors);
-    const schedule = Buffer.from(text).toString();
+    const schedule = typeof text === "string" ? text : textOfBytes(text);
     this.ask = ask;
     this.schedule = schedule;
-    this.instructions = instructionsOf(told.output);
     Object.assign(this, commentsOf(schedule)); // names and cut
-    this.opening = told.output.split("\n", 1)[0];
     this.session = fold(ask(["steps"], schedule).output.split("\n").filter(Boolean));
-    Object.assign(this, conformOf(ask, schedule, { port, isSparse }, this.instructions)); // difference, conforms, showsNothing, unknown
-    this.port = port === null ? null : new Port(this.session, linesIn(port), [], isSparse);
+    const outline = outlineOf(schedule);
+    const { opening, instructions } = partsOf(told.output, this.session.length + (this.session.stop ? 1 : 0), outline.cut !== null);
+    this.opening = opening;
+    this.instructions = instructionsOf(this.session, outline, instructions);
+    Object.assign(this, conformOf(ask, schedule, { port, isSparse }, outline)); // difference, conforms, showsNothing, unknown
+    this.port = port === null ? null : new Port(this.session, linesIn(linesOfPort(port)), null, isSparse);
   }
 
   /** The schedule's text up to a place; completed, with the instructions by which all that is under way there arrives. @param {number} place */
@@ -100,7 +102,8 @@ export class Recording {
 
   /** Whether all documents must agree at a place, and to what, in lines. @param {number} place */
   outlook(place) {
-    return outlookIn(this.ask(["explain"], this.scheduleUpTo(place)).output);
+    const text = this.scheduleUpTo(place);
+    return partsOf(this.ask(["explain"], text).output, place, outlineOf(text).cut !== null).verdict;
   }
 
   /**
@@ -111,9 +114,9 @@ export class Recording {
     const place = number + 1;
     const { do: word } = this.session.steps[place].line;
     const key = word === "take" ? "appended" : word === "deliver" ? "applied" : "state";
-    const { output, errors } = this.ask(["conform", "--sparse"], besides(this.scheduleUpTo(place), `{"at":${place},"${key}":0}\n`));
+    const { output, errors } = this.ask([...conformCall(true), "--json"], besides(this.scheduleUpTo(place), `{"at":${place},"${key}":0}\n`));
     if (errors) throw new RefusedText(errors);
-    const { rule = null, given } = readConform(output);
+    const { rule = null, given } = JSON.parse(output);
     return rule === null ? null : { rule, given };
   }
 

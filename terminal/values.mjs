@@ -84,15 +84,15 @@ export function change(title, from, to) {
   return `${title}: ${shortJson(from)} -> ${shortJson(to)}`;
 }
 
-const HEAD = "found ";
+const HEAD = "found ".length; // as long as "ot.js "
 
 /** Two lines with long values, of which what stands around their first difference is left. */
 function around(lines) {
-  const values = lines.map((line) => [...line.slice(HEAD.length)]);
+  const values = lines.map((line) => [...line.slice(HEAD)]);
   const { at } = parting(...values);
   const [from, to] = [Math.max(0, at - AROUND), at + LONG];
   const cut = (value) => `${from > 0 ? ".." : ""}${value.slice(from, to).join("")}${to < value.length ? ".." : ""}`;
-  return lines.map((line, i) => line.slice(0, HEAD.length) + cut(values[i]));
+  return lines.map((line, i) => line.slice(0, HEAD) + cut(values[i]));
 }
 
 /** Lines, but of those with the same two first words, one behind the other, the first and the last if they are many. */
@@ -105,10 +105,8 @@ function fewer(lines) {
   return lines.flatMap((line, i) => (i === first ? [`.. ${within} more; print difference shows all`] : isWithin(i) ? [] : [line]));
 }
 
-/** The lines of a verdict: of two long values what stands around the first difference, of many given ones the first and the last. @param {string[]} lines */
-export function shortVerdict(lines) {
-  const [found, ours] = [HEAD, "ot.js "].map((head) => lines.findIndex((line) => line.startsWith(head)));
-  const isLong = found >= 0 && ours >= 0 && lines[found].length + lines[ours].length > 2 * LONG;
-  const [of, by] = isLong ? around([lines[found], lines[ours]]) : [];
-  return fewer(lines.map((line, i) => (isLong && i === found ? of : isLong && i === ours ? by : shortLine(line))));
+/** The words of a difference: of two long values, which stand in its second and third line, what is around their first difference; of many given ones the first and the last. @param {string[]} words */
+export function shortVerdict([head, found, otjs, ...more]) {
+  const values = found.length + otjs.length > 2 * LONG ? around([found, otjs]) : [found, otjs];
+  return fewer([shortLine(head), ...values, ...more.map(shortLine)]);
 }

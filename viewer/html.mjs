@@ -23,11 +23,14 @@ const POLICY = (script) =>
     "form-action 'none'",
   ].join("; ");
 
+/* A script without the lines that are comments: a reader finds them in the sources. */
+const bare = (script) => script.replace(/^[ \t]*\/\*[^]*?\*\/[ \t]*\n/gm, "").replace(/^[ \t]*\/\/.*\n/gm, "");
+
 /**
  * The page; with an engine, { host, module }, the file of its host and the bytes of its module as base64 of gzip, and with examples.
  */
 export function page(engine = null, examples = []) {
-  const script = `\n${oneScript("viewer/src/page.mjs")}`;
+  const script = `\n${bare(oneScript("viewer/src/page.mjs"))}`;
   const worker = engine ? workerScript(engine.host) : "";
   const put = (text, mark, value) => text.replace(mark, () => value);
   let html = read("page.html");
@@ -41,7 +44,7 @@ export function page(engine = null, examples = []) {
 
 /* The worker's script, over a host that lies elsewhere. */
 function workerScript(host) {
-  const script = oneScript("viewer/src/worker.mjs", { "engine/host.mjs": () => fs.readFileSync(host, "utf8") });
+  const script = bare(oneScript("viewer/src/worker.mjs", { "engine/host.mjs": () => fs.readFileSync(host, "utf8") }));
   if (/<\/script|<!--/i.test(script)) throw new Error("the worker's script ends its element");
   return script;
 }

@@ -58,7 +58,7 @@ async function take(folder) {
       for (const theme of ["light", "dark"]) {
         await user.open(`#theme=${theme}`);
         await prepare(user);
-        await user.until('document.getElementById("list-verdict").textContent !== ""', "the verdict");
+        await user.until('document.getElementById("list-verdict").textContent !== "" && document.getElementById("outlook").textContent !== ""', "the verdicts");
         await page.drawn();
         const file = path.join(folder, `${name}${theme === "dark" ? "-dark" : ""}.png`);
         await page.screenshot(file);

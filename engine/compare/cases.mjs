@@ -11,7 +11,8 @@ import { harmed } from "./harm.mjs";
 import { commands, nested, plan, trace } from "./made.mjs";
 
 const BEHIND = Buffer.from("\n%%\n");
-const READS_TEXT = ["run", "check", "explain", "steps", "asm"];
+const READS_TEXT = ["run", "check", "explain", "steps", "asm", "complete"];
+const AS_JSON = ["run", "check", "explain"];
 
 /**
  * One schedule, whole and harmed, under each subcommand that reads one.
@@ -20,19 +21,28 @@ const READS_TEXT = ["run", "check", "explain", "steps", "asm"];
 function schedule(ask, name, text, draw) {
     for (const word of ["run", "check", "explain"]) ask(name, [word], text);
     ask(name, ["check", "--all"], text);
+    ask(name, ["complete"], text);
+    for (const word of AS_JSON) ask(name, [word, "--json"], text);
     ask(name, ["steps", "--documents"], text);
     const lines = ask(name, ["steps"], text);
     ask(name, ["conform"], Buffer.concat([text, BEHIND, lines]));
-    ask(`${name} wrong port`, ["conform"], Buffer.concat([text, BEHIND, harmed(draw, lines)]));
+    const wrong = Buffer.concat([text, BEHIND, harmed(draw, lines)]);
+    for (const how of [[], ["--json"], ["--sparse"], ["--sparse", "--json"]]) ask(`${name} wrong port`, ["conform", ...how], wrong);
+    const many = Buffer.concat([text, BEHIND, lines, BEHIND, text, BEHIND, harmed(draw, lines), BEHIND]);
+    ask(`${name} many`, ["conform", "--many", ...(draw.once(2) ? ["--all"] : []), ...(draw.once(2) ? ["--json"] : [])], many);
+    ask(`${name} many harmed`, ["conform", "--many"], harmed(draw, many));
     const image = ask(name, ["asm"], text);
     ask(name, ["dis"], image);
     ask(name, ["run", "--image"], image);
     ask(name, ["debug"], Buffer.concat([text, BEHIND, Buffer.from(commands(draw))]));
     ask(`${name} harmed`, [draw.of(READS_TEXT)], harmed(draw, text));
+    ask(`${name} harmed`, [draw.of([...AS_JSON, "conform"]), "--json"], harmed(draw, text));
     ask(`${name} harmed`, [draw.of(["debug", "conform"])], harmed(draw, Buffer.concat([text, BEHIND, draw.once(2) ? lines : Buffer.from(commands(draw))])));
     const other = harmed(draw, image);
     ask(`${name} harmed image`, ["dis"], other);
     ask(`${name} harmed image`, ["run", "--image"], other);
+    ask(`${name} harmed image`, ["run", "--image", "--json"], other);
+    for (const bytes of [image, other]) ask(`${name} image`, ["explain", "--image"], bytes);
 }
 
 /**
@@ -48,11 +58,13 @@ export function generated(ask, seed) {
     const name = `seed ${seed}`;
     schedule(ask, name, ask(name, words), draw);
     const told = trace(draw);
-    ask(name, ["judge"], told);
-    ask(`${name} harmed`, ["judge"], harmed(draw, told));
+    for (const words of [["judge"], ["judge", "--json"], ["explain", "--trace"]]) {
+        ask(name, words, told);
+        ask(`${name} harmed`, words, harmed(draw, told));
+    }
     const typed = plan(draw);
     ask(name, ["threads"], typed);
-    ask(`${name} harmed`, ["threads"], harmed(draw, typed));
+    for (const words of [["threads"], ["explain", "--plan"]]) ask(`${name} harmed`, words, harmed(draw, typed));
     if (seed % 10 === 0) ask(name, ["threads"], plan(draw, 2 + draw.below(7)));
 }
 

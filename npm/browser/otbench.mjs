@@ -9,4 +9,4 @@ export { OtbenchError } from "../errors.mjs";
 
 export const benchOf = (module) => benchOver((words, input) => serveIn(module, words, input));
 
-export const { serve, run, steps, explain, verdict, conform, check, judge, assemble, disassemble, complete, generate } = benchOf(await engine());
+export const { serve, run, steps, explain, verdict, conform, conformMany, check, judge, assemble, disassemble, complete, generate } = benchOf(await engine());

@@ -81,11 +81,11 @@ test("a plan of several workers is refused: there are no threads", () => {
 });
 
 test("a refused text, and words that are not understood", () => {
-  const column = "  column 1: an instruction is edit, take, deliver, ack, join, read or read-server\n";
+  const place = '  line 2, column 2: found "bogus\\u202e"; wanted present, start, edit, take, deliver, ack, read, read-server or join\n';
   for (const program of PROGRAMS) {
     for (const word of ["run", "check", "steps", "asm", "complete", "explain"])
-      assert.deepEqual(call([word], "clients 1\n\tbogus\u202e 0\r\n", program), [1, "", `otbench: line 2: UnknownWord\n${column.replace("1", "2")}  \tbogus\\u202e 0\n  \t^\n`], word);
-    assert.deepEqual(call(["run"], "\n", program), [1, "", "otbench: line 2: NoClients\n  no line says `clients N`\n"]);
+      assert.deepEqual(call([word], "clients 1\n\tbogus\u202e 0\r\n", program), [1, "", `otbench: line 2: UnknownWord\n${word === "explain" ? place.replace("\\u202e", "\u202e") : place}  \tbogus\\u202e 0\n  \t^\n`], word);
+    assert.deepEqual(call(["run"], "\n", program), [1, "", "otbench: line 2: NoClients\n  line 2, column 1: found nothing; wanted clients; no line says `clients N`\n"]);
     const long = call(["run"], `clients 1\nedit 0 ["${"é".repeat(100_000)}",0]\n`, program)[2].split("\n");
     assert.deepEqual([long.length, long[2].length, long[3].length], [5, 74, long[2].indexOf("0]") + 1]);
   }
@@ -130,6 +130,11 @@ test("the help of both debuggers", () => {
   assert.match(call(["help", "debug"])[1], /^(?!usage)[^]*\nAt a terminal 'otbench debug SCHEDULE \[--port LINES\]' has other commands: /);
   for (const words of [["w.ots", "--help"], ["w.ots", "--port", "x", "-h"]]) assert.match(call(["debug", ...words])[1], /^usage: otbench debug FILE [^]*\n\nstep +performs one instruction, or N\n[^]*\nuntil /);
 });
+
+/* The recorder's log of a session in which nothing happens. */
+const LOG =
+  '{"who":"server","n":0,"do":"open","role":"server","revision":0,"document":"a"}\n' +
+  '{"who":"ann","n":0,"do":"open","role":"client","revision":0,"state":"synchronized","outstanding":null,"buffer":null,"document":"a"}\n';
 
 /* The longest output of these tests, some megabytes. */
 const LONG = generate({ clients: 8, instructions: 20_000, seed: 5 });
@@ -186,16 +191,17 @@ test("answers come before the input ends", async () => {
 test("an output that nobody reads any more, and a full disk: status 1; the latter is said", { skip: process.platform !== "linux" }, () => {
   const session = path.join(folder, file("long.ots", LONG));
   const over = (program) => (script) => {
-    const { stdout, stderr } = spawnSync("sh", ["-c", script, process.execPath, COMMAND, session], { encoding: "utf8", env: { ...process.env, OTBENCH: program } });
+    const { stdout, stderr } = spawnSync("sh", ["-c", script, process.execPath, COMMAND, session], { encoding: "utf8", cwd: folder, env: { ...process.env, OTBENCH: program } });
     return [stdout, stderr];
   };
   const sh = over("");
+  file("two.log", LOG);
   for (const program of PROGRAMS) {
     assert.deepEqual(over(program)('(status=0; "$0" "$1" steps "$2" || status=$?; echo $status >&2) | head -c 5'), ['{"at"', "1\n"]);
     assert.deepEqual(over(program)('status=0; "$0" "$1" run none.ots 2>/dev/full || status=$?; echo $status'), ["1\n", ""]);
-    for (const words of ["steps", "conform", "run", "view", "steps -"]) assert.deepEqual(over(program)(`status=0; "$0" "$1" ${words} <"$2" >/dev/full || status=$?; echo $status`), ["1\n", "otbench: WriteFault\n"], words);
+    for (const words of ["steps", "conform", "run", "view", "steps -", "check --json", "explain", "generate"]) assert.deepEqual(over(program)(`status=0; "$0" "$1" ${words} <"$2" >/dev/full || status=$?; echo $status`), ["1\n", "otbench: WriteFault\n"], words);
   }
-  for (const words of ["help", "run --help", "version", "completion zsh", "help edit", "debug $2", "edit $2 0 0 '' a"])
+  for (const words of ["help", "run --help", "version", "completion zsh", "merge two.log", "help edit", "debug $2", "edit $2 0 0 '' a"])
     assert.deepEqual(sh(`status=0; "$0" "$1" ${words.replace("$2", '"$2"')} >/dev/full </dev/null || status=$?; echo $status`), ["1\n", "otbench: WriteFault\n"], words);
   const [shown, status] = sh('(status=0; "$0" "$1" view "$2" || status=$?; echo $status >&2) | head -c 5');
   assert.deepEqual([shown.length, status], [5, "1\n"]);
@@ -267,6 +273,20 @@ test("an edit stands in front of a line %%", () => {
   assert.equal(fs.readFileSync(path.join(folder, name), "utf8"), 'clients 1\nstart "a"\nedit 0 [1,"b"]\n%%\n{"at":1}\n');
 });
 
+test("a port's lines in which nothing is compared, or a key is unknown: status 1, or the key is named", () => {
+  const schedule = file("named.ots", 'clients 1\nedit 0 ["a"]\n');
+  for (const program of PROGRAMS) {
+    for (const flags of [[], ["--sparse"]]) {
+      const conform = (line) => call(["conform", ...flags, schedule, file("named.jsonl", `${line}\n`)], "", program);
+      const [status, output, errors] = conform('{"at":1,"client":0,"docment":"WRONG"}');
+      assert.deepEqual([status, output.split("\n")[0], output.split("\n")[2]], [1, "nothing compared", "unknown docment in line 4"]);
+      assert.match(errors, /^otbench: no line has a value that is counted/);
+      assert.match(conform('{"at":1,"document":"a","docment":"WRONG"}').join("\n"), /^0\nconforms\n.*\nunknown docment in line 4\n\n$/);
+      assert.match(conform("[]").join("\n"), /\nnote the line is no JSON object\n\notbench: place 1 is behind line 2, instruction 0: edit 0\notbench: each line of a port is one JSON object/);
+    }
+  }
+});
+
 test("lines for some instructions", () => {
   const name = file("sparse.ots", `${WEAK}%%\n{"at":12,"document":"acz"}\n`);
   for (const program of PROGRAMS) {
@@ -280,6 +300,7 @@ test("what is larger than its kind may be is refused while it is read", { skip: 
   for (const program of PROGRAMS) {
     assert.deepEqual(call(["run", "/dev/zero"], "", program), said("/dev/zero", "268,435,456", "a schedule"));
     assert.deepEqual(call(["threads", "/dev/zero"], "", program), said("/dev/zero", "67,108,864", "a plan"));
+    assert.deepEqual(call(["debug", file("short.ots", "clients 1\n"), "/dev/zero"], "", program), said("/dev/zero", "67,108,864", "commands"));
   }
   const { status, stderr } = spawnSync(process.execPath, [COMMAND, "judge"], { stdio: [fs.openSync("/dev/zero", "r"), "pipe", "pipe"], encoding: "utf8" });
   assert.deepEqual([status, "", stderr], said("standard input", "268,435,456", "a trace"));

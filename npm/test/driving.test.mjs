@@ -142,7 +142,7 @@ test("what a port throws is the error's cause, with its stack", async () => {
   const error = await conforms(throws, { sessions: 1 }).then(() => assert.fail("it conforms"), (thrown) => thrown);
   assert.ok(error.cause instanceof RangeError);
   assert.match(error.cause.stack, /noReceiver/);
-  assert.match(error.answer.field, /stopped/);
+  assert.match(error.answer.key, /stopped/);
   assert.equal(error.answer.found, '"no receiver"');
 });
 

@@ -65,9 +65,9 @@ test("a trace: neither line nor byte", () => {
   refused(() => judge({ replicas: 1, start: [], events: Array(4001).fill({ replica: 0, kind: "read", seen: [0], list: [] }) }), "TraceFull");
 });
 
-test("explain says the column and the cause too", () => {
+test("explain says where a fault stands, what stands there and what is wanted", () => {
   const call = () => explain('clients 1\nedit 0 ["a"] ; Ann\n');
-  refused(call, "BadOperation", { line: 2 }, /^line 2: BadOperation\n {2}column 14: a comment stands on a line of its own$/);
+  refused(call, "BadOperation", { line: 2 }, /^line 2: BadOperation\n {2}line 2, column 14: found ";"; wanted an operation, such as \[1,"a",-2\]; a comment stands on a line of its own$/);
 });
 
 test("explain says of a trace where its first fault is", () => {

@@ -32,7 +32,7 @@ function hints(word, flags, files, text, wanted = 1) {
 }
 
 /* What `explain` says below the fault of a schedule without a number of clients, and the line. */
-const NO_NUMBER = ["  column 8: a number of one to nine digits stands here", "  clients", "         ^"];
+const NO_NUMBER = ["  line 1, column 8: found nothing; wanted a number from 1 to 64", "  clients", "         ^"];
 
 const THERE = "what ot.js does there, in words: otbench explain a.ots";
 
@@ -48,6 +48,19 @@ test("of a refused instruction its line, and how to ask explain", () => {
   for (const word of ["run", "check", "steps", "complete", "asm"]) assert.deepEqual(hints(word, [], ["a.ots"], "clients\n"), NO_NUMBER);
   assert.deepEqual(hints("conform", [], ["a.ots", "b"], "clients\n%%\n"), NO_NUMBER);
   assert.deepEqual(hints("explain", [], ["a.ots"], "clients\n"), NO_NUMBER.slice(1));
+  assert.deepEqual(hints("explain", ["--json"], ["a.ots"], "clients\n"), NO_NUMBER);
+  assert.deepEqual(hints("conform", ["--json"], ["a.ots"], "clients\n"), NO_NUMBER);
+});
+
+test("of a trace, a plan and a port's lines a key that is near another one", () => {
+  const below = (word, flags, value) => hints(word, flags, ["a.json"], JSON.stringify(value)).at(-1);
+  assert.equal(below("judge", [], { replicas: 1, start: [], evnts: [] }), 'the key "evnts"; nearest: events');
+  const event = { replica: 0, kind: "read", seen: [0], lst: [] };
+  assert.equal(below("explain", ["--trace"], { replicas: 1, start: [], events: [event] }), 'the key "lst" of event 0; nearest: list');
+  assert.equal(below("threads", [], { clients: 1, wokers: 1, typing: [[]] }), 'the key "wokers"; nearest: workers');
+  assert.equal(below("explain", ["--plan"], { clients: 1, workers: 1, typing: [[], [{ att: 0 }]] }), 'the key "att" of typing[1][0]; nearest: at');
+  assert.match(below("judge", [], { replicas: 1, start: [], other: [], constructor: 1, ["events".repeat(20_000)]: 1 }), /^ {2}events: found nothing; /);
+  assert.ok(ofLines('{"at":1,"document":"b","docment":1,"\u202e":2}\n').includes('the key "docment" of line 7; nearest: document'));
 });
 
 test("of a difference the line that led to its place, or the one that ot.js refuses", () => {
@@ -68,12 +81,13 @@ test("of lines that are none of a port what may be wrong", () => {
 });
 
 test("of a port's line in the schedule that a line %% is missing", () => {
-  const below = (line) => ["  column 1: an instruction is edit, take, deliver, ack, join, read or read-server".replace("1", line.search(/\S/) + 1), `  ${line}`, `  ${line.match(/^\s*/)[0]}^`];
+  const wanted = "wanted edit, take, deliver, ack, read, read-server or join";
+  const below = (line, near = "") => [`  line 6, column ${line.search(/\S/) + 1}: found ${JSON.stringify(line.trim().split(" ")[0])}; ${wanted}${near}`, `  ${line}`, `  ${line.match(/^\s*/)[0]}^`];
   const said = "line 6 is a line of a port: conform wants a line '%%' in front of those";
   for (const line of ['{"at":1}', ' \t{"at":1}']) assert.deepEqual(hints("conform", [], ["a"], `${TWICE}${line}\n`), [...below(line), said]);
   assert.deepEqual(hints("conform", [], ["a", "b"], `${TWICE}{"at":1}\n%%\n{"at":1}\n`), [...below('{"at":1}'), said]);
   assert.deepEqual(hints("run", [], ["a"], `${TWICE}{"at":1}\n`), [...below('{"at":1}'), said]);
-  assert.deepEqual(hints("conform", [], [], `${TWICE}edti 0 {}\n{"at":1}\n`), below("edti 0 {}"));
+  assert.deepEqual(hints("conform", [], [], `${TWICE}edti 0 {}\n{"at":1}\n`), below("edti 0 {}", "; nearest: edit"));
 });
 
 const IMAGE = fs.readFileSync(`${TOP}examples/late-join.img`);
@@ -137,7 +151,7 @@ test("of words that are refused what may be meant", () => {
     [["threads", "--trace"], "--trace is an option of explain"],
     [["run", "--image", "--imgae"]],
     [["check", "--output"], "the options of check are --all --json --help"],
-    [["complete", "--json"], "--json is an option of run, check, judge and conform"],
+    [["complete", "--json"], "--json is an option of run, check, judge, explain and conform"],
     [["asm", "-o"], "the options of asm are --help"],
     [["run", "a", "b"]],
     [["run", "--image=a"]],

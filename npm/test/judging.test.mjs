@@ -4,14 +4,14 @@ import assert from "node:assert/strict";
 import { test } from "node:test";
 import { setTimeout as pause } from "node:timers/promises";
 import { Judge } from "../../ports/judging.mjs";
-import { conform, steps } from "../otbench.mjs";
+import { conform, conformMany, steps } from "../otbench.mjs";
 import { steadyPace } from "../../ports/pace.mjs";
 
 const schedule = (text) => `clients 1\nedit 0 [${JSON.stringify(text)}]\ntake 0\nack 0\nread 0\nread-server\n`;
 const right = (text) => steps(schedule(text), { documents: true });
 const wrong = (text) => right(text).map((line) => (line.document ? { ...line, document: "?" } : line));
 
-const bench = { conform };
+const bench = { conform, conformMany };
 
 const judgeOf = (subject, bench) =>
   new Judge({ newDriver: () => ({ isProcess: false, performed: [], perform: async (text) => ({ lines: await subject(text) }), close: async () => null }), jobs: 1, isKept: false, pace: steadyPace(10), bench });

@@ -3,11 +3,10 @@
 import assert from "node:assert/strict";
 import fs from "node:fs";
 import { test } from "node:test";
-import { readConform } from "../answers.mjs";
 import * as otbench from "../otbench.mjs";
 import { TOP, example } from "./files.mjs";
 
-const { assemble, benchOf, check, complete, conform, disassemble, explain, generate, judge, run, serve, steps } = otbench;
+const { assemble, benchOf, check, complete, conform, conformMany, disassemble, explain, generate, judge, run, serve, steps } = otbench;
 
 const TWO_CLIENTS = {
   reads: [],
@@ -95,8 +94,9 @@ test("conform: the first difference", () => {
     conforms: false,
     at: 7,
     line: 11,
-    what: "deliver 0",
-    field: "client 0 buffer",
+    instruction: "deliver 0",
+    client: 0,
+    key: "buffer",
     found: '["a",-1,1]',
     otjs: '["a",1,-1,1]',
     place: null,
@@ -117,9 +117,9 @@ test("conform: the first difference", () => {
 });
 
 test("conform: a text that differs, with its place and a character that ends lines elsewhere", () => {
-  const { field, found, otjs, place, points } = conform('clients 1\nedit 0 ["ab"]\n', [{ at: 1, document: "a\u2028" }]);
-  assert.deepEqual({ field, found, otjs, place }, { field: "client 0 document", found: '"a\u2028"', otjs: '"ab"', place: 1 });
-  assert.deepEqual(points, { found: ["U+2028", "U+0022"], otjs: ["U+0062", "U+0022"] });
+  const { client, key, found, otjs, place, points } = conform('clients 1\nedit 0 ["ab"]\n', [{ at: 1, document: "a\u2028" }]);
+  assert.deepEqual({ client, key, found, otjs, place }, { client: 0, key: "document", found: '"a\u2028"', otjs: '"ab"', place: 1 });
+  assert.deepEqual(points, { found: [0x2028, 0x22], otjs: [0x62, 0x22] });
 });
 
 test("conform: how much was compared; lines as texts, one text, bytes and values", () => {
@@ -135,38 +135,109 @@ test("conform: how much was compared; lines as texts, one text, bytes and values
 });
 
 test("conform: a port that printed nothing", () => {
-  const { verdict, field, found } = conform("clients 1\nread 0\n", []);
-  assert.deepEqual({ verdict, field, found }, { verdict: "differs", field: "line", found: "nothing" });
+  const { verdict, key, found } = conform("clients 1\nread 0\n", []);
+  assert.deepEqual({ verdict, key, found }, { verdict: "differs", key: "line", found: "nothing" });
 });
 
 test("conform: lines for some instructions", () => {
   const schedule = 'clients 2\nedit 0 ["a"]\ntake 0\nack 0\ndeliver 1\n';
   const answer = (lines) => conform(schedule, lines, { sparse: true });
   assert.equal(answer([{ at: 4, document: "a" }]).compared.document, 1);
-  assert.equal(answer([{ at: 2 }]).verdict, "nothing");
-  assert.equal(answer([]).verdict, "nothing");
-  const { at, what, field, found, otjs } = answer([{ at: 4, document: "b" }]);
-  assert.deepEqual({ at, what, field, found, otjs }, { at: 4, what: "deliver 1", field: "client 1 document", found: '"b"', otjs: '"a"' });
+  assert.equal(answer([{ at: 2 }]).verdict, "nothing compared");
+  assert.equal(answer([]).verdict, "nothing compared");
+  const { at, instruction, client, key, found, otjs } = answer([{ at: 4, document: "b" }]);
+  assert.deepEqual({ at, instruction, client, key, found, otjs }, { at: 4, instruction: "deliver 1", client: 1, key: "document", found: '"b"', otjs: '"a"' });
   assert.deepEqual(answer([{ at: 3 }, { at: 2 }]).found, "2");
   assert.deepEqual(conform(schedule, [{ at: 4, document: "a" }]).found, "4");
 });
 
-test("conform: nothing conforms where the schedule is cut", () => {
-  const cut = 'the schedule ends before its logs: "ann, event 9: ack"\n';
-  const { compared, ...agreed } = readConform(`conforms\ncompared at 1 document 2\n${cut}`);
-  assert.deepEqual([agreed.verdict, agreed.conforms, agreed.cut, compared.document], ["conforms", false, '"ann, event 9: ack"', 2]);
-  const differs = readConform(`differs at 1: edit 0: client 0 (ann) document\nfound "b"\not.js "a"\nplace 0\n${cut}`);
-  assert.deepEqual([differs.field, differs.place, differs.cut], ["client 0 (ann) document", 0, '"ann, event 9: ack"']);
-  assert.equal(readConform("stopped at 3: ClientFull\nthe schedule ends before its logs\n").cut, "");
-  assert.ok(!("cut" in readConform("conforms\ncompared at 1\n")));
-  const unknown = [
-    { key: "docment", line: 4 },
-    { key: "a b", line: 5 },
-  ];
-  const rows = 'unknown docment in line 4\nunknown "a b" in line 5\n';
-  assert.deepEqual(readConform(`conforms\ncompared at 1 document 2\n${rows}${cut}`).unknown, unknown);
-  const found = readConform(`differs at 1: edit 0: client 0 document\nfound "b"\not.js "a"\nplace 0\n${rows}`);
-  assert.deepEqual([found.unknown, found.place, found.note], [unknown, 0, null]);
+const SESSION = { schedule: 'clients 1\nedit 0 ["a"]\n', lines: [{ at: 1, document: "a" }] };
+
+test("conformMany: all conform, with what was compared of all, or there is none", () => {
+  const read = { schedule: "clients 1\nread 0", lines: '{"at":1,"document":""}' };
+  const all = conformMany(new Set([SESSION, read, { ...SESSION }]));
+  assert.deepEqual([all.verdict, all.conforms, all.sessions, all.compared.document, all.unknown], ["conforms", true, 3, 3, []]);
+  const none = conformMany([]);
+  assert.deepEqual([none.verdict, none.conforms, none.sessions, none.unknown], ["nothing compared", false, 0, []]);
+  const longer = { schedule: 'clients 1\nedit 0 ["a"]\ntake 0\n', lines: SESSION.lines };
+  assert.equal(conformMany([SESSION, longer], { sparse: true }).conforms, true);
+  assert.deepEqual([conformMany([SESSION, longer]).session, conformMany([longer]).key], [2, "line"]);
+});
+
+test("conformMany: the first that does not conform is that of conform, with its number and its text", () => {
+  const wrong = { schedule: '; client 0 is ann\nclients 1\nedit 0 ["a"]', lines: [{ at: 1, document: "b", docment: 1 }] };
+  const { text, ...alone } = conform(wrong.schedule, wrong.lines);
+  assert.match(text, /^differs at 1: /);
+  assert.deepEqual(conformMany([SESSION, SESSION, wrong, wrong]), { ...alone, session: 3, schedule: `${wrong.schedule}\n` });
+});
+
+test("conformMany: unknown keys stand in a session and its line, as does a refused schedule", () => {
+  const misspelled = { ...SESSION, lines: [{ at: 1, document: "a", docment: 1 }] };
+  assert.deepEqual(conformMany([SESSION, misspelled, SESSION]).unknown, [{ key: "docment", session: 2, line: 4 }]);
+  const at = ({ kind, session, line }) => ({ kind, session, line });
+  const refusal = (sessions) => {
+    try {
+      return conformMany(sessions);
+    } catch (error) {
+      assert.ok(error instanceof otbench.OtbenchError);
+      return at(error);
+    }
+  };
+  assert.deepEqual(refusal([SESSION, { schedule: "clients 1\n\nedti 0\n", lines: [] }]), { kind: "UnknownWord", session: 2, line: 3 });
+  assert.deepEqual(at(refusal([SESSION])), { kind: undefined, session: undefined, line: undefined });
+});
+
+test("conformMany: a line `%%` of a session's own ends no session", () => {
+  const marked = { ...SESSION, lines: '%%\n{"at":1,"document":"b"}\n' };
+  const { text, ...alone } = conform(marked.schedule, marked.lines);
+  assert.equal(alone.conforms, false, text);
+  assert.deepEqual(conformMany([SESSION, marked, SESSION]), { ...alone, session: 2, schedule: SESSION.schedule });
+  assert.throws(() => conformMany([SESSION, { schedule: "clients 1\n%%\nread 0\n", lines: [] }]), { kind: "UnknownWord", line: 2 });
+});
+
+test("conform: nothing conforms where the schedule is cut; a name and the unknown keys are values", () => {
+  const schedule = (more = "") => `; client 0 is ann\nclients 1\nedit 0 ["a"]\n${more}`;
+  const cut = schedule('; cut: "ann, event 9: ack"\n');
+  const agreed = conform(cut, [{ at: 1, document: "a" }]);
+  assert.deepEqual([agreed.verdict, agreed.conforms, agreed.cut, agreed.compared.document], ["conforms", false, '"ann, event 9: ack"', 1]);
+  assert.match(agreed.text, /^conforms\n[^]*\nthe schedule ends before its logs: "ann, event 9: ack"\n$/);
+  const differs = conform(cut, [{ at: 1, document: "b" }]);
+  assert.deepEqual([differs.client, differs.name, differs.key, differs.place, differs.cut], [0, "ann", "document", 0, '"ann, event 9: ack"']);
+  assert.equal(conform(schedule('; cut: "a\\u202eb"\n'), [{ at: 1, document: "a" }]).cut, '"a\\u202eb"');
+  assert.ok(!("cut" in conform(schedule(), [{ at: 1, document: "a" }])));
+  const unknown = conform(schedule(), [{ at: 1, document: "b", docment: 1, "a b": 2, constructor: 3 }]);
+  assert.deepEqual(unknown.unknown, ["a b", "constructor", "docment"].map((key) => ({ key, line: 5 })));
+  assert.deepEqual([unknown.place, unknown.note], [0, null]);
+  assert.match(unknown.text, /\nunknown "a b" in line 5\nunknown constructor in line 5\nunknown docment in line 5\n$/);
+});
+
+test("conform: a key that steps does not have is named, with sparse and without it, and does not count", () => {
+  const schedule = 'clients 1\nedit 0 ["a"]\n';
+  for (const sparse of [false, true]) {
+    const said = (line) => conform(schedule, [{ at: 1, ...line }], { sparse });
+    const unknown = [{ key: "docment", line: 4 }];
+    const rows = [
+      [{ client: 0, docment: "WRONG" }, ["nothing compared", false, unknown]],
+      [{ client: 0 }, ["nothing compared", false, []]],
+      [{ document: "a", docment: "WRONG" }, ["conforms", true, unknown]],
+      [{ document: "b", docment: "WRONG" }, ["differs", false, unknown]],
+    ];
+    for (const [line, wanted] of rows) {
+      const { verdict, conforms, unknown: named } = said(line);
+      assert.deepEqual([verdict, conforms, named], wanted, JSON.stringify([line, sparse]));
+    }
+  }
+});
+
+test("conform: a line of another form says so, and no rule of ot.js is blamed", () => {
+  const NOTES = { object: "the line is no JSON object", none: 'the line has no "at"', number: '"at" is no whole number from 0 on' };
+  const rows = { "[]": "object", 3: "object", null: "object", "at Client.applyServer (client.js:7)": "object", "{}": "none", '{"client":0}': "none", '{"__proto__":{"at":1}}': "none", '{"at":-1}': "number", '{"at":1.5}': "number", '{"at":"1"}': "number", '{"at":18446744073709551616}': "number" };
+  for (const [given, kind] of Object.entries(rows)) {
+    for (const sparse of [false, true]) {
+      const { key, rule, note, found, line } = conform('clients 1\nedit 0 ["a"]\n', [given], { sparse });
+      assert.deepEqual({ key, rule, note, found, line }, { key: "line", rule: null, note: NOTES[kind], found: JSON.stringify(given), line: 2 });
+    }
+  }
 });
 
 test("conform: where a limit of otbench ends the schedule", () => {
@@ -189,8 +260,8 @@ test("lines: counted with comments, blank lines and the opening, as bytes too, a
 test("lines: of the opening none, of the end the last one performed, and of a refused instruction its own", () => {
   const text = 'clients 1\nedit 0 ["a"]\ntake 0\ntake 0\n';
   const lineOf = (...lines) => {
-    const { at, line, what, field } = conform(text, lines);
-    return [`${at}: ${what}: ${field}`, line];
+    const { at, line, instruction, key } = conform(text, lines);
+    return [`${at}: ${instruction}: ${key}`, line];
   };
   const [first, second] = [{ at: 1 }, { at: 2 }];
   const stop = { at: 2, do: "take", stopped: "x" };

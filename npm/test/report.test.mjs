@@ -198,7 +198,8 @@ test("a worker: a driver as a module's default", async () => {
 
 test("long values are cut around their first difference, and its place is told", () => {
   const text = (end) => `["${"x".repeat(5000)}${end}",3]`;
-  const said = aroundDifference(`differs at 1: edit 0: edit\nfound ${text("a")}\not.js ${text("\u{1f600}")}\nrule Synchronized.applyClient\n`);
+  const around = (found, otjs, front = "", end = "") => aroundDifference(`${front}found ${found}\not.js ${otjs}\n${end}`, { found, otjs });
+  const said = around(text("a"), text("\u{1f600}"), "differs at 1: edit 0: edit\n", "rule Synchronized.applyClient\n");
   assert.equal(said, [
     "differs at 1: edit 0: edit",
     `found .. ${"x".repeat(40)}a",3] (5,007 characters)`,
@@ -207,8 +208,9 @@ test("long values are cut around their first difference, and its place is told",
     "rule Synchronized.applyClient",
     "",
   ].join("\n"));
-  assert.equal(aroundDifference('found "a"\not.js "b"\n'), 'found "a"\not.js "b"\n');
-  assert.match(aroundDifference(`found 1\not.js ${text("")}\n`), /^found 1\not\.js \["x+ \.\. \(5,006 characters\)\nthese two lines differ from character 1 /);
+  assert.equal(around('"a"', '"b"'), 'found "a"\not.js "b"\n');
+  assert.equal(aroundDifference("conforms\n", {}), "conforms\n");
+  assert.match(around("1", text("")), /^found 1\not\.js \["x+ \.\. \(5,006 characters\)\nthese two lines differ from character 1 /);
 });
 
 test("lengths of a session with characters past U+FFFF are told to be in scalars", async () => {

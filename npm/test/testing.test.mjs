@@ -36,10 +36,10 @@ test("a fault is an AssertionError with a schedule of a few instructions, and co
   assert.ok(steps(error.schedule).length <= 8, error.schedule);
   assert.match(error.message, /^[a-z-]+: \d+ instructions, here reduced to [3-6]\n\nclients 2\n/);
   assert.ok(error.message.includes(`${error.schedule}\ndiffers at `));
-  const { at, line, what } = error.answer;
-  const place = `place ${at} is behind line ${line}, instruction ${at - 1}: ${what}`;
+  const { at, line, instruction } = error.answer;
+  const place = `place ${at} is behind line ${line}, instruction ${at - 1}: ${instruction}`;
   assert.ok(error.message.includes(`\nnote that is what transform gives if the text of its second argument goes first\n${place}\n`), error.message);
-  assert.ok(error.schedule.split("\n")[line - 1].startsWith(what), error.message);
+  assert.ok(error.schedule.split("\n")[line - 1].startsWith(instruction), error.message);
   assert.deepEqual([error.actual, error.expected], [error.answer.found, error.answer.otjs]);
   assert.deepEqual(await compare(faulty("tie"), error.schedule), error.answer);
 });
@@ -64,7 +64,7 @@ test("a driver, of lines, of one text, and of values, now or later", async () =>
   ];
   for (const driver of drivers) assert.equal((await conforms(driver, { every: 0, sessions: 2 })).sessions, [...corpus()].length + 2);
   const error = await failing((schedule) => steps(schedule).map(({ buffer, ...line }) => ({ ...line, buffer: null })));
-  assert.match(error.answer.field, /buffer$/);
+  assert.match(error.answer.key, /^buffer$/);
 });
 
 test("a driver that throws fails, and the error is the cause", async () => {
@@ -117,12 +117,12 @@ test("a driver that counts UTF-16 units may give operations as they are", async 
   const { TextOperation } = makePort();
   const edit = new TextOperation().retain(2).insert("é").retain(1);
   const answer = await compare(() => [{ at: 0 }, { at: 1, edit, sent: { revision: 0, operation: edit } }], PAIRS, { utf16: true });
-  assert.match(answer.field, /^line$/); // only that the second edit has no line
+  assert.match(answer.key, /^line$/); // only that the second edit has no line
   assert.equal(answer.at, 2);
 });
 
 test("a port that counts scalars and is said to count units, and the other way", async () => {
-  assert.match((await compare(makePort(), PAIRS, { utf16: false })).field, /stopped/);
+  assert.match((await compare(makePort(), PAIRS, { utf16: false })).key, /stopped/);
   const scalars = (schedule) => steps(schedule);
   assert.equal((await compare(scalars, PAIRS)).verdict, "conforms");
   assert.equal((await compare(scalars, PAIRS, { utf16: true })).conforms, false);

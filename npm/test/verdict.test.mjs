@@ -34,10 +34,10 @@ test("must be, will be, and what depends on the order", () => {
   );
 });
 
-test("long documents are told by their length, and long operations not at all", () => {
+test("long documents and operations are whole", () => {
   const long = "é😀".repeat(101);
   const { document, length, waiting } = verdict(`clients 1\nedit 0 [${JSON.stringify(long)}]\n`);
-  assert.deepEqual([document, length, waiting], [null, 202, [{ client: 0, what: "sent", operation: null }]]);
+  assert.deepEqual([document, length, waiting], [long, 202, [{ client: 0, what: "sent", operation: [long] }]]);
 });
 
 test("texts that look like the verdict, and comments, change nothing of it", () => {
@@ -66,11 +66,10 @@ test("what all will be is what they are once complete has brought them to quiet"
     const done = run(complete(text));
     seen[told.verdict]++;
     assert.equal(told.waiting.length === 0, told.verdict === "must be");
-    if (told.document !== null) assert.equal(done.server.document, told.document, text);
-    if (told.length !== null) assert.equal([...done.server.document].length, told.length);
-    assert.equal(done.server.document, verdict(complete(text)).document ?? done.server.document);
+    if (told.verdict !== "depends") assert.deepEqual([told.document, told.length], [done.server.document, [...done.server.document].length], text);
+    assert.equal(verdict(complete(text)).document, done.server.document);
     for (const { what, client, operation } of told.waiting) {
-      if (what === "incoming" || operation === null) continue;
+      if (what === "incoming") continue;
       const last = steps(text).findLast((step) => step.client === client && step.state !== undefined);
       assert.deepEqual(what === "buffered" ? last.buffer : steps(text).findLast((step) => step.client === client && step.sent).sent.operation, operation);
     }

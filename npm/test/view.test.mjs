@@ -72,21 +72,24 @@ test("no text breaks out of its place", () => {
 test("a port's lines and what conform answers stand behind", () => {
   const { stdout, status } = call([], `${WEAK} %% \r\n{"at":1}\ntrace <anonymous>`);
   assert.equal(status, 0);
-  const { steps: lines, port, answer } = linesIn(stdout);
+  const { steps: lines, port, answer: [value, ...words] } = linesIn(stdout);
   assert.equal(lines.length, 18);
   assert.deepEqual(port, ['{"at":1}', "trace \\u003canonymous>"]);
-  assert.deepEqual(answer, conform(WEAK, '{"at":1}\ntrace <anonymous>').text.replaceAll("<", "\\u003c").trimEnd().split("\n"));
+  const { at, key, text } = conform(WEAK, '{"at":1}\ntrace <anonymous>');
+  assert.deepEqual([JSON.parse(value).at, JSON.parse(value).key], [at, key]);
+  assert.deepEqual(words, text.replaceAll("<", "\\u003c").trimEnd().split("\n"));
 });
 
 test("sparse lines", () => {
   const port = `${WEAK}%%\n{"at":12,"document":"acz"}\n`;
-  assert.match(linesIn(call([], port).stdout).answer[0], /^differs at 1: /);
+  assert.match(linesIn(call([], port).stdout).answer[1], /^differs at 1: /);
   const { stdout } = call(["--sparse"], port);
-  assert.equal(linesIn(stdout).answer[0], "conforms");
+  const [value, ...words] = linesIn(stdout).answer;
+  assert.deepEqual([JSON.parse(value).verdict, words], ["conforms", []]);
   assert.match(stdout, / id="lines" data-sparse>\n/);
 });
 
 test("a schedule that is refused gives its fault and no page, with the column, the cause, the line and a caret", () => {
   const { stdout, stderr, status } = call([], "clients 2\nedit 0 [1.5]\n");
-  assert.deepEqual([stdout, stderr, status], ["", "otbench: line 2: BadOperation\n  column 10: numbers are whole\n  edit 0 [1.5]\n           ^\n", 1]);
+  assert.deepEqual([stdout, stderr, status], ["", 'otbench: line 2: BadOperation\n  line 2, column 10: found ".5]"; wanted an operation, such as [1,"a",-2]; numbers are whole\n  edit 0 [1.5]\n           ^\n', 1]);
 });

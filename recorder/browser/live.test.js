@@ -97,11 +97,11 @@ test("an adapter that deletes too much is found in its document", async () => {
   const { merged } = await runLive("#adapter");
   const difference = firstDifference(merged);
   if (difference?.[1] !== "cut") assert.deepEqual(difference, ["deliver", "document"]);
-  else assert.match(merged.fault, /^(ann|ben), event \d+: deliver leaves half of a surrogate pair/);
+  else assert.match(merged.fault, /^(ann|ben), event \d+ \(log, line \d+\): deliver leaves half of a surrogate pair/);
 });
 
 test("an edit that cuts a character in two is named", async () => {
   const change = 'ben.mirror.setValue("😀" + ben.mirror.getValue()); ben.mirror.setValue("😁" + ben.mirror.getValue().slice(2));';
   const { merged } = await runLive("#careless", change);
-  assert.match(merged.fault, /^(ann|ben|cleo), event \d+: edit \[.*\] (cuts the surrogate pair|inserts half)/);
+  assert.match(merged.fault, /^(ann|ben|cleo), event \d+ \(log, line \d+\): edit \[.*\] \(UTF-16 units\) (cuts the surrogate pair|inserts half)/);
 });

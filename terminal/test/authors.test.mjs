@@ -7,13 +7,13 @@ import path from "node:path";
 import test from "node:test";
 import { between } from "../authors.mjs";
 import { Debugger } from "../debugger.mjs";
+import { files } from "../filing.mjs";
 import { Recording } from "../recording.mjs";
 import { ask, options } from "./program.mjs";
 
-
 const TIE = 'clients 2\nstart "s"\nedit 0 ["a",1]\nedit 1 ["b",1]\nedit 1 [1,"c",1]\ntake 0\ndeliver 1\ntake 1\nack 1\nack 0\ndeliver 0\ntake 1\nack 1\ndeliver 0\n';
 
-const open = (schedule = TIE, port = null, source = null) => new Debugger(new Recording(ask, schedule, port), source);
+const open = (schedule = TIE, port = null, source = null) => new Debugger(new Recording(ask, schedule, port), { source, files });
 const answers = (lines, session = open()) => lines.map((line) => session.perform(line).join("\n"));
 
 test("who says by which edit, message, entry and delivery a character came", options, () => {
@@ -106,6 +106,9 @@ test("a schedule is written up to the place, read again, and edited", options, (
     assert.match(reloaded, /no break 9 any more: 9 is no place: they are 0 to 5/);
     assert.match(breaks, /^1 watch doc 0$/);
     assert.equal(session.prompt, "(4/5) ");
+    writeFileSync(file, 'clients 2\nedit 0 ["a"]\n');
+    assert.match(answers(["reload"], session)[0], /^before line 2, instruction 0: edit 0$|^behind line 2, instruction 0: edit 0$/m);
+    assert.equal(session.prompt, "(1/1) ");
     writeFileSync(file, "clients 1\nedti\n");
     assert.match(answers(["reload"], session)[0], /UnknownWord[^]*the run stays as it was$/);
     answers(["edit", "goto end"], session);

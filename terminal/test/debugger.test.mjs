@@ -5,10 +5,12 @@ import { mkdtempSync, readFileSync, rmSync, writeFileSync } from "node:fs";
 import { tmpdir } from "node:os";
 import path from "node:path";
 import test from "node:test";
+import { colouring } from "../colours.mjs";
 import { COMMANDS, commandOf } from "../commands.mjs";
 import { conditionOf, holdingOf } from "../conditions.mjs";
-import { named, seen, withoutCut } from "../names.mjs";
+import { named, seen } from "../names.mjs";
 import { Debugger } from "../debugger.mjs";
+import { files } from "../filing.mjs";
 import { nearest as nearestOf } from "../../common/nearest.mjs";
 import { Recording, RefusedText } from "../recording.mjs";
 import { ask, options } from "./program.mjs";
@@ -17,7 +19,7 @@ const WEAK = readFileSync(new URL("../../examples/weak-order.ots", import.meta.u
 
 /** The answers to these lines, of a new session. */
 function answers(lines, schedule = WEAK, port = null) {
-  const session = new Debugger(new Recording(ask, schedule, port));
+  const session = new Debugger(new Recording(ask, schedule, port), { files });
   return lines.map((line) => session.perform(line).join("\n"));
 }
 
@@ -39,6 +41,12 @@ test("step and back say where they led, and stop at the ends", options, () => {
   assert.equal(back, "before line 5, instruction 0: edit 0");
   assert.equal(further, "before line 5, instruction 0: edit 0");
   assert.equal(end, 'behind line 20, instruction 15: read-server\n  the server\'s document is "acz"\nthe end: quiet');
+});
+
+test("a step in a session without an instruction says that it is the end", options, () => {
+  assert.match(answers(["step"], "clients 1\n")[0], /^the opening: .*\nthe end: quiet$/);
+  assert.match(answers(["step"], "clients 1\nack 0\n")[0], /^the opening: .*\nthe end: line 2, instruction 0: ack 0 is refused\n  refused: LinkEmpty: /);
+  assert.doesNotMatch(answers(["back"], "clients 1\n")[0], /the end/);
 });
 
 test("an empty line repeats the last command", options, () => {
@@ -120,6 +128,19 @@ test("the place where a port differs is a break, with conform's answer", options
   assert.equal(stopped.split("\n")[2], "differs at 7: deliver 0: client 0 buffer");
 });
 
+test("at a terminal the first line of a difference is red, with the client's name in it", options, () => {
+  const port = ask(["steps"], WEAK).output.replace('"buffer":["a",1,-1,1],"applied"', '"buffer":["a",-1,1],"applied"');
+  const session = new Debugger(new Recording(ask, `; client 0 is ann\n${WEAK}`, port));
+  assert.equal(session.difference, "differs at 7: deliver 0: client 0 (ann) buffer");
+  assert.ok(session.perform("run").includes(session.difference));
+  assert.equal(new Debugger(new Recording(ask, WEAK)).difference, null);
+  const { NO_COLOR, TERM, ...others } = process.env;
+  process.env = others;
+  const colour = colouring({ isTTY: true });
+  process.env = { ...others, ...(NO_COLOR && { NO_COLOR }), ...(TERM && { TERM }) };
+  assert.deepEqual([colour("x", true), colour("x"), colour("the port differs at place 7")], ["\x1b[31mx\x1b[0m", "x", "\x1b[31mthe port differs at place 7\x1b[0m"]);
+});
+
 test("back from the end, rrun stops before the instruction in which the port differs, which explain tells", options, () => {
   const port = ask(["steps"], WEAK).output.replace('"buffer":["a",1,-1,1],"applied"', '"buffer":["a",-1,1],"applied"');
   const [, back, told, opening] = answers(["goto end", "rrun", "explain", "rrun"], WEAK, port);
@@ -141,6 +162,13 @@ test("the greeting says at which place and line a port differs, and of the first
   assert.deepEqual(greeting("clients 1\n", '{"at":0,"clients":2}\n'), ["the port differs at place 0", "differs at 0: opening: clients", "found 2", "ot.js 1"]);
   const twice = 'clients 1\nedit 0 ["a"]\n; again\ntake 0\ntake 0\n';
   assert.deepEqual(greeting(twice, '{"at":1}\n{"at":2}\n{"at":3}\n'), ["the port differs at place 2, line 5: run stops there"]);
+});
+
+test("where a port's server differs, the end is told all the same", options, () => {
+  const port = ask(["steps"], WEAK).output.replace('"do":"read-server","document":"acz"', '"do":"read-server","document":"caz"');
+  const [end, server] = answers(["step 99", "show server"], WEAK, port);
+  assert.equal(end.split("\n").at(-1), "the end: quiet");
+  assert.equal(server, 'server rev 3 "acz"\n  port: document "caz", ot.js "acz"\nquiet');
 });
 
 test("values of a port that look like ot.js' are told apart by code points", options, () => {
@@ -181,7 +209,7 @@ test("a refused instruction ends the run with its reason", options, () => {
 });
 
 test("a refused text is answered as explain answers it", options, () => {
-  assert.throws(() => new Recording(ask, "clients 1\nedti 0 []\n"), (fault) => fault instanceof RefusedText && fault.message.startsWith("otbench: line 2: UnknownWord\n  column 1: "));
+  assert.throws(() => new Recording(ask, "clients 1\nedti 0 []\n"), (fault) => fault instanceof RefusedText && fault.message.startsWith("otbench: line 2: UnknownWord\n  line 2, column 1: found \"edti\"; wanted "));
 });
 
 test("of an end that is not quiet the first client is named, and how many more there are", options, () => {
@@ -234,10 +262,13 @@ test("where the recorder's logs are cut stands above the first prompt", options,
   assert.equal(cut, "the schedule ends before its logs: ann, event 9: deliver of operation 7");
 });
 
-test("what conform says of the cut is not said again where the port differs", () => {
-  assert.equal(withoutCut('differs at 1: edit 0: client 0 state\nfound "x"\nthe schedule ends before its logs: "ann, event 9"\n'), 'differs at 1: edit 0: client 0 state\nfound "x"\n');
-  assert.equal(withoutCut("conforms\ncompared at 1\nthe schedule ends before its logs\n"), "conforms\ncompared at 1\n");
-  assert.equal(withoutCut("conforms\ncompared at 1\n"), "conforms\ncompared at 1\n");
+test("what conform says of the cut is not said again where the port differs, and a port that conforms so far does not conform", options, () => {
+  const cut = `${WEAK}; cut: "ann, event 9"\n`;
+  const [all] = answers(["print difference"], cut, '{"at":1,"document":"y"}\n');
+  assert.match(all, /^differs at 1: edit 0: client 0 document\n/);
+  assert.doesNotMatch(all, /the schedule ends/);
+  const said = new Debugger(new Recording(ask, cut, ask(["steps"], cut).output)).greeting();
+  assert.deepEqual(said.slice(1), ['the schedule ends before its logs: ann, event 9', "help lists the commands"]);
 });
 
 test("completion knows commands, what is watched, and clients", options, () => {

@@ -2,7 +2,6 @@
 
 import assert from "node:assert/strict";
 import test from "node:test";
-import { readConform } from "../../npm/answers.mjs";
 import { makePort } from "../../oracle/otjs.js";
 import { chance } from "../../recorder/test/live_session.js";
 import { Debugger } from "../debugger.mjs";
@@ -128,7 +127,7 @@ test("operations of documents of two lengths are refused, as by ot.js", () => {
 /* What the program says of a value in the place of ot.js', at a place. */
 function noteOf(recording, place, key, value) {
   const line = JSON.stringify({ at: place, [key]: value });
-  return readConform(ask(["conform", "--sparse"], `${recording.scheduleUpTo(place)}%%\n${line}\n`).output).note;
+  return JSON.parse(ask(["conform", "--sparse", "--json"], `${recording.scheduleUpTo(place)}%%\n${line}\n`).output).note;
 }
 
 /* What the transforms of a call make, as `steps` has it. */

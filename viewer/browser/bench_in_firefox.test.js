@@ -1,6 +1,7 @@
 /* The page with the engine in Firefox. */
 
 import { testIn } from "./bench_tests.js";
+import { testCommands } from "./command_tests.js";
 import { openFirefox } from "./firefox.js";
 import { testByHand } from "./hand_tests.js";
 import { testInputs } from "./input_tests.js";
@@ -12,6 +13,7 @@ import { testWriting } from "./writing_tests.js";
 testIn("Firefox", openFirefox);
 testInputs("Firefox", openFirefox);
 testByHand("Firefox", openFirefox);
+testCommands("Firefox", openFirefox);
 testSharing("Firefox", openFirefox);
 testWriting("Firefox", openFirefox);
 testLooks("Firefox", openFirefox);

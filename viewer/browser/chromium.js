@@ -113,7 +113,8 @@ class Page {
   /* Presses the keys of a text, one upon the other. */
   async keys(text) {
     for (const key of text) {
-      const press = { key, code: key, windowsVirtualKeyCode: key.toUpperCase().charCodeAt(0) };
+      // The number of a key is a letter's or a digit's; that of a quote would be Page Down.
+      const press = { key, code: key, windowsVirtualKeyCode: /^[a-z0-9 ]$/i.test(key) ? key.toUpperCase().charCodeAt(0) : 0 };
       await this.send("Input.dispatchKeyEvent", { type: "keyDown", ...press, text: key });
       await this.send("Input.dispatchKeyEvent", { type: "keyUp", ...press });
     }

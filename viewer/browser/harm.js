@@ -2,7 +2,7 @@
 
 /** In the page: what of an input has become more than text, and what the page has asked for; `window.stays` is set before. */
 export const HARM = `(() => {
-  const own = "A B BODY BR BUTTON CODE DD DIALOG DIV DL DT EM FORM H1 H2 HEADER INPUT KBD LABEL MAIN MARK OPTION P PRE SCRIPT SECTION SELECT SPAN TABLE TBODY TD TEXTAREA TH THEAD TR circle g path rect svg text title".split(" ");
+  const own = "A B BODY BR BUTTON CODE DD DETAILS DIALOG DIV DL DT EM FORM H1 H2 HEADER INPUT KBD LABEL MAIN MARK OPTION P PRE SCRIPT SECTION SELECT SPAN SUMMARY TABLE TBODY TD TEXTAREA TH THEAD TR circle g path rect svg text title".split(" ");
   const found = [...document.body.querySelectorAll("*")].filter(({ tagName }) => !own.includes(tagName)).map(({ tagName }) => tagName);
   const links = [...document.querySelectorAll("[href], [src], body [onerror], body [onload]")].map(({ outerHTML }) => outerHTML.slice(0, 99));
   const scripts = document.querySelectorAll("main script, header script, dialog script").length;

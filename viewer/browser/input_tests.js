@@ -5,7 +5,8 @@ import fs from "node:fs";
 import { after, before, describe, test } from "node:test";
 import { readEvents } from "../../recorder/logs.js";
 import { merge } from "../../recorder/merging.js";
-import { liveSession } from "../../recorder/test/live_session.js";
+import { chance, liveSession } from "../../recorder/test/live_session.js";
+import { damaged, files } from "../test/damaging.mjs";
 import { HOSTILE, MARKUP, TREE } from "../test/hostile.mjs";
 import { wait } from "./chromium.js";
 import { HARM } from "./harm.js";
@@ -13,6 +14,9 @@ import { addressOfPage, otbench, skip } from "./otbench.js";
 import { User, quoted } from "./user.js";
 
 const example = (name) => fs.readFileSync(new URL(`../../examples/${name}`, import.meta.url), "utf8");
+
+/* How many damaged files are dropped; there are twice as many links. */
+const DAMAGED = Number(process.env.OTBENCH_DAMAGED_IN_BROWSER ?? 15);
 
 /* Those of the hostile values that are tried in each field; tests under node try all. */
 const VALUES = [MARKUP, "constructor", "__proto__", "\u202e\u2066a\ufffe", "x".repeat(100000), TREE];
@@ -43,6 +47,7 @@ export function testInputs(name, openBrowser) {
         [`#at=3;${image.slice(0, -7)}`, "Its image is cut or damaged."],
         [`#${image}%20`, 'Its image has the character "%".'],
         ["#image=", "Its image is cut."],
+        ["#at=2;title=two-clients", "It has no image."],
         ["#image=S0kEAA", "Its image is none of a schedule: otbench: byte 0: "],
         ["#%3Cscript%3E", 'It has "<script>", which is no part of a link.'],
         ["#at=9999999999", 'It has "at=9999999999", which is no part of a link.'],
@@ -146,7 +151,7 @@ export function testInputs(name, openBrowser) {
       const before = await user.schedule();
       const rows = [
         ["package.json", '{\n  "name": "otbench"\n}\n', "package.json cannot be opened: it begins as JSON does, and is no trace, no plan, no log of the recorder, and no lines of otbench steps or of a port."],
-        ["README.md", "a page\n\nclients 2\n", "README.md is no schedule: otbench: line 1: NoClients: column 1: `clients N` is the first line, above all others but comments."],
+        ["README.md", "a page\n\nclients 2\n", 'README.md is no schedule: otbench: line 1: NoClients: line 1, column 1: found "a"; wanted clients; `clients N` is the first line, above all others but comments.'],
         ["ann.jsonl", '{"who":"ann","n":0,"time":1,"do":"open","role":"client","revision":0,"state":"synchronized","outstanding":null,"buffer":null,"document":""}\n', "The recorder's logs make no session: no log is a server's. Drop the logs of all its participants together."],
       ];
       for (const [name, content, notice] of rows) {
@@ -208,7 +213,7 @@ export function testInputs(name, openBrowser) {
       await user.until('!document.getElementById("late").hidden', "that it does not answer");
       assert.equal(await user.run('document.querySelectorAll(".verdict.good").length'), 0);
       assert.match(await user.text("#verdict"), /^the text before: /);
-      await user.click("#stop");
+      await user.click("#give-up");
       await user.until('/^the engine failed: it was stopped/.test(document.getElementById("to-fault").textContent)', "that it was stopped");
       assert.equal(await user.run('document.querySelectorAll(".verdict.good").length'), 0);
       await user.drop("good.ots", "clients 2\n");
@@ -224,6 +229,35 @@ export function testInputs(name, openBrowser) {
       await user.drop("good.ots", "clients 2\nedit 0 [\"x\"]\n");
       await user.until('document.getElementById("length").textContent === "of 1"', "the session");
       page.exceptions.length = 0; // the worker's own
+    });
+
+    /* Gives the page what is damaged, behind a session with a word in it, and waits until it is opened or there is a message. */
+    async function giveDamaged(number, give) {
+      await user.drop("before.ots", `clients 1\n; before ${number}\n`);
+      await user.shown(`/; before ${number}\\n$/`);
+      await user.run('(window.stays = true, document.querySelector("dialog[open]")?.close())');
+      await give();
+      const isOpened = `!document.getElementById("text").value.includes("; before ${number}\\n")`;
+      await user.until(`document.querySelector("dialog[open]") || !document.getElementById("notice").hidden || ${isOpened}`, `a message for ${number}`);
+      assert.deepEqual(await user.run(HARM), [], `number ${number}`);
+    }
+
+    test(`${DAMAGED} damaged files are opened, or there is a message`, async () => {
+      const random = chance(5);
+      await user.open();
+      for (let k = 0; k < DAMAGED; k++) await giveDamaged(k, () => user.drop("damaged", damaged(files[random(files.length)][1], random)));
+    });
+
+    test(`${2 * DAMAGED} damaged links are opened, or there is a message`, async () => {
+      const random = chance(6);
+      await user.open();
+      await user.press("c");
+      await user.until('location.hash.includes("image=")', "the link");
+      const link = await user.run("location.hash");
+      for (let k = 0; k < 2 * DAMAGED; k++) {
+        const hash = new TextDecoder().decode(damaged(Buffer.from(link.slice(1)), random));
+        await giveDamaged(k, () => user.run(`(location.hash = "#at=0", setTimeout(() => { location.hash = ${quoted(`#${hash}`)}; }))`));
+      }
     });
 
     test("hostile values in a link", async () => {

@@ -92,6 +92,12 @@ export function testLooks(name, openBrowser) {
           await user.run('document.getElementById("menu").click()');
           await looks("with the menu");
           await user.run('document.getElementById("menu").click()');
+          await user.press(":");
+          await page.type("show");
+          await user.press("Enter");
+          await user.until('/^client 0 /.test(document.querySelector("#answers pre").textContent)', "the answer");
+          await looks("the debugger");
+          await user.press("Escape");
           for (const [key, id] of [["l", "choosing"], ["v", "hiding"], ["s", "saving"], ["?", "keys"]]) {
             await user.press(key);
             await user.until(`document.getElementById("${id}").open`, id);

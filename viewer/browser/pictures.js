@@ -1,6 +1,6 @@
 /*
  * Takes pictures of the page to be looked at: in windows of 1440, 1280 and 390 pixels, light and dark, at 200 %, with forced colours, and as it is
- * printed; the first visit, a port with a fault and its reason, and dialogs.
+ * printed; the first visit, a port with a fault and its reason, the debugger, and dialogs.
  *
  *     node --experimental-websocket viewer/browser/pictures.js FOLDER [chromium|firefox]
  *
@@ -39,7 +39,19 @@ const SHOWN = {
     await user.press("w");
     await user.until('/transforms/.test(document.getElementById("reason").textContent)', "the reason");
   },
-  examples: (user) => user.press("l"),
+  async debugger(user) {
+    await user.press(":");
+    await user.page.type("run");
+    await user.press("Enter");
+    await user.until('[...document.querySelectorAll("#answers pre")].every(({ textContent }) => textContent !== "…")', "the answers");
+    await user.press("Escape", ":");
+  },
+  examples: (user) => user.press("Escape", "l"),
+  async every(user) {
+    await user.click('#choosing [value="every"]');
+    await user.until('/sessions/.test(document.getElementById("listed").textContent)', "the list", 2000);
+    await user.click("#outcomes summary");
+  },
   clients: (user) => user.press("Escape", "v"),
   keys: (user) => user.press("Escape", "?"),
 };

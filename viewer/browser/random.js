@@ -7,8 +7,8 @@
  * Status 1 where it has. The last line says how much was done, and in Chromium how much memory the page uses at the start and at the end.
  */
 
-import fs from "node:fs";
 import { chance } from "../../recorder/test/live_session.js";
+import { damaged, files } from "../test/damaging.mjs";
 import { HOSTILE } from "../test/hostile.mjs";
 import { openChromium } from "./chromium.js";
 import { openFirefox } from "./firefox.js";
@@ -19,26 +19,10 @@ const [browser = "chromium", seconds = "60", seed = "1"] = process.argv.slice(2)
 const random = chance(Number(seed));
 const oneOf = (list) => list[random(list.length)];
 
-const folder = new URL("../../examples/", import.meta.url);
-const files = fs.readdirSync(folder).filter((name) => /\.(ots|img|json)$/.test(name)).map((name) => [name, [...fs.readFileSync(new URL(name, folder))]]);
 const texts = [...HOSTILE.map((value) => (typeof value === "string" ? value : JSON.stringify(value))), "a", "é🙂", "\n", "x\ty"].map((text) => text.slice(0, 5000).toWellFormed());
 
-/* Bytes with some of them changed, left out, doubled or followed by others. */
-function damaged(bytes) {
-  const out = bytes.slice();
-  for (let k = 1 + random(4); k > 0 && out.length > 0; k--) {
-    const at = random(out.length);
-    const change = random(4);
-    if (change === 0) out[at] = random(256);
-    else if (change === 1) out.splice(at, 1 + random(20));
-    else if (change === 2) out.splice(at, 0, ...out.slice(at, at + random(40)));
-    else out.splice(at, 0, ...Buffer.from(oneOf(texts).slice(0, 300)));
-  }
-  return out;
-}
-
 const KEYS = ["ArrowLeft", "ArrowRight", "ArrowUp", "ArrowDown", "Home", "End", "PageUp", "PageDown", "Enter", "Escape", "Backspace", "Delete", "Tab", "Control+z", "Control+Shift+Z", "Control+a", "Control+Home", "Control+End"];
-const LETTERS = [..."0123unqr+jkmdevtlsiw?"];
+const LETTERS = [..."0123unqr+jkmdevtlsiw?:"];
 
 let link = "#at=0";
 
@@ -48,20 +32,20 @@ const ACTIONS = {
   type: (user) => user.page.type(oneOf(texts).slice(0, 60)),
   click: (user) =>
     user.run(`(() => {
-      const parts = [...document.querySelectorAll("button, .document, .lane, [data-line], summary, select, input")].filter((part) => part.checkVisibility() && !/^(open|open-first|stop)$/.test(part.id));
+      const parts = [...document.querySelectorAll("button, .document, .lane, [data-line], summary, select, input")].filter((part) => part.checkVisibility() && !/^(open|open-first|give-up)$/.test(part.id));
       const part = parts[${random(1000)} % parts.length];
       if (part.matches(".document")) part.focus();
       part.dispatchEvent(new MouseEvent("click", { bubbles: true, cancelable: true }));
     })()`),
-  paste: (user) => user.paste("body", oneOf([oneOf(texts), new TextDecoder().decode(new Uint8Array(damaged(oneOf(files)[1])))])),
+  paste: (user) => user.paste("body", oneOf([oneOf(texts), new TextDecoder().decode(damaged(oneOf(files)[1], random, texts))])),
   document: (user) => user.run(`document.querySelector(".document[contenteditable]")?.focus()`),
   text: (user) => user.run(`(() => { const text = document.getElementById("text"); text.value = text.value.slice(0, ${random(400)}) + ${quoted(oneOf(texts))} + text.value.slice(${random(400)}); text.dispatchEvent(new Event("input")); })()`),
   file: (user) => user.drop(oneOf([oneOf(texts).slice(0, 200), "a.ots"]), oneOf(files)[1]),
-  damagedFile: (user) => user.drop("damaged", damaged(oneOf(files)[1])),
+  damagedFile: (user) => user.drop("damaged", damaged(oneOf(files)[1], random, texts)),
   link: async (user) => {
     const hash = await user.run("location.hash");
     if (hash.includes("image=")) link = hash;
-    const text = [...Buffer.from(damaged([...Buffer.from(link)]))].map((byte) => String.fromCharCode(byte)).join("");
+    const text = [...damaged(Buffer.from(link), random, texts)].map((byte) => String.fromCharCode(byte)).join("");
     await user.run(`location.hash = ${quoted(text)}`);
   },
   slide: (user) => user.run(`(() => { const slider = document.getElementById("slider"); slider.value = ${random(40)}; slider.dispatchEvent(new Event("input")); })()`),

@@ -94,9 +94,8 @@ export function testSharing(name, openBrowser) {
     test("a report that two users saw different texts becomes the text of an issue", async () => {
       await user.open();
       await user.run(KEEP);
-      await user.click("#new");
+      await user.click("#new-first");
       await user.shown("/^clients 2\\n$/");
-      assert.match(await user.text("#notice"), /I saw …/);
       for (const [client, letter] of ["a", "b"].entries()) {
         await user.click(`.document[data-who="${client}"]`);
         await page.type(letter);
@@ -105,6 +104,7 @@ export function testSharing(name, openBrowser) {
       await user.press("Escape");
       await user.click("#quiet");
       await user.until('document.getElementById("outlook").textContent === \'All documents must be "ba".\'', "the verdict");
+      assert.match(await user.text("#notice"), /I saw …/, "what to do is still told");
       await user.click('[data-note="0"]');
       await user.until('document.getElementById("noting").open', "where to enter it");
       await page.type("ab");

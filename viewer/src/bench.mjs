@@ -1,13 +1,16 @@
 // The page's one state, and what follows from a change of it: the engine is asked for the steps of the text, once for a burst of
 // changes, and for the verdicts when nothing has changed for a while.
 
+import { conformCall, isWordy, readAnswer, wordsOf } from "../../common/conformance.mjs";
 import { followLines } from "./follow.mjs";
+import { causeOf, readFault } from "../../common/faults.mjs";
 import { areNotes, notedPlace } from "../../common/noted.mjs";
-import { outlookIn } from "../../common/outlook.mjs";
+import { lineOf } from "../../common/numbering.mjs";
 import { headsAt } from "../../common/places.mjs";
 import { Port } from "../../common/printed.mjs";
 import { lastTransform, otherLine } from "./reason.mjs";
-import { textUpTo } from "../../common/outline.mjs";
+import { outlineOf, textUpTo } from "../../common/outline.mjs";
+import { partsOf } from "../../common/told.mjs";
 import { decidedAt, lineOfTie, withTie } from "./tie.mjs";
 import { caretBehind, documentNow, emptyState, isAnswered, reduce, shownPlace } from "./state.mjs";
 
@@ -21,32 +24,24 @@ const PATIENCE = 1500;
 /** After how many milliseconds without an answer the page says so, and how often the time of the last run is added to that. */
 const LATE = 3000;
 
-const linesIn = (bytes) => {
-  const lines = new TextDecoder().decode(bytes).split("\n");
-  lines.pop();
-  return lines;
-};
+const textIn = (bytes) => new TextDecoder().decode(bytes);
 
 /** A schedule, and behind a line %% the lines of a port, or notes. */
 const besideText = (text, port) => `${text}\n%%\n${port.join("\n")}\n`;
 
 /* The note that an answer of conform is about; undefined where it is about none. */
-const noteOf = (port, [first = ""]) => port.map((line) => JSON.parse(line)).find(({ at }) => first.startsWith(`differs at ${at}: `));
+const noteOf = (port, { answer }) => port.map((line) => JSON.parse(line)).find(({ at }) => answer?.verdict === "differs" && answer.at === at);
 
-/** The fault that explain reports: { line, column, kind, cause }, line 0 where it is of none, column 0 where none is given. */
-export function readFault(errors) {
-  const [first, second = ""] = errors.trim().split("\n");
-  const [, line = "0", kind = first] = /^otbench: (?:line (\d+): )?(\w+)$/.exec(first) || [];
-  const [, column = "0", cause = ""] = /^ {2}column (\d+): (.*)$/.exec(second) || [];
-  return { line: Number(line), column: Number(column), kind, cause };
+/** A text's fault, of what the desk has of it: { line, column, kind, cause }, line 0 where it is of none, column 0 where none is given. */
+export function faultOf({ fault, errors }) {
+  const said = readFault(fault);
+  if (said !== null) return { line: said.line, column: said.column ?? 0, kind: said.fault, cause: causeOf(said) };
+  const [first] = errors.trim().split("\n");
+  return { line: 0, column: 0, kind: first.replace(/^otbench: /, ""), cause: "" };
 }
 
-/** The refusal that explain's last paragraph reports: { line, reason }; null where it reports none. */
-export function readRefusal(told) {
-  const line = /^line (\d+), /.exec(told);
-  const reason = /^ {2}refused: (.*)$/m.exec(told);
-  return line && reason ? { line: Number(line[1]), reason: reason[1] } : null;
-}
+/* The line of the refused instruction, from 1, and why; null where none is refused. */
+const refusedAt = ({ stop }, text, reason) => (stop && reason ? { line: lineOf(stop.at, text), reason } : null);
 
 /**
  * @typedef {object} Asked an engine: see `Engine`
@@ -70,6 +65,7 @@ export class Bench {
   #settlers = [];
   #quiets = 0;
   #judge = null;
+  #other = null; // the engine that performs the debugger's commands, and lists sessions
   #sparse = null; // the lines of a port of which instructions without a line are not compared, as a text
   #judging = null; // what the verdicts are asked for: { text, port }
   #timer = null;
@@ -89,6 +85,7 @@ export class Bench {
   use(engine) {
     this.engine = engine;
     this.#judge = engine.beside();
+    this.#other = engine.beside();
     this.#follow();
   }
 
@@ -128,13 +125,48 @@ export class Bench {
     return this.engine.ask(words, typeof input === "string" ? new TextEncoder().encode(input) : input);
   }
 
-  /** What conform answers, in lines, to what a user saw of a client's document at the place. */
+  /** What conform answers to what a user saw of a client's document at the place; null where nothing can be compared. */
   async askNote(client, document) {
     const { session } = this.state;
     const at = notedPlace(session, client, shownPlace(this.state));
     const { text, port } = reduce({ ...this.state, port: null }, { do: "note", client, document });
-    const told = port ? linesIn((await this.ask(this.#conformWords(port), besideText(text, port))).output) : [];
-    return this.#withTie(told, { at, client, document }, (words, input) => this.ask(words, input));
+    const ask = (words, input) => this.ask(words, input);
+    return port && this.#withTie(await this.#conformed(text, port, ask), { at, client, document }, ask);
+  }
+
+  /** What the debugger answers to a command at the shown place; null: what it begins with. The page goes where that led. */
+  async command(line) {
+    await this.settled();
+    const shown = this.#debugged();
+    await this.#other.load();
+    const answer = await this.#other.debug(shown, line);
+    if (this.state.text === shown.text && answer.place !== shownPlace(this.state)) this.dispatch({ do: "go", place: answer.place });
+    return answer;
+  }
+
+  /** What the last word of the debugger's line may go on with; nothing while the text is not answered. */
+  async completions(line) {
+    if (!isAnswered(this.state) || this.isBusy) return [];
+    await this.#other.load();
+    return (await this.#other.complete(this.#debugged(), line)).words;
+  }
+
+  /* What the debugger is to be over. */
+  #debugged() {
+    const { text, port } = this.state;
+    if (!isAnswered(this.state)) throw new Error("the text has a fault: mend it first");
+    return { text, port, isSparse: areNotes(port) || this.isSparse(port), place: shownPlace(this.state) };
+  }
+
+  /** Ends a command that takes long; the debugger begins anew with the next one. */
+  endCommand() {
+    this.#other.giveUp("it was ended");
+  }
+
+  /** See `Desk.every`. */
+  async every(words) {
+    await this.#other.load();
+    return (await this.#other.every(words)).sessions;
   }
 
   /** Ends an engine that does not answer. The next change starts it again. */
@@ -217,13 +249,13 @@ export class Bench {
   async #answer(text) {
     const told = await this.#steps(text);
     if (told === null) return;
-    const { keep, rest, errors, refusal, took } = told;
+    const { keep, rest, refusal, took } = told;
     if (rest === null) {
-      this.dispatch({ do: "fault", fault: readFault(errors), took });
+      this.dispatch({ do: "fault", fault: faultOf(told), took });
       return;
     }
     this.#session = await followLines(this.#session, { keep, rest }, this.pause);
-    this.dispatch({ do: "answer", text, session: this.#session, refusal: readRefusal(refusal), took });
+    this.dispatch({ do: "answer", text, session: this.#session, refusal: refusedAt(this.#session, text, refusal), took });
   }
 
   /** Says of a port's lines that instructions without a line are not compared. @param {string[]} port */
@@ -236,15 +268,19 @@ export class Bench {
     return port !== null && port.join("\n") === this.#sparse;
   }
 
-  #conformWords(port) {
-    return areNotes(port) || this.isSparse(port) ? ["conform", "--sparse"] : ["conform"];
+  /* What conform answers to a port's lines; its words where they say more than its verdict. */
+  async #conformed(text, port, ask) {
+    const call = conformCall(areNotes(port) || this.isSparse(port));
+    const input = besideText(text, port);
+    const answer = readAnswer(textIn((await ask([...call, "--json"], input)).output));
+    return { answer, words: answer && isWordy(answer) ? wordsOf(answer, textIn((await ask(call, input)).output)) : [] };
   }
 
   #isToJudge() {
-    const { text, port, beside, verdicts } = this.state;
+    const { text, port, beside, verdict } = this.state;
     if (!this.engine || this.isBusy || !isAnswered(this.state)) return false;
     if (this.#judging?.text === text && this.#judging.port === port) return false;
-    return verdicts.length === 0 || (port !== null && beside === null);
+    return verdict === null || (port !== null && beside === null);
   }
 
   #judgeSoon() {
@@ -259,18 +295,18 @@ export class Bench {
     const { text, port, session } = this.state;
     const asked = { text, port };
     this.#judging = asked;
-    const answer = async (words, input) => linesIn((await this.#judge.ask(words, new TextEncoder().encode(input))).output);
+    const ask = (words, input) => this.#judge.ask(words, new TextEncoder().encode(input));
     const isOld = () => this.#judging !== asked || this.state.text !== text || this.state.port !== port || !isAnswered(this.state);
-    const tell = (verdicts) => isOld() || this.dispatch({ do: "verdicts", text, verdicts });
+    const tell = (verdict) => isOld() || this.dispatch({ do: "verdict", text, verdict });
     try {
       await this.#judge.load();
-      const told = port && (await answer(this.#conformWords(port), besideText(text, port)));
-      const shown = told && areNotes(port) && !isOld() ? await this.#withTie(told, noteOf(port, told), (words, input) => this.#judge.ask(words, new TextEncoder().encode(input))) : told;
+      const told = port && (await this.#conformed(text, port, ask));
+      const shown = told && areNotes(port) && !isOld() ? await this.#withTie(told, noteOf(port, told), ask) : told;
       if (shown && !isOld()) this.dispatch({ do: "beside", text, beside: new Port(session, port, shown, this.isSparse(port)) });
-      const verdicts = await answer(["check"], text);
-      tell(verdicts.length ? verdicts : ["not judged"]);
+      const judged = textIn((await ask(["check", "--json"], text)).output);
+      tell(judged === "" ? { fault: "not judged" } : JSON.parse(judged));
     } catch (fault) {
-      tell([`not judged: ${fault.message}`]);
+      tell({ fault: `not judged: ${fault.message}` });
     }
     if (this.#judging !== asked) return;
     this.#judging = null;
@@ -310,7 +346,8 @@ export class Bench {
   /* The verdict of a place, in lines. */
   async #outlookAt(place, ask) {
     const { text, outline } = this.state;
-    return outlookIn(new TextDecoder().decode((await ask(["explain"], textUpTo(text, outline, place))).output));
+    const front = textUpTo(text, outline, place);
+    return partsOf(textIn((await ask(["explain"], front)).output), place, outlineOf(front).cut !== null).verdict;
   }
 
   /* The last transform up to a place: what conform says of a port that has another value there. */
@@ -323,13 +360,13 @@ export class Bench {
   async #conformAt(place, line, ask) {
     const { text, outline } = this.state;
     const { output } = await ask(["conform", "--sparse", "--json"], besideText(textUpTo(text, outline, place), [line]));
-    return JSON.parse(new TextDecoder().decode(output));
+    return JSON.parse(textIn(output));
   }
 
-  /* What conform answered on a note, with what it says of a tie broken the other way, where that leads to what was seen. */
+  /* What conform answers on a note, with what it says of a tie broken the other way, where that leads to what was seen. */
   async #withTie(told, note, ask) {
     const { session } = this.state;
-    const place = note && told[0]?.startsWith("differs at ") ? decidedAt(session, note) : 0;
+    const place = note && told.answer?.verdict === "differs" ? decidedAt(session, note) : 0;
     if (place === 0) return told;
     const call = await this.#reasonAt(place, ask);
     const line = lineOfTie(session, note, call);

@@ -1,4 +1,9 @@
-// The engine behind its worker: it answers words and inputs, and gives of the lines of steps only what has changed.
+// The engine behind its worker: it answers words and inputs, gives of the lines of steps only what has changed, and performs the debugger's commands.
+
+import { bytesOf, textOf } from "../../common/text.mjs";
+import { partsOf } from "../../common/told.mjs";
+import { readRun } from "../../npm/answers.mjs";
+import { Commanded } from "./commanded.mjs";
 
 /**
  * @typedef {{ status: number, output: Uint8Array, errors: Uint8Array }} Served
@@ -28,6 +33,7 @@ export class Desk {
   constructor(serve) {
     this.serve = serve;
     this.last = new Uint8Array(0);
+    this.commanded = new Commanded((words, text) => this.#asked(words, text));
   }
 
   /** @param {string[]} words @param {Uint8Array} input */
@@ -38,28 +44,53 @@ export class Desk {
 
   /**
    * The lines of a schedule's steps, as what changed: how many lines at the front are those of the last time, and the others. Of a
-   * text that is refused { rest: null }, with what explain says of it; with a stop, its reason.
+   * text that is refused { rest: null }, with what check says of its fault as JSON; with a stop, its reason as explain has it.
    * @param {string} text
    */
   steps(text) {
     const input = new TextEncoder().encode(text);
     const { status, output, errors } = this.ask(["steps"], input);
-    if (output.length === 0) return { rest: null, errors: status ? this.#explained(input, errors) : errors };
+    if (output.length === 0) return { rest: null, errors, fault: status ? this.#fault(input) : "" };
     const equal = equalFront(this.last, output);
     this.last = output;
     const rest = new TextDecoder().decode(output.subarray(equal));
-    return { keep: countLines(output, equal), rest, errors: "", refusal: status ? this.#refusal(input) : "" };
+    return { keep: countLines(output, equal), rest, errors: "", refusal: status ? this.#refusal(input, output) : "" };
   }
 
-  /* The fault of a text with its column and cause; explain may have none where memory runs out. */
-  #explained(input, errors) {
-    return this.ask(["explain"], input).errors || errors;
+  /** See `Commanded.perform`. */
+  debug(shown, line) {
+    return this.commanded.perform(shown, line);
   }
 
-  /* The last lines of explain, about a refused instruction. */
-  #refusal(input) {
-    const told = new TextDecoder().decode(this.ask(["explain"], input).output);
-    const from = told.lastIndexOf("\nline ");
-    return from < 0 ? "" : told.slice(from + 1);
+  /** What a line of the debugger may go on with, as { words }. */
+  complete(shown, line) {
+    return { words: this.commanded.complete(shown, line) };
+  }
+
+  /** The sessions that `generate --every` lists, each with the server's document at its end, as JSON. @param {string[]} words */
+  every(words) {
+    const { status, output, errors } = this.ask(["generate", "--every", ...words], new Uint8Array(0));
+    if (status) throw new Error(errors.trim());
+    const texts = textOf(output).split("%%\n").slice(0, -1);
+    const documentOf = (text) => JSON.stringify(readRun(textOf(this.ask(["run", "--json"], bytesOf(text, "a session")).output)).server.document);
+    return { sessions: texts.map((text) => ({ text, document: documentOf(text) })) };
+  }
+
+  /* What the debugger asks. */
+  #asked(words, text) {
+    const { status, output, errors } = this.ask(words, bytesOf(text, "the schedule"));
+    return { status, output: textOf(output), errors };
+  }
+
+  /* The fault of a text as JSON; there may be none where memory runs out. */
+  #fault(input) {
+    return new TextDecoder().decode(this.ask(["check", "--json"], input).output);
+  }
+
+  /* Why an instruction is refused: the last line of its paragraph. The lines of steps are of the opening, of each instruction and of the end. */
+  #refusal(input, lines) {
+    const told = textOf(this.ask(["explain"], input).output);
+    const { instructions } = partsOf(told, countLines(lines, lines.length) - 2, false);
+    return instructions.at(-1)?.split("\n").at(-1).replace(/^ *refused: /, "") ?? "";
   }
 }

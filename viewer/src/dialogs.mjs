@@ -49,16 +49,14 @@ export function askNote({ session, port, outline, ...state }, client) {
   element("showed").dispatchEvent(new Event("input"));
 }
 
-/** What conform's answer says of a note, in words. */
-export function noteWords(answer) {
-  const valueOf = (word) => answer.find((line) => line.startsWith(`${word} `))?.slice(word.length + 1);
-  if (answer[0] === "conforms") return "ot.js has the same text here.";
-  const ours = valueOf("ot.js");
-  if (ours === undefined) return answer[0] ?? "The text has a fault: mend it first.";
-  const found = valueOf("found");
-  const [shown, wanted] = apart(found, ours);
-  const note = valueOf("note");
-  const isPlain = shown === found && wanted === ours;
+/** What conform's answer says of a note, in words; null where it gave none. @param {import("../../common/conformance.mjs").Told | null} told */
+export function noteWords(told) {
+  if (!told?.answer) return "The text has a fault: mend it first.";
+  const { verdict, found, otjs, note } = told.answer;
+  if (verdict === "conforms") return "ot.js has the same text here.";
+  if (verdict !== "differs") return told.words[0];
+  const [shown, wanted] = apart(found, otjs);
+  const isPlain = shown === found && wanted === otjs;
   return `ot.js has ${brief(wanted, 300)} here${isPlain ? "" : `, and the editor ${brief(shown, 300)}`}.${note ? ` Of the editor’s text: ${note}.` : ""}`;
 }
 
@@ -136,14 +134,15 @@ function stillAround(state) {
  * @param {object} to
  * @param {{ title: string, sentence: string }[]} to.choices the examples
  * @param {(number: number) => void} to.openChoice
+ * @param {() => void} to.showEvery shows every session of two edits
  * @param {(text: string) => void} to.take what was pasted
  * @param {(what: string) => void} to.save
  */
-export function watchDialogs(bench, { choices, openChoice, take, save }) {
+export function watchDialogs(bench, { choices, openChoice, showEvery, take, save }) {
   const act = (name, more) => bench.dispatch({ do: name, ...more });
   const choice = ({ title, sentence }, i) => tree("button", { value: i, class: "choice" }, tree("b", {}, title), ` ${sentence}`);
   fill("choices", choices.map(choice));
-  onClose("choosing", (value) => value !== "" && openChoice(Number(value)));
+  onClose("choosing", (value) => (value === "every" ? showEvery() : value !== "" && openChoice(Number(value))));
   onClose("saving", (value) => value !== "" && save(value));
   onClose("pasting", (value) => {
     const pasted = element("pasted").value;

@@ -56,6 +56,21 @@ export class Engine {
     return this.#call("steps", [text]);
   }
 
+  /** See `Desk.debug`. */
+  debug(shown, line) {
+    return this.#call("debug", [shown, line]);
+  }
+
+  /** See `Desk.complete`. */
+  complete(shown, line) {
+    return this.#call("complete", [shown, line]);
+  }
+
+  /** See `Desk.every`. */
+  every(words) {
+    return this.#call("every", [words]);
+  }
+
   /** Ends it, whatever it does; its calls fail for this reason. `load` starts it again. */
   giveUp(reason = "given up") {
     this.#worker?.terminate();

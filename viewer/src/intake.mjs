@@ -6,7 +6,7 @@ import { merge } from "../../recorder/merging.js";
 import { brief, seen } from "../../common/characters.mjs";
 import { splitInput, trimmed } from "../../common/input.mjs";
 import { kindOf, scheduleOf, splitSchedule, textOfSchedule } from "./reader.mjs";
-import { readVerdict } from "./trace.mjs";
+import { verdictOf } from "./trace.mjs";
 
 const text = (bytes) => new TextDecoder().decode(bytes);
 
@@ -91,9 +91,9 @@ const TAKERS = {
 
   async trace(bench, { text: input }, bytes, name) {
     const { output, errors } = await bench.ask(["explain", "--trace"], input);
-    if (output.length > 0) return { trace: JSON.parse(input), verdict: readVerdict(text(output)) };
-    say(bench, `The trace ${called(name)} is not judged: ${lineOf(errors)}.`);
-    return undefined;
+    if (output.length === 0) return void say(bench, `The trace ${called(name)} is not judged: ${lineOf(errors)}.`);
+    const judged = await bench.ask(["judge", "--json"], input);
+    return { trace: JSON.parse(input), verdict: verdictOf(JSON.parse(text(judged.output)), text(output)) };
   },
 
   lines(bench, { text: input }, bytes, name) {

@@ -14,16 +14,21 @@ export async function linkTo(bench) {
   return addressOf({ place, title, names: outline.names, image: await packed(output), port: lines, isSparse: bench.isSparse(port) });
 }
 
+/** Whether an address has a part that is a session's. */
+const isOfSession = ({ image, port, isSparse, names, title }) => image !== null || port !== null || isSparse || names.size > 0 || title !== "";
+
 /** Whether an address is a link: to a session, or to what is none. */
 export function isLink(hash) {
-  const { image, strange } = readAddress(hash);
-  return image !== null || strange !== null;
+  const address = readAddress(hash);
+  return address.strange !== null || isOfSession(address);
 }
 
 /** Opens the session of an address; false where it names none. Of a link that cannot be read a fault says what is wrong with it. */
 export async function openLink(bench, hash) {
-  const { image, port, isSparse, names, title, place, strange } = readAddress(hash);
+  const address = readAddress(hash);
+  const { image, port, isSparse, names, title, place, strange } = address;
   if (strange !== null) throw new Error(`it has ${quoted(brief(strange, 60))}, which is no part of a link`);
+  if (image === null && isOfSession(address)) throw new Error("it has no image");
   if (image === null) return false;
   const bytes = await unpacked(image);
   const { status, output, errors } = await bench.ask(["dis"], bytes);

@@ -1,11 +1,13 @@
 // Keys, clicks and files.
 
 import { Bench } from "./bench.mjs";
+import { CommandLine } from "./command_line.mjs";
 import { withEscapes } from "../../common/characters.mjs";
 import { askName, askNote, openDialog, paste, showLanes, showTrace, watchDialogs } from "./dialogs.mjs";
 import { element } from "./dom.mjs";
 import { moveInstruction, watchRows } from "./dragging.mjs";
 import { Engine, wanted } from "./engine.mjs";
+import { watchEvery } from "./every.mjs";
 import { SERVER, fold } from "../../common/fold.mjs";
 import { splitInput, unescapeLine } from "../../common/input.mjs";
 import { readWhole, takeAll, takeIn } from "./intake.mjs";
@@ -30,6 +32,7 @@ const sheet = new Sheet({
   write: (text, line, tag) => act("write", { text, line, tag }),
   go: (place) => go(place),
 });
+const commandLine = new CommandLine(bench, resized);
 let canPlay = false;
 let isStarted = false; // what the page shows is the user's
 let shown = -1; // the place that was shown last
@@ -113,6 +116,9 @@ async function takeBytes(bytes, name) {
 
 const takeText = (text, name = "") => takeBytes(new TextEncoder().encode(text), name);
 
+/* What conform answered, by its lines in the page: its value, and its words. */
+const toldIn = ([value, ...words]) => (value === undefined ? null : { answer: JSON.parse(value), words });
+
 /* Shows the session of lines of steps, as they are: those that are given with the page, and any where it has no engine. */
 function load(input, { name = "", place = null, isGiven = false }) {
   const { steps, port, answer } = splitInput(input);
@@ -127,7 +133,7 @@ function load(input, { name = "", place = null, isGiven = false }) {
   const told = scheduleOf(steps);
   const text = (isGiven && element("schedule").textContent) || (told ? textOfSchedule(told) : "");
   const isSparse = isGiven && element("lines").dataset.sparse !== undefined;
-  const beside = port && new Port(session, port, answer.map(unescapeLine), isSparse);
+  const beside = port && new Port(session, port, isGiven ? toldIn(answer.map(unescapeLine)) : null, isSparse);
   if (port && isSparse) bench.takeAsSparse(port.map(unescapeLine));
   act("open", { text, port: port && port.map(unescapeLine), title: name, place: place ?? beside?.first ?? 0 });
   act("answer", { text, session, refusal: null, took: 0 });
@@ -185,7 +191,8 @@ async function copied(text) {
 /* An empty session of two users, and what to do with it. */
 function openNew() {
   act("open", { text: "clients 2\n" });
-  say("Type what each user typed into the documents, and let the messages through in their order. Did an editor show another text then? Enter it at I saw …, and Report copies all for an issue.");
+  const notice = "Type what each user typed into the documents, and let the messages through in their order. Did an editor show another text then? Enter it at I saw …, and Report copies all for an issue.";
+  act("notice", { notice, isKept: true });
 }
 
 /* Dialogs. */
@@ -198,6 +205,11 @@ function openChoice(number) {
   const { text, name, place, port, sentence } = choices[number];
   act("open", { text, title: name, place, port });
   say(sentence);
+}
+
+/* Opens one of the small sessions. */
+function openSmall(text, title) {
+  act("open", { text, title });
 }
 
 function save(what) {
@@ -255,6 +267,7 @@ const KEYS_OF_PLAY = {
   r: () => playKey("read"),
   q: letThrough,
   w: () => act("reason"),
+  ":": () => commandLine.turn(true),
   l: () => openDialog("choosing"),
   c: copyLink,
   i: copyReport,
@@ -263,9 +276,9 @@ const KEYS_OF_PLAY = {
 };
 for (let client = 0; client < 10; client++) KEYS_OF_PLAY[client] = () => choose(bench, client);
 
-/* Undo and redo are the page's own, wherever the focus is, but in the fields of dialogs. */
+/* Undo and redo are the page's own, wherever the focus is, but in the fields of dialogs and of the debugger. */
 function undoKey(event) {
-  if (!(event.ctrlKey || event.metaKey) || event.altKey || !canPlay || document.querySelector("dialog[open]")) return false;
+  if (!(event.ctrlKey || event.metaKey) || event.altKey || !canPlay || event.target.id === "command" || document.querySelector("dialog[open]")) return false;
   const key = event.key.toLowerCase();
   if (key === "z") act(event.shiftKey ? "redo" : "undo");
   else if (key === "y") act("redo");
@@ -291,11 +304,11 @@ addEventListener("keydown", (event) => {
     else target.blur();
     return undefined;
   }
-  const isWriting = /^(SELECT|TEXTAREA)$/.test(target.tagName) || target.isContentEditable || target.id === "place";
+  const isWriting = /^(SELECT|TEXTAREA)$/.test(target.tagName) || target.isContentEditable || target.matches?.("#place, #command");
   const isOther = event.ctrlKey || event.metaKey || event.altKey || event.isComposing || document.querySelector("dialog[open]");
   if (!bench.state.session || isWriting || isOther) return undefined;
   if (key === "Enter" && target.matches("button, summary")) return undefined;
-  if (document.activeElement.matches("#state, #grip") && /^(Arrow|Page|Home|End)/.test(key)) return undefined;
+  if (document.activeElement.matches("#state, #grip, #answers") && /^(Arrow|Page|Home|End)/.test(key)) return undefined;
   const keys = canPlay && Object.hasOwn(KEYS_OF_PLAY, key) ? KEYS_OF_PLAY : KEYS;
   if (!Object.hasOwn(keys, key)) return undefined;
   event.preventDefault();
@@ -313,6 +326,7 @@ const CLICKS = {
   redo: () => act("redo"),
   new: openNew,
   "new-instead": openNew,
+  "new-first": openNew,
   "examples-instead": () => openDialog("choosing"),
   examples: () => openDialog("choosing"),
   open: openFile,
@@ -327,10 +341,11 @@ const CLICKS = {
   "guide-first": () => openDialog("guiding"),
   lanes: () => showLanes(bench.state),
   "text-shown": () => turnText(),
+  debug: () => commandLine.turn(),
   menu: () => element("menu").setAttribute("aria-expanded", String(document.body.classList.toggle("with-menu"))),
   quiet: letThrough,
   why: () => act("reason"),
-  stop: () => bench.stop(),
+  "give-up": () => bench.stop(),
   escapes: () => act("write", { text: withEscapes(bench.state.text), line: lineOfPlace(bench.state.outline, shownPlace(bench.state)), tag: null }),
   "leave-out": () => act("leaveOut"),
   "to-fault": () => {
@@ -360,12 +375,13 @@ element("slider").oninput = () => {
 
 element("time").onscroll = () => requestAnimationFrame(() => timeline.measure());
 addEventListener("scroll", ({ target }) => target.matches?.(".document") && deck.keepScrolled(target), true);
-const resized = () =>
+function resized() {
   requestAnimationFrame(() => {
     timeline.measure();
     if (bench.state.session) changed({ do: "resize" });
     sheet.measure();
   });
+}
 onresize = resized;
 
 /* In a narrow window, and beside the text, the lanes fit the diagram without its scroll bar. */
@@ -562,5 +578,5 @@ async function start() {
 
 watchCards(bench);
 watchRows(bench, timeline, go);
-watchDialogs(bench, { choices, openChoice, take: takeText, save });
+watchDialogs(bench, { choices, openChoice, showEvery: watchEvery(bench, openSmall), take: takeText, save });
 start();

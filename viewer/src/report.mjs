@@ -72,7 +72,7 @@ export function reportOf(state, { verdicts, outlook = [], reason = null, link, i
     `At place ${place} of ${session.length} (${inline(quietAt(session, place))}):\n\n${outlookWords(outlook)}${reasonAt(state, reason)}${documentsAt(session, place, outline.names).join("\n")}`,
   ];
   if (beside?.areNotes) parts.push(`What was seen in editors:\n\n${seenIn(beside, outline.names).join("\n")}`);
-  if (beside?.answer.length) parts.push(`${beside.areNotes ? "That" : "What the port printed"}, beside ot.js:\n\n${block(beside.answer.join("\n"))}`);
+  if (beside?.answer) parts.push(`${beside.areNotes ? "That" : "What the port printed"}, beside ot.js:\n\n${block(beside.words.join("\n") || beside.answer.verdict)}`);
   parts.push(isOfFile ? `The session opens only where the page's file is: ${inline(link)}` : `[Open the session](<${link}>)`);
   return `${parts.join("\n\n")}\n`;
 }

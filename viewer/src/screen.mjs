@@ -7,7 +7,6 @@ import { element, fill, setText } from "./dom.mjs";
 import { SERVER } from "../../common/fold.mjs";
 import { legend } from "./legend.mjs";
 import { canNote } from "../../common/noted.mjs";
-import { namedIn, numberNamed } from "../../common/numbering.mjs";
 import { quietAt } from "../../common/places.mjs";
 import { reasonWords } from "./reason.mjs";
 import { isAnswered, outlookNow, reasonNow, shownPlace } from "./state.mjs";
@@ -97,6 +96,7 @@ function showHeader(state, view) {
   showMembers(session, view.names);
   element("slider").max = element("place").max = session.length;
   setText("length", `of ${session.length}`);
+  setText("prompt", `(${place}/${session.length})`);
   element("slider").value = element("place").value = place;
   fill("sentence", wordsAt(state, view));
   fill("outlook", shownOutlook(state));
@@ -120,11 +120,12 @@ function showMembers({ members }, names) {
 }
 
 function showVerdicts(state) {
-  const { session, beside, verdicts } = state;
+  const { session, beside, verdict } = state;
   const stop = session.stop ? `stopped at ${session.stop.at}: ${session.stop.stopped}${lineOf(state, session.stop.at)}; ` : "";
   const end = session.end === null ? "no end line" : `ends ${session.end}`;
-  const [quiet = "", list = ""] = verdicts.filter((line) => !line.startsWith("stopped"));
-  const more = quiet.startsWith("not quiet: ") ? ` (${quiet.slice(11)})` : "";
+  const [waits] = verdict?.unsettled ?? [];
+  const more = waits ? ` (${waits.what} ${waits.client})` : "";
+  const list = verdict?.verdict ?? "";
   const { front, look } = verdictOn(state);
   setText("stop", front + stop);
   setText("end", end + more);
@@ -138,38 +139,31 @@ function showVerdicts(state) {
   setVerdict("cut", `ends before its logs: ${brief(seen(cut ?? ""), 80)}`, "bad");
   element("conformance").hidden = element("answer").hidden = !beside;
   if (!beside) return;
-  const [first] = beside.answer;
-  const conforms = first === undefined ? beside.first === null : first === "conforms";
+  const { answer, words } = beside;
+  const conforms = answer === null ? beside.first === null : answer.verdict === "conforms";
   const those = beside.areNotes ? "what was seen" : "the port's lines";
   const marked = beside.first === null ? `${those}: no difference` : `${those}: a difference at ${beside.first}`;
-  const named = namedIn(beside.answer) ?? { at: (beside.first ?? 0) - 1 };
-  setVerdict("conformance", front + (first || marked) + lineOf(state, numberNamed(named, wordsIn(session))), !conforms ? "bad" : isNow ? "good" : "");
-  element("answer").hidden = conforms || first === undefined;
-  setText("answer", answerOf(beside.answer).join("\n"));
+  const line = answer?.line ? shownLine(state, answer.line) : lineOf(state, (answer?.at ?? beside.first ?? 0) - 1);
+  setVerdict("conformance", front + (words[0] ?? answer?.verdict ?? marked) + line, !conforms ? "bad" : isNow ? "good" : "");
+  element("answer").hidden = words.length === 0;
+  setText("answer", answerOf(beside).join("\n"));
 }
 
 /** What the page says of the session, in its words. */
 export const shownVerdicts = () =>
   [...document.querySelectorAll("#verdict, #list-verdict, #conformance, #cut")].filter(({ hidden }) => !hidden).map(({ textContent }) => textContent);
 
-/* The line of an instruction, behind what is said of it; nothing where there is none of this number, or the text is another one by now. */
-function lineOf(state, number) {
-  const line = state.outline.lines[number];
-  return line === undefined || !isAnswered(state) ? "" : ` (line ${line + 1})`;
-}
+/* A line of the text, from 1, behind what is said of it; nothing where there is none, or the text is another one by now. */
+const shownLine = (state, line) => (line && isAnswered(state) ? ` (line ${line})` : "");
 
-/* The words of each instruction of a session, the refused one too. */
-const wordsIn = ({ steps, stop, length }) => (number) => {
-  const line = number === length ? stop : steps[number + 1]?.line;
-  return line ? instructionOf(line) : undefined;
-};
+/* The same of an instruction by its number. */
+const lineOf = (state, number) => shownLine(state, state.outline.lines[number] + 1);
 
-/* What conform answered, the values that differ marked. */
-function answerOf(lines) {
-  const [found, ours] = ["found ", "ot.js "].map((word) => lines.findIndex((line) => line.startsWith(word)));
-  if (found < 0 || ours < 0) return lines;
-  const [theirs, wanted] = apart(lines[found].slice(6), lines[ours].slice(6));
-  return lines.with(found, `found ${theirs}`).with(ours, `ot.js ${wanted}`);
+/* What conform answered, the values that differ marked: they stand behind the first line. */
+function answerOf({ answer, words }) {
+  if (answer?.verdict !== "differs") return words;
+  const [theirs, wanted] = apart(answer.found, answer.otjs);
+  return words.with(1, `found ${theirs}`).with(2, `ot.js ${wanted}`);
 }
 
 function setVerdict(id, words, look) {
@@ -217,7 +211,7 @@ function nowAt(state, place) {
   return stop ? `Then ${instructionOf(stop)} is refused: ${reason}.` : `${quietAt(session, place)}.`;
 }
 
-export function faultWords({ fault }) {
+function faultWords({ fault }) {
   if (!fault) return "";
   const where = fault.line ? `line ${fault.line}${fault.column ? `, column ${fault.column}` : ""}: ` : "";
   return `${where}${fault.kind}${fault.cause ? `: ${fault.cause}` : ""}`;

@@ -26,7 +26,7 @@ import { outlineOf, placeOfLine, withInstructions, withName, withoutInstruction 
  * @property {{ line: number, column: number, kind: string, cause: string } | null} fault of the text; line and column from 1
  * @property {{ line: number, reason: string } | null} refusal of an instruction; line from 1
  * @property {boolean} isLate whether the engine has not answered for long
- * @property {string[]} verdicts what check answered
+ * @property {object | null} verdict what check answers; { fault } where it cannot
  * @property {{ text: string, place: number, lines: string[], reason?: import("./reason.mjs").Reason | null } | null} outlook whether the documents must agree at a place of a text, and to what; the reason is undefined where it was not asked for
  * @property {boolean} isReasonShown
  * @property {{ client: number, place: number, elements: object[] } | null} draft a client's document while its edits are not answered
@@ -38,6 +38,7 @@ import { outlineOf, placeOfLine, withInstructions, withName, withoutInstruction 
  * @property {Set<number>} hidden the clients whose lanes are not shown
  * @property {string} notice what the page has to say
  * @property {boolean} isWelcome whether that is said to who comes for the first time
+ * @property {boolean} isKept whether that stays while the session is played
  */
 
 /** @typedef {{ do: string, [key: string]: any }} Action the name of what is done, as below, and what it is done with */
@@ -59,7 +60,7 @@ export const emptyState = () => ({
   fault: null,
   refusal: null,
   isLate: false,
-  verdicts: [],
+  verdict: null,
   outlook: null,
   isReasonShown: false,
   draft: null,
@@ -71,6 +72,7 @@ export const emptyState = () => ({
   hidden: new Set(),
   notice: "",
   isWelcome: false,
+  isKept: false,
 });
 
 /** How many steps back are kept, and how many characters their texts may have together. */
@@ -78,6 +80,9 @@ const DEPTH = 1000;
 const ROOM = 1 << 26;
 
 const snapshot = ({ text, port, place, title, caret }, tag) => ({ text, port, place, title, caret, tag });
+
+/* What the page still says when the session has changed. */
+const keptNotice = ({ isKept, notice }) => (isKept ? notice : "");
 
 /* Nothing that was played waits for the engine. */
 const NOT_ASKED = { asked: [], stood: null, draft: null };
@@ -91,7 +96,7 @@ function changed(state, { text, port: given, place = state.place, title = state.
   const joins = tag !== null && last !== undefined && last.tag === tag;
   const depth = Math.min(DEPTH, Math.ceil(ROOM / (text.length + 1)));
   const past = joins ? state.past : [...state.past.slice(-depth), snapshot(state, tag)];
-  return { ...state, text, outline, port, place, title, past, future: [], ...NOT_ASKED, beside: null, notice: "" };
+  return { ...state, text, outline, port, place, title, past, future: [], ...NOT_ASKED, beside: null, notice: keptNotice(state) };
 }
 
 /* Undo and redo: the last of one list takes the state's place, which goes to the other list. */
@@ -100,7 +105,7 @@ function restored(state, from, to) {
   if (list.length === 0) return state;
   const { text, port, place, title, caret, tag } = list[list.length - 1];
   const lists = { [from]: list.slice(0, -1), [to]: [...state[to], snapshot(state, tag)] };
-  return { ...state, ...lists, text, port, place, title, caret, outline: outlineOf(text), ...NOT_ASKED, beside: null, notice: "" };
+  return { ...state, ...lists, text, port, place, title, caret, outline: outlineOf(text), ...NOT_ASKED, beside: null, notice: keptNotice(state) };
 }
 
 /** Whether the session is that of the text. */
@@ -167,7 +172,7 @@ const REDUCERS = {
   open: (state, { text, title = "", port = null, place = 0 }) => {
     const next = changed(state, { text, title, port, place });
     const past = state.text === "" ? [] : next.past;
-    return { ...next, past, followed: null, picked: null, chosen: null, caret: null, hidden: new Set(), notice: "" };
+    return { ...next, past, followed: null, picked: null, chosen: null, caret: null, hidden: new Set(), notice: "", isKept: false };
   },
   /* The text as it was typed: { text, line, tag }, line being where the caret stands. */
   write: (state, { text, line, tag }) => {
@@ -220,16 +225,16 @@ const REDUCERS = {
   select: (state, { client, anchor, focus }) => ({ ...state, caret: { client, anchor, focus } }),
   pick: (state, { element }) => ({ ...state, picked: element === state.picked ? null : element }),
   hide: (state, { hidden }) => ({ ...state, hidden: new Set(hidden) }),
-  notice: (state, { notice, isWelcome = false }) => ({ ...state, notice, isWelcome }),
+  notice: (state, { notice, isWelcome = false, isKept = false }) => ({ ...state, notice, isWelcome, isKept }),
   /* What the engine said of a text: a session, or a fault. */
   answer: (state, { text, session, refusal, took }) => {
     const isNow = text === state.text;
     const place = isNow ? Math.max(0, Math.min(state.place, session.length)) : state.place;
-    return { ...state, answered: text, session, refusal, took, place, fault: null, isLate: false, beside: null, verdicts: [], ...(isNow ? NOT_ASKED : {}) };
+    return { ...state, answered: text, session, refusal, took, place, fault: null, isLate: false, beside: null, verdict: null, ...(isNow ? NOT_ASKED : {}) };
   },
   fault: (state, { fault, took }) => ({ ...state, fault, took, refusal: null, isLate: false, ...NOT_ASKED }),
   late: (state) => ({ ...state, isLate: true }),
-  verdicts: (state, { text, verdicts }) => (text === state.answered && isAnswered(state) ? { ...state, verdicts } : state),
+  verdict: (state, { text, verdict }) => (text === state.answered && isAnswered(state) ? { ...state, verdict } : state),
   outlook: (state, { outlook }) => ({ ...state, outlook }),
   reason: (state) => ({ ...state, isReasonShown: !state.isReasonShown }),
   beside: (state, { text, beside }) => (text === state.answered && isAnswered(state) ? { ...state, beside } : state),

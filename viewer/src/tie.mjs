@@ -43,8 +43,8 @@ export function lineOfTie(session, { at, client, document }, call) {
   return JSON.stringify({ at: call.place, [session.steps[call.place].line.do === "take" ? "appended" : "applied"]: operation });
 }
 
-/** Conform's answer on a note, with what it says of the operation. @param {string[]} told @param {string} note */
-export function withTie(told, note, session, { at }, { place }) {
-  const where = place === at ? "" : ` (${instructionOf(session.steps[place].line)}, at ${place})`;
-  return told.toSpliced(told.findLastIndex((line) => line.startsWith("given ")) + 1, 0, `note ${note}${where}`);
+/** Conform's answer on a note, with what it says of the operation. @param {import("../../common/conformance.mjs").Told} told @param {string} note */
+export function withTie({ answer, words }, note, session, { at }, { place }) {
+  const said = place === at ? note : `${note} (${instructionOf(session.steps[place].line)}, at ${place})`;
+  return { answer: { ...answer, note: said }, words: [...words, `note ${said}`] };
 }

@@ -7,13 +7,12 @@ const textsOf = (pair) => [].concat(pair).map((part) => (typeof part === "object
 
 const tagOf = (pair) => textsOf(pair).slice(0, 2).join(":");
 
-/** What `otbench explain --trace` prints, the verdict's line and words below it: { holds, words, events, tags }. */
-export function readVerdict(printed) {
-  const [line, ...told] = printed.trim().split("\n");
-  const [word, ...rest] = line.split(" ");
-  const events = rest.filter((part) => /^\d+$/.test(part)).map(Number);
-  const tags = rest.filter((part) => part.includes(":"));
-  return { holds: word === "holds", words: [line, ...told.map((it) => it.trim())].join("\n"), events, tags };
+/**
+ * A verdict as it is shown: { holds, words, events, tags }.
+ * @param {{ verdict: string, events?: number[], tags?: number[][] }} judged what `otbench judge --json` prints @param {string} told what `explain --trace` prints
+ */
+export function verdictOf({ verdict, events = [], tags = [] }, told) {
+  return { holds: verdict === "holds", words: told.trim().split(/\n */).join("\n"), events, tags: tags.map((tag) => tag.join(":")) };
 }
 
 const ROOM = 300;

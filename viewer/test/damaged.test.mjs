@@ -1,38 +1,18 @@
 // Damaged links and files: each is opened, or refused with a message. OTBENCH_DAMAGED says how many are tried.
 
 import assert from "node:assert/strict";
-import fs from "node:fs";
 import { test } from "node:test";
 import { chance } from "../../recorder/test/live_session.js";
 import { Bench } from "../src/bench.mjs";
 import { takeIn } from "../src/intake.mjs";
 import { linkTo, openLink } from "../src/linking.mjs";
 import { traceTable } from "../src/trace.mjs";
+import { damaged, files } from "./damaging.mjs";
 import { drawn, isOwn } from "./drawing.mjs";
 import { DirectEngine, skip } from "./engines.mjs";
-import { MARKUP } from "./hostile.mjs";
 import { example } from "./sessions.mjs";
 
 const COUNT = Number(process.env.OTBENCH_DAMAGED ?? 60);
-
-const folder = new URL("../../examples/", import.meta.url);
-const files = fs.readdirSync(folder).filter((name) => /\.(ots|img|json)$/.test(name)).map((name) => [name, fs.readFileSync(new URL(name, folder))]);
-
-/* Bytes with some of them changed, left out, doubled, or with markup among them. */
-function damaged(bytes, random) {
-  const out = [...bytes];
-  for (let k = 1 + random(4); k > 0; k--) {
-    const at = random(out.length + 1);
-    const changes = [
-      () => (out[at] = random(256)),
-      () => out.splice(at, 1 + random(20)),
-      () => out.splice(at, 0, ...out.slice(at, at + random(40))),
-      () => out.splice(at, 0, ...Buffer.from(MARKUP.slice(0, random(MARKUP.length)))),
-    ];
-    changes[random(changes.length)]();
-  }
-  return Uint8Array.from(out);
-}
 
 async function opened(bench, state) {
   await bench.settled();
@@ -61,6 +41,7 @@ test("damaged links", { skip }, async () => {
     const before = bench.state;
     try {
       if (await openLink(bench, hash)) await opened(bench, before);
+      else assert.match(hash, /^[;&]*(at=\d{1,9})?[;&]*$/, "a place alone");
     } catch (fault) {
       assert.match(fault.message, /^its? (has|image|port) .*[a-zA-Z`"]/s, hash);
       assert.equal(bench.state.text, before.text);

@@ -2,7 +2,7 @@
 
 import assert from "node:assert/strict";
 import { test } from "node:test";
-import { readFault, readRefusal } from "../src/bench.mjs";
+import { faultOf } from "../src/bench.mjs";
 import { equalFront } from "../src/desk.mjs";
 import { fold } from "../../common/fold.mjs";
 import { followLines } from "../src/follow.mjs";
@@ -25,14 +25,17 @@ test("only lines that have changed are told", { skip }, async () => {
   assert.deepEqual([shorter.keep, shorter.rest], [16, '{"at":15,"end":"quiet"}\n']);
 });
 
-test("a fault with its column and cause, and a refusal with its reason", { skip }, async () => {
+test("a fault with its column and what stands there, and a refusal with its reason", { skip }, async () => {
   const engine = new DirectEngine();
-  const { rest, errors } = await engine.steps('clients 2\nedit 0 [0,"a"]\n');
-  assert.equal(rest, null);
-  assert.deepEqual(readFault(errors), { line: 2, column: 9, kind: "BadOperation", cause: "no component is 0, and no number begins with 0" });
+  const fault = async (text) => faultOf(await engine.steps(text));
+  const cause = 'found "0,\\"a\\"]"; wanted an operation, such as [1,"a",-2]; no component is 0, and no number begins with 0';
+  assert.deepEqual(await fault('clients 2\nedit 0 [0,"a"]\n'), { line: 2, column: 9, kind: "BadOperation", cause });
+  const words = 'found "edti"; wanted present, start, edit, take, deliver, ack, read, read-server or join; nearest: edit';
+  assert.deepEqual(await fault("clients 2\n edti 0\n"), { line: 2, column: 2, kind: "UnknownWord", cause: words });
+  assert.equal((await engine.steps("")).rest, null);
   const { refusal } = await engine.steps('clients 2\nedit 0 ["a"]\ntake 0\ndeliver 0\n');
-  assert.deepEqual(readRefusal(refusal), { line: 4, reason: "WrongHead: the next message to client 0 acknowledges its own operation: ack 0" });
-  assert.deepEqual(readFault("otbench: Memory\n"), { line: 0, column: 0, kind: "Memory", cause: "" });
+  assert.equal(refusal, "WrongHead: the next message to client 0 acknowledges its own operation: ack 0");
+  assert.deepEqual(faultOf({ fault: "", errors: "otbench: Memory\n" }), { line: 0, column: 0, kind: "Memory", cause: "" });
 });
 
 test("a session that follows changes is that of the lines", { skip }, async () => {

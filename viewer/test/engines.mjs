@@ -50,4 +50,16 @@ export class DirectEngine {
   async steps(text) {
     return { ...this.desk.steps(text), took: 0 };
   }
+
+  async debug(shown, line) {
+    return this.desk.debug(shown, line);
+  }
+
+  async every(words) {
+    return this.desk.every(words);
+  }
+
+  async complete(shown, line) {
+    return this.desk.complete(shown, line);
+  }
 }

@@ -8,7 +8,7 @@ import { rowCount } from "../src/layout.mjs";
 import { legend } from "../src/legend.mjs";
 import { Port } from "../../common/printed.mjs";
 import { outlineOf } from "../../common/outline.mjs";
-import { readVerdict, traceTable } from "../src/trace.mjs";
+import { traceTable } from "../src/trace.mjs";
 import { markupOf } from "../src/tree.mjs";
 import { drawn, isOwn } from "./drawing.mjs";
 import { HOSTILE } from "./hostile.mjs";
@@ -53,7 +53,7 @@ test("in what a port printed, and in the names of clients", () => {
   for (const value of HOSTILE) {
     const told = typeof value === "string" ? value : JSON.stringify(value);
     const port = Object.keys(JSON.parse(lines[7])).map((key) => JSON.stringify({ ...JSON.parse(lines[7]), at: 1, [key]: value }));
-    for (const line of [...port, told, `{"__proto__":${JSON.stringify(value)}}`]) drawn(session, { port: new Port(session, [line], [told]) });
+    for (const line of [...port, told, `{"__proto__":${JSON.stringify(value)}}`]) drawn(session, { port: new Port(session, [line], null) });
     const { names } = outlineOf(`; client 0 is ${told}\n; client 1 is ${JSON.stringify(told)}\n`);
     drawn(session, { names });
   }
@@ -64,7 +64,7 @@ test("in each field of a trace's events", () => {
   const { events } = JSON.parse('{"events":[]}');
   for (const value of HOSTILE) {
     const changed = [...Object.keys(event).map((key) => ({ ...event, [key]: [value] })), { ...event, list: [[value, value]], insert: [[value, value, value]] }];
-    isOwn(traceTable({ events: [...events, ...changed] }, readVerdict(`reversed 0 1 ${JSON.stringify(value)}`)));
+    isOwn(traceTable({ events: [...events, ...changed] }, { holds: false, words: JSON.stringify(value), events: [0, 1], tags: [JSON.stringify(value)] }));
   }
   isOwn(legend());
 });

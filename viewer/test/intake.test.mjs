@@ -40,7 +40,7 @@ test("an image and a plan that are refused", async () => {
 test("a trace that is refused, and one that is judged", async () => {
   const words = "replicas: found nothing; wanted a number from 1 to 65";
   assert.deepEqual(await notice('{"events":[]}', { "explain --trace": refused(`otbench: BadShape\n  ${words}\n`) }), [`The trace a is not judged: otbench: BadShape: ${words}.`]);
-  const output = new TextEncoder().encode("doubled 0 0:0\n  event 0 is a read\n");
-  const { judged } = await taken('{"events":[]}', { "explain --trace": { status: 1, output, errors: "" } });
+  const answer = (output) => ({ status: 1, output: new TextEncoder().encode(output), errors: "" });
+  const { judged } = await taken('{"events":[]}', { "explain --trace": answer("doubled 0 0:0\n  event 0 is a read\n"), "judge --json": answer('{"verdict":"doubled","events":[0],"tags":[[0,0]]}\n') });
   assert.deepEqual(judged, { trace: { events: [] }, verdict: { holds: false, words: "doubled 0 0:0\nevent 0 is a read", events: [0], tags: ["0:0"] } });
 });

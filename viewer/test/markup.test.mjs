@@ -61,7 +61,7 @@ test("a card shows the document, who inserted what, the state and the links", ()
 
 test("a card shows what the port printed where that differs", () => {
   const session = weakOrder();
-  const port = new Port(session, portLinesOf(example("weak-order"), bugs.tie), []);
+  const port = new Port(session, portLinesOf(example("weak-order"), bugs.tie), null);
   assert.match(wordsOf(cardMarkup(session, 0, { place: 7, picked: null, port })), /port: buffer\[1,"a",-1,1\] ot.js: \["a",1,-1,1\]/);
   assert.doesNotMatch(cardMarkup(session, SERVER, { place: 7, picked: null, port }), /port:/);
 });

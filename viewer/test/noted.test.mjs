@@ -46,10 +46,12 @@ test("notes move with the instructions that they stand at", () => {
 });
 
 test("what conform answers is said in words", () => {
-  assert.equal(noteWords(["conforms", "compared at 1"]), "ot.js has the same text here.");
-  assert.equal(noteWords(["differs at 5: deliver 1: client 1 document", 'found "ab"', 'ot.js "ba"']), 'ot.js has "ba" here.');
-  assert.match(noteWords(["differs at 5", 'found "a\u200b"', 'ot.js "a"']), /u\{200b\}/);
-  assert.match(noteWords([]), /fault/);
+  const differing = (found, otjs) => ({ answer: { verdict: "differs", found, otjs }, words: ["differs"] });
+  assert.equal(noteWords({ answer: { verdict: "conforms" }, words: [] }), "ot.js has the same text here.");
+  assert.equal(noteWords(differing('"ab"', '"ba"')), 'ot.js has "ba" here.');
+  assert.match(noteWords(differing('"a\u200b"', '"a"')), /u\{200b\}/);
+  assert.equal(noteWords({ answer: { verdict: "stopped" }, words: ["stopped at 3: ClientFull"] }), "stopped at 3: ClientFull");
+  for (const told of [null, { answer: null, words: [] }]) assert.match(noteWords(told), /fault/);
 });
 
 const opened = async (text, place) => {
@@ -63,15 +65,16 @@ const opened = async (text, place) => {
 
 const judged = async (bench) => {
   await bench.settled();
-  for (let i = 0; i < 100 && (!bench.state.verdicts.length || !bench.state.beside); i++) await new Promise((done) => setTimeout(done, 50));
+  for (let i = 0; i < 100 && (bench.state.verdict === null || !bench.state.beside); i++) await new Promise((done) => setTimeout(done, 50));
   return bench.state.beside;
 };
 
 test("a note is compared at once, and stays beside the session", { skip }, async () => {
   const bench = await opened(TIE, 5);
-  assert.equal((await bench.askNote(1, "ab"))[0], "differs at 5: deliver 1: client 1 document");
-  assert.equal((await bench.askNote(1, "ba"))[0], "conforms");
-  assert.equal((await bench.askNote(0, "a"))[0], "conforms");
+  const { answer, words } = await bench.askNote(1, "ab");
+  assert.deepEqual([answer.at, answer.client, answer.key, words[0]], [5, 1, "document", "differs at 5: deliver 1: client 1 document"]);
+  assert.equal((await bench.askNote(1, "ba")).answer.verdict, "conforms");
+  assert.equal((await bench.askNote(0, "a")).answer.verdict, "conforms");
   bench.dispatch({ do: "note", client: 1, document: "x".repeat(100000) });
   bench.dispatch({ do: "note", client: 1, document: "</script><b>" });
   bench.dispatch({ do: "note", client: 0, document: "a" });
@@ -89,16 +92,17 @@ test("a note is compared at once, and stays beside the session", { skip }, async
 });
 
 test("what a tie broken the other way leads to is said to be that, at each client, also once all is quiet", { skip }, async () => {
-  const NOTE = "note that is what transform gives if the text of its second argument goes first";
+  const NOTE = "that is what transform gives if the text of its second argument goes first";
   const quiet = `${TIE}ack 1\nack 0\ndeliver 0\nread 0\n`;
   for (const [client, place, where] of [[1, 5, ""], [1, 8, " (deliver 1, at 5)"], [0, 9, " (take 1, at 4)"]]) {
     const bench = await opened(quiet, place);
     const told = await bench.askNote(client, "ab");
-    assert.equal(told.find((line) => line.startsWith("note ")), `${NOTE}${where}`, `client ${client} at ${place}`);
-    assert.equal(told.some((line) => line.startsWith("given ")), true);
-    for (const other of ["b", "abc", ""]) assert.equal((await bench.askNote(client, other)).some((line) => line.startsWith("note that is what transform")), false);
+    assert.equal(told.answer.note, `${NOTE}${where}`, `client ${client} at ${place}`);
+    assert.equal(told.words.at(-1), `note ${NOTE}${where}`);
+    assert.ok(told.answer.given.length > 0);
+    for (const other of ["b", "abc", ""]) assert.doesNotMatch((await bench.askNote(client, other)).answer.note ?? "", /^that is what transform/);
     bench.dispatch({ do: "note", client, document: "ab" });
-    assert.ok((await judged(bench)).answer.includes(`${NOTE}${where}`));
+    assert.equal((await judged(bench)).words.at(-1), `note ${NOTE}${where}`);
   }
 });
 
@@ -108,7 +112,7 @@ test("a client that has not changed is noted at a read of its document", { skip 
   assert.equal(bench.state.text, 'clients 1\nstart "a"\nread 0\n');
   assert.deepEqual(bench.state.port, [note(1, 0, "b")]);
   const beside = await judged(bench);
-  assert.equal(beside.answer[0], "differs at 1: read 0: client 0 document");
+  assert.equal(beside.words[0], "differs at 1: read 0: client 0 document");
   bench.dispatch({ do: "note", client: 0, document: null });
   assert.equal(bench.state.port, null);
 });

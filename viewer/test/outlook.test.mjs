@@ -3,17 +3,20 @@
 import assert from "node:assert/strict";
 import { test } from "node:test";
 import { Bench } from "../src/bench.mjs";
-import { outlookIn } from "../../common/outlook.mjs";
 import { reportOf } from "../src/report.mjs";
 import { outlineOf, textUpTo } from "../../common/outline.mjs";
+import { partsOf } from "../../common/told.mjs";
 import { outlookNow } from "../src/state.mjs";
 import { DirectEngine, skip } from "./engines.mjs";
 
 const TIE = "; client 0 is Ann\nclients 2\nedit 0 [\"a\"]\nedit 1 [\"b\"]\n\n; both\ntake 0\ntake 1\ndeliver 1\nack 1\nack 0\ndeliver 0\n";
 
-test("the verdict is what stands behind the end, without the line of a cut", () => {
-  assert.deepEqual(outlookIn('the opening: x\nthe end: all is quiet\nAll documents must be "the end: ".\nclient 1 has not joined.\nthe schedule ends before its logs: "x"\n'), ['All documents must be "the end: ".', "client 1 has not joined."]);
-  assert.deepEqual(outlookIn(""), []);
+test("the parts of what explain prints, without the line of a cut", () => {
+  const told = 'the opening: x\nline 2, instruction 0: read 0\n  client 0\'s document is "x"\n  more\nthe end: all is quiet\nAll documents must be "the end: ".\nclient 1 has not joined.\n';
+  const parts = { opening: "the opening: x", instructions: ['line 2, instruction 0: read 0\n  client 0\'s document is "x"\n  more'], verdict: ['All documents must be "the end: ".', "client 1 has not joined."] };
+  assert.deepEqual(partsOf(told, 1, false), parts);
+  assert.deepEqual(partsOf(`${told}the schedule ends before its logs: "x"\n`, 1, true), parts);
+  assert.deepEqual(partsOf("", 0, false).verdict, []);
 });
 
 test("a text up to a place", () => {

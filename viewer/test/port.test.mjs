@@ -3,18 +3,20 @@
 import assert from "node:assert/strict";
 import { test } from "node:test";
 import { bugs } from "../../examples/port/bugs.js";
+import { wordsOf } from "../../common/conformance.mjs";
 import { SERVER, fold } from "../../common/fold.mjs";
 import { splitInput, unescapeLine } from "../../common/input.mjs";
 import { Port } from "../../common/printed.mjs";
 import { example, linesOf, portLinesOf } from "./sessions.mjs";
 
 const session = fold(linesOf(example("weak-order")));
-const beside = (lines, answer = []) => new Port(session, lines, answer);
+const beside = (lines, answer = null) => new Port(session, lines, answer && { answer, words: [] });
 const ofBug = (name) => portLinesOf(example("weak-order"), bugs[name]);
 
-test("the line of conform's answer that tells of the cut is left out: the page tells of it", () => {
-  const answer = ["conforms", "compared at 1", 'the schedule ends before its logs: "ann, event 9"'];
-  assert.deepEqual(beside([], answer).answer, answer.slice(0, 2));
+test("the line of conform's words that tells of the cut is left out: the page tells of it", () => {
+  const words = 'conforms\ncompared at 1\nunknown x in line 4\nthe schedule ends before its logs: "ann, event 9"\n';
+  assert.deepEqual(wordsOf({ cut: '"ann, event 9"' }, words), ["conforms", "compared at 1", "unknown x in line 4"]);
+  assert.deepEqual(wordsOf({}, "conforms\ncompared at 1\n"), ["conforms", "compared at 1"]);
 });
 
 test("a port that is ot.js differs nowhere", () => {
@@ -25,11 +27,11 @@ test("a port that is ot.js differs nowhere", () => {
 
 test("lines for some instructions stand at their places", () => {
   const lines = ['{"at":7,"buffer":["a",-1,1]}', "trace", '{"at":12,"document":"acz"}', '{"at":99}', '{"at":16,"end":"quiet"}', '{"at":-1}', '{"at":"7"}'];
-  const port = new Port(session, lines, [], true);
+  const port = new Port(session, lines, null, true);
   assert.equal(port.first, 7);
   assert.deepEqual(port.differencesAt(7), [{ key: "buffer", found: '["a",-1,1]', ours: '["a",1,-1,1]' }]);
   for (const place of [0, 1, 6, 12, 16, 17]) assert.deepEqual(port.differencesAt(place), []);
-  assert.equal(new Port(session, lines.slice(1), ["conforms"], true).first, null);
+  assert.equal(new Port(session, lines.slice(1), { answer: { verdict: "conforms" }, words: [] }, true).first, null);
 });
 
 test("the first difference, and what differs there", () => {
@@ -97,8 +99,8 @@ test("a port that stops, dies or ends", () => {
 });
 
 test("what conform answered decides", () => {
-  assert.equal(beside(ofBug("tie"), ["differs at 9: take 0: appended", "found [1]"]).first, 9);
-  assert.equal(beside(ofBug("tie"), ["conforms"]).first, null);
+  assert.equal(beside(ofBug("tie"), { verdict: "differs", at: 9 }).first, 9);
+  assert.equal(beside(ofBug("tie"), { verdict: "conforms" }).first, null);
 });
 
 test("of a line no more is dropped than `conform` drops: one CR at its end, blanks, and no byte order mark", () => {
