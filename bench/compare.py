@@ -4,13 +4,14 @@
     python3 bench/compare.py [--seeds S,S,..] [--runs N] [--only a,b,..] [--program PROGRAM] [--beside "NAME=PROGRAM WORD.."].. [--count] [--write] [--dir DIR]
 
 Writes the schedules of storms.py and editors.py, for each seed (1), to DIR (a temporary folder by default). Runs `node oracle/run.js`, each program that is named, and `otbench run` on each, N times (3) in turns, and compares what they print.
-Prints for each schedule the least processor time (user and system) and the peak memory (at least that of Python) of all, node's time in parts of otbench's, otbench's in parts of that of each program that is named, and with --count
-the same of instructions, as valgrind counts them. Last comes a table in Markdown, a row for each shape, of each figure the least and the greatest of the seeds. --write puts it into bench/README.md, and a picture of it, of the
+Prints for each schedule the least processor time (user and system) and the peak memory (at least that of Python) of all, node's time in parts of otbench's, otbench's in parts of that of each program that is named, and with --count,
+when all is timed, the same of instructions, as valgrind counts them on all processors. Last comes a table in Markdown, a row for each shape, of each figure the least and the greatest of the seeds. --write puts it into bench/README.md, and a picture of it, of the
 first seed, into bench/storms.svg.
 
 A program that is named reads a schedule on its input and prints what `otbench run` prints: --beside "before=/tmp/otbench-before run".
 """
 import argparse
+import concurrent.futures
 import filecmp
 import os
 import shutil
@@ -46,19 +47,30 @@ def beside(path, peers, runs):
     return {peer: (min(run.seconds for run in of_peer), max(run.mebibytes for run in of_peer)) for peer, of_peer in seen.items()}, well
 
 
-def figures(path, peers, runs, counts):
+def figures(path, peers, runs):
     """The figures of one schedule by their columns' names, and whether all went well."""
     best, well = beside(path, peers, runs)
     ours = best['otbench']
     row = {f'{peer} s': seconds for peer, (seconds, _) in best.items()}
     row |= {f'{peer} MiB': mebibytes for peer, (_, mebibytes) in best.items()}
     row['node/otbench'] = best['node'][0] / ours[0]
-    named = [peer for peer in peers if peer not in ('node', 'otbench')]
-    row |= {f'otbench/{peer}': ours[0] / best[peer][0] for peer in named}
-    if counts and named:
-        count = {peer: instructions(peers[peer], path) for peer in ('otbench', *named)}
-        row |= {f'otbench/{peer}, instructions': count['otbench'] / count[peer] for peer in named}
+    row |= {f'otbench/{peer}': ours[0] / best[peer][0] for peer in named_in(peers)}
     return row, well
+
+
+def named_in(peers):
+    return [peer for peer in peers if peer not in ('node', 'otbench')]
+
+
+def count(measurements, peers):
+    """Adds to the rows, each with the schedule that it is of, otbench's instructions in parts of each named program's."""
+    asked_for = [(row, path, peer) for row, path in measurements for peer in ('otbench', *named_in(peers))]
+    with concurrent.futures.ThreadPoolExecutor(os.cpu_count()) as pool:
+        counts = list(pool.map(lambda it: instructions(peers[it[2]], it[1]), asked_for))
+    ours = {path: found for (_, path, peer), found in zip(asked_for, counts) if peer == 'otbench'}
+    for (row, path, peer), found in zip(asked_for, counts):
+        if peer != 'otbench':
+            row[f'otbench/{peer}, instructions'] = ours[path] / found
 
 
 def shown(column, values):
@@ -119,18 +131,22 @@ def main():
         sys.exit('compare.py: --count wants valgrind, which is not there')
     if not words.program:
         subprocess.run([os.path.join(TOP, 'otbench'), 'run'], input=b'clients 1\n', stdout=subprocess.DEVNULL, check=True)
-    folder, rows, same = words.dir or tempfile.mkdtemp(), {}, True
+    folder, rows, measurements, same = words.dir or tempfile.mkdtemp(), {}, [], True
     for seed in words.seeds.split(','):
         at = os.path.join(folder, seed)
         for script in ('storms.py', 'editors.py'):
             made = [sys.executable, os.path.join(HERE, script), at, '--only', words.only, '--seed', seed]
             subprocess.run(made, check=True, stdout=subprocess.DEVNULL)
         for name in sorted(it[:-4] for it in os.listdir(at) if it.endswith('.txt')):
-            row, well = figures(os.path.join(at, name + '.txt'), peers, words.runs, words.count)
+            path = os.path.join(at, name + '.txt')
+            row, well = figures(path, peers, words.runs)
             rows.setdefault(name, []).append(row)
+            measurements.append((row, path))
             same = same and well
             print('%s, seed %s: %s%s' % (name, seed, ', '.join('%s %s' % (column, shown(column, [value])) for column, value in row.items()),
                                          '' if well else ': they print differently, or failed'), flush=True)
+    if words.count:
+        count(measurements, peers)
     print(table(rows), end='')
     if words.write:
         write(rows, peers)

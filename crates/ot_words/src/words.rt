@@ -3,7 +3,7 @@
 ghost use Rattle.std.specs.Prelude.{◌≡◌, codes, Some, IfOk, IfErr, IsSome, map, true, option_and_then, option_map, vec_items};
 ghost use Rattle.std.specs.Str.{chars};
 ghost use Rattle.clap.specs.Words.{app_of, found_of, kind_of, rows_of, subcommand_rows_of, takes, with_rule};
-ghost use Rattle.ot_words.specs.Requests.{◌+>◌, IsPlain, chars_among, check_among, check_app, conform_among, conform_app, conform_request, explain_among, explain_app, flag_among, flag_rule, form_among, generate_among, generate_app, number_among, number_if_among, option_rule, otbench_app, plain_app, random_app, request_in_rows, request_of, run_among, run_app, session_among, sessions_among, subject_of, top_app};
+ghost use Rattle.ot_words.specs.Requests.{◌+>◌, IsPlain, chars_among, check_among, check_app, conform_among, conform_app, conform_request, explain_among, explain_app, flag_among, flag_rule, flagged_app, form_among, generate_among, generate_app, number_among, number_if_among, option_rule, otbench_app, plain_app, random_app, request_in_rows, request_of, run_among, run_app, session_among, sessions_among, subject_of, top_app};
 
 use crate::every::{every_in, has_every, has_random, misplaced_option, refused_every, with_every};
 use crate::help;
@@ -268,6 +268,37 @@ fn check_command<'a>(alloc: Global) -> Result<Command<'a>, AllocError>
     flagged(alloc, command, "json", "Answer with one line of JSON")
 }
 
+// The subcommand `judge`.
+fn judge_command<'a>(alloc: Global) -> Result<Command<'a>, AllocError>
+    ensures { IfOk result (λ c. app_of c ≡ flagged_app (codes "judge") (codes "json")) }
+{
+    let command = plain(
+        alloc,
+        "judge",
+        "Judge a recorded trace (JSON) by the weak list specification",
+        help::JUDGE,
+    );
+    flagged(alloc, command, "json", "Answer with one line of JSON")
+}
+
+// The subcommand `steps`.
+fn steps_command<'a>(alloc: Global) -> Result<Command<'a>, AllocError>
+    ensures { IfOk result (λ c. app_of c ≡ flagged_app (codes "steps") (codes "documents")) }
+{
+    let command = plain(
+        alloc,
+        "steps",
+        "Run a schedule and print what each instruction changes, as lines of JSON",
+        help::STEPS,
+    );
+    flagged(
+        alloc,
+        command,
+        "documents",
+        "Print with each instruction the document of the one that moved",
+    )
+}
+
 // The subcommand `conform`.
 fn conform_command<'a>(alloc: Global) -> Result<Command<'a>, AllocError>
     ensures { IfOk result (λ c. app_of c ≡ conform_app) }
@@ -330,29 +361,9 @@ fn command<'a>(alloc: Global) -> Result<Command<'a>, AllocError>
         help::DIS,
     );
     let program = joined(program, dis)?;
-    let judge = flagged(
-        alloc,
-        plain(
-            alloc,
-            "judge",
-            "Judge a recorded trace (JSON) by the weak list specification",
-            help::JUDGE,
-        ),
-        "json",
-        "Answer with one line of JSON",
-    )?;
+    let judge = judge_command(alloc)?;
     let program = joined(program, judge)?;
-    let steps = flagged(
-        alloc,
-        plain(
-            alloc,
-            "steps",
-            "Run a schedule and print what each instruction changes, as lines of JSON",
-            help::STEPS,
-        ),
-        "documents",
-        "Print with each instruction the document of the one that moved",
-    )?;
+    let steps = steps_command(alloc)?;
     let program = joined(program, steps)?;
     let explain = explain_command(alloc)?;
     let program = joined(program, explain)?;

@@ -1,7 +1,7 @@
 use Rattle.std.proofs.Common.{ap, ap₂, codes, rules, ◌≡◌, ◌∙◌}
 use Rattle.std.proofs.lemmas.Result.{IfOk-weaker}
-use Rattle.clap.specs.Words.{App, app_of, with_rule}
-use Rattle.ot_words.specs.Requests.{◌+>◌, check_app, conform_app, explain_app, flag_rule, flagged_app, otbench_app, run_app}
+use Rattle.clap.specs.Words.{app_of}
+use Rattle.ot_words.specs.Requests.{◌+>◌, check_app, conform_app, explain_app, flagged_app, otbench_app, run_app}
 use Rattle.ot_words.proofs.Shapes.{plain_of}
 use Rattle.ot_words.proofs.words.command.Goals as goal
 
@@ -15,11 +15,9 @@ returns c =
     let three = c.in_ok-program-3.ensures (ap plain_of c.plain-debug.ensures) ∙ ap₂ (◌+>◌) two c.plain-debug.ensures in
     let four = c.in_ok-program-4.ensures (ap plain_of c.plain-asm.ensures) ∙ ap₂ (◌+>◌) three c.plain-asm.ensures in
     let five = c.in_ok-program-5.ensures (ap plain_of c.plain-dis.ensures) ∙ ap₂ (◌+>◌) four c.plain-dis.ensures in
-    let judge : app_of c.in_ok-judge.judge ≡ flagged_app (codes "judge") (codes "json") =
-    c.in_ok-judge.ensures ∙ ap (λ (a : App). with_rule a (flag_rule (codes "json"))) c.plain.ensures in
+    let judge : app_of c.in_ok-judge.judge ≡ flagged_app (codes "judge") (codes "json") = c.in_ok-judge.ensures in
     let six = c.in_ok-program-6.ensures (ap plain_of judge) ∙ ap₂ (◌+>◌) five judge in
-    let steps : app_of c.in_ok-steps.steps ≡ flagged_app (codes "steps") (codes "documents") =
-    c.in_ok-steps.ensures ∙ ap (λ (a : App). with_rule a (flag_rule (codes "documents"))) c.plain-2.ensures in
+    let steps : app_of c.in_ok-steps.steps ≡ flagged_app (codes "steps") (codes "documents") = c.in_ok-steps.ensures in
     let seven = c.in_ok-program-7.ensures (ap plain_of steps) ∙ ap₂ (◌+>◌) six steps in
     let explain : app_of c.in_ok-explain.explain ≡ explain_app = c.in_ok-explain.ensures in
     let eight = c.in_ok-program-8.ensures (ap plain_of explain) ∙ ap₂ (◌+>◌) seven explain in
