@@ -240,7 +240,7 @@ export class Debugger {
 
   _break(words) {
     if (!words.length) return this._info([]);
-    const [said] = this.stops.addBreak(words, (word) => this.#placeOf(word), (word) => this.#placeOfLine(word));
+    const [said] = this.stops.addBreak(words, (word) => this.#placeOf(word, this.recording.written), (word) => this.#placeOfLine(word));
     return [`${said}${this.#meant(words[0])}`];
   }
 
@@ -278,7 +278,7 @@ export class Debugger {
   }
 
   _clear([word]) {
-    const place = word === undefined ? null : this.#placeOf(word);
+    const place = word === undefined ? null : this.#placeOf(word, this.recording.written);
     const hasRemoved = this.stops.clear(place);
     if (place === null) return ["no breaks, no watches"];
     return [hasRemoved ? `no break at place ${place} any more` : `there was no break at place ${place}`];
@@ -499,8 +499,8 @@ export class Debugger {
     return Number(word);
   }
 
-  #placeOf(word) {
-    if (!/^\d{1,9}$/.test(word) || Number(word) > this.recording.end) throw new Complaint(`${word} is no place: they are 0 to ${this.recording.end}`);
+  #placeOf(word, most = this.recording.end) {
+    if (!/^\d{1,9}$/.test(word) || Number(word) > most) throw new Complaint(`${word} is no place: they are 0 to ${most}`);
     return Number(word);
   }
 

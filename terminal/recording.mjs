@@ -86,6 +86,7 @@ export class Recording {
     const outline = outlineOf(schedule);
     const { opening, instructions } = partsOf(told.output, this.session.length + (this.session.stop ? 1 : 0), outline.cut !== null);
     this.opening = opening;
+    this.written = outline.lines.length; // instructions of the schedule, those behind a refused one too
     this.instructions = instructionsOf(this.session, outline, instructions);
     Object.assign(this, conformOf(ask, schedule, { port, isSparse }, outline)); // difference, conforms, showsNothing, unknown
     this.port = port === null ? null : new Port(this.session, linesIn(linesOfPort(port)), null, isSparse);

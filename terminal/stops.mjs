@@ -58,12 +58,12 @@ export class Stops {
     const hasPlace = isLine || isNumber(head[0]);
     if (hasPlace && head.length > count) throw new Complaint(`${head[count]} is a word too many`);
     const place = hasPlace ? (isLine ? placeOfLine : placeOf)(head[count - 1]) : null;
-    const all = hasPlace ? [place] : this.#placesBehind(head, condition);
+    const all = hasPlace ? [place].filter((p) => p <= this.recording.end) : this.#placesBehind(head, condition);
     const found = this.#whereHolds(all, head, condition);
     const places = time === null ? found : found.slice(time - 1, time);
     const command = ["break", ...(hasPlace ? [place] : head), ...words.slice(head.length)].join(" ");
     const isThere = this.#add({ kind: "break", command, place, places, isAt: new Set(places) });
-    return [`${isThere ? "already: " : ""}${isPlain({ command, place }) ? `break at place ${place}` : `${command}: ${told(places)}`}`];
+    return [`${isThere ? "already: " : ""}${isPlain({ command, place }) ? `break at place ${place}${places.length ? "" : ", which is not reached"}` : `${command}: ${told(places)}`}`];
   }
 
   /** The places behind instructions with these first words; without words those behind each. */

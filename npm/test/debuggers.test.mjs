@@ -15,6 +15,7 @@ import { chance } from "../../recorder/test/live_session.js";
 import { debug } from "../../terminal/debugging.mjs";
 import { Commanded } from "../../viewer/src/commanded.mjs";
 import { portLinesOf } from "../../viewer/test/sessions.mjs";
+import { outlineOf } from "../../common/outline.mjs";
 import { bytesOf, textOf } from "../../common/text.mjs";
 import { serve } from "../../engine/host.mjs";
 import { openDebugger } from "../debug.mjs";
@@ -48,9 +49,9 @@ function sessionBy(seed, random) {
   return { clients, end: openDebugger(text).end, text, port, isSparse };
 }
 
-/** A command of the program's `debug`. It also takes a break at the place behind a refused instruction, where nothing stops. */
-function commonCommand({ clients, end }, random) {
-  const place = random(end + 1);
+/** A command of the program's `debug`. A break may be at a place behind a refused instruction, where nothing stops. */
+function commonCommand({ clients, text }, random) {
+  const place = random(outlineOf(text).lines.length + 2);
   const all = ["run", "run", "run", "step 1", `step ${1 + random(6)}`, `back ${1 + random(6)}`, `break ${place}`, `break ${place}`, `clear ${place}`, `watch doc ${random(clients)}`, `watch state ${random(clients)}`, "watch server", "unwatch", "where", "show"];
   return all[random(all.length)];
 }
@@ -131,7 +132,7 @@ function compareWithProgram({ clients, text }, script, answers, where) {
     if (command.startsWith("watch")) watches.push(titleOf(command));
     if (command === "unwatch") watches.length = 0;
     const reply = replies.shift();
-    if (!reply.startsWith("at ")) assert.equal(reply, said[0].startsWith("there was no break") ? "no such place" : "ok", told);
+    if (!reply.startsWith("at ")) assert.equal(reply, /^there was no break| is no place: /.test(said[0]) ? "no such place" : "ok", told);
     else {
       const isCounted = reply === `at ${place}: count` || command === "where";
       assert.equal(reply, isCounted ? `at ${place}${command === "where" ? "" : ": count"}` : replyOf(said, command === "run" ? watches : [], place), told);

@@ -93,6 +93,16 @@ test("breaks at a place and at a line", options, () => {
   assert.equal(cleared, "no break at place 7 any more");
 });
 
+test("a break may be at a place behind a refused instruction, where nothing stops", options, () => {
+  const schedule = "clients 1\nread 0\ntake 0\nread 0\nread 0\n";
+  const [place, end, listed, cleared, beyond] = answers(["break 4", "run", "break", "clear 4", "break 5"], schedule);
+  assert.equal(place, "break at place 4, which is not reached");
+  assert.match(end, /\nthe end: line 3, instruction 1: take 0 is refused\n/);
+  assert.equal(listed, "1 break 4  (at 0 places, 0 of them up to here)");
+  assert.equal(cleared, "no break at place 4 any more");
+  assert.match(beyond, /^5 is no place: they are 0 to 4/);
+});
+
 test("until goes behind the next instruction with these words", options, () => {
   const [found, none] = answers(["until ack 1", "until join"]);
   assert.equal(found.split("\n")[0], "behind line 14, instruction 9: ack 1");
