@@ -28,10 +28,7 @@ class Session(Sim):
     """A session that notes for each instruction its machines, and which instruction sent what it receives."""
 
     def __init__(self, clients, present, start):
-        super().__init__(clients, start)
-        self.lines.insert(1, 'present %d' % present)
-        self.head += 1
-        self.joined = [c < present for c in range(clients)]
+        super().__init__(clients, start, present)
         self.machines, self.sender = [], []
         self.sent_by, self.taken_by = [None] * clients, []
 
@@ -59,8 +56,7 @@ class Session(Sim):
             self.sent_by[c] = self.instrs() - 1
 
     def join(self, c):
-        self.joined[c], self.rev[c], self.len[c] = True, len(self.log), self.server_len
-        self.lines.append('join %d' % c)
+        super().join(c)
         self.note([c, 'server'])
 
     def read(self, c):

@@ -32,18 +32,12 @@ PRINTED = ('do', 'client', 'edit') + WAITING + ('sent', 'applied', 'appended', '
 
 
 class Session(Sim):
-    """A session with late joiners, of which the simulator keeps lengths."""
+    """A session with late joiners, of which the simulator keeps lengths. It always says its start text."""
 
     def __init__(self, clients, present, start):
-        Sim.__init__(self, clients, '')
-        self.lines = ['clients %d' % clients, 'present %d' % present, 'start ' + json.dumps(start, ensure_ascii=False)]
-        self.joined = [c < present for c in range(clients)]
-        self.len = [len(start)] * clients
-        self.server_len = len(start)
-
-    def join(self, c):
-        self.joined[c], self.rev[c], self.len[c] = True, len(self.log), self.server_len
-        self.lines.append('join %d' % c)
+        Sim.__init__(self, clients, start, present)
+        if not start:
+            self.lines.append('start ""')
 
     def random_edit(self, r, c):
         op, left = [], self.len[c]

@@ -115,13 +115,16 @@ def delta(op):
 
 
 class Sim:
-    def __init__(self, clients, start):
+    def __init__(self, clients, start, present=None):
         self.n = clients
         self.lines = ['clients %d' % clients]
+        if present is not None:
+            self.lines.append('present %d' % present)
         if start:
             self.lines.append('start ' + json.dumps(start, ensure_ascii=False))
         self.head = len(self.lines)
         self.log = []
+        self.joined = [present is None or c < present for c in range(clients)]
         self.server_len = len(start)
         self.len = [len(start)] * clients
         self.rev = [0] * clients
@@ -132,6 +135,10 @@ class Sim:
 
     def instrs(self):
         return len(self.lines) - self.head
+
+    def join(self, c):
+        self.joined[c], self.rev[c], self.len[c] = True, len(self.log), self.server_len
+        self.lines.append('join %d' % c)
 
     def edit(self, c, ops):
         op = []
@@ -161,7 +168,7 @@ class Sim:
         self.lines.append('take %d' % c)
 
     def down(self, c):
-        """Delivers or acknowledges the next message."""
+        """Delivers or acknowledges the next message. Of a delivery, what it does to the client's document."""
         maker, h = self.log[self.rev[c]]
         self.rev[c] += 1
         if maker == c:
@@ -169,13 +176,14 @@ class Sim:
             self.out[c], self.buf[c] = self.buf[c], None
             if self.out[c] is not None:
                 self.msg[c] = (self.rev[c], self.out[c])
-            return
+            return None
         self.lines.append('deliver %d' % c)
         if self.out[c] is not None:
             self.out[c], h = transform(self.out[c], h)
             if self.buf[c] is not None:
                 self.buf[c], h = transform(self.buf[c], h)
         self.len[c] += delta(h)
+        return h
 
     def backlog(self, c):
         return len(self.log) - self.rev[c]
