@@ -1,2 +1,5 @@
 mod Above
+mod Bytes
+mod Made
 mod Starts
+mod Taken
