@@ -143,10 +143,10 @@ made (Ok draft) s n after h e =
     sym h ∙ ap reached_of same
 made (Err kind) s n after h e = absurd (cc e)
 
-same_clients : (s : Section) (clients : ℕ) (line : List ℕ) → clients ≡ next_clients (stage_of s) clients line
+pub same_clients : (s : Section) (clients : ℕ) (line : List ℕ) → clients ≡ next_clients (stage_of s) clients line
 same_clients s clients line = by_section (λ x. clients ≡ next_clients (stage_of x) clients line) refl refl refl s
 
-counted_made : (draft after : Option BodyView) (line : List ℕ) → now_drafted (counted_line draft line) ≡ Ok after → counted (reached_of draft) line ≡ reached_of after
+pub counted_made : (draft after : Option BodyView) (line : List ℕ) → now_drafted (counted_line draft line) ≡ Ok after → counted (reached_of draft) line ≡ reached_of after
 counted_made None after line e =
     made (counted_line None line) AfterClients (number_or_zero (number (first_word (after_word line)))) after (leads_first (first_word line) (after_word line) (spelled (first_word line))) e
 counted_made (Some draft) after line e =

@@ -12,7 +12,7 @@
 //!   fault stands there: `cause_from` in `specs/Causes.antt` goes from byte to byte, and `next` says what may follow what.
 //! - *The nearest word* (`specs/Nearest.antt`): by the distance of `strsim`.
 //! - *Words and JSON* (`specs/Words.antt`): [`fault_words`] and [`fault_members`], of one value.
-//! - *Laws* (`specs/Laws.antt`): the words that are wanted are those that `ot_asm` takes ([`words_are_taken`]).
+//! - *Laws* (`specs/Laws.antt`): the words and the numbers that are wanted are those that `ot_asm` takes ([`words_are_taken`], [`numbers_are_taken`]).
 //!
 //! Begin with `text_fault` in specs/Faults.antt, then with [`line_fault`].
 #![tactic(auto)]
@@ -27,7 +27,7 @@ mod wanted;
 mod words;
 
 pub use faults::{LineFault, line_fault};
-pub use laws::{stages_are_made, words_are_taken};
+pub use laws::{numbers_are_taken, stages_are_made, words_are_taken};
 pub use reached::{Reached, Stage};
 pub use wanted::{Wanted, Word};
 pub use words::{fault_members, fault_words};
