@@ -1,5 +1,5 @@
 -- The fault of lines that were kept is the fault of all lines.
-use Rattle.std.proofs.Common.{◌≡◌, ◌⊎◌, ◌+◌, ◌-◌, ◌<◌, ◌++◌, ◌∙◌, ℕ, Bool, true, false, List, [], ◌∷◌, length, Err, Option, Some, None, ap, arith, inl, inr, refl, subst, sym}
+use Rattle.std.proofs.Common.{◌≡◌, ◌⊎◌, ◌+◌, ◌-◌, ◌<◌, ◌++◌, ◌∙◌, ℕ, Bool, true, false, List, [], ◌∷◌, length, Err, Option, Some, None, ap, arith, inl, inr, refl, sym}
 use Rattle.std.specs.Prelude.{IfSome}
 use Rattle.std.proofs.lemmas.List.{append-nil, get_or_append_left, take-append-le}
 use Rattle.streams.specs.Lines.{lines_of}
@@ -9,23 +9,25 @@ use Rattle.ot_asm.specs.Stepping.{outcome_of_lines, run}
 use Rattle.ot_asm.specs.declared.fault.AsmFault.{AsmFault}
 use Rattle.ot_asm.specs.declared.fault.Kind.{Kind}
 use Rattle.ot_asm.specs.declared.fault.Kind.TheVariants.{Memory, NoClients, ReadFault}
-use Rattle.ot_faults.specs.Faults.{Fault, IsFault, is_of_text}
-use Rattle.ot_commands.specs.Faults.{AnswersFault, IsJsonOf, TellsFault}
+use Rattle.ot_faults.specs.Faults.{Fault, is_of_text, text_fault}
+use Rattle.ot_faults.specs.Words.{fault_members}
+use Rattle.ot_commands.specs.Faults.{AnswersFault, IsJsonOf, TellsFault, fault_json}
 use Rattle.ot_commands.specs.Part.{BreaksIn, HasFaultIn}
 
 -- ---- what is said of it
 
-in_first : (kept rest : List (List ℕ)) (fault : AsmFault) (f : Fault) → fault.line - 1 < length kept → IsFault kept fault f → IsFault (kept ++ rest) fault f
-in_first kept rest fault f there is = rw (take-append-le (fault.line - 1) kept rest (omega (arith, there)), get_or_append_left kept rest [] (fault.line - 1) there) is
+in_first : (kept rest : List (List ℕ)) (fault : AsmFault) → fault.line - 1 < length kept → text_fault kept fault ≡ text_fault (kept ++ rest) fault
+in_first kept rest fault there =
+    rw (take-append-le (fault.line - 1) kept rest (omega (arith, there)), get_or_append_left kept rest [] (fault.line - 1) there, get_or_append_left kept rest [] 0 (omega (arith, there))) refl
 
-in_all : (kept lines rest : List (List ℕ)) (fault : AsmFault) (f : Fault) → lines ≡ kept ++ rest → (rest ≡ []) ⊎ (fault.line - 1 < length kept) → IsFault kept fault f → IsFault lines fault f
-in_all kept lines rest fault f all (inl none) is = subst (λ (ls : List (List ℕ)). IsFault ls fault f) (sym (all ∙ ap (λ (r : List (List ℕ)). kept ++ r) none ∙ append-nil kept)) is
-in_all kept lines rest fault f all (inr there) is = subst (λ (ls : List (List ℕ)). IsFault ls fault f) (sym all) (in_first kept rest fault f there is)
+in_all : (kept lines rest : List (List ℕ)) (fault : AsmFault) → lines ≡ kept ++ rest → (rest ≡ []) ⊎ (fault.line - 1 < length kept) → text_fault kept fault ≡ text_fault lines fault
+in_all kept lines rest fault all (inl none) = ap (λ (ls : List (List ℕ)). text_fault ls fault) (sym (all ∙ ap (λ (r : List (List ℕ)). kept ++ r) none ∙ append-nil kept))
+in_all kept lines rest fault all (inr there) = in_first kept rest fault there ∙ ap (λ (ls : List (List ℕ)). text_fault ls fault) (sym all)
 
 json_in : (of_text : Bool) (kept lines : List (List ℕ)) (fault : AsmFault) (json : List ℕ) → (of_text ≡ true → (rest : List (List ℕ)) × (lines ≡ kept ++ rest) × ((rest ≡ []) ⊎ (fault.line - 1 < length kept)))
     → IsJsonOf of_text kept fault json → IsJsonOf of_text lines fault json
 json_in false kept lines fault json has is = is
-json_in true kept lines fault json has is = let here = has refl in (is.0, is.1, in_all kept lines here.0 fault is.0 here.1 here.2 is.2, is.3)
+json_in true kept lines fault json has is = let here = has refl in is ∙ ap (λ (f : Fault). fault_json fault (fault_members f)) (in_all kept lines here.0 fault here.1 here.2)
 
 answers_in : (kept lines : List (List ℕ)) (fault : AsmFault) (status : ℕ) (streams : Streams) → HasFaultIn kept lines fault → AnswersFault kept fault status streams → AnswersFault lines fault status streams
 answers_in kept lines fault status streams has (inl gives) =

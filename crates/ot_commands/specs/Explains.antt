@@ -7,7 +7,7 @@ use Rattle.streams.specs.Outcomes.{Complains, GivesUp, Says, Streams, memory_fau
 use Rattle.ot_asm.specs.Stepping.{outcome}
 use Rattle.ot_asm.specs.declared.fault.AsmFault.{AsmFault}
 use Rattle.ot_commands.specs.Faults.{IsLineFault, line_fault}
-use Rattle.ot_faults.specs.Faults.{Fault, IsFault, is_of_text}
+use Rattle.ot_faults.specs.Faults.{is_of_text, text_fault}
 use Rattle.ot_faults.specs.Words.{fault_words}
 use Rattle.ot_isa.specs.Program.{Program}
 use Rattle.ot_asm.specs.Comments.{Said, comments_of}
@@ -39,11 +39,10 @@ abbrev pub MayExplain : List ℕ → Said → Program → ℕ → Streams → Ty
 MayExplain lines said schedule status streams =
     WritesWords lines said schedule status streams ⊎ BreaksOff lines said schedule status streams ⊎ OutOfMemory lines said schedule status streams
 
--- of a fault of these lines where it stands, what stands there and what is wanted; of another one nothing. Either as far as memory lasts
+-- of a fault of these lines where it stands, what stands there, what is wanted and the note; of another one nothing. Either as far as memory lasts
 abbrev pub AddsWords : Bool → List (List ℕ) → AsmFault → Option (List ℕ) → Option (List ℕ) → Bool → Type 0
 AddsWords false lines fault told new failed = (new ≡ told) ⊎ Writes told new failed memory_fault
-AddsWords true lines fault told new failed =
-    ((f : Fault) × (note : List ℕ) × IsFault lines fault f × Complains (fault_words f note) told new failed) ⊎ Writes told new failed memory_fault
+AddsWords true lines fault told new failed = Complains (fault_words (text_fault lines fault)) told new failed ⊎ Writes told new failed memory_fault
 
 -- the fault's line, and behind it these words
 pub record Tells (lines : List (List ℕ)) (fault : AsmFault) (old new : Option (List ℕ)) (failed : Bool) : Type 0 where

@@ -9,7 +9,7 @@ use Rattle.ot_image.specs.declared.fault.ImageFault.{ImageFault}
 use Rattle.ot_image.specs.declared.fault.Kind as image
 use Rattle.ot_image.specs.declared.fault.Kind.TheVariants as byte
 use Rattle.ot_image.specs.Reading.{image_of, IsWant}
-use Rattle.ot_faults.specs.Faults.{Fault, IsFault, is_of_text}
+use Rattle.ot_faults.specs.Faults.{is_of_text, text_fault}
 use Rattle.ot_faults.specs.Words.{fault_members}
 use Rattle.streams.specs.Outcomes.{Complains, MayRefuse, Puts, Streams, memory_fault}
 use Rattle.streams.specs.Streams.{Writes}
@@ -61,13 +61,13 @@ pub record RefusesLines (unread : Bool) (lines : List (List ℕ)) (status : ℕ)
   pub is_fault : IsLineFault unread lines fault
   pub refuses : MayRefuse (line_fault fault) status streams
 
--- the fault as a line of JSON: an object with its name and its line; of a fault of the text also the column, what stands there, what is wanted
+-- the fault as a line of JSON: an object with its name and its line; of a fault of the text also the column, what stands there, what is wanted, the note
 abbrev pub fault_json : AsmFault → List ℕ → List ℕ
 fault_json fault members = codes "{\"fault\":\"" ++ (line_kind fault.kind ++ (codes "\"," ++ (members ++ codes "}\n")))
 
 abbrev pub IsJsonOf : Bool → List (List ℕ) → AsmFault → List ℕ → Type 0
 IsJsonOf false lines fault json = json ≡ fault_json fault (codes "\"line\":" ++ decimal fault.line)
-IsJsonOf true lines fault json = (f : Fault) × (note : List ℕ) × IsFault lines fault f × (json ≡ fault_json fault (fault_members f note))
+IsJsonOf true lines fault json = json ≡ fault_json fault (fault_members (text_fault lines fault))
 
 abbrev pub IsFaultJson : List (List ℕ) → AsmFault → List ℕ → Type 0
 IsFaultJson lines fault json = IsJsonOf (is_of_text fault.kind) lines fault json

@@ -54,7 +54,7 @@ fn write_words<O: Sink, F: Sink>(
 
 // Writes where the fault of a text stands, what stands there and what is wanted.
 fn complain_of_words<F: Sink>(alloc: Global, fault: &LineFault, faults: &mut F)
-    ensures line { Complains (fault_words (fault_value fault.now) fault.now.note.now) (F.contents faults.old) (F.contents faults.new) (F.failed faults.new) }
+    ensures line { Complains (fault_words (fault_value fault.now)) (F.contents faults.old) (F.contents faults.new) (F.failed faults.new) }
     ensures failed { F.failed faults.old ≡ true → F.failed faults.new ≡ true }
 {
     match fault_words(alloc, fault) {

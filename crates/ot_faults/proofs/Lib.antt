@@ -1,2 +1,6 @@
 mod Above
+mod Bytes
+mod Made
+mod Ranged
 mod Starts
+mod Taken

@@ -1,5 +1,5 @@
 -- The fault of a text: where it stands, what stands there, and what is wanted.
-use Rattle.std.specs.Prelude.{◌≡◌, ℕ, ◌+◌, ◌-◌, ◌≤◌, Bool, true, false, ◌||◌, ◌==◌, nat_le, nat_lt, List, [], ◌∷◌, length, take, drop, Option, Some, None, codes, string_bytes, if◌then◌else◌}
+use Rattle.std.specs.Prelude.{ℕ, ◌+◌, ◌-◌, Bool, true, false, ◌||◌, ◌==◌, nat_le, nat_lt, List, [], ◌∷◌, length, take, drop, Option, None, codes, string_bytes, if◌then◌else◌}
 use Rattle.std.specs.List.{count_by}
 use Rattle.std.specs.Str.{bytes_eq, is_utf8}
 use Rattle.std.specs.Str.Lossy.{utf8_valid_len}
@@ -8,7 +8,9 @@ use Rattle.ot_asm.specs.Words.{after_word, first_word, is_blank, trimmed}
 use Rattle.ot_asm.specs.declared.fault.AsmFault.{AsmFault}
 use Rattle.ot_asm.specs.declared.fault.Kind.{Kind}
 use Rattle.ot_asm.specs.declared.fault.Kind.TheVariants.{BadText, NoClients, UnknownWord, BadNumber, BadClient, BadOperation, Extra, TooLong, TooMany, Memory, ReadFault}
+use Rattle.ot_faults.specs.Causes.{Note}
 use Rattle.ot_faults.specs.Nearest.{nearest_among, words_at}
+use Rattle.ot_faults.specs.Notes.{note_of}
 use Rattle.ot_faults.specs.Reached.{line_at, reached_at}
 use Rattle.ot_faults.specs.Shown.{found_text}
 use Rattle.ot_faults.specs.declared.faults.LineFault.{LineFault}
@@ -97,35 +99,38 @@ pub record Fault : Type 0 where
   pub found : List ℕ
   pub wanted : Wanted
   pub nearest : Option Word
+  pub note : List ℕ
 
 abbrev pub fault_value : LineFault → Fault
-fault_value f = record { line = f.line; column = f.column; found = string_bytes f.found; wanted = f.wanted; nearest = f.nearest }
+fault_value f = record { line = f.line; column = f.column; found = string_bytes f.found; wanted = f.wanted; nearest = f.nearest; note = f.note.now }
 
 -- what stands there: a character, and what follows it up to the first blank
 abbrev pub word_there : List ℕ → List ℕ
 word_there [] = []
 word_there (b ∷ bs) = b ∷ first_word bs
 
-abbrev pub fault_of : ℕ → ℕ → List ℕ → Wanted → Fault
-fault_of line column found w = record { line = line; column = column; found = found_text found; wanted = w; nearest = nearest_wanted found w }
+abbrev pub fault_of : ℕ → ℕ → List ℕ → Wanted → List ℕ → Fault
+fault_of line column found w note = record { line = line; column = column; found = found_text found; wanted = w; nearest = nearest_wanted found w; note = note }
 
 -- that of a trimmed line with so many blanks in front: the column counts characters from 1, and what is found stands behind so many bytes
-abbrev pub fault_at : Reached → ℕ → List ℕ → AsmFault → ℕ → Fault
-fault_at r blanks line fault at =
-    fault_of fault.line (blanks + characters (take at line) + 1) (word_there (drop at line)) (wanted_of fault.kind r (first_word line) (is_utf8 line))
+abbrev pub fault_at : Reached → ℕ → List ℕ → AsmFault → ℕ → List ℕ → Fault
+fault_at r blanks line fault at note =
+    fault_of fault.line (blanks + characters (take at line) + 1) (word_there (drop at line)) (wanted_of fault.kind r (first_word line) (is_utf8 line)) note
 
--- a start text and an operation are wrong in front of one of their characters, or behind the last; a word as a whole
-abbrev pub IsAt : Kind → List ℕ → ℕ → Type 0
-IsAt BadText line at = (start_of BadText line ≤ at) × (at ≤ length line)
-IsAt BadOperation line at = (start_of BadOperation line ≤ at) × (at ≤ length line)
-IsAt kind line at = at ≡ start_of kind line
+-- the word that is wrong stands behind `start` bytes, and is wrong at the byte of the note
+abbrev pub noted_fault : Reached → ℕ → List ℕ → AsmFault → ℕ → Note → Fault
+noted_fault r blanks line fault start note = fault_at r blanks line fault (start + note.at) note.words
 
-abbrev pub IsFaultIn : Reached → List ℕ → AsmFault → Fault → Type 0
-IsFaultIn r line fault f = (at : ℕ) × IsAt fault.kind (trimmed line) at × (f ≡ fault_at r (leading line) (trimmed line) fault at)
+-- that of a trimmed line in a text with this first line
+abbrev pub trimmed_fault : List ℕ → Reached → ℕ → List ℕ → AsmFault → ℕ → Fault
+trimmed_fault first r blanks line fault start = noted_fault r blanks line fault start (note_of first fault.kind line (drop start line))
+
+abbrev pub line_fault : List ℕ → Reached → List ℕ → AsmFault → Fault
+line_fault first r line fault = trimmed_fault first r (leading line) (trimmed line) fault (start_of fault.kind (trimmed line))
 
 -- the fault of a text with these lines
-abbrev pub IsFault : List (List ℕ) → AsmFault → Fault → Type 0
-IsFault lines fault f = IsFaultIn (reached_at lines fault.line) (line_at lines fault.line) fault f
+abbrev pub text_fault : List (List ℕ) → AsmFault → Fault
+text_fault lines fault = line_fault (line_at lines 1) (reached_at lines fault.line) (line_at lines fault.line) fault
 
 -- out of memory and a read that failed are no faults of the text
 abbrev pub is_of_text : Kind → Bool

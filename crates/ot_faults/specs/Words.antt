@@ -1,19 +1,22 @@
 -- The fault of a text in words, and as members of a JSON object.
-use Rattle.std.specs.Prelude.{ℕ, List, [], ◌++◌, ◌==◌, length, Option, Some, None, codes, decimal, if◌then◌else◌}
+use Rattle.std.specs.Prelude.{ℕ, List, [], ◌∷◌, ◌++◌, ◌==◌, length, Option, Some, None, codes, decimal, if◌then◌else◌}
 use Rattle.json.specs.Print.{quoted}
 use Rattle.ot_faults.specs.Faults.{Fault}
-use Rattle.ot_faults.specs.Nearest.{word_text}
+use Rattle.ot_faults.specs.Nearest.{word_text, words_at}
 use Rattle.ot_faults.specs.declared.reached.Stage.{Stage}
-use Rattle.ot_faults.specs.declared.reached.Stage.TheVariants.{Opening, AfterClients, AfterPresent, InBody}
 use Rattle.ot_faults.specs.declared.wanted.Wanted.{Wanted}
 use Rattle.ot_faults.specs.declared.wanted.Wanted.TheVariants as wanted
 use Rattle.ot_faults.specs.declared.wanted.Word.{Word}
 
+-- words with commas between them, and 'or' before the last
+abbrev pub listed : List Word → List ℕ
+listed [] = []
+listed (w ∷ []) = word_text w
+listed (w ∷ v ∷ []) = word_text w ++ (codes " or " ++ word_text v)
+listed (w ∷ v ∷ u ∷ ws) = word_text w ++ (codes ", " ++ listed (v ∷ u ∷ ws))
+
 abbrev pub stage_text : Stage → List ℕ
-stage_text Opening = codes "clients"
-stage_text AfterClients = codes "present, start, edit, take, deliver, ack, read, read-server or join"
-stage_text AfterPresent = codes "start, edit, take, deliver, ack, read, read-server or join"
-stage_text InBody = codes "edit, take, deliver, ack, read, read-server or join"
+stage_text s = listed (words_at s)
 
 abbrev pub wanted_text : Wanted → List ℕ
 wanted_text wanted.Utf8 = codes "UTF-8"
@@ -35,10 +38,10 @@ abbrev pub note_text : List ℕ → List ℕ
 note_text note = if length note == 0 then [] else codes "; " ++ note
 
 -- a line: where the fault stands, what stands there, what is wanted, the nearest word, and the note
-abbrev pub fault_words : Fault → List ℕ → List ℕ
-fault_words f note =
+abbrev pub fault_words : Fault → List ℕ
+fault_words f =
     codes "  line " ++ (decimal f.line ++ (codes ", column " ++ (decimal f.column ++ (codes ": found " ++ (f.found ++ (codes "; wanted " ++ (wanted_text f.wanted
-    ++ (nearest_text f.nearest ++ (note_text note ++ codes "\n")))))))))
+    ++ (nearest_text f.nearest ++ (note_text f.note ++ codes "\n")))))))))
 
 abbrev pub nearest_member : Option Word → List ℕ
 nearest_member None = []
@@ -51,8 +54,8 @@ note_member note = if length note == 0 then [] else codes ",\"note\":" ++ quoted
 abbrev pub place_members : Fault → List ℕ
 place_members f = codes "\"line\":" ++ (decimal f.line ++ (codes ",\"column\":" ++ (decimal f.column ++ (codes ",\"found\":" ++ quoted f.found))))
 
-abbrev pub wanted_members : Fault → List ℕ → List ℕ
-wanted_members f note = codes ",\"wanted\":" ++ (quoted (wanted_text f.wanted) ++ (nearest_member f.nearest ++ note_member note))
+abbrev pub wanted_members : Fault → List ℕ
+wanted_members f = codes ",\"wanted\":" ++ (quoted (wanted_text f.wanted) ++ (nearest_member f.nearest ++ note_member f.note))
 
-abbrev pub fault_members : Fault → List ℕ → List ℕ
-fault_members f note = place_members f ++ wanted_members f note
+abbrev pub fault_members : Fault → List ℕ
+fault_members f = place_members f ++ wanted_members f

@@ -1,12 +1,13 @@
 //! The fault of a text.
 
-ghost use Rattle.std.specs.Prelude.{◌≡◌, ◌≤◌, IfOk, IfSome, drop, is_some, length};
+ghost use Rattle.std.specs.Prelude.{◌≡◌, ◌≤◌, IfOk, IfSome, is_some, length};
 ghost use Rattle.streams.specs.Lines.{lines_of};
-ghost use Rattle.ot_faults.specs.Faults.{IsAt, IsFault, IsFaultIn, characters, fault_value, is_of_text, leading, nearest_wanted, start_of, without_words, word_there, words_before};
+ghost use Rattle.ot_faults.specs.Faults as spec;
+ghost use Rattle.ot_faults.specs.Faults.{characters, fault_value, is_of_text, leading, nearest_wanted, start_of, text_fault, without_words, word_there, words_before};
 
 use crate::nearest::nearest_at;
-use crate::notes::{Note, note_on};
-use crate::reached::{Reached, find_line};
+use crate::notes::note_of;
+use crate::reached::{Reached, find_line, first_line};
 use crate::wanted::{Wanted, Word, wanted_of};
 use crate::words::found_text;
 use ot_asm::{AsmFault, Kind, read_text, split_word, trimmed};
@@ -113,14 +114,6 @@ fn nearest_wanted(alloc: Global, found: &[u8], wanted: Wanted) -> Result<Option<
     }
 }
 
-// The bytes from this one on.
-fn from_byte(text: &[u8], at: usize) -> &[u8]
-    ensures { result.now ≡ drop at text.now }
-{
-    let (_, rest) = text.split_at(at.min(text.len()));
-    rest
-}
-
 // The character that stands there, and what follows it up to the first blank.
 fn word_there(rest: &[u8]) -> &[u8]
     ensures { result.now ≡ word_there rest.now }
@@ -139,35 +132,22 @@ fn word_there(rest: &[u8]) -> &[u8]
     word
 }
 
-// The byte at which a trimmed line is wrong: that of the word, or in a start text or an operation that of the note.
-fn place_of(kind: Kind, line: &[u8], start: usize, note: Note) -> usize
-    requires is { start ≡ start_of kind line.now }
-    requires within { start ≤ length line.now }
-    ensures at { IsAt kind line.now result }
-    ensures within { result ≤ length line.now }
-{
-    match kind {
-        Kind::BadText | Kind::BadOperation => start.saturating_add(note.at).min(line.len()),
-        _ => start,
-    }
-}
-
-// The fault of this line.
+// The fault of this line, in a text with this first line.
 fn fault_in(
     alloc: Global,
-    text: &[u8],
+    first: &[u8],
     reached: Reached,
     line: &[u8],
     fault: AsmFault,
 ) -> Result<LineFault, AllocError>
-    ensures { IfOk result (λ f. IsFaultIn reached line.now fault (fault_value f)) }
+    ensures { IfOk result (λ f. fault_value f ≡ spec.line_fault first.now reached line.now fault) }
 {
     let blanks = leading(line);
     let line = trimmed(line);
     let start = start_of(fault.kind, line);
-    let note = note_on(text, line, fault.kind, from_byte(line, start));
-    let at = place_of(fault.kind, line, start, note);
-    let (front, rest) = line.split_at(at);
+    let (_, rest) = line.split_at(start);
+    let note = note_of(first, fault.kind, line, rest);
+    let (front, rest) = line.split_at(start + note.at);
     let found = word_there(rest);
     let (word, _) = split_word(line);
     let wanted = wanted_of(fault.kind, reached, word, read_text(line).is_some());
@@ -181,19 +161,19 @@ fn fault_in(
     })
 }
 
-/// Where the fault of a text stands, which is that of the first faulty line; what stands there, and what is wanted. Nothing where the text is not at
-/// fault, but memory or a read.
+/// Where the fault of a text stands, which is that of the first faulty line; what stands there, what is wanted, and the note on it. Nothing where the
+/// text is not at fault, but memory or a read.
 pub fn line_fault(
     alloc: Global,
     text: &[u8],
     fault: AsmFault,
 ) -> Result<Option<LineFault>, AllocError>
-    ensures fault { IfOk result (λ found. IfSome found (λ f. IsFault (lines_of text.now) fault (fault_value f))) }
+    ensures fault { IfOk result (λ found. IfSome found (λ f. fault_value f ≡ text_fault (lines_of text.now) fault)) }
     ensures exact { IfOk result (λ found. is_some found ≡ is_of_text fault.kind) }
 {
     if matches!(fault.kind, Kind::Memory | Kind::ReadFault) {
         return Ok(None);
     }
     let (reached, line) = find_line(text, fault.line);
-    Ok(Some(fault_in(alloc, text, reached, line, fault)?))
+    Ok(Some(fault_in(alloc, first_line(text), reached, line, fault)?))
 }

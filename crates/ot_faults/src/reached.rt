@@ -90,8 +90,8 @@ fn passed(reached: Reached, line: &[u8]) -> Reached
     }
 }
 
-// The bytes before the first LF, or all.
-fn first_line(text: &[u8]) -> &[u8]
+/// The bytes before the first LF, or all.
+pub(crate) fn first_line(text: &[u8]) -> &[u8]
     ensures { result.now ≡ line_at (lines_of text.now) 1 }
 {
     match split_line(text) {

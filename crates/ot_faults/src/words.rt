@@ -115,7 +115,7 @@ fn note_text(alloc: Global, note: &str) -> Result<String, AllocError>
 
 /// The fault in words: a line.
 pub fn fault_words(alloc: Global, fault: &LineFault) -> Result<String, AllocError>
-    ensures { IfOk result (λ s. string_bytes s ≡ spec.fault_words (fault_value fault.now) fault.now.note.now) }
+    ensures { IfOk result (λ s. string_bytes s ≡ spec.fault_words (fault_value fault.now)) }
 {
     let line = fault.line;
     let column = fault.column;
@@ -169,7 +169,7 @@ fn place_members(alloc: Global, fault: &LineFault) -> Result<String, AllocError>
 
 // What is wanted there, behind that.
 fn wanted_members(alloc: Global, fault: &LineFault) -> Result<String, AllocError>
-    ensures { IfOk result (λ s. string_bytes s ≡ spec.wanted_members (fault_value fault.now) fault.now.note.now) }
+    ensures { IfOk result (λ s. string_bytes s ≡ spec.wanted_members (fault_value fault.now)) }
 {
     let wanted = wanted_json(alloc, fault.wanted)?;
     let nearest = nearest_member(alloc, fault.nearest)?;
@@ -179,7 +179,7 @@ fn wanted_members(alloc: Global, fault: &LineFault) -> Result<String, AllocError
 
 /// The fault as members of a JSON object, in which what is found and what is wanted are strings with the same text as in the words.
 pub fn fault_members(alloc: Global, fault: &LineFault) -> Result<String, AllocError>
-    ensures { IfOk result (λ s. string_bytes s ≡ spec.fault_members (fault_value fault.now) fault.now.note.now) }
+    ensures { IfOk result (λ s. string_bytes s ≡ spec.fault_members (fault_value fault.now)) }
 {
     let place = place_members(alloc, fault)?;
     let wanted = wanted_members(alloc, fault)?;

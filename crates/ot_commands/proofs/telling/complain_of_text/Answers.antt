@@ -1,7 +1,9 @@
 use Rattle.std.proofs.Common.{◌≡◌, Bool, true, false, inl, refl, subst}
 use Rattle.streams.proofs.Parts.{still_complains}
 use Rattle.streams.specs.Lines.{lines_of}
-use Rattle.ot_faults.specs.Faults.{fault_value, is_of_text}
+use Rattle.streams.specs.Outcomes.{Complains}
+use Rattle.ot_faults.specs.Faults.{Fault, is_of_text}
+use Rattle.ot_faults.specs.Words.{fault_words}
 use Rattle.ot_commands.specs.Explains.{AddsWords}
 use Rattle.ot_commands.proofs.Refused.{lacks_words}
 use Rattle.ot_commands.proofs.telling.complain_of_text.Goals as goal
@@ -13,7 +15,8 @@ returns-in-Ok-Some g c =
     let failed = g.F.Sink.failed c.complain_of_words.new.faults in
     let exact : true ≡ is_of_text c.args.fault.kind = rw c.in-Ok-Some.field-0-is at c.in-Ok-Some.ensures.exact in
     let stands = rw c.in-Ok-Some.field-0-is at c.in-Ok-Some.ensures.fault in
-    let added : AddsWords true (lines_of c.args.text.now) c.args.fault told new failed = inl (fault_value c.in-Ok-Some.found, c.in-Ok-Some.found.note.now, stands, c.complain_of_words.ensures.line) in
+    let added : AddsWords true (lines_of c.args.text.now) c.args.fault told new failed =
+    inl (subst (λ (f : Fault). Complains (fault_words f) told new failed) stands c.complain_of_words.ensures.line) in
     record {
       told = told;
       line = still_complains _ _ _ failed _ c.complain_of_line.ensures.line c.complain_of_words.ensures.failed;

@@ -1,4 +1,4 @@
-use Rattle.std.proofs.Common.{◌≡◌, ◌∙◌, ◌-◌, ℕ, suc, arith, refl}
+use Rattle.std.proofs.Common.{◌≡◌, ◌∙◌, ◌-◌, suc, arith, refl}
 use Rattle.streams.specs.Lines.{lines_of}
 use Rattle.ot_faults.proofs.Above.{here, last, stepped}
 use Rattle.ot_faults.proofs.reached.find_line.Goals as goal

@@ -1,0 +1,11 @@
+use Rattle.std.proofs.Common.{arith}
+use Rattle.json.specs.Text.{short_escape}
+use Rattle.ot_faults.proofs.causes.is_short.Goals as goal
+
+pub returns-in-34 : goal.returns-in-34
+unfolding short_escape
+returns-in-34 c = grind arith
+
+pub returns-in_default : goal.returns-in_default
+unfolding short_escape
+returns-in_default c = grind arith
