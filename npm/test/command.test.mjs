@@ -291,7 +291,7 @@ test("lines for some instructions", () => {
   const name = file("sparse.ots", `${WEAK}%%\n{"at":12,"document":"acz"}\n`);
   for (const program of PROGRAMS) {
     assert.match(call(["debug", name], "", program)[1], /the port's first difference/);
-    assert.doesNotMatch(call(["debug", "--sparse", name], "", program)[1], /differs/);
+    assert.doesNotMatch(call(["debug", "--sparse", name], "", program)[1], /first difference/);
   }
 });
 
