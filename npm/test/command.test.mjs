@@ -299,6 +299,7 @@ test("what is larger than its kind may be is refused while it is read", { skip: 
   const said = (name, most, kind) => [1, "", `otbench: ${name}: it has more than ${most} bytes, which is the most of ${kind}\n`];
   for (const program of PROGRAMS) {
     assert.deepEqual(call(["run", "/dev/zero"], "", program), said("/dev/zero", "268,435,456", "a schedule"));
+    assert.deepEqual(call(["run", "--image", "/dev/zero"], "", program), said("/dev/zero", "268,435,456", "an image"));
     assert.deepEqual(call(["threads", "/dev/zero"], "", program), said("/dev/zero", "67,108,864", "a plan"));
     assert.deepEqual(call(["debug", file("short.ots", "clients 1\n"), "/dev/zero"], "", program), said("/dev/zero", "67,108,864", "commands"));
   }
