@@ -1,7 +1,4 @@
-/*
- * What the command says below an answer of status 2, on standard error: what may be meant. Of its subcommands, of their options and of words that it refuses the
- * program says nothing as data: its help and its faults of words, which clap writes, are read here alone.
- */
+/* What the command says below an answer of status 2: what may be meant. The program's help and its faults of words, of which it has no data, are read here alone. */
 
 import { FILES, formOf, isFile, readFile } from "./files.mjs";
 import { kindOf } from "./kinds.mjs";
@@ -18,11 +15,11 @@ const LONGEST = 200;
 /* What the program says on these words; it refuses them before it reads anything. */
 const saidOn = (ask, words) => textOf(ask(words, NOTHING).errors);
 
-/** What the program says where its help on words is asked for, and whether it has none: the status is 2 for both. @param {string[]} words @param {Ask} ask */
-export function helpOn(words, ask) {
-  const said = saidOn(ask, ["help", ...words]);
-  return { said, isRefused: said.startsWith("error:") };
-}
+/** The program's help on words. @param {string[]} words @param {Ask} ask */
+export const helpOn = (words, ask) => saidOn(ask, ["help", ...words]);
+
+/** Whether it has none: that has the same status. @param {string} said */
+export const isRefusal = (said) => said.startsWith("error:");
 
 /** The subcommands of the program, but for help. @param {Ask} ask @returns {string[]} */
 export const subcommandsOf = (ask) => /\[subcommands: (.*), help\]/.exec(saidOn(ask, []))[1].split(", ");
@@ -31,7 +28,7 @@ export const subcommandsOf = (ask) => /\[subcommands: (.*), help\]/.exec(saidOn(
 export const OWN = ["view", "edit", "merge", "port", "completion", "version"];
 
 /* The options of a subcommand, by its help: each, and whether it has a value. */
-const optionRows = (word, ask) => [...helpOn([word], ask).said.matchAll(/^ *(?:-h, )?(--[a-z]+)( <)?/gm)];
+const optionRows = (word, ask) => [...helpOn([word], ask).matchAll(/^ *(?:-h, )?(--[a-z]+)( <)?/gm)];
 
 /** The options of a subcommand of the program. @param {string} word @param {Ask} ask @returns {string[]} */
 export const optionsOf = (word, ask) => optionRows(word, ask).map(([, option]) => option);

@@ -1,5 +1,4 @@
-// The one reader of what `explain` prints of a run: the program has its paragraphs in words alone (docs/FORMATS.md, "Explain"). Lines begin at the margin, but for
-// those of a paragraph behind its first:
+// The one reader of what `explain` prints of a run, of which the program has no data. Its lines begin at the margin, but for those of a paragraph behind its first:
 //
 //     the opening, a paragraph for each instruction, the end, the lines of the verdict, maybe a line that the schedule is cut
 
