@@ -3,9 +3,10 @@
 
     python3 bench/long_lines.py [--bytes N] [--program PROGRAM]
 
-Writes lines of N (100,000,000) bytes to `otbench conform` and prints the first line of each answer, the processor time and the peak memory in lines' lengths. The status is 1 where an answer is another one.
+Writes lines of N (100,000,000) bytes to `otbench conform --json` and prints what each answer names, the processor time and the peak memory in lines' lengths. The status is 1 where an answer is another one.
 """
 import argparse
+import json
 import os
 import subprocess
 import sys
@@ -14,27 +15,30 @@ import tempfile
 HERE = os.path.dirname(os.path.abspath(__file__))
 PROGRAM = os.path.join(os.path.dirname(HERE), 'crates', 'otbench', 'out', 'otbench')
 SCHEDULE = b'clients 1\nstart "x"\nedit 0 [1,"a"]\n%%\n'
+NAMING = ('verdict', 'at', 'instruction', 'client', 'key')
 
 
 def lines(size):
-    """What a line is, how it begins, is filled and ends, and the first line of the answer."""
-    yield 'a text under a key that is skipped', b'{"at":1,"weather":"', b'a' * size, b'"}', 'conforms'
-    yield 'a text as document', b'{"at":1,"document":"', b'a' * size, b'"}', 'differs at 1: edit 0: client 0 document'
-    yield 'an operation of many components', b'{"at":1,"edit":[1', b',1' * (size // 2), b']}', 'differs at 1: edit 0: edit'
-    yield 'digits', b'{"at":1,"revision":', b'1' * size, b'}', 'differs at 1: edit 0: line'
-    yield 'no JSON', b'', b'a' * size, b'', 'differs at 1: edit 0: line'
-    yield 'no UTF-8', b'', b'\xff' * size, b'', 'differs at 1: edit 0: line'
-    yield 'nested arrays', b'', b'[' * size, b'', 'differs at 1: edit 0: line'
+    """What a line is, how it begins, is filled and ends, and what the answer names."""
+    line = ['differs', 1, 'edit 0', 'line']
+    yield 'a text under a key that is skipped', b'{"at":1,"weather":"', b'a' * size, b'"}', ['nothing compared']
+    yield 'a text as document', b'{"at":1,"document":"', b'a' * size, b'"}', ['differs', 1, 'edit 0', 0, 'document']
+    yield 'an operation of many components', b'{"at":1,"edit":[1', b',1' * (size // 2), b']}', ['differs', 1, 'edit 0', 'edit']
+    yield 'digits', b'{"at":1,"revision":', b'1' * size, b'}', line
+    yield 'no JSON', b'', b'a' * size, b'', line
+    yield 'no UTF-8', b'', b'\xff' * size, b'', line
+    yield 'nested arrays', b'', b'[' * size, b'', line
 
 
 def answer(program, path, sink):
-    """The first line of the answer, processor seconds, and peak memory in bytes."""
+    """What the answer names, processor seconds, and peak memory in bytes."""
     with open(path, 'rb') as source, open(sink, 'wb') as to:
-        child = subprocess.Popen([program, 'conform'], stdin=source, stdout=to)
+        child = subprocess.Popen([program, 'conform', '--json'], stdin=source, stdout=to)
         _, _, usage = os.wait4(child.pid, 0)
         child.returncode = 0
     with open(sink, 'rb') as said:
-        return said.read(100).split(b'\n')[0].decode(), usage.ru_utime + usage.ru_stime, usage.ru_maxrss * 1024
+        told = json.load(said)
+    return [told[name] for name in NAMING if name in told], usage.ru_utime + usage.ru_stime, usage.ru_maxrss * 1024
 
 
 def main():
@@ -48,7 +52,7 @@ def main():
             with open(f'{room}/input', 'wb') as to:
                 to.writelines([SCHEDULE, begin, fill, end, b'\n'])
             said, seconds, memory = answer(words.program, f'{room}/input', f'{room}/said')
-            print('%-36s %5.2f s %5.1f lines   %s' % (name, seconds, memory / len(fill), said))
+            print('%-36s %5.2f s %5.1f lines   %s' % (name, seconds, memory / len(fill), ' '.join(map(str, said))))
             status |= said != expected
     return status
 

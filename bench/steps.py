@@ -27,7 +27,8 @@ os.environ['OTBENCH_NEEDS_PROVED'] = '1'
 LETTERS = ['a', 'b', 'c', ' ', '"', '\\', '\n', '\u0001', 'é', '\U0001d4b3']
 WAITING = ('revision', 'state', 'outstanding', 'buffer')
 FAULTS = ('tie', 'old-revision', 'buffer-kept', 'whole-log', 'order')
-THEIRS = WAITING + ('sent', 'document')
+THEIRS = WAITING + ('sent', 'message', 'document')
+NAMING = ('verdict', 'at', 'instruction', 'client', 'key')
 PRINTED = ('do', 'client', 'edit') + WAITING + ('sent', 'applied', 'appended', 'document', 'end')
 
 
@@ -136,8 +137,9 @@ class Port:
 
 
 def conform(words, text, lines):
-    """Status and lines of the answer to these lines of a port."""
-    return output(words.program.split() + ['conform'], text + '%%\n' + ''.join(line + '\n' for line in lines))
+    """The status and the answer to these lines of a port."""
+    status, said = output(words.program.split() + ['conform', '--json'], text + '%%\n' + ''.join(line + '\n' for line in lines))
+    return status, json.loads(said[0])
 
 
 def other(r, value):
@@ -159,53 +161,51 @@ def whose(line):
     return '%s %d' % (line['do'], line['client']) if 'client' in line else line['do']
 
 
-def called(line, key):
-    """How a value of a line is called."""
-    name = key if isinstance(key, str) else ' '.join(key)
+def owner(line, key):
+    """The member of an answer that says whose value of a line it is, if it has one."""
     if 'do' not in line or (key if isinstance(key, str) else key[0]) not in THEIRS:
-        return name
-    return ('server ' if line['do'] in ('take', 'read-server') else 'client %d ' % line['client']) + name
+        return {}
+    return {'client': None if line['do'] in ('take', 'read-server') else line['client']}
 
 
 def changed(r, lines):
-    """One of the lines with one value changed, and the first line of the answer to it."""
+    """One of the lines with one value changed, and the members of the answer that name it."""
     n = r.randrange(len(lines))
     line = json.loads(lines[n])
     keys = [key for key in line if key != 'stopped' and (key != 'at' or n > 0) and not ('stopped' in line and key in ('do', 'edit', 'client'))]
     if isinstance(line.get('sent'), dict):
         keys += [('sent', 'revision'), ('sent', 'operation')]
     key = r.choice(keys)
-    place, name = json.loads(lines[n])['at'], called(line, key)
+    named = {'verdict': 'differs', 'at': line['at'], 'instruction': whose(line), **owner(line, key), 'key': key if isinstance(key, str) else ' '.join(key)}
     if isinstance(key, str):
         line[key] = other(r, line[key])
     else:
         line['sent'] = dict(line['sent'], **{key[1]: other(r, line['sent'][key[1]])})
-    what = whose(json.loads(lines[n]))
     if key == 'at' and not (isinstance(line['at'], int) and line['at'] >= 0):
-        name = 'line'
-    return lines[:n] + [json.dumps(line, ensure_ascii=False)] + lines[n + 1:], 'differs at %d: %s: %s' % (place, what, name)
+        named['key'] = 'line'
+    return lines[:n] + [json.dumps(line, ensure_ascii=False)] + lines[n + 1:], named
 
 
 def check_conform(words, text, port, r):
     """What `conform` answers; how many faults it named, and whether a value was changed."""
     for flags in ([], ['--documents']):
         status, lines = output(words.program.split() + ['steps'] + flags, text)
-        said = conform(words, text, lines)
-        assert said[0] == 0 and said[1][0] == 'conforms', said
+        status, said = conform(words, text, lines)
+        assert status == 0 and said['verdict'] == 'conforms', said
     if not port:
         return 0
     right = port.lines(text)
-    said = conform(words, text, right)
-    assert said[0] == 0 and said[1][0] == 'conforms', said
-    lines, first = changed(r, right)
-    said = conform(words, text, lines)
-    assert said[0] == 1 and said[1][0] == first, (first, said)
+    status, said = conform(words, text, right)
+    assert status == 0 and said['verdict'] == 'conforms', said
+    lines, members = changed(r, right)
+    status, said = conform(words, text, lines)
+    assert status == 1 and {name: said[name] for name in NAMING if name in said} == members, (members, said)
     named = 0
     for fault in FAULTS:
         lines = port.lines(text, bug=fault)
         status, said = conform(words, text, lines)
         same = [without_words(line) for line in lines] == [without_words(line) for line in right]
-        assert (status == 0) == (said[0] == 'conforms') == same, (fault, said)
+        assert (status == 0) == (said['verdict'] == 'conforms') == same, (fault, said)
         named += not same
     return named
 

@@ -6,8 +6,7 @@ import { USAGE as COMPLETION_HELP } from "./completion.mjs";
 import { ANSWERING_EACH, FILES, MOST } from "./files.mjs";
 import { PORT_HELP } from "../ports/porthelp.mjs";
 import { complain, print } from "./streams.mjs";
-import { textOf } from "../common/text.mjs";
-import { similarTo } from "./usage.mjs";
+import { helpOn, isRefusal, similarTo } from "./usage.mjs";
 import { USAGE as VIEW_HELP } from "./view.mjs";
 
 const [DONE, FAULT, USAGE] = [0, 1, 2];
@@ -54,9 +53,9 @@ export function showHelp(context, words) {
   const { program } = context;
   const [word] = words;
   if (words.length === 1 && Object.hasOwn(OWN_HELP, word)) return print(OWN_HELP[word]) ? DONE : FAULT;
-  const said = textOf(program.ask(["help", ...words], new Uint8Array(0)).errors);
+  const said = helpOn(words, program.ask);
   const added = words.length < 2 ? addedTo(word, context) : "";
-  if (!said.startsWith("error:")) return print(said + added) ? DONE : FAULT;
+  if (!isRefusal(said)) return print(said + added) ? DONE : FAULT;
   complain(said);
   if (words.length === 1) complain(`otbench: ${similarTo(word, program.ask)}\n`);
   return USAGE;

@@ -1,4 +1,4 @@
-/* What the command says below an answer of status 2, on standard error: what may be meant. What subcommands and options there are the program's help says. */
+/* What the command says below an answer of status 2: what may be meant. The program's help and its faults of words, of which it has no data, are read here alone. */
 
 import { FILES, formOf, isFile, readFile } from "./files.mjs";
 import { kindOf } from "./kinds.mjs";
@@ -15,6 +15,12 @@ const LONGEST = 200;
 /* What the program says on these words; it refuses them before it reads anything. */
 const saidOn = (ask, words) => textOf(ask(words, NOTHING).errors);
 
+/** The program's help on words. @param {string[]} words @param {Ask} ask */
+export const helpOn = (words, ask) => saidOn(ask, ["help", ...words]);
+
+/** Whether it has none: that has the same status. @param {string} said */
+export const isRefusal = (said) => said.startsWith("error:");
+
 /** The subcommands of the program, but for help. @param {Ask} ask @returns {string[]} */
 export const subcommandsOf = (ask) => /\[subcommands: (.*), help\]/.exec(saidOn(ask, []))[1].split(", ");
 
@@ -22,7 +28,7 @@ export const subcommandsOf = (ask) => /\[subcommands: (.*), help\]/.exec(saidOn(
 export const OWN = ["view", "edit", "merge", "port", "completion", "version"];
 
 /* The options of a subcommand, by its help: each, and whether it has a value. */
-const optionRows = (word, ask) => [...saidOn(ask, ["help", word]).matchAll(/^ *(?:-h, )?(--[a-z]+)( <)?/gm)];
+const optionRows = (word, ask) => [...helpOn([word], ask).matchAll(/^ *(?:-h, )?(--[a-z]+)( <)?/gm)];
 
 /** The options of a subcommand of the program. @param {string} word @param {Ask} ask @returns {string[]} */
 export const optionsOf = (word, ask) => optionRows(word, ask).map(([, option]) => option);

@@ -145,7 +145,7 @@ function callOf(name, ...given) {
 export function linesOf(lines) {
   if (!Array.isArray(lines)) return bytesOf(lines, "what the port printed");
   const texts = lines.map((line) => (typeof line === "string" ? line : JSON.stringify(line)));
-  return bytesOf(texts.map((line) => `${line}\n`).join(""), "the port's lines");
+  return bytesOf(texts.concat("").join("\n"), "the port's lines");
 }
 
 const isText = (given) => typeof given === "string" || given instanceof Uint8Array;

@@ -19,6 +19,7 @@ export class OtbenchError extends Error {
   }
 }
 
+/* The one reader of a fault's line, whose form docs/FORMATS.md gives: of images and traces, and of a text for `steps`, `asm` and `complete`, there is no other answer. */
 const FAULT = /^otbench: (?:session (?<session>\d+): )?(?:line (?<line>\d+): |byte (?<byte>\d+): )?(?<kind>\w+)/;
 
 /* The error of what the program printed on standard error. */

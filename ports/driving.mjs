@@ -12,8 +12,11 @@ import { LEFT } from "./verdict.mjs";
  * @typedef {object} Driven
  * @property {import("../npm/otbench.mjs").PortLines} lines
  * @property {{ value: unknown }} [thrown] what the port threw
- * @property {string} [trouble] how the process of a driver ended, if otherwise than it should
+ * @property {string | null} [how] how the process of a driver ended, if otherwise than it should
+ * @property {string} [trouble] the same with what it said, or what an earlier session left
+ * @property {boolean} [isOfState] the latter
  * @property {boolean} [isEnded] it was ended by a limit
+ * @property {boolean} [isSlow] that is its time
  * @property {import("./verdict.mjs").Verdict["process"]} [process] the sessions that show it, where one alone does not
  * @typedef {{ onInstruction?: (at: number) => void, signal?: AbortSignal }} Watch is called with the number of each instruction that begins, from 1; says that nobody waits any more
  * @typedef {(schedule: string, watch: Watch) => Promise<Driven>} Perform
@@ -44,7 +47,7 @@ async function drivenPort(port, accessors, text, { before, onInstruction }) {
   const lines = [JSON.stringify(opening(schedule))];
   const session = new Session(port, schedule, accessors);
   const left = before === undefined ? null : leftIn(session, accessors);
-  if (left !== null) return { lines: [], trouble: `${LEFT}: ${left}`, process: { performed: [before, text], count: 2 } };
+  if (left !== null) return { lines: [], trouble: `${LEFT}: ${left}`, isOfState: true, process: { performed: [before, text], count: 2 } };
   let [at, thrown] = [0, undefined];
   for (const instruction of schedule.instructions) {
     onInstruction(at + 1);

@@ -174,7 +174,7 @@ export class Judge {
     const { signal, drop, forget } = droppable(dropped);
     const perform = (schedule) => this.#with(false, (driver) => this.#performed(driver, schedule, limit(schedule.length), signal));
     const under = new UnderWay(schedules, this.jobs, perform);
-    let [performed, parts, since] = [[], [], 0];
+    let [performed, parts, since, most] = [[], [], 0, 1]; // at first few are compared together, so that little is done for nothing where one of the first fails
     try {
       for (let first; (first = under.first()); ) {
         if (performed.length > 0 && !(await endsBefore(since + TOGETHER, first.result))) {
@@ -188,9 +188,10 @@ export class Judge {
         if (performed.length === 0) since = performance.now();
         performed.push(its);
         if (part !== null) parts.push(part);
-        if (part !== null && performance.now() - since < TOGETHER) continue;
+        if (part !== null && parts.length < most && performance.now() - since < TOGETHER) continue;
         yield* this.#verdictsOn(performed, parts);
         [performed, parts] = [[], []];
+        most *= 2;
       }
       yield* this.#verdictsOn(performed, parts);
     } finally {

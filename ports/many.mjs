@@ -6,17 +6,18 @@
 
 import { linesOf } from "../npm/bench.mjs";
 import { OtbenchError } from "../npm/errors.mjs";
+import { LARGE } from "./pace.mjs";
 import { bytesOf, markIn } from "../common/text.mjs";
 
 /* What is said of a session that was counted with another one. */
 const COUNTED = { verdict: "conforms", conforms: true, compared: {}, unknown: [] };
 
 /**
- * A session that can be compared with others; null if it has to be compared alone: its driver failed, it has a line `%%` of its own, or it has no bytes.
+ * A session that is compared with others; null if it is compared alone: a call of its own costs little as it is large, its driver failed, it has a line `%%` of its own, or it has no bytes.
  * @param {{ schedule: string, driven: import("./driving.mjs").Driven & { late?: number, isThrown?: boolean } }} performed
  */
 export function partOf({ schedule, driven: { lines, late, trouble, isThrown } }) {
-  if (late !== undefined || trouble !== undefined || isThrown) return null;
+  if (late !== undefined || trouble !== undefined || isThrown || schedule.length > LARGE) return null;
   try {
     const session = { schedule: bytesOf(schedule, "the schedule"), lines: linesOf(lines) };
     return [session.schedule, session.lines].some(markIn) ? null : session;

@@ -2,7 +2,7 @@
 
 import os from "node:os";
 
-const LARGE = 8192; // such a session may take twice as long, and is measured apart
+export const LARGE = 8192; // such a session may take twice as long, and is measured apart
 const SLOWER = 3; // a session may take so many times as long as the longest before it
 const SUSPECT = 1000; // behind the longest before it by so much a session may hang: it is reduced while it has the rest of its time
 const FOUND = 500; // the same of a smaller session of one that may hang

@@ -15,17 +15,21 @@ const MOST_TOLD = 65_536; // bytes of standard error, from its end, that are loo
 const alive = new Set();
 process.on("exit", () => alive.forEach((it) => it.kill()));
 
-const howEnded = (status, signal) => (signal ? `the driver was ended by signal ${signal}` : status ? `the driver ended with status ${status}` : null);
+const howEnded = (status, signal) => (signal ? `was ended by signal ${signal}` : status ? `ended with status ${status}` : null);
 
 /* A process, and what it has printed since it was last asked. */
 class Running {
   constructor([name, ...words], mostBytes) {
     this.mostBytes = mostBytes;
     this.child = spawn(name, words, { stdio: "pipe", detached: process.platform !== "win32" });
-    this.why = null; // it was ended because of this
+    this.why = null; // it was ended because it did this
+    this.isSlow = false; // and that is its time
     this.isOver = false;
     this.over = new Promise((resolve) => {
-      this.child.on("error", (fault) => resolve(`the driver cannot be run: ${fault.message}`));
+      this.child.on("error", ({ message }) => {
+        this.#take(this.errors, Buffer.from(message));
+        resolve("cannot be run");
+      });
       this.child.on("close", (status, signal) => resolve(howEnded(status, signal)));
     }).then((how) => this.#ended(how));
     this.child.stdin.on("error", () => {}); // it need not read what it is given: its lines or its end will tell
@@ -60,13 +64,13 @@ class Running {
   #ended(how) {
     this.isOver = true;
     alive.delete(this);
-    return this.why === null ? how : `the driver was ended: it ${this.why}`;
+    return this.why === null ? how : `was ended: it ${this.why}`;
   }
 
   /* Ends it, and what it has started. */
-  end(why) {
+  end(why, isSlow = false) {
     if (this.isOver || this.why !== null) return;
-    this.why = why;
+    Object.assign(this, { why, isSlow });
     this.kill();
     this.child.stdout.destroy();
     this.child.stderr.destroy();
@@ -85,8 +89,8 @@ class Running {
   told(how) {
     const errors = Buffer.concat(this.errors.pieces).subarray(-MOST_TOLD);
     const said = how === null ? "" : telling(errors.toString());
-    const trouble = how === null ? undefined : said === "" ? how : `${how}: ${said}`;
-    return { lines: Buffer.concat(this.lines.pieces), trouble, isEnded: this.why !== null };
+    const trouble = how === null ? undefined : `the driver ${how}${said && `: ${said}`}`;
+    return { lines: Buffer.concat(this.lines.pieces), how, trouble, isEnded: this.why !== null, isSlow: this.isSlow };
   }
 }
 
@@ -94,7 +98,7 @@ const reasonOf = (signal) => String(signal.reason);
 
 /* Does something while a process may be ended by a signal. */
 async function endable(run, signal, during) {
-  const onAbort = () => run.end(reasonOf(signal));
+  const onAbort = () => run.end(reasonOf(signal), true);
   signal?.addEventListener("abort", onAbort);
   try {
     return await during;
@@ -141,7 +145,7 @@ export function keptFor(command, mostBytes) {
       const isMarked = new Promise((resolve) => its.forget(() => resolve(true)));
       its.child.stdin.write(schedule.endsWith("\n") || schedule === "" ? schedule + MARK : `${schedule}\n${MARK}`);
       const how = await endable(its, signal, Promise.race([isMarked, its.over]));
-      const told = its.told(how === true ? null : (how ?? "the driver ended before the line %%"));
+      const told = its.told(how === true ? null : (how ?? "ended before the line %%"));
       return { ...told, lines: withoutMark(told.lines) };
     },
     isStarved: (milliseconds) => run?.isStarved(milliseconds) === true,
@@ -151,7 +155,7 @@ export function keptFor(command, mostBytes) {
       run.child.stdin.end();
       const how = await run.over;
       clearTimeout(timer);
-      return how && `${how} behind its last session`;
+      return how && `the driver ${how} behind its last session`;
     },
   };
 }

@@ -5,7 +5,7 @@ import { writeFileSync } from "node:fs";
 import { placeTold } from "../common/numbering.mjs";
 import { behindOnLink } from "./link.mjs";
 import { valuesOf, withOneUnitEach } from "../common/schedule.mjs";
-import { isOfState, isOfTheWay, saidOf, sessionsOf } from "./verdict.mjs";
+import { isOfTheWay, saidOf, sessionsOf } from "./verdict.mjs";
 
 const MOST_LINES = 60;
 const MOST_WIDTH = 300; // characters of a line
@@ -112,7 +112,7 @@ const countOf = (schedule) => valuesOf(schedule).instructions.length;
 
 /* The message of a failure. */
 function messageOf(name, found, { sessions, verdict, notes }, text, words) {
-  const { answer, thrown, isEnded } = verdict;
+  const { answer, thrown, isEnded, isOfState } = verdict;
   const before = sessions.length > 1 ? `; the last of ${sessions.length} in one process` : "";
   const isOfUnits = !isEnded && /[\ud800-\udfff]/.test(text);
   return [
@@ -126,7 +126,7 @@ function messageOf(name, found, { sessions, verdict, notes }, text, words) {
     ...(isOfUnits ? [words.more.utf16 === null ? IN_SCALARS : `a text has characters past U+FFFF: a port that counts UTF-16 units is tried with ${words.more.utf16}`] : []),
     ...notes,
     ...words.noted({ sessions, verdict }),
-    ...(isOfState(verdict) ? words.replayed(text, name).slice(0, 1) : words.replayed(text, name)),
+    ...(isOfState ? words.replayed(text, name).slice(0, 1) : words.replayed(text, name)),
     words.madeBy(name),
   ];
 }

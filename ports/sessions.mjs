@@ -14,8 +14,9 @@ const UNUSUAL = /^[^;].*"[^"]*[^\x20-\x5b\x5d-\x7e\r\n]/m;
 
 /** The sessions of the corpus, each written for one rule: small ones first, and those about characters behind all others. */
 export function* corpus() {
-  const isUnusual = ({ schedule }) => Number(UNUSUAL.test(schedule));
-  yield* [...storedSessions(), ...large()].sort((a, b) => isUnusual(a) - isUnusual(b) || a.schedule.length - b.schedule.length || (a.name < b.name ? -1 : 1));
+  const all = [...storedSessions(), ...large()];
+  const unusual = new Map(all.map((session) => [session, Number(UNUSUAL.test(session.schedule))]));
+  yield* all.sort((a, b) => unusual.get(a) - unusual.get(b) || a.schedule.length - b.schedule.length || (a.name < b.name ? -1 : 1));
 }
 
 const LONG_START = "A line of text, with e\u0301 and \r\n".repeat(10); // 300 characters

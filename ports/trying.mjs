@@ -10,7 +10,7 @@ import { triedLaws } from "./laws.mjs";
 import { caseOf, reducedMeanwhile } from "./reducing.mjs";
 import { failureError, hungCase, leftCase } from "./report.mjs";
 import { valuesOf } from "../common/schedule.mjs";
-import { isOfState, kindOf } from "./verdict.mjs";
+import { kindOf } from "./verdict.mjs";
 
 /**
  * @typedef {object} Around what a run is given beside its options
@@ -121,7 +121,7 @@ class Run {
     const found = verdict.schedule;
     const told = (its) => failureError(name, found, kind, its, this.words);
     if (verdict.isRefused) return told({ sessions: [found], verdict, notes: ["otbench refuses what the driver printed"] });
-    if (isOfState(verdict)) return told(leftCase(verdict));
+    if (verdict.isOfState) return told(leftCase(verdict));
     if (verdict.late !== undefined) return told(hungCase(found, verdict, this.judge.pace.most(found.length), this.words));
     this.onFailure?.(told({ sessions: [found], verdict, notes: ["a smaller session hung"] }));
     const isLike = this.options.all ? (it) => kindOf(it) === kind : (it) => !this.isKnown(it);

@@ -11,7 +11,9 @@ import { valuesOf } from "../common/schedule.mjs";
  * @property {import("../npm/otbench.mjs").Conformance | null} answer of `conform`; null where the driver threw, did not end, or printed what is refused
  * @property {{ value: unknown }} [thrown]
  * @property {boolean} isRefused otbench refuses what the driver printed
- * @property {string} [trouble] how the process of a driver ended, if otherwise than it should
+ * @property {string | null} [how] how the process of a driver ended, if otherwise than it should
+ * @property {string} [trouble] the same with what it said, or what an earlier session left
+ * @property {boolean} isOfState the latter
  * @property {boolean} isEnded it did not keep within a limit
  * @property {boolean} isSlow that is its time
  * @property {number} [late] the instruction that did not end, from 1, in a port in this process; 0 where that is not known
@@ -39,10 +41,10 @@ const CONFORM = ["conforms", "nothing compared"]; // of lines that do not differ
  * @param {Verdict["process"]} [process]
  * @returns {Verdict}
  */
-export function verdictOf(conform, schedule, { lines, thrown, trouble, isEnded = false, late, isThrown = false }, took, process = { performed: [schedule], count: 1 }) {
-  const all = { schedule, process, thrown, trouble, isEnded: isEnded || late !== undefined, late, took, lines, isRefused: false };
-  all.isSlow = late !== undefined || (isEnded && / took more than /.test(trouble));
-  if (late !== undefined || isThrown || isOfState(all)) return { ...all, answer: null, fails: true };
+export function verdictOf(conform, schedule, { lines, thrown, how, trouble, isOfState = false, isEnded = false, isSlow = false, late, isThrown = false }, took, process = { performed: [schedule], count: 1 }) {
+  const isLate = late !== undefined;
+  const all = { schedule, process, thrown, how, trouble, isOfState, isEnded: isEnded || isLate, isSlow: isSlow || isLate, late, took, lines, isRefused: false };
+  if (isLate || isThrown || isOfState) return { ...all, answer: null, fails: true };
   const told = answered(conform, schedule, lines);
   const fails = told.answer === null || !CONFORM.includes(told.answer.verdict) || trouble !== undefined;
   return { ...all, ...told, thrown: told.thrown ?? thrown, fails };
@@ -52,30 +54,28 @@ export function verdictOf(conform, schedule, { lines, thrown, trouble, isEnded =
 export const sessionsOf = ({ process }) => process.performed.slice(0, process.count);
 
 /** Whether a message was changed between where it was sent and where it was taken. @param {Verdict} verdict */
-export const isOfTheWay = ({ answer }) => answer?.verdict === "differs" && /^message\b/.test(answer.key);
+export const isOfTheWay = ({ answer }) => answer?.verdict === "differs" && answer.key.startsWith("message");
 
-/** How a driver begins to tell of state that an earlier session left. */
+/** What is said of state that an earlier session left. */
 export const LEFT = "state is left from an earlier session";
 
-/** Whether an earlier session left state. @param {Verdict} verdict */
-export const isOfState = ({ trouble }) => trouble?.startsWith(`${LEFT}: `) === true;
-
-const ENDED = /^the driver (ended with status \d+|was ended by signal \w+|was ended: it printed more than [\d,.]+ bytes|ended before the line %%|cannot be run)/;
+/* An instruction without its client's number. */
+const withoutClient = (instruction) => instruction.replace(/ \d+$/, "");
 
 /**
  * The method of ot.js and the key in which the port differs, or else what was wrong: the same for failures of one cause, mostly.
  * @param {Verdict} verdict
  */
 export function kindOf(verdict) {
-  const { answer, trouble, isSlow, isRefused } = verdict;
+  const { answer, how, isOfState, isSlow, isRefused } = verdict;
   if (answer?.verdict === "differs") {
-    const what = /^(?:after the end|[a-z-]+)/.exec(answer.instruction)[0];
+    const what = withoutClient(answer.instruction);
     if (isOfTheWay(verdict)) return `${what}: message`;
     return `${answer.rule ?? what}: ${answer.key}`;
   }
-  if (isOfState(verdict)) return `port: ${LEFT}`;
+  if (isOfState) return `port: ${LEFT}`;
   if (isSlow) return "driver: was ended: it took too long";
-  if (trouble !== undefined) return `driver: ${ENDED.exec(trouble)?.[1] ?? "failed"}`;
+  if (how) return `driver: ${how}`;
   if (answer?.verdict === "stopped") return `stopped: ${answer.refusal}`;
   return isRefused ? "driver: otbench refuses what it printed" : "driver: threw";
 }

@@ -4,7 +4,7 @@ const [BOLD, RED, GREEN, YELLOW] = [1, 31, 32, 33];
 
 /** What a line of the debugger begins with, and how it is shown. The first that fits counts. */
 const KINDS = [
-  [/^the port differs /, RED],
+  [/^the port's first difference /, RED],
   [/^(behind|before|the end:) /, BOLD],
   [/^->/, GREEN],
   [/^(break at place \d|(client \d+( \(.*?\))? (doc|state|outstanding|buffer)|the server's (revision|document))(:| at \d))/, YELLOW],

@@ -66,7 +66,7 @@ export class Debugger {
 
   /** That the port differs, and in which line; at the first place, to which no command goes on, with conform's answer. */
   #tellDifference({ place, line, words }) {
-    const where = `the port differs at place ${place}${line === null ? "" : `, line ${line}`}`;
+    const where = `the port's first difference is at place ${place}${line === null ? "" : `, line ${line}`}`;
     return place === 0 ? [where, ...shortVerdict(words).map((it) => named(it, this.recording.names))] : [`${where}: run stops there`];
   }
 
@@ -396,9 +396,9 @@ export class Debugger {
   /** An instruction in words: by its number, or that which was performed or undone last. */
   #told(word) {
     const { instructions, opening } = this.recording;
-    if (word === undefined) return (this.last === null ? opening : instructions[this.last].told).split("\n");
+    if (word === undefined) return this.last === null ? [opening] : instructions[this.last].told;
     if (!/^\d{1,9}$/.test(word) || Number(word) >= instructions.length) throw new Complaint(`${word} is no instruction: they are 0 to ${instructions.length - 1}`);
-    return instructions[Number(word)].told.split("\n");
+    return instructions[Number(word)].told;
   }
 
   _source([file]) {
@@ -531,12 +531,12 @@ export class Debugger {
   /** Where the place is, and, behind an instruction, where that led. */
   #whereIs({ line, number, words, told }, isBack = false) {
     const head = `line ${line}, instruction ${number}: ${words}`;
-    return isBack ? [`before ${head}`] : [`behind ${head}`, told.split("\n").at(-1)];
+    return isBack ? [`before ${head}`] : [`behind ${head}`, told.at(-1)];
   }
 
   #ending() {
     const { refused, end } = this.recording;
-    return refused ? [`the end: line ${refused.line}, instruction ${refused.number}: ${refused.words} is refused`, refused.told.split("\n").at(-1)] : [`the end: ${this.recording.server(end).at(-1)}`];
+    return refused ? [`the end: line ${refused.line}, instruction ${refused.number}: ${refused.words} is refused`, refused.told.at(-1)] : [`the end: ${this.recording.server(end).at(-1)}`];
   }
 
   /** What conform says of the port's difference, where it is such a one. */

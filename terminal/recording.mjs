@@ -23,7 +23,7 @@ export class RefusedText extends Error {}
 
 const LINK = 4; // messages of a link that are all shown
 
-/** @typedef {{ number: number, line: number, words: string, told: string, refused: boolean }} Instruction */
+/** @typedef {{ number: number, line: number, words: string, told: string[], refused: boolean }} Instruction `told`: its paragraph of explain, in lines */
 
 /** The instructions of a run, with what explain tells of each; a refused one comes last. */
 function instructionsOf({ steps, stop }, { lines }, told) {

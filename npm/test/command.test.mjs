@@ -261,7 +261,7 @@ test("a schedule ends at a line %%, as recorded ones do; conform, view and debug
     assert.equal(call(["conform", recorded, "-"], lines, program)[1].split("\n")[0], "conforms");
     assert.deepEqual(call(["debug", recorded, file("commands", "step 3\n")], "", program), [0, "at 3: count\n", ""]);
     const faulty = file("faulty.ots", `${WEAK}%%\n${lines.replace('"buffer":["a",1,-1,1],"applied"', '"buffer":["a",-1,1],"applied"')}`);
-    assert.match(call(["debug", faulty], "run\n", program)[1], /the port differs at place 7, line 11: run stops there\n[^]*differs at 7: deliver 0: client 0 buffer\n/);
+    assert.match(call(["debug", faulty], "run\n", program)[1], /the port's first difference is at place 7, line 11: run stops there\n[^]*differs at 7: deliver 0: client 0 buffer\n/);
     assert.doesNotMatch(call(["debug", faulty, "--port", "-x", "--"], "", program)[2], /usage/);
   }
   assert.deepEqual(call(["run", "--image"], "a\n%%\nb"), [1, "", "otbench: byte 0: BadMagic\n  magic: found 61 0a 25 25; wanted 4f 54 53 31 (OTS1) or 4f 54 53 32 (OTS2)\n"]);
@@ -290,8 +290,8 @@ test("a port's lines in which nothing is compared, or a key is unknown: status 1
 test("lines for some instructions", () => {
   const name = file("sparse.ots", `${WEAK}%%\n{"at":12,"document":"acz"}\n`);
   for (const program of PROGRAMS) {
-    assert.match(call(["debug", name], "", program)[1], /the port differs/);
-    assert.doesNotMatch(call(["debug", "--sparse", name], "", program)[1], /differs/);
+    assert.match(call(["debug", name], "", program)[1], /the port's first difference/);
+    assert.doesNotMatch(call(["debug", "--sparse", name], "", program)[1], /first difference/);
   }
 });
 
@@ -299,6 +299,7 @@ test("what is larger than its kind may be is refused while it is read", { skip: 
   const said = (name, most, kind) => [1, "", `otbench: ${name}: it has more than ${most} bytes, which is the most of ${kind}\n`];
   for (const program of PROGRAMS) {
     assert.deepEqual(call(["run", "/dev/zero"], "", program), said("/dev/zero", "268,435,456", "a schedule"));
+    assert.deepEqual(call(["run", "--image", "/dev/zero"], "", program), said("/dev/zero", "268,435,456", "an image"));
     assert.deepEqual(call(["threads", "/dev/zero"], "", program), said("/dev/zero", "67,108,864", "a plan"));
     assert.deepEqual(call(["debug", file("short.ots", "clients 1\n"), "/dev/zero"], "", program), said("/dev/zero", "67,108,864", "commands"));
   }

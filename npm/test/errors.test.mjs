@@ -81,6 +81,10 @@ test("explain says of a trace where its first fault is", () => {
 test("explain says what a plan is, and of one that is refused where its first fault is", () => {
   const action = { at: 0, insert: "a" };
   assert.equal(explain({ clients: 2, workers: 1, typing: [[action], []] }, { form: "plan" }), "a plan: 2 clients, 1 worker, 1 action of typing\n");
+  const ignored = '{"clients":1,"workers":1,"typing":[[{"at":0,"text":"a","__proto__":1}]],"a\u202e<b>":2}';
+  const [, ...lines] = explain(ignored, { form: "plan" }).split("\n");
+  const ofAction = (key) => `ignored "${key}" in typing[0][0]; an action has at, delete and insert`;
+  assert.deepEqual(lines, ['ignored "a\u202e<b>" in the plan; a plan has clients, workers, typing, start and present', ofAction("__proto__"), ofAction("text"), ""]);
   const told = (plan) => () => explain(plan, { form: "plan" });
   refused(told({ clients: 1, workers: 1, typing: [[{ ...action, insert: 7 }]] }), "BadShape", {}, /^BadShape\n {2}typing\[0\]\[0\], insert: found 7; wanted a text$/);
   refused(told({ clients: 1, workers: 9, typing: [[]] }), "BadNumber", {}, /^BadNumber\n {2}workers: found 9; wanted a number from 1 to 8$/);

@@ -31,13 +31,28 @@ test("verdicts are in the order of the sessions", async () => {
 test("what was performed is compared while the next session takes long", async () => {
   const seen = [];
   const subject = async (text) => {
-    if (text === schedule("d")) await pause(400);
+    if (text === schedule("f")) await pause(400);
     seen.push(text);
     return steps(text, { documents: true });
   };
-  for await (const verdict of judgeOf(subject, bench).together([..."abcd"].map(schedule))) {
-    if (verdict.schedule === schedule("c")) assert.ok(!seen.includes(schedule("d")));
+  for await (const verdict of judgeOf(subject, bench).together([..."abcdefg"].map(schedule))) {
+    if (verdict.schedule === schedule("e")) assert.ok(!seen.includes(schedule("f")));
   }
+});
+
+test("at most one, two, four sessions are compared together and so on, and a large one alone", async () => {
+  const lines = new Map([..."abcdefghijklmnopqrst"].map((text) => [schedule(text), steps(schedule(text), { documents: true })]));
+  const large = `clients 1\n${"; a comment\n".repeat(1000)}read 0\n`;
+  const counts = [];
+  const counting = { conform: (...given) => counts.push(1) && conform(...given), conformMany: (sessions) => counts.push(sessions.length) && conformMany(sessions) };
+  await verdicts((text) => lines.get(text), lines.keys(), counting);
+  assert.ok(counts.every((count, at) => count <= 2 ** at), String(counts));
+  assert.equal(counts.splice(0).reduce((sum, count) => sum + count), lines.size);
+  await verdicts((text) => lines.get(text) ?? steps(text), [...lines.keys()].slice(0, 2).concat(large), counting);
+  assert.deepEqual(counts.splice(0), [1, 1, 1]);
+  let performed = 0;
+  for await (const { fails } of judgeOf((text) => (++performed === 3 ? wrong("c") : lines.get(text)), bench).together(lines.keys())) if (fails) break;
+  assert.ok(performed < 8, String(performed));
 });
 
 test("it ends where it is dropped", async () => {

@@ -17,18 +17,20 @@ test("a process for each session: what it printed, and how it ended", async () =
     [["echo", "1"], "1\n", undefined],
     [sh("cat; echo at the end >&2; exit 1"), "clients 1\n", "the driver ended with status 1: at the end"],
     [sh("cat >/dev/null; echo 2; kill -SEGV $$"), "2\n", "the driver was ended by signal SIGSEGV"],
+    [["/nosuch/driver"], "", "the driver cannot be run: spawn /nosuch/driver ENOENT"],
   ];
   for (const [command, lines, trouble] of rows) assert.deepEqual(told(await eachInOne(command, 1000).perform("clients 1\n")), [lines, trouble, false]);
 });
 
 test("one that prints without end, and one that is ended by a signal", async () => {
-  const [lines, trouble, isEnded] = told(await eachInOne(["yes"], 100_000).perform("clients 1\n"));
-  assert.deepEqual([lines.slice(0, 4), trouble, isEnded], ["y\ny\n", "the driver was ended: it printed more than 100,000 bytes", true]);
+  const { lines, ...yes } = await eachInOne(["yes"], 100_000).perform("clients 1\n");
+  const how = "was ended: it printed more than 100,000 bytes";
+  assert.deepEqual([lines.toString().slice(0, 4), yes], ["y\ny\n", { how, trouble: `the driver ${how}`, isEnded: true, isSlow: false }]);
   for (const script of ["echo 3; sleep 300", "exec >&- 2>&-; sleep 300"]) {
     const end = new AbortController();
     setTimeout(() => end.abort("took more than 1 s"), 1000);
-    const [, why, isOver] = told(await eachInOne(sh(script), 1000).perform("clients 1\n", { signal: end.signal }));
-    assert.deepEqual([why, isOver], ["the driver was ended: it took more than 1 s", true]);
+    const { trouble, isEnded, isSlow } = await eachInOne(sh(script), 1000).perform("clients 1\n", { signal: end.signal });
+    assert.deepEqual([trouble, isEnded, isSlow], ["the driver was ended: it took more than 1 s", true, true]);
   }
 });
 

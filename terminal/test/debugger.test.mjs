@@ -148,7 +148,7 @@ test("at a terminal the first line of a difference is red, with the client's nam
   process.env = others;
   const colour = colouring({ isTTY: true });
   process.env = { ...others, ...(NO_COLOR && { NO_COLOR }), ...(TERM && { TERM }) };
-  assert.deepEqual([colour("x", true), colour("x"), colour("the port differs at place 7")], ["\x1b[31mx\x1b[0m", "x", "\x1b[31mthe port differs at place 7\x1b[0m"]);
+  assert.deepEqual([colour("x", true), colour("x"), colour("the port's first difference is at place 7")], ["\x1b[31mx\x1b[0m", "x", "\x1b[31mthe port's first difference is at place 7\x1b[0m"]);
 });
 
 test("back from the end, rrun stops before the instruction in which the port differs, which explain tells", options, () => {
@@ -168,10 +168,10 @@ test("back from the end, rrun stops before the instruction in which the port dif
 test("the greeting says at which place and line a port differs, and of the first place how", options, () => {
   const greeting = (schedule, port) => new Debugger(new Recording(ask, schedule, port)).greeting().slice(1, -1);
   const port = ask(["steps"], WEAK).output.replace('"buffer":["a",1,-1,1],"applied"', '"buffer":["a",-1,1],"applied"');
-  assert.deepEqual(greeting(WEAK, port), ["the port differs at place 7, line 11: run stops there"]);
-  assert.deepEqual(greeting("clients 1\n", '{"at":0,"clients":2}\n'), ["the port differs at place 0", "differs at 0: opening: clients", "found 2", "ot.js 1"]);
+  assert.deepEqual(greeting(WEAK, port), ["the port's first difference is at place 7, line 11: run stops there"]);
+  assert.deepEqual(greeting("clients 1\n", '{"at":0,"clients":2}\n'), ["the port's first difference is at place 0", "differs at 0: opening: clients", "found 2", "ot.js 1"]);
   const twice = 'clients 1\nedit 0 ["a"]\n; again\ntake 0\ntake 0\n';
-  assert.deepEqual(greeting(twice, '{"at":1}\n{"at":2}\n{"at":3}\n'), ["the port differs at place 2, line 5: run stops there"]);
+  assert.deepEqual(greeting(twice, '{"at":1}\n{"at":2}\n{"at":3}\n'), ["the port's first difference is at place 2, line 5: run stops there"]);
 });
 
 test("where a port's server differs, the end is told all the same", options, () => {

@@ -36,8 +36,7 @@ const noteOf = (port, { answer }) => port.map((line) => JSON.parse(line)).find((
 export function faultOf({ fault, errors }) {
   const said = readFault(fault);
   if (said !== null) return { line: said.line, column: said.column ?? 0, kind: said.fault, cause: causeOf(said) };
-  const [first] = errors.trim().split("\n");
-  return { line: 0, column: 0, kind: first.replace(/^otbench: /, ""), cause: "" };
+  return { line: 0, column: 0, kind: errors.trim(), cause: "" };
 }
 
 /* The line of the refused instruction, from 1, and why; null where none is refused. */

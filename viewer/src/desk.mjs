@@ -1,7 +1,7 @@
 // The engine behind its worker: it answers words and inputs, gives of the lines of steps only what has changed, and performs the debugger's commands.
 
 import { bytesOf, textOf } from "../../common/text.mjs";
-import { partsOf } from "../../common/told.mjs";
+import { partsOf, reasonIn } from "../../common/told.mjs";
 import { readRun } from "../../npm/answers.mjs";
 import { Commanded } from "./commanded.mjs";
 
@@ -87,10 +87,10 @@ export class Desk {
     return new TextDecoder().decode(this.ask(["check", "--json"], input).output);
   }
 
-  /* Why an instruction is refused: the last line of its paragraph. The lines of steps are of the opening, of each instruction and of the end. */
+  /* Why the last instruction is refused; nothing where memory runs out. The lines of steps are of the opening, of each instruction and of the end. */
   #refusal(input, lines) {
     const told = textOf(this.ask(["explain"], input).output);
     const { instructions } = partsOf(told, countLines(lines, lines.length) - 2, false);
-    return instructions.at(-1)?.split("\n").at(-1).replace(/^ *refused: /, "") ?? "";
+    return instructions.length > 0 ? reasonIn(instructions.at(-1)) : "";
   }
 }

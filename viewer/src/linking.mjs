@@ -9,7 +9,7 @@ import { addressOf, packed, readAddress, unpacked } from "./share.mjs";
 export async function linkTo(bench) {
   const { text, port, place, title, outline } = bench.state;
   const { status, output, errors } = await bench.ask(["asm"], text);
-  if (status) throw new Error(errors.trim().split("\n")[0]);
+  if (status) throw new Error(errors.trim());
   const lines = port && (await packed(new TextEncoder().encode(port.join("\n"))));
   return addressOf({ place, title, names: outline.names, image: await packed(output), port: lines, isSparse: bench.isSparse(port) });
 }

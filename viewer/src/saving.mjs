@@ -42,7 +42,7 @@ export async function savePoints(view) {
 async function saveAnswer(bench, word, name, type) {
   const { output, errors } = await bench.ask([word], bench.state.text);
   if (output.length) download(output, name, type);
-  else bench.dispatch({ do: "notice", notice: `Not saved: ${errors.trim().split("\n")[0]}.` });
+  else bench.dispatch({ do: "notice", notice: `Not saved: ${errors.trim()}.` });
 }
 
 /* The text; a port's lines stand behind a line %%. */

@@ -35,7 +35,7 @@ test("a fault with its column and what stands there, and a refusal with its reas
   assert.equal((await engine.steps("")).rest, null);
   const { refusal } = await engine.steps('clients 2\nedit 0 ["a"]\ntake 0\ndeliver 0\n');
   assert.equal(refusal, "WrongHead: the next message to client 0 acknowledges its own operation: ack 0");
-  assert.deepEqual(faultOf({ fault: "", errors: "otbench: Memory\n" }), { line: 0, column: 0, kind: "Memory", cause: "" });
+  assert.deepEqual(faultOf({ fault: "", errors: "otbench: Memory\n" }), { line: 0, column: 0, kind: "otbench: Memory", cause: "" });
 });
 
 test("a session that follows changes is that of the lines", { skip }, async () => {

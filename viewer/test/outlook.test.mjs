@@ -5,7 +5,7 @@ import { test } from "node:test";
 import { Bench } from "../src/bench.mjs";
 import { reportOf } from "../src/report.mjs";
 import { outlineOf, textUpTo } from "../../common/outline.mjs";
-import { partsOf } from "../../common/told.mjs";
+import { partsOf, reasonIn } from "../../common/told.mjs";
 import { outlookNow } from "../src/state.mjs";
 import { DirectEngine, skip } from "./engines.mjs";
 
@@ -13,10 +13,21 @@ const TIE = "; client 0 is Ann\nclients 2\nedit 0 [\"a\"]\nedit 1 [\"b\"]\n\n; b
 
 test("the parts of what explain prints, without the line of a cut", () => {
   const told = 'the opening: x\nline 2, instruction 0: read 0\n  client 0\'s document is "x"\n  more\nthe end: all is quiet\nAll documents must be "the end: ".\nclient 1 has not joined.\n';
-  const parts = { opening: "the opening: x", instructions: ['line 2, instruction 0: read 0\n  client 0\'s document is "x"\n  more'], verdict: ['All documents must be "the end: ".', "client 1 has not joined."] };
+  const parts = { opening: "the opening: x", instructions: [["line 2, instruction 0: read 0", '  client 0\'s document is "x"', "  more"]], verdict: ['All documents must be "the end: ".', "client 1 has not joined."] };
   assert.deepEqual(partsOf(told, 1, false), parts);
   assert.deepEqual(partsOf(`${told}the schedule ends before its logs: "x"\n`, 1, true), parts);
-  assert.deepEqual(partsOf("", 0, false).verdict, []);
+  assert.deepEqual(partsOf("", 0, false), { opening: undefined, instructions: [], verdict: [] });
+});
+
+test("what explain prints has these parts, and the reason of a refusal", { skip }, () => {
+  const told = (text) => new TextDecoder().decode(new DirectEngine().serve(["explain"], new TextEncoder().encode(text)).output);
+  const { opening, instructions, verdict } = partsOf(told('clients 2\nedit 0 ["a"]\ntake 0\ndeliver 0\n; cut: "x"\n'), 3, true);
+  assert.match(opening, /^the opening: 2 of 2 clients joined/);
+  assert.deepEqual(instructions.map(([head]) => head), ["line 2, instruction 0: edit 0", "line 3, instruction 1: take 0", "line 4, instruction 2: deliver 0"]);
+  assert.deepEqual(instructions.slice(0, 2).map((lines) => lines.at(-1)), ['  client 0 at revision 0 awaits the confirmation of ["a"]; its document is "a"', '  the server\'s document is now "a"']);
+  assert.equal(reasonIn(instructions[2]), "WrongHead: the next message to client 0 acknowledges its own operation: ack 0");
+  assert.equal(verdict.length, 1);
+  assert.match(verdict[0], /^They may still differ: client 0 has 1 message to receive; /);
 });
 
 test("a text up to a place", () => {
