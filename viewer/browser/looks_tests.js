@@ -2,12 +2,11 @@
 
 import assert from "node:assert/strict";
 import fs from "node:fs";
-import { after, before, describe, test } from "node:test";
+import { test } from "node:test";
 import { bugs } from "../../examples/port/bugs.js";
 import { drive } from "../../examples/port/drive.js";
 import { makePort } from "../../oracle/otjs.js";
-import { skip } from "./otbench.js";
-import { User } from "./user.js";
+import { suite } from "./suite.js";
 
 const weakOrder = fs.readFileSync(new URL("../../examples/weak-order.ots", import.meta.url), "utf8");
 
@@ -56,19 +55,7 @@ const CUT = `(() => {
 })()`;
 
 export function testLooks(name, openBrowser) {
-  describe(`${name}, looks`, { skip }, () => {
-    let user;
-    let page;
-    before(async () => {
-      page = await openBrowser();
-      user = new User(page);
-    });
-    after(async () => {
-      const { exceptions } = page;
-      await page.close();
-      assert.deepEqual(exceptions, []);
-    });
-
+  suite(`${name}, looks`, openBrowser, (user) => {
     /* A port with a fault at its difference, and why. */
     async function openPort(theme) {
       await user.open(`#theme=${theme}`);
@@ -85,7 +72,7 @@ export function testLooks(name, openBrowser) {
     for (const theme of ["light", "dark"])
       test(`${theme}: each text is seen, and no control is cut, in windows of 1440, 1280 and 390, and at 200 %`, async () => {
         for (const [width, height] of [[1440, 900], [1280, 720], [390, 844], [720, 450]]) {
-          await page.size(width, height);
+          await user.page.size(width, height);
           await openPort(theme);
           const looks = async (what) => assert.deepEqual([await user.run(PALE), await user.run(CUT)], [[], []], `${what}, ${width} x ${height}`);
           await looks("a port with a fault");
@@ -93,7 +80,7 @@ export function testLooks(name, openBrowser) {
           await looks("with the menu");
           await user.run('document.getElementById("menu").click()');
           await user.press(":");
-          await page.type("show");
+          await user.page.type("show");
           await user.press("Enter");
           await user.until('/^client 0 /.test(document.querySelector("#answers pre").textContent)', "the answer");
           await looks("the debugger");
@@ -105,12 +92,12 @@ export function testLooks(name, openBrowser) {
             await user.press("Escape");
           }
         }
-        await page.size(1440, 900);
+        await user.page.size(1440, 900);
       });
 
     test("what is told later leaves the diagram and the cards where they are", async () => {
       for (const [width, height] of [[1440, 900], [390, 844]]) {
-        await page.size(width, height);
+        await user.page.size(width, height);
         await user.open();
         for (let place = 3; place <= 8; place++) {
           await user.press("ArrowRight");
@@ -121,7 +108,7 @@ export function testLooks(name, openBrowser) {
           assert.equal(await top(), before, `place ${place}, ${width} x ${height}`);
         }
       }
-      await page.size(1440, 900);
+      await user.page.size(1440, 900);
     });
 
     test("what is open has the focus within, and leaves by Escape to where it was", async () => {
