@@ -54,6 +54,11 @@ const CUT = `(() => {
   return [...cut, ...wide.filter(([, isWide]) => isWide).map(([part]) => part)];
 })()`;
 
+/* In the page: its style is that of paper. */
+const toPaper = () => {
+  for (const { media } of document.styleSheets[0].cssRules) if (media) media.mediaText = media.mediaText.replace(/^print/, "all").replace(/^screen.*/, "not all");
+};
+
 export function testLooks(name, openBrowser) {
   suite(`${name}, looks`, openBrowser, (user) => {
     /* A port with a fault at its difference, and why. */
@@ -108,6 +113,22 @@ export function testLooks(name, openBrowser) {
           assert.equal(await top(), before, `place ${place}, ${width} x ${height}`);
         }
       }
+      await user.page.size(1440, 900);
+    });
+
+    test("on paper of any width all that is told is there", async () => {
+      await user.page.size(700, 900);
+      await openPort("light");
+      await user.until('document.getElementById("list-verdict").textContent !== ""', "the verdict");
+      await user.run(`(${toPaper})()`);
+      const faulty = await user.run(`(() => {
+        const parts = [...document.querySelectorAll("#verdict, #list-verdict, #conformance, #sentence, #sentence .waits, #outlook, #reason, #answer, #cards")];
+        const isCut = (part) => getComputedStyle(part).overflowY === "auto" || (part.clientHeight > 0 && part.scrollHeight > part.clientHeight + 2);
+        const cut = [...parts, ...document.querySelectorAll(".told, #answered, #state")].filter(isCut);
+        return [parts.length, ...parts.filter((part) => !part.checkVisibility()), ...cut].map((part) => part.id || part.className || part);
+      })()`);
+      assert.deepEqual(faulty, [9]);
+      assert.equal(await user.text("#list-verdict"), "the weak list property holds");
       await user.page.size(1440, 900);
     });
 
