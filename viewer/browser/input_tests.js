@@ -198,8 +198,12 @@ export function testInputs(name, openBrowser) {
     test("a worker that does not answer leaves no verdict that is green, and can be stopped", async () => {
       await user.open("", withWorker("for (;;);"));
       await user.until('document.querySelectorAll(".verdict.good").length === 2', "the verdicts");
+      const top = () => user.run('document.getElementById("main").getBoundingClientRect().top');
       await user.drop("hurt.ots", "clients 2\n; hurt\n");
+      await user.shown("/hurt/");
+      const before = await top();
       await user.until('!document.getElementById("late").hidden', "that it does not answer");
+      assert.equal(await top(), before);
       assert.equal(await user.run('document.querySelectorAll(".verdict.good").length'), 0);
       assert.match(await user.text("#verdict"), /^the text before: /);
       await user.click("#give-up");
