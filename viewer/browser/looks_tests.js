@@ -121,7 +121,8 @@ export function testLooks(name, openBrowser) {
           await user.run(`(${watch})()`);
           await act();
           await user.page.drawn();
-          assert.equal((await user.run("[...window.tops]")).length, 1, `${what}: ${await user.run('[...window.tops].join("; ")')}`);
+          const tops = await user.run("[...window.tops]");
+          assert.equal(tops.length, 1, `${what}: ${tops.join("; ")}`);
         };
         const step = async (key, place, ...ids) => {
           await user.press(key);
