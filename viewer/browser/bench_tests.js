@@ -386,6 +386,13 @@ export function testIn(name, openBrowser) {
       const out = await user.run(`[...document.querySelectorAll("header button:not([hidden])")].filter((button) => button.checkVisibility())
         .map((button) => [button.id, button.getBoundingClientRect()]).filter(([, { left, right, bottom }]) => left < 0 || right > innerWidth || bottom > innerHeight / 3).map(([id]) => id)`);
       assert.deepEqual(out, []);
+      for (const [width, height] of [[390, 844], [1280, 720]]) {
+        await user.page.size(width, height);
+        await user.page.drawn();
+        const [right, isSeen] = await user.run(`[document.documentElement.scrollWidth, document.getElementById("verdict").getBoundingClientRect().bottom <= document.querySelector(".told").getBoundingClientRect().bottom]`);
+        assert.deepEqual([right, isSeen], [width, true], `${width} x ${height}`);
+      }
+      await user.page.size(1440, 900);
       await user.drop(`${long}.bin`, [255, 254, 0, 1]);
       await user.until('document.getElementById("notice").textContent.includes("UTF-8")', "the notice");
       assert.ok((await user.text("#notice")).length < 200);
