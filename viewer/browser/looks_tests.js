@@ -163,8 +163,8 @@ export function testLooks(name, openBrowser) {
         await user.page.size(1440, 900);
       });
 
-    for (const [width, height] of [[390, 844], [720, 450]])
-      test(`at ${width} x ${height} the diagram stays in sight with the reason and the debugger open`, async () => {
+    for (const [width, height] of [[1280, 720], [390, 844], [720, 450]])
+      test(`at ${width} x ${height} the diagram and the place stay in sight with the reason and the debugger open`, async () => {
         await user.page.size(width, height);
         await openPort("light");
         await user.press(":");
@@ -181,6 +181,7 @@ export function testLooks(name, openBrowser) {
           const row = box(document.querySelector('#rows .texts text[font-weight="700"]'));
           return [scrollY, bottom - time.top, row.top > time.top + 30 && row.bottom < bottom];
         })()`);
+        if (width > 1100) assert.equal(await user.text("#numbers .now"), "11");
         assert.deepEqual([scrolled, room >= 120, row], [0, true, true], `${room} pixels of the diagram`);
         await user.page.size(1440, 900);
       });

@@ -385,7 +385,7 @@ function resized() {
   requestAnimationFrame(() => {
     timeline.measure();
     if (bench.state.session) changed({ do: "resize" });
-    sheet.measure();
+    sheet.resized();
   });
 }
 onresize = resized;
