@@ -55,15 +55,15 @@ const CUT = `(() => {
   return [...cut, ...wide.filter(([, isWide]) => isWide).map(([part]) => part)];
 })()`;
 
-/* In the page: from now on where the diagram and the first card stand, at each frame; how far the cards are scrolled does not count. */
+/* In the page: from now on where the diagram, the first card and `Why?` stand, at each frame; how far the cards are scrolled does not count. */
 const watch = () => {
-  const top = (id) => document.getElementById(id).getBoundingClientRect().top;
+  const box = (id) => document.getElementById(id).getBoundingClientRect();
   const look = () => {
-    window.tops.add([top("time"), top("cards") + document.getElementById("state").scrollTop].map(Math.round).join());
+    window.stood.add([box("time").top, box("cards").top + document.getElementById("state").scrollTop, box("why").left].map(Math.round).join());
     requestAnimationFrame(look);
   };
-  const isWatching = window.tops !== undefined;
-  window.tops = new Set();
+  const isWatching = window.stood !== undefined;
+  window.stood = new Set();
   if (!isWatching) look();
 };
 
@@ -115,14 +115,14 @@ export function testLooks(name, openBrowser) {
 
     /* The sizes of windows: 720 x 450 is one of 1440 x 900 at 200 %. */
     for (const [width, height] of [[1440, 900], [1280, 720], [390, 844], [720, 450]])
-      test(`what is told later leaves the diagram and the cards where they are, at ${width} x ${height}`, async () => {
+      test(`what is told later leaves the diagram, the cards and the buttons where they are, at ${width} x ${height}`, async () => {
         const told = (id) => user.until(`document.getElementById("${id}").textContent !== ""`, `what ${id} says`, 1000);
         const stay = async (what, act) => {
           await user.run(`(${watch})()`);
           await act();
           await user.page.drawn();
-          const tops = await user.run("[...window.tops]");
-          assert.equal(tops.length, 1, `${what}: ${tops.join("; ")}`);
+          const stood = await user.run("[...window.stood]");
+          assert.equal(stood.length, 1, `${what}: ${stood.join("; ")}`);
         };
         const step = async (key, place, ...ids) => {
           await user.press(key);

@@ -53,7 +53,7 @@ export function show(state, { canPlay, isOther, isPut, sheet }) {
   document.body.classList.toggle("with-port", state.port !== null);
   document.body.classList.toggle("of-text-before", state.fault !== null || state.isLate);
   element("late").hidden = !state.isLate;
-  element("why").hidden = state.isLate;
+  element("outlook").hidden = element("why").hidden = state.isLate;
   const view = viewOf(state, canPlay);
   showHeader(state, view);
   if (!isPictured(state, view, isOther)) {
