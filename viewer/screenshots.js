@@ -41,7 +41,7 @@ const PICTURES = {
   },
   /* A port that breaks ties the other way, without the text. */
   async "page-port"(user) {
-    await user.page.size(1440, 560);
+    await user.page.size(1280, 650);
     await user.press("e");
     await user.paste("body", withPort("weak-order", "tie"));
     await user.until('document.getElementById("conformance").textContent.startsWith("differs")', "the answer of conform");

@@ -9,9 +9,8 @@ import { testByHand } from "./hand_tests.js";
 import { testInputs } from "./input_tests.js";
 import { testLong } from "./long_tests.js";
 import { testLooks } from "./looks_tests.js";
-import { skip } from "./otbench.js";
 import { testSharing } from "./sharing_tests.js";
-import { User } from "./user.js";
+import { suite } from "./suite.js";
 import { testWriting } from "./writing_tests.js";
 
 testIn("Chromium", openChromium);
@@ -23,28 +22,26 @@ testWriting("Chromium", openChromium);
 testLooks("Chromium", openChromium);
 testLong("Chromium", openChromium);
 
-test("what an input method composes is one edit, at its end", { skip }, async () => {
-  const page = await openChromium();
-  const user = new User(page);
-  const shown = () => user.run('document.querySelector(\'.document[data-who="0"]\').textContent');
-  await user.open();
-  await user.click("#new");
-  await user.shown("/^clients 2\\n$/");
-  await user.click('.document[data-who="0"]');
-  await page.keys("ab");
-  await user.settled(2);
-  await user.press("ArrowLeft");
-  for (const text of ["n", "に", "にほ"]) {
-    await page.send("Input.imeSetComposition", { text, selectionStart: text.length, selectionEnd: text.length });
-    assert.equal(await shown(), `a${text}b`);
-  }
-  assert.equal(await user.schedule(), 'clients 2\nedit 0 ["a"]\nedit 0 [1,"b"]\n');
-  await page.send("Input.insertText", { text: "日本" });
-  await user.settled(3);
-  await page.keys("c");
-  await user.settled(4);
-  assert.equal(await user.schedule(), 'clients 2\nedit 0 ["a"]\nedit 0 [1,"b"]\nedit 0 [1,"日本",1]\nedit 0 [3,"c",1]\n');
-  assert.equal(await shown(), "a日本cb");
-  assert.deepEqual(page.exceptions, []);
-  await page.close();
+suite("Chromium, an input method", openChromium, (user) => {
+  test("what an input method composes is one edit, at its end", async () => {
+    const shown = () => user.run('document.querySelector(\'.document[data-who="0"]\').textContent');
+    await user.open();
+    await user.click("#new");
+    await user.shown("/^clients 2\\n$/");
+    await user.click('.document[data-who="0"]');
+    await user.page.keys("ab");
+    await user.settled(2);
+    await user.press("ArrowLeft");
+    for (const text of ["n", "に", "にほ"]) {
+      await user.page.send("Input.imeSetComposition", { text, selectionStart: text.length, selectionEnd: text.length });
+      assert.equal(await shown(), `a${text}b`);
+    }
+    assert.equal(await user.schedule(), 'clients 2\nedit 0 ["a"]\nedit 0 [1,"b"]\n');
+    await user.page.send("Input.insertText", { text: "日本" });
+    await user.settled(3);
+    await user.page.keys("c");
+    await user.settled(4);
+    assert.equal(await user.schedule(), 'clients 2\nedit 0 ["a"]\nedit 0 [1,"b"]\nedit 0 [1,"日本",1]\nedit 0 [3,"c",1]\n');
+    assert.equal(await shown(), "a日本cb");
+  });
 });

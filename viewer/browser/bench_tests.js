@@ -2,31 +2,20 @@
 
 import assert from "node:assert/strict";
 import fs from "node:fs";
-import { after, before, describe, test } from "node:test";
+import { test } from "node:test";
 import { bugs } from "../../examples/port/bugs.js";
 import { drive } from "../../examples/port/drive.js";
 import { makePort } from "../../oracle/otjs.js";
 import { wait } from "./chromium.js";
-import { addressOfPage, otbench, skip } from "./otbench.js";
-import { User, clipboardEvent, quoted } from "./user.js";
+import { addressOfPage, otbench } from "./otbench.js";
+import { suite } from "./suite.js";
+import { clipboardEvent, quoted } from "./user.js";
 
 const file = (name) => fs.readFileSync(new URL(`../../examples/${name}`, import.meta.url), "utf8");
 
 /* Tests the page in a browser: its name, and what opens it. */
 export function testIn(name, openBrowser) {
-  describe(name, { skip }, () => {
-    let user;
-    let page;
-    before(async () => {
-      page = await openBrowser();
-      user = new User(page);
-    });
-    after(async () => {
-      const { exceptions } = page;
-      await page.close();
-      assert.deepEqual(exceptions, []);
-    });
-
+  suite(name, openBrowser, (user) => {
     test("the first visit shows two people who type at one place", async () => {
       await user.open();
       await user.settled(2);
@@ -50,20 +39,20 @@ export function testIn(name, openBrowser) {
       await user.shown("/^clients 2\\n$/");
       await user.click("#text");
       await user.press("Control+End");
-      await page.type('start "x"');
+      await user.page.type('start "x"');
       await user.shown('/start "x"/');
       await user.click('.document[data-who="0"]');
       await user.press("End");
-      await page.type("z");
+      await user.page.type("z");
       await user.settled(1);
       await user.press("ArrowLeft");
-      await page.type("a");
+      await user.page.type("a");
       await user.settled(2);
       await user.press("ArrowLeft", "Backspace");
       await user.settled(3);
       await user.click('.document[data-who="1"]');
       await user.press("Home");
-      await page.type("c");
+      await user.page.type("c");
       await user.settled(4);
       const clicks = ["take 1", "take 0", "deliver 0", "ack 0", "take 0", "ack 1"];
       for (const [i, instruction] of clicks.entries()) {
@@ -113,16 +102,16 @@ export function testIn(name, openBrowser) {
       await user.click("#new");
       await user.shown("/^clients 2\\n$/");
       await user.click('.document[data-who="0"]');
-      await page.type("ab🙂");
+      await user.page.type("ab🙂");
       await user.shown("/🙂/");
       await user.press("Enter");
       await user.shown("/n\"\\]\\n$/");
-      await page.type("cd");
+      await user.page.type("cd");
       await user.until('document.querySelector(\'.document[data-who="0"]\').innerText.endsWith("cd")', "the letters");
       await user.press("ArrowLeft", "Backspace", "ArrowUp", "Home");
       await user.paste('.document[data-who="0"]', "p\tq\u202e👨‍👩‍👧<b>");
       await user.shown("/<b>/");
-      await page.drawn();
+      await user.page.drawn();
       const schedule = await user.schedule();
       assert.match(schedule, /edit 0 \["p\\tq\\u202e👨‍👩‍👧<b>",5\]\n$/);
       assert.equal((await user.documents())[1], "p␉q␦👨‍👩‍👧<b>ab🙂\nd");
@@ -137,10 +126,10 @@ export function testIn(name, openBrowser) {
       await user.click("#new");
       await user.shown("/^clients 2\\n$/");
       await user.click('.document[data-who="1"]');
-      await page.keys("the quick brown fox");
+      await user.page.keys("the quick brown fox");
       await user.until('document.querySelectorAll(".card .document")[2].textContent === "the quick brown fox"', "the letters");
       await user.press("Home");
-      await page.keys("tt");
+      await user.page.keys("tt");
       await user.shown('/edit 1 \\["t",19\\]\\nedit 1 \\[1,"t",19\\]\\n$/');
       assert.equal((await user.schedule()).split("\n").length, 23);
     });
@@ -149,7 +138,7 @@ export function testIn(name, openBrowser) {
       await user.open();
       const first = await user.schedule();
       await user.click('.document[data-who="0"]');
-      await page.type("x");
+      await user.page.type("x");
       await user.until('document.getElementById("place").value === "3"', "the edit");
       const typed = await user.schedule();
       await user.press("Escape", "q");
@@ -171,14 +160,14 @@ export function testIn(name, openBrowser) {
       await user.open();
       await user.click("#text");
       await user.press("Control+End");
-      await page.type("edit 1 [2,");
+      await user.page.type("edit 1 [2,");
       await user.until('/^line 12, column 1\\d: BadOperation/.test(document.getElementById("to-fault").textContent)', "the fault");
       assert.match(await user.text("#verdict"), /^the text before: ends /);
       assert.equal(await user.run('document.getElementById("verdict").className'), "verdict ");
       assert.equal(await user.run('getComputedStyle(document.getElementById("time")).opacity'), "0.5");
       assert.equal(await user.text("#marks .bad mark"), " ");
       assert.equal(await user.run('document.querySelector("#numbers .bad").textContent'), "12");
-      await page.type('"c"]');
+      await user.page.type('"c"]');
       await user.until('document.getElementById("to-fault").hidden', "no fault");
       assert.match(await user.text("#verdict"), /^ends /);
       await user.settled(9);
@@ -197,7 +186,7 @@ export function testIn(name, openBrowser) {
       await user.open();
       await user.click("#text");
       await user.press("Control+End");
-      await page.type("ack 0\nread 1");
+      await user.page.type("ack 0\nread 1");
       await user.until('!document.getElementById("leave-out").hidden', "the refusal");
       assert.match(await user.text("#to-fault"), /^line 12, ack 0: LinkEmpty: /);
       assert.match(await user.text("#verdict"), /^stopped at 8: LinkEmpty \(line 12\); ends quiet/);
@@ -262,14 +251,14 @@ export function testIn(name, openBrowser) {
       await wait(200);
       assert.equal(await user.run("window.hurt ?? null"), null);
       assert.equal(await user.run('fetch("data:text/plain,x").then(() => "fetched", () => "stopped")'), "stopped");
-      page.exceptions.length = 0;
+      user.page.exceptions.length = 0;
     });
 
     test("by keyboard alone: from an empty session to a verdict", async () => {
       await user.open();
       const reached = new Set();
       for (let k = 0; k < 40 && !reached.has("document of client 1"); k++) {
-        await page.key("Tab");
+        await user.page.key("Tab");
         reached.add(await user.run('document.activeElement.id || document.activeElement.dataset.play || document.activeElement.getAttribute("aria-label") || ""'));
       }
       await user.run(`document.getElementById("conformance").hidden = false`);
@@ -282,7 +271,7 @@ export function testIn(name, openBrowser) {
       await user.shown("/^clients 2\\n$/");
       await user.run("document.activeElement.blur()");
       await user.press("0", "Enter");
-      await page.keys("hi");
+      await user.page.keys("hi");
       await user.settled(2);
       await user.press("Escape", "u");
       await user.settled(3);
@@ -303,7 +292,7 @@ export function testIn(name, openBrowser) {
       await user.press("t");
       assert.equal(await user.run("getComputedStyle(document.body).backgroundColor"), "rgb(255, 255, 255)");
       await user.click('[data-name="1"]');
-      await page.type("Ben");
+      await user.page.type("Ben");
       await user.press("Enter");
       await user.shown("/^; client 1 is Ben\\n/");
       assert.match(await user.text("#heads"), /1 Ben/);
@@ -315,14 +304,14 @@ export function testIn(name, openBrowser) {
       await user.press("Escape");
       assert.equal(await user.run('document.querySelectorAll(".card").length'), 2);
       assert.equal(await user.run('document.querySelectorAll("#heads .lane").length'), 2);
-      await page.size(390, 800);
-      await page.drawn();
+      await user.page.size(390, 800);
+      await user.page.drawn();
       assert.ok(await user.run("document.documentElement.scrollWidth <= document.documentElement.clientWidth"), "nothing is wider than a narrow window");
-      await page.size(1440, 900);
+      await user.page.size(1440, 900);
     });
 
     test("on a phone all controls are in sight and high enough for a finger, no text is cut, and lanes are seen whole", async () => {
-      await page.size(390, 800);
+      await user.page.size(390, 800);
       await user.open();
       await user.until('document.getElementById("list-verdict").textContent !== ""', "the verdict");
       const port = makePort();
@@ -365,15 +354,15 @@ export function testIn(name, openBrowser) {
       assert.ok(await user.run('document.getElementById("keys").scrollHeight > document.getElementById("keys").clientHeight'));
       await user.press("Escape");
       assert.equal(await user.run("scrollY"), 0, "stepping does not scroll the page");
-      await page.size(1440, 900);
+      await user.page.size(1440, 900);
     });
 
     for (const [width, height] of [[1280, 720], [390, 844]])
       test(`at ${width} x ${height} the first sight shows both lanes and both clients' cards whole, and what to do`, async () => {
-        await page.size(width, height);
+        await user.page.size(width, height);
         await user.open();
         await user.until('document.getElementById("list-verdict").textContent !== "" && document.getElementById("outlook").textContent !== ""', "the verdicts");
-        await page.drawn();
+        await user.page.drawn();
         const cut = await user.run(`(() => {
           const room = (id) => document.getElementById(id).getBoundingClientRect();
           const isIn = (box, { left, right, bottom }) => box.left >= left && box.right <= right && box.bottom <= bottom;
@@ -383,7 +372,7 @@ export function testIn(name, openBrowser) {
           return [lanes.length, cards.map((card) => card.dataset.card), hidden("time", "Width"), hidden("notice", "Height")];
         })()`);
         assert.deepEqual(cut, [0, [], 0, 0]);
-        await page.size(1440, 900);
+        await user.page.size(1440, 900);
       });
 
     test("names and titles of 3,000 characters leave the controls in sight", async () => {
@@ -397,6 +386,13 @@ export function testIn(name, openBrowser) {
       const out = await user.run(`[...document.querySelectorAll("header button:not([hidden])")].filter((button) => button.checkVisibility())
         .map((button) => [button.id, button.getBoundingClientRect()]).filter(([, { left, right, bottom }]) => left < 0 || right > innerWidth || bottom > innerHeight / 3).map(([id]) => id)`);
       assert.deepEqual(out, []);
+      for (const [width, height] of [[390, 844], [1280, 720]]) {
+        await user.page.size(width, height);
+        await user.page.drawn();
+        const [right, isSeen] = await user.run(`[document.documentElement.scrollWidth, document.getElementById("verdict").getBoundingClientRect().bottom <= document.querySelector(".told").getBoundingClientRect().bottom]`);
+        assert.deepEqual([right, isSeen], [width, true], `${width} x ${height}`);
+      }
+      await user.page.size(1440, 900);
       await user.drop(`${long}.bin`, [255, 254, 0, 1]);
       await user.until('document.getElementById("notice").textContent.includes("UTF-8")', "the notice");
       assert.ok((await user.text("#notice")).length < 200);
@@ -420,7 +416,7 @@ export function testIn(name, openBrowser) {
     });
 
     test("long verdicts leave the controls where they are", async () => {
-      await page.size(1400, 900);
+      await user.page.size(1400, 900);
       await user.open();
       const places = '[...document.querySelectorAll(".tools button")].map((button) => (({ left, top }) => [left, top])(button.getBoundingClientRect()).join())';
       const before = await user.run(places);
@@ -430,7 +426,7 @@ export function testIn(name, openBrowser) {
       assert.deepEqual(await user.run(places), before);
       const right = await user.run('Math.max(...[...document.querySelectorAll(".verdict")].map((verdict) => verdict.getBoundingClientRect().right))');
       assert.ok(right < Number(before[0].split(",")[0]), "nothing stands over another");
-      await page.size(1440, 900);
+      await user.page.size(1440, 900);
     });
 
     test("where the recorder's log is cut is shown, and so are characters that look the same", async () => {
@@ -455,7 +451,7 @@ export function testIn(name, openBrowser) {
       await user.reload();
       assert.equal(await user.schedule(), first, "nothing was changed");
       await user.click('.document[data-who="0"]');
-      await page.type("x");
+      await user.page.type("x");
       await user.settled(3);
       await user.run('document.activeElement.blur()');
       const typed = await user.schedule();
@@ -482,7 +478,7 @@ export function testIn(name, openBrowser) {
     });
 
     test("until the engine has started the page says that it starts, and nothing else", async () => {
-      await page.goto(addressOfPage((html) => html.replace("onmessage = async", "const heard = async")));
+      await user.page.goto(addressOfPage((html) => html.replace("onmessage = async", "const heard = async")));
       await wait(300);
       assert.equal(await user.run("document.body.innerText.trim()"), "Starting …");
     });
@@ -490,16 +486,16 @@ export function testIn(name, openBrowser) {
     test("a page whose engine does not load says so, and leaves the viewer", async () => {
       const lines = otbench(["steps"], file("weak-order.ots")).replaceAll("<", "\\u003c");
       const broken = (html) => html.replace(/(id="module">)[^<]*/, "$1AAAA").replace('id="lines">\n', () => `id="lines">\n${lines}`);
-      await page.goto(addressOfPage(broken));
+      await user.page.goto(addressOfPage(broken));
       await user.until('/^The engine does not run: /.test(document.getElementById("notice").textContent)', "the notice");
       await user.press("ArrowRight");
       await user.settled(1);
       assert.deepEqual(await user.documents(), ["x", "xz", "x"]);
       assert.equal(await user.run('document.querySelectorAll("[contenteditable], [data-play]").length'), 0);
-      await page.goto(addressOfPage((html) => html.replace(/(id="module">)[^<]*/, "$1AAAA")));
+      await user.page.goto(addressOfPage((html) => html.replace(/(id="module">)[^<]*/, "$1AAAA")));
       await user.until('/^The engine does not run: /.test(document.getElementById("refused").textContent)', "the reason");
       assert.match(await user.run("document.body.innerText"), /^A session, to look at\n[^]*The engine does not run: /);
-      page.exceptions.length = 0;
+      user.page.exceptions.length = 0;
     });
   });
 }

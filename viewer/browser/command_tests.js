@@ -4,14 +4,15 @@ import assert from "node:assert/strict";
 import fs from "node:fs";
 import os from "node:os";
 import path from "node:path";
-import { after, before, describe, test } from "node:test";
+import { test } from "node:test";
 import { bugs } from "../../examples/port/bugs.js";
 import { drive } from "../../examples/port/drive.js";
 import { makePort } from "../../oracle/otjs.js";
 import { HOSTILE, MARKUP } from "../test/hostile.mjs";
 import { HARM } from "./harm.js";
-import { otbench, skip } from "./otbench.js";
-import { User, clipboardEvent, quoted } from "./user.js";
+import { otbench } from "./otbench.js";
+import { suite } from "./suite.js";
+import { clipboardEvent, quoted } from "./user.js";
 
 const weakOrder = fs.readFileSync(new URL("../../examples/weak-order.ots", import.meta.url), "utf8");
 
@@ -38,19 +39,7 @@ function printed({ schedule, lines }, script) {
 }
 
 export function testCommands(name, openBrowser) {
-  describe(`${name}, commands`, { skip }, () => {
-    let user;
-    let page;
-    before(async () => {
-      page = await openBrowser();
-      user = new User(page);
-    });
-    after(async () => {
-      const { exceptions } = page;
-      await page.close();
-      assert.deepEqual(exceptions, []);
-    });
-
+  suite(`${name}, commands`, openBrowser, (user) => {
     const isOpen = () => user.run('document.getElementById("debugger").checkVisibility()');
     const focused = () => user.run("document.activeElement.id");
     const field = () => user.run('document.getElementById("command").value');
@@ -63,7 +52,7 @@ export function testCommands(name, openBrowser) {
 
     /* Types a line; a long one is there at once. */
     async function write(line) {
-      if (line.length < 1000) await page.type(line);
+      if (line.length < 1000) await user.page.type(line);
       else await user.run(`((field) => ((field.value = ${quoted(line)}), field.dispatchEvent(new Event("input"))))(document.getElementById("command"))`);
     }
 
@@ -123,7 +112,7 @@ export function testCommands(name, openBrowser) {
     test("earlier lines, and words that are completed; Tab leaves where there is nothing to complete", async () => {
       await open(weakOrder);
       await perform("step", "goto 3");
-      await page.type("wa");
+      await user.page.type("wa");
       await user.press("ArrowUp");
       assert.equal(await field(), "goto 3");
       await user.press("ArrowUp", "ArrowUp");
@@ -134,11 +123,11 @@ export function testCommands(name, openBrowser) {
       await user.press("Tab");
       assert.equal(await field(), "watch ");
       await user.until('document.getElementById("suggested").textContent === "doc  state  outstanding  buffer  server"', "what can stand there");
-      await page.type("o");
+      await user.page.type("o");
       await user.until('document.getElementById("suggested").textContent === "outstanding"', "what it can be");
       await user.press("Tab");
       assert.equal(await field(), "watch outstanding ");
-      await page.type("1");
+      await user.page.type("1");
       await user.press("Enter");
       assert.equal((await answers()).at(-1), "watching outstanding of client 1");
       await user.press("Tab");
@@ -170,7 +159,7 @@ export function testCommands(name, openBrowser) {
       await user.press("Escape");
       await user.click("#text");
       await user.press("Control+End");
-      await page.type("x");
+      await user.page.type("x");
       await user.until('!document.getElementById("to-fault").hidden', "the fault");
       await user.press("Escape");
       await user.click("#debug");
@@ -192,7 +181,7 @@ export function testCommands(name, openBrowser) {
       await user.open("", (html) => html.replace("onmessage = async ({ data: { id, call, given } }) => {", (head) => `${head}\n  if (call === "debug" && given[1] === "hang") for (;;);`));
       await user.press(":");
       await answers();
-      await page.type("hang");
+      await user.page.type("hang");
       await user.press("Enter");
       assert.equal(await user.run('document.querySelector("#answers pre").textContent'), "…");
       await user.press("Escape", "j", ":");

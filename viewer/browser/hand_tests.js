@@ -1,26 +1,14 @@
 /* Tests of what is done by hand, for any browser: notes, ends of messages, the order, clients. */
 
 import assert from "node:assert/strict";
-import { after, before, describe, test } from "node:test";
-import { skip } from "./otbench.js";
-import { User, quoted } from "./user.js";
+import { test } from "node:test";
+import { suite } from "./suite.js";
+import { quoted } from "./user.js";
 
 const TIE = 'clients 2\nedit 0 ["a"]\nedit 1 ["b"]\ntake 0\ntake 1\ndeliver 1\n';
 
 export function testByHand(name, openBrowser) {
-  describe(`${name}, by hand`, { skip }, () => {
-    let user;
-    let page;
-    before(async () => {
-      page = await openBrowser();
-      user = new User(page);
-    });
-    after(async () => {
-      const { exceptions } = page;
-      await page.close();
-      assert.deepEqual(exceptions, []);
-    });
-
+  suite(`${name}, by hand`, openBrowser, (user) => {
     const opened = async (text, place) => {
       await user.open();
       await user.paste("body", text);

@@ -2,7 +2,7 @@
 
 import assert from "node:assert/strict";
 import fs from "node:fs";
-import { after, before, describe, test } from "node:test";
+import { test } from "node:test";
 import { readEvents } from "../../recorder/logs.js";
 import { merge } from "../../recorder/merging.js";
 import { chance, liveSession } from "../../recorder/test/live_session.js";
@@ -10,8 +10,9 @@ import { damaged, files } from "../test/damaging.mjs";
 import { HOSTILE, MARKUP, TREE } from "../test/hostile.mjs";
 import { wait } from "./chromium.js";
 import { HARM } from "./harm.js";
-import { addressOfPage, otbench, skip } from "./otbench.js";
-import { User, quoted } from "./user.js";
+import { addressOfPage, otbench } from "./otbench.js";
+import { suite } from "./suite.js";
+import { quoted } from "./user.js";
 
 const example = (name) => fs.readFileSync(new URL(`../../examples/${name}`, import.meta.url), "utf8");
 
@@ -22,19 +23,7 @@ const DAMAGED = Number(process.env.OTBENCH_DAMAGED_IN_BROWSER ?? 15);
 const VALUES = [MARKUP, "constructor", "__proto__", "\u202e\u2066a\ufffe", "x".repeat(100000), TREE];
 
 export function testInputs(name, openBrowser) {
-  describe(`${name}, what comes in`, { skip }, () => {
-    let user;
-    let page;
-    before(async () => {
-      page = await openBrowser();
-      user = new User(page);
-    });
-    after(async () => {
-      const { exceptions } = page;
-      await page.close();
-      assert.deepEqual(exceptions, []);
-    });
-
+  suite(`${name}, what comes in`, openBrowser, (user) => {
     const shown = () => user.run("document.body.innerText.trim()");
 
     test("a link that cannot be read shows what is wrong with it, and nothing else", async () => {
@@ -54,7 +43,7 @@ export function testInputs(name, openBrowser) {
         [`#at=2;${image.replace("image", "imgae")}`, 'It has "imgae='],
       ];
       for (const [hash, why] of rows) {
-        await page.goto(`${addressOfPage()}${hash}`);
+        await user.page.goto(`${addressOfPage()}${hash}`);
         await user.until('!document.getElementById("starting").checkVisibility()', "the engine");
         await wait(150);
         const [head, words, ...more] = (await shown()).split(/\n+/);
@@ -107,7 +96,7 @@ export function testInputs(name, openBrowser) {
     test("hostile values in each field of lines, in a page without the engine", async () => {
       const lines = otbench(["steps"], example("late-join.ots"));
       const broken = (html) => html.replace(/(id="module">)[^<]*/, "$1AAAA").replace('id="lines">\n', () => `id="lines">\n${lines}`);
-      await page.goto(addressOfPage(broken));
+      await user.page.goto(addressOfPage(broken));
       await user.until('/^The engine does not run: /.test(document.getElementById("notice").textContent)', "the notice");
       assert.doesNotMatch(await user.text("#notice"), /atob|Failed|Error/);
       const objects = lines.trim().split("\n").map((line) => JSON.parse(line));
@@ -142,7 +131,7 @@ export function testInputs(name, openBrowser) {
         assert.deepEqual(await giveAll(files.slice(i, i + 50), false), []);
         await wait(100);
       }
-      await page.drawn();
+      await user.page.drawn();
       assert.deepEqual(await user.run(HARM), []);
     });
 
@@ -209,8 +198,12 @@ export function testInputs(name, openBrowser) {
     test("a worker that does not answer leaves no verdict that is green, and can be stopped", async () => {
       await user.open("", withWorker("for (;;);"));
       await user.until('document.querySelectorAll(".verdict.good").length === 2', "the verdicts");
+      const top = () => user.run('document.getElementById("main").getBoundingClientRect().top');
       await user.drop("hurt.ots", "clients 2\n; hurt\n");
+      await user.shown("/hurt/");
+      const before = await top();
       await user.until('!document.getElementById("late").hidden', "that it does not answer");
+      assert.equal(await top(), before);
       assert.equal(await user.run('document.querySelectorAll(".verdict.good").length'), 0);
       assert.match(await user.text("#verdict"), /^the text before: /);
       await user.click("#give-up");
@@ -228,7 +221,7 @@ export function testInputs(name, openBrowser) {
       assert.equal(await user.run('document.querySelectorAll(".verdict.good").length'), 0);
       await user.drop("good.ots", "clients 2\nedit 0 [\"x\"]\n");
       await user.until('document.getElementById("length").textContent === "of 1"', "the session");
-      page.exceptions.length = 0; // the worker's own
+      user.page.exceptions.length = 0; // the worker's own
     });
 
     /* Gives the page what is damaged, behind a session with a word in it, and waits until it is opened or there is a message. */
@@ -267,7 +260,7 @@ export function testInputs(name, openBrowser) {
       const link = await user.run("location.hash");
       for (const value of HOSTILE.filter((value) => typeof value === "string" && value.length < 5000)) {
         const text = encodeURIComponent(value.toWellFormed());
-        await page.goto(`${addressOfPage()}${link.replace("at=", `title=${text};c0=${text};c1=${text};at=`)}`);
+        await user.page.goto(`${addressOfPage()}${link.replace("at=", `title=${text};c0=${text};c1=${text};at=`)}`);
         await user.started();
         await user.run("window.stays = true");
         assert.deepEqual(await user.run(HARM), [], value.slice(0, 50));

@@ -1,10 +1,9 @@
 /* Tests of the page with long sessions, for any browser: it answers soon, or says that it does not. */
 
 import assert from "node:assert/strict";
-import { after, before, describe, test } from "node:test";
-import { skip } from "./otbench.js";
+import { test } from "node:test";
 import { SLOWEST, inWords, measure, median, open, slowness } from "./paces.js";
-import { User } from "./user.js";
+import { suite } from "./suite.js";
 
 /* A session of 100,000 instructions whose document stays short. */
 function longest() {
@@ -13,19 +12,7 @@ function longest() {
 }
 
 export function testLong(name, openBrowser) {
-  describe(`${name}, long sessions`, { skip }, () => {
-    let user;
-    let page;
-    before(async () => {
-      page = await openBrowser();
-      user = new User(page);
-    });
-    after(async () => {
-      const { exceptions } = page;
-      await page.close();
-      assert.deepEqual(exceptions, []);
-    });
-
+  suite(`${name}, long sessions`, openBrowser, (user) => {
     test("64 clients, 10,000 instructions: keys and clicks are answered soon", async () => {
       await open(user, { clients: 64, instructions: 10000 });
       const told = {};
@@ -55,7 +42,7 @@ export function testLong(name, openBrowser) {
       assert.equal(await user.run('document.querySelectorAll(".asked").length'), 0);
       await user.click("#text");
       await user.press("Control+End");
-      await page.type("x");
+      await user.page.type("x");
       await user.until('!document.getElementById("to-fault").hidden', "the fault", 2000);
       await user.press("Escape");
       await user.click(".card button.head");
@@ -76,10 +63,10 @@ export function testLong(name, openBrowser) {
       await user.press("End");
       await user.click("#text");
       await user.press("Control+End");
-      await page.keys("edit 1 [");
+      await user.page.keys("edit 1 [");
       await user.shown("/edit 1 \\[$/");
       await user.until('/^line 100002, column \\d+: BadOperation/.test(document.getElementById("to-fault").textContent)', "the fault", 4000);
-      await page.keys('"b"]');
+      await user.page.keys('"b"]');
       await user.until('/^line 100002, column 1: TooMany/.test(document.getElementById("to-fault").textContent)', "the answer", 4000);
     });
   });

@@ -2,12 +2,12 @@
 
 import assert from "node:assert/strict";
 import fs from "node:fs";
-import { after, before, describe, test } from "node:test";
+import { test } from "node:test";
 import { bugs } from "../../examples/port/bugs.js";
 import { drive } from "../../examples/port/drive.js";
 import { makePort } from "../../oracle/otjs.js";
-import { skip } from "./otbench.js";
-import { User } from "./user.js";
+import { longSchedule } from "./long_session.js";
+import { suite } from "./suite.js";
 
 const weakOrder = fs.readFileSync(new URL("../../examples/weak-order.ots", import.meta.url), "utf8");
 
@@ -55,20 +55,25 @@ const CUT = `(() => {
   return [...cut, ...wide.filter(([, isWide]) => isWide).map(([part]) => part)];
 })()`;
 
-export function testLooks(name, openBrowser) {
-  describe(`${name}, looks`, { skip }, () => {
-    let user;
-    let page;
-    before(async () => {
-      page = await openBrowser();
-      user = new User(page);
-    });
-    after(async () => {
-      const { exceptions } = page;
-      await page.close();
-      assert.deepEqual(exceptions, []);
-    });
+/* In the page: from now on where the diagram, the first card and `Why?` stand, at each frame; how far the cards are scrolled does not count. */
+const watch = () => {
+  const box = (id) => document.getElementById(id).getBoundingClientRect();
+  const look = () => {
+    window.stood.add([box("time").top, box("cards").top + document.getElementById("state").scrollTop, box("why").left].map(Math.round).join());
+    requestAnimationFrame(look);
+  };
+  const isWatching = window.stood !== undefined;
+  window.stood = new Set();
+  if (!isWatching) look();
+};
 
+/* In the page: its style is that of paper. */
+const toPaper = () => {
+  for (const { media } of document.styleSheets[0].cssRules) if (media) media.mediaText = media.mediaText.replace(/^print/, "all").replace(/^screen.*/, "not all");
+};
+
+export function testLooks(name, openBrowser) {
+  suite(`${name}, looks`, openBrowser, (user) => {
     /* A port with a fault at its difference, and why. */
     async function openPort(theme) {
       await user.open(`#theme=${theme}`);
@@ -85,7 +90,7 @@ export function testLooks(name, openBrowser) {
     for (const theme of ["light", "dark"])
       test(`${theme}: each text is seen, and no control is cut, in windows of 1440, 1280 and 390, and at 200 %`, async () => {
         for (const [width, height] of [[1440, 900], [1280, 720], [390, 844], [720, 450]]) {
-          await page.size(width, height);
+          await user.page.size(width, height);
           await openPort(theme);
           const looks = async (what) => assert.deepEqual([await user.run(PALE), await user.run(CUT)], [[], []], `${what}, ${width} x ${height}`);
           await looks("a port with a fault");
@@ -93,7 +98,7 @@ export function testLooks(name, openBrowser) {
           await looks("with the menu");
           await user.run('document.getElementById("menu").click()');
           await user.press(":");
-          await page.type("show");
+          await user.page.type("show");
           await user.press("Enter");
           await user.until('/^client 0 /.test(document.querySelector("#answers pre").textContent)', "the answer");
           await looks("the debugger");
@@ -105,23 +110,96 @@ export function testLooks(name, openBrowser) {
             await user.press("Escape");
           }
         }
-        await page.size(1440, 900);
+        await user.page.size(1440, 900);
       });
 
-    test("what is told later leaves the diagram and the cards where they are", async () => {
-      for (const [width, height] of [[1440, 900], [390, 844]]) {
-        await page.size(width, height);
-        await user.open();
-        for (let place = 3; place <= 8; place++) {
-          await user.press("ArrowRight");
+    /* The sizes of windows: 720 x 450 is one of 1440 x 900 at 200 %. */
+    for (const [width, height] of [[1440, 900], [1280, 720], [390, 844], [720, 450]])
+      test(`what is told later leaves the diagram, the cards and the buttons where they are, at ${width} x ${height}`, async () => {
+        const told = (id) => user.until(`document.getElementById("${id}").textContent !== ""`, `what ${id} says`, 1000);
+        const stay = async (what, act) => {
+          await user.run(`(${watch})()`);
+          await act();
+          await user.page.drawn();
+          const stood = await user.run("[...window.stood]");
+          assert.equal(stood.length, 1, `${what}: ${stood.join("; ")}`);
+        };
+        const step = async (key, place, ...ids) => {
+          await user.press(key);
           await user.settled(place);
-          const top = () => user.run('document.getElementById("main").getBoundingClientRect().top');
-          const before = await top();
-          await user.until('document.getElementById("outlook").textContent !== ""', "the verdict");
-          assert.equal(await top(), before, `place ${place}, ${width} x ${height}`);
-        }
-      }
-      await page.size(1440, 900);
+          for (const id of ids) await told(id);
+        };
+        await user.page.size(width, height);
+        await user.open();
+        await stay("steps", async () => {
+          for (let place = 3; place <= 8; place++) await step("ArrowRight", place, "outlook");
+        });
+        await user.press("w");
+        await told("reason");
+        await stay("why", async () => {
+          for (let place = 7; place >= 2; place--) await step("ArrowLeft", place, "outlook", "reason");
+        });
+        await openPort("light");
+        await user.press("w", "End");
+        await user.settled(16);
+        await stay("another text", async () => {
+          await user.press("Delete");
+          await user.until('document.getElementById("length").textContent === "of 15"', "the answer");
+          await told("list-verdict");
+          await user.until('!document.getElementById("conformance").hidden', "the answer of conform");
+        });
+        await user.drop("long.ots", longSchedule({ clients: 64, instructions: 300 }));
+        await user.until('document.getElementById("length").textContent === "of 300"', "the session");
+        await user.press("End");
+        await stay("a session of many clients", async () => {
+          await told("list-verdict");
+          await told("outlook");
+          assert.ok(await user.run('document.getElementById("outlook").scrollHeight > 200'), "a verdict of many lines");
+          await user.click(".card button.head");
+          await user.until('document.getElementById("length").textContent === "of 301"', "the answer");
+          await told("list-verdict");
+          await told("outlook");
+        });
+        await user.page.size(1440, 900);
+      });
+
+    for (const [width, height] of [[1280, 720], [390, 844], [720, 450]])
+      test(`at ${width} x ${height} the diagram and the place stay in sight with the reason and the debugger open`, async () => {
+        await user.page.size(width, height);
+        await openPort("light");
+        await user.press(":");
+        await user.page.type("show");
+        await user.press("Enter");
+        await user.until('/^client 0 /.test(document.querySelector("#answers pre").textContent)', "the answer");
+        await user.press("Escape", "k", ":");
+        await user.settled(6);
+        await user.page.drawn();
+        const [scrolled, room, row] = await user.run(`(() => {
+          const box = (part) => part.getBoundingClientRect();
+          const time = box(document.getElementById("time"));
+          const bottom = Math.min(time.bottom, box(document.getElementById("debugger")).top);
+          const row = box(document.querySelector('#rows .texts text[font-weight="700"]'));
+          return [scrollY, bottom - time.top, row.top > time.top + 30 && row.bottom < bottom];
+        })()`);
+        if (width > 1100) assert.equal(await user.text("#numbers .now"), "11");
+        assert.deepEqual([scrolled, room >= 120, row], [0, true, true], `${room} pixels of the diagram`);
+        await user.page.size(1440, 900);
+      });
+
+    test("on paper of any width all that is told is there", async () => {
+      await user.page.size(700, 900);
+      await openPort("light");
+      await user.until('document.getElementById("list-verdict").textContent !== ""', "the verdict");
+      await user.run(`(${toPaper})()`);
+      const faulty = await user.run(`(() => {
+        const parts = [...document.querySelectorAll("#verdict, #list-verdict, #conformance, #sentence, #sentence .waits, #outlook, #reason, #answer, #cards")];
+        const isCut = (part) => getComputedStyle(part).overflowY === "auto" || (part.clientHeight > 0 && part.scrollHeight > part.clientHeight + 2);
+        const cut = [...parts, ...document.querySelectorAll(".told, #answered, #state")].filter(isCut);
+        return [parts.length, ...parts.filter((part) => !part.checkVisibility()), ...cut].map((part) => part.id || part.className || part);
+      })()`);
+      assert.deepEqual(faulty, [9]);
+      assert.equal(await user.text("#list-verdict"), "the weak list property holds");
+      await user.page.size(1440, 900);
     });
 
     test("what is open has the focus within, and leaves by Escape to where it was", async () => {

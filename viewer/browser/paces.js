@@ -58,7 +58,6 @@ export async function measure(user, tell) {
   await user.run('document.getElementById("slider").focus()');
   tell("a step", await timesOf(user, 12, () => page.key("k")));
   await user.press("End");
-  await user.until('document.getElementById("outlook").textContent !== ""', "the verdict", 4000); // until then the page moves what is to be clicked
   const length = await lengthOf(user);
   const follows = [];
   tell("a click on a message", await timesOf(user, 6, async (k) => {

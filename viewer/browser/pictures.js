@@ -45,6 +45,7 @@ const SHOWN = {
     await user.press("Enter");
     await user.until('[...document.querySelectorAll("#answers pre")].every(({ textContent }) => textContent !== "…")', "the answers");
     await user.press("Escape", ":");
+    await user.until('document.getElementById("outlook").textContent !== ""', "the verdict");
   },
   examples: (user) => user.press("Escape", "l"),
   async every(user) {

@@ -2,12 +2,11 @@
 
 import assert from "node:assert/strict";
 import fs from "node:fs";
-import { after, before, describe, test } from "node:test";
+import { test } from "node:test";
 import { bugs } from "../../examples/port/bugs.js";
 import { drive } from "../../examples/port/drive.js";
 import { makePort } from "../../oracle/otjs.js";
-import { skip } from "./otbench.js";
-import { User } from "./user.js";
+import { suite } from "./suite.js";
 
 const weakOrder = fs.readFileSync(new URL("../../examples/weak-order.ots", import.meta.url), "utf8");
 
@@ -27,19 +26,7 @@ const KEEP = `(() => {
 })()`;
 
 export function testSharing(name, openBrowser) {
-  describe(`${name}, sharing`, { skip }, () => {
-    let user;
-    let page;
-    before(async () => {
-      page = await openBrowser();
-      user = new User(page);
-    });
-    after(async () => {
-      const { exceptions } = page;
-      await page.close();
-      assert.deepEqual(exceptions, []);
-    });
-
+  suite(`${name}, sharing`, openBrowser, (user) => {
     async function openWithPort() {
       await user.open();
       await user.run(KEEP);
@@ -98,7 +85,7 @@ export function testSharing(name, openBrowser) {
       await user.shown("/^clients 2\\n$/");
       for (const [client, letter] of ["a", "b"].entries()) {
         await user.click(`.document[data-who="${client}"]`);
-        await page.type(letter);
+        await user.page.type(letter);
         await user.settled(client + 1);
       }
       await user.press("Escape");
@@ -107,7 +94,7 @@ export function testSharing(name, openBrowser) {
       assert.match(await user.text("#notice"), /I saw …/, "what to do is still told");
       await user.click('[data-note="0"]');
       await user.until('document.getElementById("noting").open', "where to enter it");
-      await page.type("ab");
+      await user.page.type("ab");
       await user.until('/goes first \\(take 1, at 4\\)/.test(document.getElementById("noted-answer").textContent)', "the answer");
       await user.click('#noting [value="note"]');
       await user.until('/^differs at 6/.test(document.getElementById("conformance").textContent)', "the difference");

@@ -1,9 +1,9 @@
 /* Tests of writing in the page, for any browser: the text beside its line numbers, and long documents. */
 
 import assert from "node:assert/strict";
-import { after, before, describe, test } from "node:test";
-import { skip } from "./otbench.js";
-import { User, clipboardEvent, quoted } from "./user.js";
+import { test } from "node:test";
+import { suite } from "./suite.js";
+import { clipboardEvent, quoted } from "./user.js";
 
 /* A text of so many characters, no two parts of which are alike. */
 const longText = (length) => Array.from({ length: Math.ceil(length / 6) }, (_, i) => `${String(i).padStart(5, "0")} `).join("").slice(0, length);
@@ -11,19 +11,7 @@ const longText = (length) => Array.from({ length: Math.ceil(length / 6) }, (_, i
 const EDITOR = '.document[data-who="0"]';
 
 export function testWriting(name, openBrowser) {
-  describe(`${name}, writing`, { skip }, () => {
-    let user;
-    let page;
-    before(async () => {
-      page = await openBrowser();
-      user = new User(page);
-    });
-    after(async () => {
-      const { exceptions } = page;
-      await page.close();
-      assert.deepEqual(exceptions, []);
-    });
-
+  suite(`${name}, writing`, openBrowser, (user) => {
     /* How far each line number, and the mark of the place, stands from its line. */
     const shifts = () =>
       user.run(`(() => {
@@ -46,24 +34,24 @@ export function testWriting(name, openBrowser) {
         await user.settled(count);
         await user.click("#text");
         await user.press("Control+End");
-        await page.type("read 0");
+        await user.page.type("read 0");
         await user.press("Enter");
         await user.shown("/read 0\\n$/");
-        await page.drawn();
+        await user.page.drawn();
         assert.deepEqual(await shifts(), [0]);
-        await page.type("read 1");
+        await user.page.type("read 1");
         await user.until(`document.getElementById("length").textContent === "of ${count + 2}"`, "the session");
-        await page.drawn();
+        await user.page.drawn();
         assert.deepEqual(await shifts(), [0]);
         await user.press("Escape", "k", "End");
         await user.settled(count + 2);
-        await page.drawn();
+        await user.page.drawn();
         assert.deepEqual(await shifts(), [0], "where the field is scrolled to its end already");
         await user.click("#text");
         await user.press("Control+Home");
-        await page.drawn();
+        await user.page.drawn();
         await user.press("Control+End");
-        await page.drawn();
+        await user.page.drawn();
         assert.deepEqual(await shifts(), [0]);
       });
 
@@ -87,7 +75,7 @@ export function testWriting(name, openBrowser) {
       await user.click(EDITOR);
       await user.paste(EDITOR, longText(689));
       await user.settled(1);
-      await page.keys("xy");
+      await user.page.keys("xy");
       await user.settled(3);
       assert.match(await user.schedule(), /\nedit 0 \[689,"x"\]\nedit 0 \[690,"y"\]\n$/);
       await user.press("Backspace");
@@ -100,30 +88,30 @@ export function testWriting(name, openBrowser) {
         const text = longText(length);
         await withText(text);
         await user.press("Control+End");
-        await page.keys("z");
+        await user.page.keys("z");
         await user.settled(1);
         assert.deepEqual(await lastEdit(), [length, "z"]);
         const copy = () => user.run(`(${clipboardEvent})("copy", ":focus", null)`);
         await user.press("Control+a");
         assert.equal(await copy(), `${text}z`);
         await user.press("Control+Home");
-        await page.keys("a");
+        await user.page.keys("a");
         await user.settled(2);
         assert.deepEqual(await lastEdit(), ["a", length + 1]);
         await user.press("Control+Shift+End");
         assert.equal(await copy(), `${text}z`);
         await user.press("ArrowLeft");
         await user.press("Control+End", "ArrowLeft", "ArrowLeft");
-        await page.keys("q");
+        await user.page.keys("q");
         await user.settled(3);
         assert.deepEqual(await lastEdit(), [length, "q", 2]);
         await user.press("Control+a");
-        await page.keys("n");
+        await user.page.keys("n");
         await user.settled(4);
         assert.deepEqual(await lastEdit(), ["n", -length - 3]);
         await user.press("Control+z");
         await user.until(`document.getElementById("length").textContent === "of 3"`, "undone");
-        await page.drawn();
+        await user.page.drawn();
         assert.equal(await copy(), `a${text.slice(0, -1)}q${text.slice(-1)}z`);
       });
 
@@ -132,7 +120,7 @@ export function testWriting(name, openBrowser) {
       await withText(text);
       await user.press("Control+Home");
       for (let k = 0; k < 12; k++) await user.press("PageDown");
-      await page.keys("x");
+      await user.page.keys("x");
       await user.settled(1);
       const [before, x, behind] = await lastEdit();
       assert.equal(x, "x");
@@ -157,26 +145,26 @@ export function testWriting(name, openBrowser) {
       await user.click("#new");
       await wait("/^clients 2\\n$/");
       await user.click(EDITOR);
-      await page.keys("abcd");
+      await user.page.keys("abcd");
       await user.settled(4);
       await user.press("ArrowLeft", "ArrowLeft");
-      await page.keys("xy");
+      await user.page.keys("xy");
       await user.settled(6);
       await user.press("Backspace");
       await user.settled(7);
       for (const [key, place] of [["Control+z", 6], ["Control+z", 5], ["Control+z", 4], ["Control+Shift+Z", 5]]) {
         await user.press(key);
         await user.until(`document.getElementById("length").textContent === "of ${place}"`, `${place} instructions`);
-        await page.drawn();
+        await user.page.drawn();
       }
-      await page.keys("w");
+      await user.page.keys("w");
       await user.settled(6);
       assert.deepEqual(await lastEdit(), [3, "w", 2]);
       await user.press("Control+z");
       await user.until('document.getElementById("length").textContent === "of 5"', "undone");
       await user.press("Control+z");
       await user.until('document.getElementById("length").textContent === "of 4"', "undone");
-      await page.keys("v");
+      await user.page.keys("v");
       await user.settled(5);
       assert.deepEqual(await lastEdit(), [2, "v", 2]);
     });

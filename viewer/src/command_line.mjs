@@ -52,6 +52,7 @@ export class CommandLine {
   turn(isShown = element("debugger").hidden) {
     element("debugger").hidden = !isShown;
     element("debug").setAttribute("aria-pressed", String(isShown));
+    document.body.classList.toggle("with-debugger", isShown);
     this.resized();
     if (isShown) {
       this.#field.focus();

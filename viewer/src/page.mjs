@@ -237,6 +237,12 @@ function turnText(isShown = element("writing").hidden) {
   sheet.measure();
 }
 
+/* Says why, or does not any more: what is below has another height then. */
+function turnReason() {
+  act("reason");
+  resized();
+}
+
 const KEYS = {
   ArrowLeft: () => go(towards(bench.state, -1)),
   ArrowUp: () => go(towards(bench.state, -1)),
@@ -266,7 +272,7 @@ const KEYS_OF_PLAY = {
   "+": () => playKey("join"),
   r: () => playKey("read"),
   q: letThrough,
-  w: () => act("reason"),
+  w: turnReason,
   ":": () => commandLine.turn(true),
   l: () => openDialog("choosing"),
   c: copyLink,
@@ -344,7 +350,7 @@ const CLICKS = {
   debug: () => commandLine.turn(),
   menu: () => element("menu").setAttribute("aria-expanded", String(document.body.classList.toggle("with-menu"))),
   quiet: letThrough,
-  why: () => act("reason"),
+  why: turnReason,
   "give-up": () => bench.stop(),
   escapes: () => act("write", { text: withEscapes(bench.state.text), line: lineOfPlace(bench.state.outline, shownPlace(bench.state)), tag: null }),
   "leave-out": () => act("leaveOut"),
@@ -379,7 +385,7 @@ function resized() {
   requestAnimationFrame(() => {
     timeline.measure();
     if (bench.state.session) changed({ do: "resize" });
-    sheet.measure();
+    sheet.resized();
   });
 }
 onresize = resized;

@@ -50,9 +50,10 @@ export function show(state, { canPlay, isOther, isPut, sheet }) {
   const isFirst = element("main").hidden;
   element("starting").hidden = element("empty").hidden = element("broken").hidden = true;
   element("header").hidden = element("main").hidden = false;
-  document.body.classList.toggle("long", session.length >= LONG);
+  document.body.classList.toggle("with-port", state.port !== null);
   document.body.classList.toggle("of-text-before", state.fault !== null || state.isLate);
   element("late").hidden = !state.isLate;
+  element("outlook").hidden = element("why").hidden = state.isLate;
   const view = viewOf(state, canPlay);
   showHeader(state, view);
   if (!isPictured(state, view, isOther)) {
@@ -65,7 +66,7 @@ export function show(state, { canPlay, isOther, isPut, sheet }) {
   if (isFirst) sheet.measure();
   showFault(state);
   if (!isOther) return;
-  scrollToCard(view);
+  scrollToCard();
   requestAnimationFrame(() => followCard(view, 6));
 }
 
@@ -81,8 +82,8 @@ function followCard(view, frames) {
   const state = element("state").getBoundingClientRect();
   if (!moved || frames === 0 || view.place !== Number(element("place").value)) return;
   const { top, bottom } = moved.getBoundingClientRect();
-  if (top >= state.top && (bottom <= state.bottom || top <= state.top + 200)) return;
-  scrollToCard(view);
+  if (top >= state.top && (bottom <= state.bottom - element("answered").offsetHeight || top <= state.top + 200)) return;
+  scrollToCard();
   requestAnimationFrame(() => followCard(view, frames - 1));
 }
 
@@ -137,7 +138,8 @@ function showVerdicts(state) {
   const cut = state.outline.cut ?? beside?.cut ?? null;
   element("cut").hidden = cut === null;
   setVerdict("cut", `ends before its logs: ${brief(seen(cut ?? ""), 80)}`, "bad");
-  element("conformance").hidden = element("answer").hidden = !beside;
+  element("conformance").hidden = !beside;
+  showAnswer(state);
   if (!beside) return;
   const { answer, words } = beside;
   const conforms = answer === null ? beside.first === null : answer.verdict === "conforms";
@@ -145,8 +147,14 @@ function showVerdicts(state) {
   const marked = beside.first === null ? `${those}: no difference` : `${those}: a difference at ${beside.first}`;
   const line = answer?.line ? shownLine(state, answer.line) : lineOf(state, (answer?.at ?? beside.first ?? 0) - 1);
   setVerdict("conformance", front + (words[0] ?? answer?.verdict ?? marked) + line, !conforms ? "bad" : isNow ? "good" : "");
-  element("answer").hidden = words.length === 0;
-  setText("answer", answerOf(beside).join("\n"));
+}
+
+/* What conform answered; while an answer is awaited that of before, paler, so that nothing is covered and uncovered at each change. */
+function showAnswer({ port, beside }) {
+  element("answer").classList.toggle("old", !beside);
+  if (beside) setText("answer", answerOf(beside).join("\n"));
+  else if (port === null) setText("answer", "");
+  element("answered").hidden = element("answer").textContent === "";
 }
 
 /** What the page says of the session, in its words. */
@@ -230,17 +238,15 @@ function showFault(state) {
   element("text").setAttribute("aria-invalid", String(Boolean(fault)));
 }
 
-function scrollToCard({ place, port }) {
+function scrollToCard() {
   const moved = document.querySelector(".card.moved");
-  const covered = isNarrow() ? "0px" : `${element("cards").firstElementChild.offsetHeight + 4}px`;
+  const covered = { Top: isNarrow() ? 0 : element("cards").firstElementChild.offsetHeight + 4, Bottom: element("answered").offsetHeight };
   const { style } = element("state");
-  if (style.scrollPaddingTop !== covered) style.scrollPaddingTop = covered;
-  if (port && place === port.first) element("state").scrollTop = 0;
-  else if (moved) {
-    const { scrollX, scrollY } = window;
-    moved.scrollIntoView({ block: "nearest" });
-    scrollTo(scrollX, scrollY); // a page that is higher than a narrow window stays where it is
-  }
+  for (const [side, height] of Object.entries(covered)) if (style[`scrollPadding${side}`] !== `${height}px`) style[`scrollPadding${side}`] = `${height}px`;
+  if (!moved) return;
+  const { scrollX, scrollY } = window;
+  moved.scrollIntoView({ block: "nearest" });
+  scrollTo(scrollX, scrollY); // a page that is higher than a narrow window stays where it is
 }
 
 /** The width of the diagram, which is that of its lanes where no other is asked for. */

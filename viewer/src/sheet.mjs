@@ -85,6 +85,12 @@ export class Sheet {
     this.draw();
   }
 
+  /** The field has another height: the line of the place stays in sight, but where the user writes. */
+  resized() {
+    this.measure();
+    if (this.state && document.activeElement !== this.area) this.reveal(Math.max(0, lineOfPlace(this.state.outline, this.#shown.place)));
+  }
+
   /** Scrolls to a line. */
   reveal(line) {
     const top = (line - this.#part.from) * LINE + PAD;

@@ -1,0 +1,25 @@
+/* The tests of a page in one browser, which opens before the first of them and closes behind the last one. */
+
+import assert from "node:assert/strict";
+import { after, before, describe } from "node:test";
+import { skip } from "./otbench.js";
+import { User } from "./user.js";
+
+/**
+ * Tests that a user makes; the page has thrown nothing at their end.
+ * @param {string} name
+ * @param {() => Promise<object>} openBrowser
+ * @param {(user: User) => void} tests the user has a page when they run
+ */
+export function suite(name, openBrowser, tests) {
+  describe(name, { skip }, () => {
+    const user = new User(null);
+    before(async () => (user.page = await openBrowser()));
+    after(async () => {
+      const { exceptions } = user.page;
+      await user.page.close();
+      assert.deepEqual(exceptions, []);
+    });
+    tests(user);
+  });
+}
