@@ -1,11 +1,11 @@
 #!/usr/bin/env python3
 """otbench, ot.js under node and other programs on the same schedules, side by side.
 
-    python3 bench/compare.py [--seeds S,S,..] [--runs N] [--only a,b,..] [--program PROGRAM] [--beside "NAME=PROGRAM WORD.."].. [--count] [--write] [--dir DIR]
+    python3 bench/compare.py [--seeds S,S,..] [--runs N] [--only a,b,..] [--program PROGRAM] [--beside "NAME=PROGRAM WORD.."].. [--count [NAME,..]] [--write] [--dir DIR]
 
 Writes the schedules of storms.py and editors.py, for each seed (1), to DIR (a temporary folder by default). Runs `node oracle/run.js`, each program that is named, and `otbench run` on each, N times (3) in turns, and compares what they print.
 Prints for each schedule the least processor time (user and system) and the peak memory (at least that of Python) of all, node's time in parts of otbench's, otbench's in parts of that of each program that is named, and with --count,
-when all is timed, the same of instructions, as valgrind counts them on all processors. Last comes a table in Markdown, a row for each shape, of each figure the least and the greatest of the seeds. --write puts it into bench/README.md, and a picture of it, of the
+when all is timed, the same of instructions, beside the programs that it names or all, as valgrind counts them on all processors. Last comes a table in Markdown, a row for each shape, of each figure the least and the greatest of the seeds. --write puts it into bench/README.md, and a picture of it, of the
 first seed, into bench/storms.svg.
 
 A program that is named reads a schedule on its input and prints what `otbench run` prints: --beside "before=/tmp/otbench-before run".
@@ -62,9 +62,9 @@ def named_in(peers):
     return [peer for peer in peers if peer not in ('node', 'otbench')]
 
 
-def count(measurements, peers):
-    """Adds to the rows, each with the schedule that it is of, otbench's instructions in parts of each named program's."""
-    asked_for = [(row, path, peer) for row, path in measurements for peer in ('otbench', *named_in(peers))]
+def count(measurements, peers, named):
+    """Adds to the rows, each with the schedule that it is of, otbench's instructions in parts of those of the named programs."""
+    asked_for = [(row, path, peer) for row, path in measurements for peer in ('otbench', *named)]
     with concurrent.futures.ThreadPoolExecutor(os.cpu_count()) as pool:
         counts = list(pool.map(lambda it: instructions(peers[it[2]], it[1]), asked_for))
     ours = {path: found for (_, path, peer), found in zip(asked_for, counts) if peer == 'otbench'}
@@ -118,7 +118,7 @@ def asked():
     words.add_argument('--only', default=ALL)
     words.add_argument('--program')
     words.add_argument('--beside', action='append', default=[])
-    words.add_argument('--count', action='store_true')
+    words.add_argument('--count', nargs='?', const='', metavar='NAME,..')
     words.add_argument('--write', action='store_true')
     words.add_argument('--dir')
     return words.parse_args()
@@ -127,7 +127,10 @@ def asked():
 def main():
     words = asked()
     peers = programs(words.beside, words.program or os.path.join(TOP, 'crates', 'otbench', 'out', 'otbench'))
-    if words.count and not shutil.which('valgrind'):
+    counted = [] if words.count is None else words.count.split(',') if words.count else named_in(peers)
+    if not set(counted) <= set(named_in(peers)):
+        sys.exit('compare.py: --count names programs that --beside names: %s' % words.count)
+    if counted and not shutil.which('valgrind'):
         sys.exit('compare.py: --count wants valgrind, which is not there')
     if not words.program:
         subprocess.run([os.path.join(TOP, 'otbench'), 'run'], input=b'clients 1\n', stdout=subprocess.DEVNULL, check=True)
@@ -145,8 +148,8 @@ def main():
             same = same and well
             print('%s, seed %s: %s%s' % (name, seed, ', '.join('%s %s' % (column, shown(column, [value])) for column, value in row.items()),
                                          '' if well else ': they print differently, or failed'), flush=True)
-    if words.count:
-        count(measurements, peers)
+    if counted:
+        count(measurements, peers, counted)
     print(table(rows), end='')
     if words.write:
         write(rows, peers)
