@@ -67,9 +67,12 @@ export interface Stop {
   refusal: Refusal;
 }
 
+/** So many scalars of a document: those that an instruction inserted, an edit of this client, or, as a count alone, those of the start text. */
+export type Span = [count: number, client: number, instruction: number] | [count: number];
+
 export interface Run {
-  /** The documents that reads showed, in order; `client` is null for the server's. */
-  reads: { client: number | null; document: string }[];
+  /** The documents that reads showed, in order; `client` is null for the server's. `by` says who inserted their characters, from left to right. */
+  reads: { client: number | null; document: string; by: Span[] }[];
   /** The instruction that was refused, or null where all were performed. */
   stopped: Stop | null;
   /** Where each client ends, by its number. */

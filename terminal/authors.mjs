@@ -1,27 +1,26 @@
-// Who inserted a character, when, and how it came to a document; and what two documents have in common. Characters are the elements of the
-// fold: one insertion is one element in every document.
+// Who inserted a character, when, and how it came to a document; and what two documents have in common. The authors are otbench's; the way of a character is read off the
+// elements of the fold: one insertion is one element in every document.
 
-import { START } from "../common/document.mjs";
 import { SERVER } from "../common/fold.mjs";
 import { documentAt, stateAt } from "../common/places.mjs";
 import { shortText } from "./values.mjs";
 
 const nameOf = (who) => (who === SERVER ? "the server" : `client ${who}`);
-const madeBy = ({ maker }) => (maker === START ? "the start text" : `client ${maker}`);
+const madeBy = (author) => (author === null ? "the start text" : `client ${author.client}, instruction ${author.instruction}`);
 
 /** @param {import("./recording.mjs").Recording} recording @param {number} place */
 const at = ({ instructions }, place) => `line ${instructions[place - 1].line}, instruction ${place - 1}: ${instructions[place - 1].words}`;
 
-/** The way of an element into a document, up to a place: a line for the edit, the message, the log's entry, the delivery. */
-function wayOf(recording, element, who, place) {
+/** The way of an element into a document, up to a place: a line for the edit, which is its author, the message, the log's entry, the delivery. */
+function wayOf(recording, { client: maker, instruction }, element, who, place) {
   const { members, log, messages } = recording.session;
   const has = ({ elements }) => elements.includes(element);
-  const way = [`inserted by client ${element.maker}: ${at(recording, element.born)}`];
-  const sent = members[element.maker].sent.find((message) => message.sent <= place && has(message));
-  if (sent && sent.sent !== element.born) way.push(`sent from the buffer: ${at(recording, sent.sent)}`);
+  const way = [`inserted by client ${maker}: ${at(recording, instruction + 1)}`];
+  const sent = members[maker].sent.find((message) => message.sent <= place && has(message));
+  if (sent && sent.sent !== instruction + 1) way.push(`sent from the buffer: ${at(recording, sent.sent)}`);
   const entry = log.find((it) => it.sent <= place && has(it));
   if (entry) way.push(`taken by the server as revision ${entry.number + 1}: ${at(recording, entry.sent)}`);
-  if (who === SERVER || who === element.maker || !entry) return way;
+  if (who === SERVER || who === maker || !entry) return way;
   const delivered = messages.find(({ kind, client, number, got }) => kind === "down" && client === who && number === entry.number && got <= place);
   if (delivered) way.push(`delivered to client ${who}: ${at(recording, delivered.got)}`);
   else way.push(`client ${who} has it since it joined: ${at(recording, recording.session.members[who].statePlaces[1])}`);
@@ -33,21 +32,17 @@ function wayOf(recording, element, who, place) {
  * @param {import("./recording.mjs").Recording} recording @param {number | "server"} who @param {number} index @param {number} place
  */
 export function whoIs(recording, who, index, place) {
-  const element = documentAt(recording.session, who, place)[index];
-  const head = `${JSON.stringify(element.character)} at ${index} of the document of ${nameOf(who)}`;
-  if (element.maker === START) return [`${head}: of the start text`];
-  return [head, ...wayOf(recording, element, who, place).map((line) => `  ${line}`)];
+  const { document, spans } = recording.authors(who, place);
+  const { author } = spans.findLast(({ from }) => from <= index);
+  const head = `${JSON.stringify(document[index])} at ${index} of the document of ${nameOf(who)}`;
+  if (author === null) return [`${head}: of the start text`];
+  return [head, ...wayOf(recording, author, documentAt(recording.session, who, place)[index], who, place).map((line) => `  ${line}`)];
 }
 
-/** A document in runs of one author and instruction, a line for each. */
+/** A document in spans of one author, a line for each. */
 export function authorsOf(recording, who, place) {
-  const runs = [];
-  for (const element of documentAt(recording.session, who, place)) {
-    const last = runs.at(-1);
-    if (last && last.maker === element.maker && last.born === element.born) last.text += element.character;
-    else runs.push({ maker: element.maker, born: element.born, text: element.character });
-  }
-  return runs.map(({ maker, born, text }) => `${shortText(text)}  ${madeBy({ maker })}${born ? `, instruction ${born - 1}` : ""}`);
+  const { document, spans } = recording.authors(who, place);
+  return spans.map(({ from, count, author }) => `${shortText(document.slice(from, from + count).join(""))}  ${madeBy(author)}`);
 }
 
 /**

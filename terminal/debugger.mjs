@@ -289,12 +289,22 @@ export class Debugger {
     if (word === undefined) throw new Complaint("the character's number is missing");
     const { length } = this.#documentOf(member);
     if (!/^\d{1,9}$/.test(word) || Number(word) >= length) throw new Complaint(length === 0 ? "the document is empty" : `${word} is no character of the document: they are 0 to ${length - 1}`);
-    return whoIs(this.recording, member, Number(word), this.place);
+    return this.#byReading(() => whoIs(this.recording, member, Number(word), this.place));
   }
 
   _blame([who]) {
     const member = memberOf(who, this.recording.clients);
-    return this.#documentOf(member).length ? authorsOf(this.recording, member, this.place) : ["the document is empty"];
+    return this.#documentOf(member).length ? this.#byReading(() => authorsOf(this.recording, member, this.place)) : ["the document is empty"];
+  }
+
+  /** What otbench says by a read behind the place. A schedule that is as long as one may be has no room for it. */
+  #byReading(answer) {
+    try {
+      return answer();
+    } catch (fault) {
+      if (!(fault instanceof RefusedText)) throw fault;
+      throw new Complaint(`authors are those that a read behind the place shows, and it is refused: ${fault.message.trimEnd()}`);
+    }
   }
 
   #documentOf(member, place = this.place) {
@@ -310,7 +320,7 @@ export class Debugger {
     return this.#find(word, -1);
   }
 
-  /** Goes on, or back, over the next instruction by which a document has a text more or less often. */
+  /** Goes on, or back, over the next instruction by which a document has a text more or less often. The documents are those that the lines of `steps` lead to: what reads show. */
   #find(word, direction) {
     if (word === undefined) throw new Complaint("a text is missing");
     const text = textOf(word);

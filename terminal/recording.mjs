@@ -108,6 +108,29 @@ export class Recording {
   }
 
   /**
+   * A document at a place as otbench shows it in a read behind that: its characters, and its spans of one author, { from, count, author }. An author is
+   * { client, instruction }, or null for the start text. The last answer is kept: characters of one document are asked for one by one.
+   * @param {number | "server"} who @param {number} place
+   */
+  authors(who, place) {
+    if (this.lastRead?.who !== who || this.lastRead.place !== place) this.lastRead = { who, place, ...this.#read(who, place) };
+    return this.lastRead;
+  }
+
+  #read(who, place) {
+    const read = who === SERVER ? "read-server" : `read ${who}`;
+    const { output, errors } = this.ask(["run", "--json"], `${this.scheduleUpTo(place)}${read}\n`);
+    if (errors) throw new RefusedText(errors);
+    const { document, by } = JSON.parse(output.split("\n").findLast((line) => line.startsWith('{"do":')));
+    let from = 0;
+    const spans = by.map(([count, client, instruction]) => {
+      from += count;
+      return { from: from - count, count, author: client === undefined ? null : { client, instruction } };
+    });
+    return { document: [...document], spans };
+  }
+
+  /**
    * The method of ot.js that performed an instruction, and what it was given: what conform says where a port has another value. Null where there is no method.
    * @param {number} number @returns {import("../common/why.mjs").Call | null}
    */

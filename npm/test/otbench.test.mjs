@@ -27,8 +27,8 @@ test("run: reads, a refused instruction, a client that has not joined, texts wit
   const text = 'clients 3\npresent 2\nstart "a\\n\\"\u2028é😀"\nedit 0 ["x",6]\nread 0\nread-server\nedit 0 [1]\n';
   assert.deepEqual(run(text), {
     reads: [
-      { client: 0, document: 'xa\n"\u2028é😀' },
-      { client: null, document: 'a\n"\u2028é😀' },
+      { client: 0, document: 'xa\n"\u2028é😀', by: [[1, 0, 0], [6]] },
+      { client: null, document: 'a\n"\u2028é😀', by: [[6]] },
     ],
     stopped: { at: 3, line: 7, refusal: "BadBase" },
     clients: [

@@ -18,7 +18,7 @@ pub record Reports (json : Bool) (schedule : Program) (status : ℕ) (streams : 
   pub run : Run
   pub is_run : IsRun schedule run
   pub text : List ℕ
-  pub is_report : IsReport json run text
+  pub is_report : IsReport json schedule run text
   pub gives : Gives (stop_status run.stopped) text status streams
 
 -- memory ran out: status 1, the lines of the first reads, which were written by then, and on the faults that it was

@@ -5,3 +5,8 @@ pub mod Quiet
 pub mod Reported
 pub mod Below
 pub mod Exact
+pub mod Authoring
+pub mod Inserters
+pub mod AuthorLaws
+pub mod Spelling
+pub mod AuthorExamples

@@ -3,11 +3,13 @@ use Rattle.std.proofs.Common.{◌≡◌, ℕ, Bool, zero, suc, ◌+◌, ◌<◌,
 use Rattle.std.specs.Prelude.{slice_get}
 use Rattle.std.specs.Option.{option_map}
 use Rattle.std.proofs.lemmas.List.{append_assoc, append-nil}
+use Rattle.ot_isa.specs.declared.elements.Tag.{Tag}
 use Rattle.ot_isa.specs.declared.elements.Tagged.{Tagged}
 use Rattle.ot_model.specs.Table.{Client}
 use Rattle.ot_machine.specs.declared.state.Phase.{Phase}
 use Rattle.ot_machine.specs.Readers.{phase_name}
 use Rattle.ot_model.specs.declared.shown.Shown.{Shown}
+use Rattle.ot_report.specs.declared.authors.Author.{Author}
 use Rattle.ot_report.specs.Printed.{client_line, client_lines, client_text, read_lines, read_text}
 use Rattle.ot_report.specs.RunJson.{client_json, client_parts, clients_json}
 use Rattle.ot_values.specs.Values.{phase_word}
@@ -62,10 +64,10 @@ object_from c (Some x) revision phase list r p l =
     rw (r', p', l') refl
 
 -- one more read
-pub reads_more : (json : Bool) (i : ℕ) (xs : List Shown) (shown : Shown) → i < length xs → shown ≡ get_or xs i shown
-    → read_lines json (take (suc i) xs) ≡ read_lines json (take i xs) ++ read_text json shown
-reads_more json i [] shown there is = absurd (omega (arith, there))
-reads_more json zero (x ∷ xs) shown there is = append-nil (read_text json x) ∙ ap (read_text json) (sym is)
-reads_more json (suc i) (x ∷ xs) shown there is =
-    ap (λ (t : List ℕ). read_text json x ++ t) (reads_more json i xs shown (omega (arith, there)) is)
-    ∙ sym (append_assoc (read_text json x) (read_lines json (take i xs)) (read_text json shown))
+pub reads_more : (json : Bool) (by : Tag → Option Author) (i : ℕ) (xs : List Shown) (shown : Shown) → i < length xs → shown ≡ get_or xs i shown
+    → read_lines json by (take (suc i) xs) ≡ read_lines json by (take i xs) ++ read_text json by shown
+reads_more json by i [] shown there is = absurd (omega (arith, there))
+reads_more json by zero (x ∷ xs) shown there is = append-nil (read_text json by x) ∙ ap (read_text json by) (sym is)
+reads_more json by (suc i) (x ∷ xs) shown there is =
+    ap (λ (t : List ℕ). read_text json by x ++ t) (reads_more json by i xs shown (omega (arith, there)) is)
+    ∙ sym (append_assoc (read_text json by x) (read_lines json by (take i xs)) (read_text json by shown))

@@ -18,6 +18,7 @@ use Rattle.ot_model.specs.Table.{State, Place, Outcome, Performed, Refused, NoRo
 use Rattle.ot_model.specs.Runs.{place_at}
 use Rattle.ot_machine.specs.declared.outcome.Run.{Run}
 use Rattle.ot_machine.specs.Ended.{reached, IsStop}
+use Rattle.ot_report.specs.Authors.{author_of}
 use Rattle.ot_report.specs.Printed.{end_text, read_lines, stop_text, IsEndText}
 use Rattle.ot_report.specs.Written.{GathersReads, IsReportOf, ReadsUpTo, WritesFirstReads, WritesPartOfReport, WritesReport, WritesReportUpTo}
 use Rattle.ot_report.specs.declared.writing.ReportFault.{ReportFault}
@@ -74,7 +75,7 @@ module _ (json : Bool) (heap : Global) (s : Program) (limits : IsProgram s) (sto
   its = replay heap place.state place.shown (shown_small s (reached s stopped) place limits at) stopped
 
   abbrev its_report : List ℕ
-  its_report = read_lines json place.shown ++ stop_text json stopped ++ end
+  its_report = read_lines json (author_of s.instrs) place.shown ++ stop_text json stopped ++ end
 
   is_its : IsReportOf json s its its_report
   is_its = record { is_run = record { at = at; stop = stop }; is_report = (end, is_end, refl) }
@@ -93,7 +94,7 @@ cut_short json heap s limits old new (p, before, (place, at, written)) =
     let quiet = quiet_or_not place.state in
     let end : List ℕ = end_text json place.state quiet.0 in
     part_reported json heap s limits (Some (p, Memory)) place at before end (quiet.0, quiet.1, refl) old new
-    (part_of_front old new (read_lines json place.shown ++ stop_text json (Some (p, Memory))) end (part_of_front old new (read_lines json place.shown) (stop_text json (Some (p, Memory))) written))
+    (part_of_front old new (read_lines json (author_of s.instrs) place.shown ++ stop_text json (Some (p, Memory))) end (part_of_front old new (read_lines json (author_of s.instrs) place.shown) (stop_text json (Some (p, Memory))) written))
 
 pub reads_cut_short : (f : ReportFault) (json : Bool) (heap : Global) (s : Program) → IsProgram s → (old new : Option (List ℕ)) → ReadsUpTo f json s old new → WritesReportUpTo f json s old new
 reads_cut_short fault.Memory json heap s limits old new reads = reads
@@ -114,11 +115,11 @@ module _ (json : Bool) (heap : Global) (s : Program) (limits : IsProgram s) (sto
   its_stop = subst (λ (t : State). IsStop s t stopped) (sym reads.state_is) reads.stop
 
   abbrev first : List ℕ
-  first = read_lines json reads.reads.first.place.shown
+  first = read_lines json (author_of s.instrs) reads.reads.first.place.shown
 
   -- all lines but those of the end
   abbrev lines : List ℕ
-  lines = read_lines json reads.place.shown ++ stop_text json stopped
+  lines = read_lines json (author_of s.instrs) reads.place.shown ++ stop_text json stopped
 
   are_lines : first ++ text ≡ lines
   are_lines =

@@ -1,3 +1,4 @@
+pub mod Authors
 pub mod RunJson
 pub mod Printed
 pub mod Verdicts

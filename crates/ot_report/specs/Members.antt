@@ -1,5 +1,5 @@
 -- Verdicts, and what is not settled, as members of JSON objects.
-use Rattle.std.specs.Prelude.{ℕ, Bool, true, false, List, [], ◌∷◌, ◌++◌, Option, Some, None, codes, decimal, if◌then◌else◌}
+use Rattle.std.specs.Prelude.{ℕ, Bool, true, false, List, [], ◌∷◌, ◌++◌, Option, Some, None, codes, decimal}
 use Rattle.ot_check.specs.declared.outcome.Unsettled.{Unsettled}
 use Rattle.ot_check.specs.declared.outcome.Unsettled.TheVariants as unsettled
 use Rattle.ot_check.specs.declared.outcome.Convergence.{Convergence}

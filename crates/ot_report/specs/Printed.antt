@@ -1,5 +1,7 @@
 -- The lines that are printed of a run, in words or as JSON: both are functions of the run.
 use Rattle.std.specs.Prelude.{◌≡◌, ◌↔◌, ℕ, suc, List, [], ◌∷◌, ◌++◌, length, Bool, true, false, IsTrue, Option, Some, None, codes, decimal, if◌then◌else◌}
+use Rattle.ot_isa.specs.Program.{Program}
+use Rattle.ot_isa.specs.declared.elements.Tag.{Tag}
 use Rattle.ot_isa.specs.declared.elements.Tagged.{Tagged}
 use Rattle.ot_model.specs.declared.shown.Refusal.{Refusal}
 use Rattle.ot_model.specs.declared.shown.Reader.{Reader}
@@ -9,6 +11,8 @@ use Rattle.ot_model.specs.Table.{Client, State, IsQuiet}
 use Rattle.ot_machine.specs.Readers.{phase_name}
 use Rattle.ot_machine.specs.declared.outcome.Run.{Run}
 use Rattle.ot_values.specs.Values.{phase_word, refusal_text, text_of}
+use Rattle.ot_report.specs.Authors.{author_of}
+use Rattle.ot_report.specs.declared.authors.Author.{Author}
 use Rattle.ot_report.specs.RunJson.{end_json, read_json, stop_json}
 
 abbrev pub line : List ℕ → List ℕ
@@ -22,14 +26,14 @@ reader_text reader.Server = codes "read-server"
 abbrev pub read_line : Shown → List ℕ
 read_line shown = reader_text shown.who ++ 32 ∷ line (text_of shown.list)
 
--- in words, or as JSON
-abbrev pub read_text : Bool → Shown → List ℕ
-read_text false shown = read_line shown
-read_text true shown = read_json shown
+-- in words, or as JSON, which has the authors of tags
+abbrev pub read_text : Bool → (Tag → Option Author) → Shown → List ℕ
+read_text false by shown = read_line shown
+read_text true by shown = read_json by shown
 
-abbrev pub read_lines : Bool → List Shown → List ℕ
-read_lines json [] = []
-read_lines json (shown ∷ others) = read_text json shown ++ read_lines json others
+abbrev pub read_lines : Bool → (Tag → Option Author) → List Shown → List ℕ
+read_lines json by [] = []
+read_lines json by (shown ∷ others) = read_text json by shown ++ read_lines json by others
 
 -- stopped at I: Refusal
 abbrev pub stop_line : ℕ → Refusal → List ℕ
@@ -81,6 +85,6 @@ abbrev pub stop_text : Bool → Option (ℕ × Refusal) → List ℕ
 stop_text json None = []
 stop_text json (Some stop) = stopped_text json stop.0 stop.1
 
--- the text is that of the run: its reads, its stop and its end
-abbrev pub IsReport : Bool → Run → List ℕ → Type 0
-IsReport json run text = (end : List ℕ) × IsEndText json run.machine end × (text ≡ read_lines json run.shown.items ++ stop_text json run.stopped ++ end)
+-- the text is that of the schedule's run: its reads, its stop and its end
+abbrev pub IsReport : Bool → Program → Run → List ℕ → Type 0
+IsReport json s run text = (end : List ℕ) × IsEndText json run.machine end × (text ≡ read_lines json (author_of s.instrs) run.shown.items ++ stop_text json run.stopped ++ end)

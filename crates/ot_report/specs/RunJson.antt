@@ -1,5 +1,6 @@
 -- The lines that are printed of a run as JSON: one object a line.
-use Rattle.std.specs.Prelude.{ℕ, suc, List, [], ◌∷◌, ◌++◌, length, Bool, codes, decimal, if◌then◌else◌}
+use Rattle.std.specs.Prelude.{ℕ, suc, List, [], ◌∷◌, ◌++◌, length, Bool, Option, codes, decimal, if◌then◌else◌}
+use Rattle.ot_isa.specs.declared.elements.Tag.{Tag}
 use Rattle.ot_isa.specs.declared.elements.Tagged.{Tagged}
 use Rattle.ot_model.specs.declared.shown.Refusal.{Refusal}
 use Rattle.ot_model.specs.declared.shown.Reader.{Reader}
@@ -7,19 +8,20 @@ use Rattle.ot_model.specs.declared.shown.Reader.TheVariants as reader
 use Rattle.ot_model.specs.declared.shown.Shown.{Shown}
 use Rattle.ot_model.specs.Table.{Client, State}
 use Rattle.ot_machine.specs.Readers.{phase_name}
+use Rattle.ot_report.specs.Authors.{authors, by_json}
+use Rattle.ot_report.specs.declared.authors.Author.{Author}
 use Rattle.ot_values.specs.Values.{phase_word, refusal_text, text_of}
 
--- the last member and the end of the line
 abbrev pub document_json : List Tagged → List ℕ
-document_json list = codes ",\"document\":" ++ (text_of list ++ codes "}\n")
+document_json list = codes ",\"document\":" ++ text_of list
 
--- {"do":"read","client":0,"document":"text"}
+-- {"do":"read","client":0,"document":"text","by":[[1,0,3],[3]]}
 abbrev pub reader_json : Reader → List ℕ
 reader_json (reader.Client c) = codes "{\"do\":\"read\",\"client\":" ++ decimal c
 reader_json reader.Server = codes "{\"do\":\"read-server\""
 
-abbrev pub read_json : Shown → List ℕ
-read_json shown = reader_json shown.who ++ document_json shown.list
+abbrev pub read_json : (Tag → Option Author) → Shown → List ℕ
+read_json by shown = reader_json shown.who ++ (document_json shown.list ++ (by_json (authors by shown.list) ++ codes "}\n"))
 
 -- {"at":3,"stopped":"LinkEmpty"}
 abbrev pub stop_json : ℕ → Refusal → List ℕ
@@ -31,7 +33,7 @@ client_head c revision phase =
     codes "{\"client\":" ++ (decimal c ++ (codes ",\"revision\":" ++ (decimal revision ++ (codes ",\"state\":\"" ++ (phase ++ codes "\"")))))
 
 abbrev pub client_parts : ℕ → ℕ → List ℕ → List Tagged → List ℕ
-client_parts c revision phase list = client_head c revision phase ++ document_json list
+client_parts c revision phase list = client_head c revision phase ++ (document_json list ++ codes "}\n")
 
 abbrev pub client_json : ℕ → Client → List ℕ
 client_json c x = client_parts c x.revision (phase_word (phase_name x.phase)) x.list
@@ -42,7 +44,7 @@ clients_json c (x ∷ clients) = client_json c x ++ clients_json (suc c) clients
 
 -- {"client":null,"revision":1,"document":"text"}
 abbrev pub server_parts : ℕ → List Tagged → List ℕ
-server_parts revision list = codes "{\"client\":null,\"revision\":" ++ (decimal revision ++ document_json list)
+server_parts revision list = codes "{\"client\":null,\"revision\":" ++ (decimal revision ++ (document_json list ++ codes "}\n"))
 
 abbrev pub server_json : State → List ℕ
 server_json s = server_parts (length s.log) s.server

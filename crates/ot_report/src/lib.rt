@@ -8,7 +8,7 @@
 //! ```
 //!
 //! Every line ends with LF; a text is printed as a JSON string. Each call that prints answers an error only if memory runs out, and its
-//! contract says every byte: `specs/Printed.antt` has the lines of a run, `specs/RunJson.antt` those as JSON, `specs/Verdicts.antt` those of verdicts, `specs/Members.antt` the
+//! contract says every byte: `specs/Printed.antt` has the lines of a run, `specs/RunJson.antt` those as JSON, `specs/Authors.antt` who inserted the characters of a read, `specs/Verdicts.antt` those of verdicts, `specs/Members.antt` the
 //! same as JSON, `specs/Findings.antt` what is found of a schedule; `specs/Written.antt` has what stands on the output after a fault. Begin
 //! with [`print_run`], [`write_report`] and [`find`].
 //!
@@ -27,6 +27,7 @@
 //! event sees another costs one more look at the events before that one.
 #![tactic(auto)]
 
+mod authors;
 mod causes;
 mod ending;
 mod findings;
@@ -35,17 +36,20 @@ mod lines;
 mod members;
 mod run_json;
 mod running;
+mod spans;
 mod unsettled;
 mod verdicts;
 mod words;
 mod writing;
 
+pub use authors::{Author, edits_are_authors};
 pub use causes::{Cause, cause_of};
 pub use ending::print_end;
 pub use findings::{Findings, find, found_text};
 pub use lines::{print_client, print_read, print_server, print_stop, push_read, quiet_text};
 pub use members::verdict_json;
 pub use running::print_run;
+pub use spans::{Span, spans_spell};
 pub use unsettled::settling;
 pub use verdicts::{print_convergence, print_settling, print_verdict, tag_name, verdict_text};
 pub use words::print_words;

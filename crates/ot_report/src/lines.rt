@@ -1,8 +1,10 @@
 //! The lines of reads and of a stop.
 
 ghost use Rattle.std.specs.Prelude.{◌≡◌, ◌++◌, IfOk, OnOk, string_bytes};
+ghost use Rattle.ot_report.specs.Authors.{author_in};
 ghost use Rattle.ot_report.specs.Printed.{client_text, quiet_line, read_line, read_text, reader_text, server_text, stop_line};
 
+use crate::authors::Authors;
 use crate::run_json::push_read_json;
 use ot_isa::Tagged;
 use ot_model::{Reader, Refusal, Shown};
@@ -36,18 +38,19 @@ pub fn push_read(
     text.push('\n')
 }
 
-/// Adds the line of a read of this list, in words or as JSON. If memory runs out, the text holds a part of it.
+/// Adds the line of a read of this list, in words or, with these authors, as JSON. If memory runs out, the text holds a part of it.
 pub(crate) fn push_read_text(
     alloc: Global,
     json: bool,
+    authors: &Authors,
     text: &mut String,
     who: Reader,
     list: &Doc<Tagged>,
 ) -> Result<(), AllocError>
-    ensures { OnOk result (string_bytes text.new ≡ string_bytes text.old ++ read_text json (record { who = who; list = list.now })) }
+    ensures { OnOk result (string_bytes text.new ≡ string_bytes text.old ++ read_text json (author_in authors.now) (record { who = who; list = list.now })) }
 {
     if json {
-        push_read_json(alloc, text, who, list)
+        push_read_json(alloc, authors, text, who, list)
     } else {
         push_read(alloc, text, who, list)
     }

@@ -2,9 +2,12 @@
 
 ghost use Rattle.std.specs.Prelude.{◌≡◌, ◌<◌, ◌++◌, true, length, IfOk, OnOk, string_bytes};
 ghost use Rattle.ot_machine.specs.Readers.{ClientHas};
+ghost use Rattle.ot_report.specs.Authors.{author_in};
 ghost use Rattle.ot_report.specs.Printed.{IsEndText};
 ghost use Rattle.ot_report.specs.RunJson as json;
 
+use crate::authors::Authors;
+use crate::spans::by_json;
 use ot_isa::Tagged;
 use ot_machine::Machine;
 use ot_model::{Reader, Refusal};
@@ -12,13 +15,12 @@ use ot_text::Doc;
 use ot_values::{phase_name, push_quoted, refusal_name};
 use std::alloc::{AllocError, Global};
 
-// The last member and the end of the line. If memory runs out, the text holds a part of it.
+// The document's member. If memory runs out, the text holds a part of it.
 fn push_document(alloc: Global, text: &mut String, list: &Doc<Tagged>) -> Result<(), AllocError>
     ensures { OnOk result (string_bytes text.new ≡ string_bytes text.old ++ json.document_json list.now) }
 {
     text.push_str(",\"document\":")?;
-    push_quoted(alloc, text, list)?;
-    text.push_str("}\n")
+    push_quoted(alloc, text, list)
 }
 
 // Who reads.
@@ -31,18 +33,22 @@ fn reader_json(alloc: Global, who: Reader) -> Result<String, AllocError>
     }
 }
 
-/// Adds the line of a read of this list. If memory runs out, the text holds a part of it.
+/// Adds the line of a read of this list, whose characters have these authors. If memory runs out, the text holds a part of it.
 pub(crate) fn push_read_json(
     alloc: Global,
+    authors: &Authors,
     text: &mut String,
     who: Reader,
     list: &Doc<Tagged>,
 ) -> Result<(), AllocError>
-    ensures { OnOk result (string_bytes text.new ≡ string_bytes text.old ++ json.read_json (record { who = who; list = list.now })) }
+    ensures { OnOk result (string_bytes text.new ≡ string_bytes text.old ++ json.read_json (author_in authors.now) (record { who = who; list = list.now })) }
 {
     let reader = reader_json(alloc, who)?;
     text.push_str(reader.as_str())?;
-    push_document(alloc, text, list)
+    push_document(alloc, text, list)?;
+    let by = by_json(alloc, authors, list)?;
+    text.push_str(by.as_str())?;
+    text.push_str("}\n")
 }
 
 /// The line of a stop before the instruction at this place.
@@ -67,6 +73,7 @@ fn client_parts(
         "{{\"client\":{client},\"revision\":{revision},\"state\":\"{phase}\""
     )?;
     push_document(alloc, &mut text, list)?;
+    text.push_str("}\n")?;
     Ok(text)
 }
 
@@ -98,6 +105,7 @@ fn server_parts(alloc: Global, revision: usize, list: &Doc<Tagged>) -> Result<St
 {
     let mut text = format!(in alloc; "{{\"client\":null,\"revision\":{revision}")?;
     push_document(alloc, &mut text, list)?;
+    text.push_str("}\n")?;
     Ok(text)
 }
 

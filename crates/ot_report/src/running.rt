@@ -1,6 +1,9 @@
 //! A whole run.
 
-ghost use Rattle.std.specs.Prelude.{◌≡◌, ◌++◌, false, IfOk, OnOk, string_bytes};
+ghost use Rattle.std.specs.Prelude.{◌≡◌, ◌++◌, false, Option, IfOk, OnOk, string_bytes};
+ghost use Rattle.ot_isa.specs.Program.{Program};
+ghost use Rattle.ot_isa.specs.declared.elements.Tag.{Tag};
+ghost use Rattle.ot_report.specs.declared.authors.Author.{Author};
 ghost use Rattle.ot_report.specs.Printed.{read_lines, stop_text, stopped_text, IsReport};
 
 use crate::ending::print_end;
@@ -12,7 +15,7 @@ use std::alloc::{AllocError, Global};
 
 // The lines of the reads, in order.
 fn reads_text(alloc: Global, shown: &[Shown]) -> Result<String, AllocError>
-    ensures { IfOk result (λ s. string_bytes s ≡ read_lines false shown.now) }
+    ensures { IfOk result (λ s. (by : Tag → Option Author) → string_bytes s ≡ read_lines false by shown.now) }
 {
     let mut text = String::new(alloc);
     for read in shown {
@@ -55,7 +58,7 @@ pub(crate) fn push_stop(
 
 /// A run as it is printed: the reads in order, the stop if an instruction was not performed, and the state where the run ended.
 pub fn print_run(alloc: Global, run: &Run) -> Result<String, AllocError>
-    ensures { IfOk result (λ s. IsReport false run.now (string_bytes s)) }
+    ensures { IfOk result (λ s. (schedule : Program) → IsReport false schedule run.now (string_bytes s)) }
 {
     let mut text = reads_text(alloc, run.shown.as_slice())?;
     push_stop(alloc, false, &mut text, run.stopped)?;

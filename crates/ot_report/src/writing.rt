@@ -1,12 +1,15 @@
 //! The report of a schedule's run, written while it goes.
 
 ghost use Rattle.std.specs.Prelude.{◌≡◌, true, [], ◌++◌, IfErr, IfOk, IfSome, OnErr, OnOk, string_bytes};
+ghost use Rattle.std.specs.Bool.{OnTrue};
 ghost use Rattle.std.specs.Option.{option_map};
 ghost use Rattle.streams.specs.Streams.{WritesPart};
 ghost use Rattle.ot_model.specs.Runs.{opening_of};
 ghost use Rattle.ot_machine.specs.Effects.{shown_by, IsThere};
+ghost use Rattle.ot_report.specs.Authors.{author_in, AreInserters};
 ghost use Rattle.ot_report.specs.Written.{Flushes, Gathers, GathersReads, GathersUpTo, IsCaused, ReadsUpTo, WritesReport, WritesReportUpTo};
 
+use crate::authors::Authors;
 use crate::ending::end_text;
 use crate::lines::push_read_text;
 use crate::running::push_stop;
@@ -22,7 +25,7 @@ const GATHERED: usize = 1 << 16;
 /// Why a report is not all written.
 #[derive(Clone, Copy, Debug, PartialEq, Eq)]
 pub enum ReportFault {
-    /// No memory was found for the opening, for the line of a read, or for the end.
+    /// No memory was found for the opening, for the authors, for the line of a read, or for the end.
     Memory,
     /// A write failed, or took no byte.
     WriteFault,
@@ -68,19 +71,20 @@ fn flush_full<W: Sink>(text: &mut String, output: &mut W) -> Result<(), streams:
 fn gather<W: Sink>(
     alloc: Global,
     json: bool,
+    authors: &Authors,
     machine: &Machine,
     who: Option<Reader>,
     text: &mut String,
     output: &mut W,
 ) -> Result<(), ReportFault>
     requires { IfSome who (IsThere machine.now) }
-    ensures ok { OnOk result (Gathers json (option_map (shown_by machine.now) who) (string_bytes text.old) (string_bytes text.new) (W.contents output.old) (W.contents output.new)) }
+    ensures ok { OnOk result (Gathers json (author_in authors.now) (option_map (shown_by machine.now) who) (string_bytes text.old) (string_bytes text.new) (W.contents output.old) (W.contents output.new)) }
     ensures err { IfErr result (λ f. GathersUpTo f (string_bytes text.old) (W.contents output.old) (W.contents output.new)) }
     ensures cause { IfErr result (λ f. IsCaused f (W.failed output.new)) }
 {
     let Some(who) = who else { return Ok(()) };
     flush_full(text, output)?;
-    push_read_text(alloc, json, text, who, machine.document_of(who))?;
+    push_read_text(alloc, json, authors, text, who, machine.document_of(who))?;
     Ok(())
 }
 
@@ -88,12 +92,14 @@ fn gather<W: Sink>(
 fn write_reads<W: Sink>(
     alloc: Global,
     json: bool,
+    authors: &Authors,
     machine: &mut Machine,
     schedule: &Schedule,
     text: &mut String,
     output: &mut W,
 ) -> Result<Option<(usize, Refusal)>, ReportFault>
     requires opening { machine.old ≡ opening_of schedule.now }
+    requires authors { OnTrue json (AreInserters schedule.now.instrs authors.now) }
     requires empty { string_bytes text.old ≡ [] }
     ensures ok { IfOk result (λ stopped. GathersReads json schedule.now stopped machine.new (string_bytes text.new) (W.contents output.old) (W.contents output.new)) }
     ensures err { IfErr result (λ f. ReadsUpTo f json schedule.now (W.contents output.old) (W.contents output.new)) }
@@ -104,11 +110,22 @@ fn write_reads<W: Sink>(
             unreachable!()
         };
         match machine.perform::<false>(instr) {
-            Ok(effect) => gather(alloc, json, machine, effect.shown, text, output)?,
+            Ok(effect) => gather(alloc, json, authors, machine, effect.shown, text, output)?,
             Err(refusal) => return Ok(Some((place, refusal))),
         }
     }
     Ok(None)
+}
+
+// The authors of the schedule's characters, where they are asked for.
+fn authors_if(alloc: Global, json: bool, schedule: &Schedule) -> Result<Authors, AllocError>
+    ensures { IfOk result (λ a. OnTrue json (AreInserters schedule.now.instrs a)) }
+{
+    if json {
+        Authors::of(alloc, schedule)
+    } else {
+        Ok(Authors::none(alloc))
+    }
 }
 
 /// Runs the schedule and writes its report while it goes, in words or as lines of `json`: the line of each read, the stop if an instruction was not performed (refused,
@@ -117,7 +134,8 @@ fn write_reads<W: Sink>(
 ///
 /// After a failed write a first part of the report is written, and `WriteFault` is said only where one has failed, as the output says itself; if memory ran out, the lines of the first reads, and these are whole; lines
 /// that were gathered and not yet written are lost. Memory does not grow with the reads: their lines are gathered in one buffer, which is
-/// written once it has 64 KiB, and beside it there is room for the machine, for the line of one read, and for the lines of the end.
+/// written once it has 64 KiB, and beside it there is room for the machine, for the line of one read, and for the lines of the end;
+/// with `json` for the authors too, four bytes for each character that the schedule inserts, and for a copy of the list that is read.
 pub fn write_report<W: Sink>(
     alloc: Global,
     schedule: &Schedule,
@@ -130,8 +148,17 @@ pub fn write_report<W: Sink>(
 {
     let clients = schedule.clients();
     let mut machine = Machine::with_present(alloc, clients, schedule.present(), schedule.start())?;
+    let authors = authors_if(alloc, json, schedule)?;
     let mut text = String::new(alloc);
-    let stopped = write_reads(alloc, json, &mut machine, schedule, &mut text, output)?;
+    let stopped = write_reads(
+        alloc,
+        json,
+        &authors,
+        &mut machine,
+        schedule,
+        &mut text,
+        output,
+    )?;
     push_stop(alloc, json, &mut text, stopped)?;
     let end = end_text(alloc, json, &machine)?;
     output.put(text.as_bytes())?;

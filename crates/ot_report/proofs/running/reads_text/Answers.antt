@@ -4,11 +4,11 @@ use Rattle.ot_report.proofs.Listing.{reads_more}
 use Rattle.ot_report.proofs.running.reads_text.Goals as goal
 
 pub loop-read-preserved : goal.loop-read-preserved
-loop-read-preserved c =
+loop-read-preserved c by =
     let i = c.loop-read.read-index in
     let shown = c.args.shown.now in
-    let more : read_lines false (take (i + 1) shown) ≡ read_lines false (take (suc i) shown) = ap (λ (n : ℕ). read_lines false (take n shown)) (add-one i) in
+    let more : read_lines false by (take (i + 1) shown) ≡ read_lines false by (take (suc i) shown) = ap (λ (n : ℕ). read_lines false by (take n shown)) (add-one i) in
     c.in_ok-push_read.ensures
-    ∙ ap (λ (t : List ℕ). t ++ read_text false c.read-item.result) c.loop-read.invariant
-    ∙ sym (reads_more false i shown _ c.loop-read-test.true c.read-item.is)
+    ∙ ap (λ (t : List ℕ). t ++ read_text false by c.read-item.result) (c.loop-read.invariant by)
+    ∙ sym (reads_more false by i shown _ c.loop-read-test.true c.read-item.is)
     ∙ sym more

@@ -5,6 +5,7 @@ use Rattle.ot_model.specs.Table.{Performed}
 use Rattle.ot_machine.specs.Effects.{shown_by}
 use Rattle.ot_report.specs.Written.{ReadsUpTo}
 use Rattle.ot_report.specs.declared.writing.ReportFault.{ReportFault}
+use Rattle.ot_report.proofs.Authoring.{gathers_same}
 use Rattle.ot_report.proofs.Progress.{err_is, is_begun, is_next, is_stopped, is_whole, reads_cut}
 use Rattle.ot_report.proofs.writing.write_reads.Goals as goal
 
@@ -37,4 +38,6 @@ pub loop-place-preserved : goal.loop-place-preserved
 loop-place-preserved g c =
     is_next c.args.json c.args.schedule.now c.loop-place.place c.in-Some.instr.now c.loop-place.machine c.perform.new.self (string_bytes c.loop-place.text)
     (g.W.Write.contents c.args.output.now) (g.W.Write.contents c.loop-place.output) c.loop-place.invariant c.in-Some.ensures.some
-    (option_map (shown_by c.perform.new.self) c.in-Ok.effect.shown) (string_bytes c.gather.new.text) (g.W.Write.contents c.gather.new.output) (c.in-Ok.ensures.effect.led ∙ ap (λ (who : Option Reader). Performed c.perform.new.self (option_map (shown_by c.perform.new.self) who)) (sym c.in-Ok.ensures.effect.shown)) c.in_ok-gather-in-Ok.ensures.ok
+    (option_map (shown_by c.perform.new.self) c.in-Ok.effect.shown) (string_bytes c.gather.new.text) (g.W.Write.contents c.gather.new.output) (c.in-Ok.ensures.effect.led ∙ ap (λ (who : Option Reader). Performed c.perform.new.self (option_map (shown_by c.perform.new.self) who)) (sym c.in-Ok.ensures.effect.shown))
+    (gathers_same c.args.schedule.now.instrs c.args.authors.now c.args.json c.requires.authors (option_map (shown_by c.perform.new.self) c.in-Ok.effect.shown) (string_bytes c.loop-place.text) (string_bytes c.gather.new.text)
+    (g.W.Write.contents c.loop-place.output) (g.W.Write.contents c.gather.new.output) c.in_ok-gather-in-Ok.ensures.ok)

@@ -14,6 +14,12 @@ returns-in_err-machine-clause-err g c =
     let old = g.W.Write.contents c.args.output.now in
     err_is c.from_residual.result Memory (λ (f : ReportFault). WritesReportUpTo f c.args.json s old old) c.from_residual.ensures.1 (nothing_read c.args.json s old)
 
+pub returns-in_err-authors-clause-err : goal.returns-in_err-authors-clause-err
+returns-in_err-authors-clause-err g c =
+    let s = c.args.schedule.now in
+    let old = g.W.Write.contents c.args.output.now in
+    err_is c.from_residual-in_err-authors.result Memory (λ (f : ReportFault). WritesReportUpTo f c.args.json s old old) c.from_residual-in_err-authors.ensures.1 (nothing_read c.args.json s old)
+
 pub returns-in_err-stopped-clause-err : goal.returns-in_err-stopped-clause-err
 returns-in_err-stopped-clause-err g c =
     let s = c.args.schedule.now in
