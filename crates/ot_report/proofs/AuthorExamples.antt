@@ -1,5 +1,6 @@
 -- Authors and spans, by evaluation. A character is its number: 97 is 'a'.
 use Rattle.std.proofs.Common.{◌≡◌, ℕ, List, [], ◌∷◌, Option, Some, None, refl, codes}
+use Rattle.std.specs.Fmt.{digits}
 use Rattle.ot_isa.specs.declared.elements.Tag.{Tag}
 use Rattle.ot_isa.specs.declared.instruction.Instr.{Instr}
 use Rattle.ot_isa.specs.declared.instruction.Instr.TheVariants.{Edit, Take}
@@ -57,6 +58,7 @@ two_spans : spans_of (by 0 0 ∷ by 0 0 ∷ None ∷ None ∷ None ∷ []) ≡ s
 two_spans = refl
 
 two_spans_as_json : by_json (by 0 0 ∷ by 0 0 ∷ None ∷ None ∷ None ∷ []) ≡ codes ",\"by\":[[2,0,0],[3]]"
+unfolding digits
 two_spans_as_json = refl
 
 no_spans_as_json : by_json [] ≡ codes ",\"by\":[]"
