@@ -72,6 +72,8 @@ async function takePaper(user, folder) {
   await user.open();
   await SHOWN.port(user);
   await media(user.page, "print");
+  await user.page.size(800, 1000);
+  await user.page.drawn();
   await user.run('dispatchEvent(new Event("beforeprint"))');
   const height = await user.run("document.documentElement.scrollHeight");
   await user.page.size(800, Math.min(height, 4000));

@@ -238,14 +238,17 @@ function showFault(state) {
   element("text").setAttribute("aria-invalid", String(Boolean(fault)));
 }
 
+/* Scrolls to the card of who moved; of one that is higher than its room the upper part is seen. The server's stays in sight, but in a narrow window. */
 function scrollToCard() {
   const moved = document.querySelector(".card.moved");
-  const covered = { Top: isNarrow() ? 0 : element("cards").firstElementChild.offsetHeight + 4, Bottom: element("answered").offsetHeight };
-  const { style } = element("state");
+  const first = element("cards").firstElementChild;
+  const covered = { Top: isNarrow() ? 0 : first.offsetHeight + 4, Bottom: element("answered").offsetHeight };
+  const { style, clientHeight } = element("state");
   for (const [side, height] of Object.entries(covered)) if (style[`scrollPadding${side}`] !== `${height}px`) style[`scrollPadding${side}`] = `${height}px`;
   if (!moved) return;
+  const isHigh = moved.offsetHeight > clientHeight - covered.Top - covered.Bottom && (isNarrow() || moved !== first);
   const { scrollX, scrollY } = window;
-  moved.scrollIntoView({ block: "nearest" });
+  moved.scrollIntoView({ block: isHigh ? "start" : "nearest" });
   scrollTo(scrollX, scrollY); // a page that is higher than a narrow window stays where it is
 }
 
