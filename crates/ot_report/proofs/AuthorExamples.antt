@@ -56,8 +56,5 @@ four_spans = refl
 two_spans : spans_of (by 0 0 ∷ by 0 0 ∷ None ∷ None ∷ None ∷ []) ≡ span 2 (by 0 0) ∷ span 3 None ∷ []
 two_spans = refl
 
-two_spans_as_json : by_json (by 0 0 ∷ by 0 0 ∷ None ∷ None ∷ None ∷ []) ≡ codes ",\"by\":[[2,0,0],[3]]"
-two_spans_as_json = refl
-
 no_spans_as_json : by_json [] ≡ codes ",\"by\":[]"
 no_spans_as_json = refl
