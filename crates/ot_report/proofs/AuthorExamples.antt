@@ -3,7 +3,7 @@ use Rattle.std.proofs.Common.{◌≡◌, ℕ, List, [], ◌∷◌, Option, Some,
 use Rattle.ot_isa.specs.declared.elements.Tag.{Tag}
 use Rattle.ot_isa.specs.declared.instruction.Instr.{Instr}
 use Rattle.ot_isa.specs.declared.instruction.Instr.TheVariants.{Edit, Take}
-use Rattle.ot_model.specs.Operation.{Item, Old, New, Operation}
+use Rattle.ot_model.specs.Operation.{Old, New, Operation}
 use Rattle.ot_report.specs.Authors.{author_of, by_json, inserters, spans_of}
 use Rattle.ot_report.specs.declared.authors.Author.{Author}
 use Rattle.ot_report.specs.declared.spans.Span.{Span}
