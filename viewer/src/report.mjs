@@ -69,7 +69,7 @@ export function reportOf(state, { verdicts, outlook = [], reason = null, link, i
   const parts = [
     `**otbench**${title ? ` ${inline(brief(title, 80))}` : ""}: ${verdicts.map((words) => inline(brief(words, 300))).join("; ")}`,
     block(shortened(text)),
-    `At place ${place} of ${session.length} (${inline(quietAt(session, place))}):\n\n${outlookWords(outlook)}${reasonAt(state, reason)}${documentsAt(session, place, outline.names).join("\n")}`,
+    `At place ${place} of ${session.length} (${inline(quietAt(session, place))}):\n\n${outlookWords(outlook)}${reasonAt(state, reason)}What ot.js has there:\n\n${documentsAt(session, place, outline.names).join("\n")}`,
   ];
   if (beside?.areNotes) parts.push(`What was seen in editors:\n\n${seenIn(beside, outline.names).join("\n")}`);
   if (beside?.answer) parts.push(`${beside.areNotes ? "That" : "What the port printed"}, beside ot.js:\n\n${block(beside.words.join("\n") || beside.answer.verdict)}`);

@@ -27,6 +27,8 @@ ${text}\`\`\`
 
 At place 3 of 8 (\`not quiet: client 0 is awaiting-confirm; 1 more client is not quiet\`):
 
+What ot.js has there:
+
 - server: \`"a"\`
 - \`client 0 (Ann)\`: \`"a"\`
 - \`client 1\`: \`"b"\`
