@@ -94,13 +94,16 @@ function plain({ all = false, keep, session }) {
   };
 }
 
+const TO_SAVE = "--save-to FILE puts the schedule into a file, and a line then says how it is tried again";
+const IN_ONE_PROCESS = ["--jobs", "1"]; // sessions of which the first leaves something to the last
+
 /* What a report says of the driver's options, and how its session is tried again. */
 function wordsOf(options, command) {
   const again = (words) => `otbench port ${[...words, ...options.again].map(quoted).join(" ")} -- ${command.map(quoted).join(" ")}`;
   const behind = command.slice(1).filter((word) => options.words.includes(word.split("=")[0]));
   return {
     more: { seconds: "--seconds", reduceSeconds: "--reduce-seconds", utf16: options.utf16 ? null : "--utf16" },
-    replayed: replayedFrom(options.saveTo, (file) => again(["--session", file]), ["--save-to FILE puts the schedule into a file, and --session FILE tries it again"]),
+    replayed: replayedFrom(options.saveTo, (file, count) => again(["--session", file, ...(count > 1 ? IN_ONE_PROCESS : [])]), [TO_SAVE]),
     madeBy(name) {
       const seed = seedOf(name);
       return `as it was found it is ${seed === null || options.session ? name : `tried by ${again(["--no-corpus", "--sessions", "1", "--seed", seed])}`}`;
