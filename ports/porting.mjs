@@ -32,9 +32,10 @@ const LEAST_REDUCE = 3; // seconds that it has in any case
 const SECONDS = 5;
 const PROGRESS_MS = 200;
 
-/* The small sessions that are tried unless --every is given: by one process what takes 5 seconds, or with a process for each some 400. */
-const IN_ONE = { edits: MOST_EDITS, fits: (milliseconds) => milliseconds <= 5000 };
-const EACH_IN_ONE = { edits: MOST_EDITS, fits: (milliseconds, sessions) => sessions <= 400 };
+/* The small sessions that are tried unless --every is given: some 400, and by one process what takes 5 seconds, if that is more. */
+const isFew = (sessions) => sessions <= 400;
+export const IN_ONE = { edits: MOST_EDITS, fits: (milliseconds, sessions) => isFew(sessions) || milliseconds <= 5000 };
+const EACH_IN_ONE = { edits: MOST_EDITS, fits: (milliseconds, sessions) => isFew(sessions) };
 
 /* The output cannot be written, which was said. */
 class Unwritten extends Error {}
@@ -85,10 +86,10 @@ function plain({ all = false, keep, session }) {
       [isThrough, conforms] = [all, false];
       print(all ? `\n${kind}: ${counted(sessions)}; the shortest\n${error.message}` : `fails: ${error.message}`);
     },
-    end(wrong, compared, known) {
+    end(wrong, compared, known, untried) {
       progress("");
       if (!isThrough) return;
-      print(closing(compared, known).map((line) => `${line}\n`).join(""));
+      print(closing(compared, known, untried).map((line) => `${line}\n`).join(""));
       if (conforms && !keep && !session && wrong.length === 0) print(`${EACH_ITS_OWN}\n`);
     },
   };
@@ -102,7 +103,7 @@ function wordsOf(options, command) {
   const again = (words) => `otbench port ${[...words, ...options.again].map(quoted).join(" ")} -- ${command.map(quoted).join(" ")}`;
   const behind = command.slice(1).filter((word) => options.words.includes(word.split("=")[0]));
   return {
-    more: { seconds: "--seconds", reduceSeconds: "--reduce-seconds", utf16: options.utf16 ? null : "--utf16" },
+    more: { seconds: "--seconds", reduceSeconds: "--reduce-seconds", utf16: options.utf16 ? null : "--utf16", every: "--every " },
     replayed: replayedFrom(options.saveTo, (file, count) => again(["--session", file, ...(count > 1 ? IN_ONE_PROCESS : [])]), [TO_SAVE]),
     madeBy(name) {
       const seed = seedOf(name);

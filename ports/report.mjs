@@ -84,7 +84,7 @@ const IN_SCALARS = "lengths are in Unicode scalar values here; your port was han
 
 /**
  * @typedef {object} Words how a user calls what is said of
- * @property {{ seconds: string, reduceSeconds: string, utf16: string | null }} more the options that give more time, or that a port counts UTF-16 units; null where it does
+ * @property {{ seconds: string, reduceSeconds: string, utf16: string | null, every: string }} more the options that give more time, that a port counts UTF-16 units (null where it does), or, with a number behind it, that ask for small sessions
  * @property {(sessions: string[], name: string) => string[]} replayed how reduced sessions are tried again, with the file into which they were put
  * @property {(name: string) => string} madeBy how a session as it was found is made again
  * @property {(its: { sessions: string[], verdict: object }) => string[]} noted what else is to be noted of a reduced case
