@@ -112,6 +112,7 @@ function wordsOf(options, command) {
     noted({ sessions, verdict }) {
       const isUnanswered = options.keep && verdict.isSlow && sessions.length === 1;
       return [
+        ...(verdict.isSlow ? ["lines that the driver had not flushed when it was ended are not seen: it may have come further"] : []),
         ...(isUnanswered ? ["with --keep-driver a driver has to answer each session at its line %%, before the end of its input"] : []),
         ...(behind.length > 0 ? [`the driver was given ${behind.join(" ")}: what is meant for otbench port stands in front of the driver`] : []),
       ];

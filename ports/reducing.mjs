@@ -132,7 +132,8 @@ function onceNote(first, { more }) {
 
 /* What there is to note of a reduced case. */
 function notesOf(first, isCut, { more }) {
-  return [...(first.isSlow ? [`a slow driver is given more time by ${more.seconds}`] : []), ...(isCut ? [`the time for reducing was over; ${more.reduceSeconds} gives it more`] : [])];
+  const slow = `as it was found the driver ${first.how}; a smaller session has less time, and ${more.seconds} gives more`;
+  return [...(first.isSlow ? [slow] : []), ...(isCut ? [`the time for reducing was over; ${more.reduceSeconds} gives it more`] : [])];
 }
 
 /**

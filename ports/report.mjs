@@ -118,8 +118,9 @@ function messageOf(name, found, { sessions, verdict, notes }, text, words) {
   const { answer, thrown, isEnded, isOfState } = verdict;
   const before = sessions.length > 1 ? `; the last of ${sessions.length} in one process` : "";
   const isOfUnits = !isEnded && /[\ud800-\udfff]/.test(text);
+  const [all, left] = [countOf(found), countOf(sessions.at(-1))];
   return [
-    `${inOneLine(name)}: ${countOf(found)} instructions, here reduced to ${countOf(sessions.at(-1))}${before}`,
+    `${inOneLine(name)}: ${all} instructions${left === all ? "" : `, here reduced to ${left}`}${before}`,
     "",
     ...shortened(linesOf(text), MOST_SCHEDULE, "; "),
     "",
