@@ -22,8 +22,8 @@ function finding(fault) {
   return (session) => firstDifference(session, Object.hasOwn(leaks, fault) ? fresh() : kept) !== null;
 }
 
-/* The stages of which each shows a fault that those before it do not show; in those behind them no other one shows. */
-export const TRIED = STAGES.filter(({ count }) => count < 10_000);
+/* The stages in which faults are looked for here. */
+const TRIED = STAGES.filter(({ count }) => count < 10_000);
 
 /* What finds the first small session that shows a fault: its stage, from 1, and its number there, or null. */
 export function smallFinder(program) {
@@ -58,11 +58,18 @@ export function coverage(firstSmall) {
   return { corpus, finders };
 }
 
+/* The words of `otbench generate` that list a stage. */
+function wordsOf({ clients, edits, start, letters, join }) {
+  const given = [...(start ? [`--start ${start}`] : []), ...(letters ? [`--letters ${letters}`] : []), ...(join ? ["--join"] : [])];
+  return ["--every", `--clients ${clients}`, `--edits ${edits}`, ...given].join(" ");
+}
+
 export function page({ corpus, finders }) {
   const placeOf = (small) => (small ? `${small.stage}: ${small.number}` : "");
   const row = ({ fault, sessions, small }) => `| ${fault} | ${sessions.length} | ${sessions[0]?.name ?? "none"} | ${placeOf(small)} |`;
   const shown = (at) => finders.filter(({ small }) => small?.stage === at + 1).length;
-  const stage = (it, at) => `| ${at + 1} | ${toldOf(it)} | ${it.count.toLocaleString("en")} | ${shown(at)} |`;
+  const found = (it, at) => (TRIED.includes(it) ? shown(at) : "not tried");
+  const stage = (it, at) => `| ${at + 1} | ${toldOf(it)} | \`${wordsOf(it)}\` | ${it.count.toLocaleString("en")} | ${found(it, at)} |`;
   const inStages = finders.filter(({ small }) => small).length;
   return [
     "# Which sessions find which faults",
@@ -70,11 +77,11 @@ export function page({ corpus, finders }) {
     `Printed by \`conformance/coverage.js\`. The faults are those of \`conformance/faults.js\`, ${finders.length} in all; the corpus has ${corpus.length} sessions.`,
     "A session finds a fault where a line of the faulty port differs from ot.js' own. Of each fault's sessions the one is named that finds the fewest faults.",
     "",
-    `Of all small sessions (\`--every 3\`) these stages find faults, ${inStages} together. The last column of the second table has a fault's stage and the number of the session there that is the first to find it. Where it has none, the fault is about texts, sizes, messages or a state that several sessions share, and the corpus alone finds it.`,
+    `These are the stages of all small sessions; \`otbench port --every 3\` tries all. With the words \`otbench generate\` lists a stage. They find ${inStages} faults together. The last column of the second table has a fault's stage and the number of the session there that is the first to find it. Where it has none, the fault is about texts, sizes, messages or a state that several sessions share, and the corpus alone finds it.`,
     "",
-    "| Stage | What it is | Sessions | Faults found first |",
-    "|---|---|---|---|",
-    ...TRIED.map(stage),
+    "| Stage | What it is | Words of `generate` | Sessions | Faults found first |",
+    "|---|---|---|---|---|",
+    ...STAGES.map(stage),
     "",
     "| Fault | Found by | One of them | Small session |",
     "|---|---|---|---|",

@@ -29,7 +29,7 @@ function smallRounds({ every, corpus: isCorpus = true }, spaces, usual) {
 }
 
 /**
- * The rounds of a run, and the spaces in which failures are looked for.
+ * The rounds of a run, and the spaces of all small sessions.
  * @param {import("./testing.mjs").ConformsOptions} options
  * @param {Pick<import("../npm/otbench.mjs").Bench, "generate">} bench
  * @param {{ edits: number, fits: (milliseconds: number, sessions: number) => boolean }} usual of small sessions where the option `every` is left out: with how
@@ -37,7 +37,7 @@ function smallRounds({ every, corpus: isCorpus = true }, spaces, usual) {
  * @returns {Pick<import("./trying.mjs").Around, "rounds" | "spaces">}
  */
 export function roundsOf(options, bench, usual) {
-  const spaces = options.every === 0 ? [] : spacesOf(bench, STAGES);
+  const spaces = spacesOf(bench, STAGES);
   const ofCorpus = options.corpus === false ? [] : [{ heading: "corpus", sessions: corpus() }];
   const atRandom = { heading: "at random", sessions: randomBy(ofRandom(options), bench.generate) };
   return { spaces, rounds: [...ofCorpus, ...smallRounds(options, spaces, usual), atRandom] };
@@ -59,7 +59,7 @@ function madeBy(name, options) {
 function wordsOf(subject, options) {
   const utf16 = typeof subject === "function" && options.utf16 === undefined ? "the option utf16" : null;
   return {
-    more: { seconds: "the option seconds", reduceSeconds: "reduceSeconds", utf16 },
+    more: { seconds: "the option seconds", reduceSeconds: "reduceSeconds", utf16, every: "every: " },
     replayed: replayedFrom(options.saveTo, (file) => `compare(port, readFileSync(${JSON.stringify(file)}, "utf8")) of otbench/testing`,
       ["the schedule is the error's `schedule`; the option saveTo puts it into a file", "to replay it: compare(port, error.schedule) of otbench/testing; where that conforms in a new process, the port keeps state between sessions"]),
     madeBy: (name) => madeBy(name, options),
@@ -102,9 +102,9 @@ export async function conforming(subject, given, bench, { onBegin, onInstruction
     signal,
   });
   const around = { judge, ...roundsOf(options, bench, SMALL), secondsToReduce: () => reduceSeconds, words: wordsOf(subject, options), formats: formatsOf(options), onBegin, onFailure };
-  const { failures, wrong, broken, sessions, every, compared, laws, known } = await tried(subject, options, around);
+  const { failures, wrong, broken, sessions, every, untried, compared, laws, known } = await tried(subject, options, around);
   if (failures.length > 0) throw options.all ? failuresError(failures) : failures[0].error;
   if (wrong.length > 0) throw new AssertionError({ message: wrong.join("\n"), operator: "conforms" });
   if (broken.length > 0) throw lawsError(broken);
-  return { sessions, every, compared: compared.keys, laws, ...(Object.keys(known).length > 0 && { known }) };
+  return { sessions, every, untried, compared: compared.keys, laws, ...(Object.keys(known).length > 0 && { known }) };
 }

@@ -11,7 +11,7 @@ import { fewLines, inOneLine } from "./report.mjs";
  * @property {(round: import("./trying.mjs").Round, count: number, conforming: number) => void} [round] where it was tried whole
  * @property {(failure: { kind: string, sessions: number, error: Error }) => void} [failure] reduced
  * @property {(law: string, said: string | null) => void} [law] what is wrong with it
- * @property {(wrong: string[], compared: import("./compared.mjs").Compared, known: Record<string, number>) => void} [end]
+ * @property {(wrong: string[], compared: import("./compared.mjs").Compared, known: Record<string, number>, untried: string[]) => void} [end] with the lines about small sessions that were not tried
  */
 
 /** What is said of a round: how many sessions it has, and how many conform. @param {import("./trying.mjs").Round} round */
@@ -23,11 +23,11 @@ export function toldRound({ heading, stage }, count, conforming) {
 
 const AT_THE_END = "what is needed was compared, and the driver ended well";
 
-/** What is said behind the sessions: how often each known kind came, and what was compared. */
-export function closing(compared, known) {
+/** What is said behind the sessions: how often each known kind came, what was compared, and what was not tried. */
+export function closing(compared, known, untried) {
   const those = Object.entries(known).map(([kind, count]) =>
     count === 0 ? `known, and no longer there: ${kind}` : `known: ${kind}: ${count} ${count === 1 ? "session" : "sessions"}`);
-  return [...those, compared.line()];
+  return [...those, compared.line(), ...untried];
 }
 
 const linesIn = (text) => text.trimEnd().split("\n");
@@ -78,9 +78,9 @@ export function tap(print) {
       if (said !== null) block(fewLines(said));
     },
     failure: ({ kind, sessions, error }) => comment(`${kind}: ${sessions}\n${error.message}`),
-    end(wrong, compared, known) {
+    end(wrong, compared, known, untried) {
       point(wrong.length === 0, AT_THE_END);
-      [...closing(compared, known), ...wrong].forEach(comment);
+      [...closing(compared, known, untried), ...wrong].forEach(comment);
       print(`1..${count}`);
     },
   };
@@ -133,10 +133,10 @@ export function junit(file) {
     },
     law: (law, what) => (what === null ? add("laws", law) : add("laws", law, failure(fewLines(what), law), "failures")),
     failure: ({ kind, sessions, error }) => said.push(`${kind}: ${sessions}`, error.message),
-    end(wrong, compared, known) {
+    end(wrong, compared, known, untried) {
       if (wrong.length > 0) add("the run", AT_THE_END, failure(wrong), "failures");
       else add("the run", AT_THE_END);
-      said.push(...closing(compared, known), ...wrong);
+      said.push(...closing(compared, known, untried), ...wrong);
       const suite = element("testsuite", { name: "conformance", ...counts }, [...cases, element("system-out", {}, escaped(said.join("\n")))].join("\n"));
       try {
         writeFileSync(file, `<?xml version="1.0" encoding="UTF-8"?>\n${suite}\n`);

@@ -14,9 +14,10 @@ The driver:
       --most-bytes B      the most that it may print of one (16,777,216)
       --jobs J            how many sessions are tried at a time (one for each processor)
 What is tried:
-      --session FILE      this schedule, or those of a folder, and neither the corpus nor sessions at random; may be said again
+      --session FILE      this schedule, or those of a folder, and neither the corpus nor sessions at random; may be said again. A file may have
+                          several, with lines %% between them
       --no-corpus         sessions made at random alone, and small ones where --every is given
-      --every E           all small sessions of up to E edits, 0 to 3; without the word with --keep-driver what takes 5 seconds, else 374 sessions
+      --every E           all small sessions of up to E edits, 0 to 3; without the word 374 sessions, with --keep-driver more if all take 5 seconds
       --sessions N        how many sessions are made at random (100)
       --seed S            the seed of the first; each further one has the next (1)
       --clients C, --present P, --instructions M, --start TEXT, --open    as for 'otbench generate'; seeds that end with 9 have more

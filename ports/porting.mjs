@@ -32,9 +32,10 @@ const LEAST_REDUCE = 3; // seconds that it has in any case
 const SECONDS = 5;
 const PROGRESS_MS = 200;
 
-/* The small sessions that are tried unless --every is given: by one process what takes 5 seconds, or with a process for each some 400. */
-const IN_ONE = { edits: MOST_EDITS, fits: (milliseconds) => milliseconds <= 5000 };
-const EACH_IN_ONE = { edits: MOST_EDITS, fits: (milliseconds, sessions) => sessions <= 400 };
+/* The small sessions that are tried unless --every is given: some 400, and by one process what takes 5 seconds, if that is more. */
+const isFew = (sessions) => sessions <= 400;
+export const IN_ONE = { edits: MOST_EDITS, fits: (milliseconds, sessions) => isFew(sessions) || milliseconds <= 5000 };
+const EACH_IN_ONE = { edits: MOST_EDITS, fits: (milliseconds, sessions) => isFew(sessions) };
 
 /* The output cannot be written, which was said. */
 class Unwritten extends Error {}
@@ -85,22 +86,25 @@ function plain({ all = false, keep, session }) {
       [isThrough, conforms] = [all, false];
       print(all ? `\n${kind}: ${counted(sessions)}; the shortest\n${error.message}` : `fails: ${error.message}`);
     },
-    end(wrong, compared, known) {
+    end(wrong, compared, known, untried) {
       progress("");
       if (!isThrough) return;
-      print(closing(compared, known).map((line) => `${line}\n`).join(""));
+      print(closing(compared, known, untried).map((line) => `${line}\n`).join(""));
       if (conforms && !keep && !session && wrong.length === 0) print(`${EACH_ITS_OWN}\n`);
     },
   };
 }
+
+const TO_SAVE = "--save-to FILE puts the schedule into a file, and a line then says how it is tried again";
+const IN_ONE_PROCESS = ["--jobs", "1"]; // sessions of which the first leaves something to the last
 
 /* What a report says of the driver's options, and how its session is tried again. */
 function wordsOf(options, command) {
   const again = (words) => `otbench port ${[...words, ...options.again].map(quoted).join(" ")} -- ${command.map(quoted).join(" ")}`;
   const behind = command.slice(1).filter((word) => options.words.includes(word.split("=")[0]));
   return {
-    more: { seconds: "--seconds", reduceSeconds: "--reduce-seconds", utf16: options.utf16 ? null : "--utf16" },
-    replayed: replayedFrom(options.saveTo, (file) => again(["--session", file]), ["--save-to FILE puts the schedule into a file, and --session FILE tries it again"]),
+    more: { seconds: "--seconds", reduceSeconds: "--reduce-seconds", utf16: options.utf16 ? null : "--utf16", every: "--every " },
+    replayed: replayedFrom(options.saveTo, (file, count) => again(["--session", file, ...(count > 1 ? IN_ONE_PROCESS : [])]), [TO_SAVE]),
     madeBy(name) {
       const seed = seedOf(name);
       return `as it was found it is ${seed === null || options.session ? name : `tried by ${again(["--no-corpus", "--sessions", "1", "--seed", seed])}`}`;
@@ -108,6 +112,7 @@ function wordsOf(options, command) {
     noted({ sessions, verdict }) {
       const isUnanswered = options.keep && verdict.isSlow && sessions.length === 1;
       return [
+        ...(verdict.isSlow ? ["lines that the driver had not flushed when it was ended are not seen: it may have come further"] : []),
         ...(isUnanswered ? ["with --keep-driver a driver has to answer each session at its line %%, before the end of its input"] : []),
         ...(behind.length > 0 ? [`the driver was given ${behind.join(" ")}: what is meant for otbench port stands in front of the driver`] : []),
       ];

@@ -74,7 +74,7 @@ async function lookedFor(judge, spaces, first, shows, seconds) {
 }
 
 /**
- * The smallest sessions that were found of which the last shows it, and their verdict: that which is given where none is smaller.
+ * The smallest sessions that were found of which the last shows it, and their verdict: that which is given where none is smaller. `isCut` says whether the time was over.
  * @param {import("./judging.mjs").Judge} judge
  * @param {import("./verdict.mjs").Verdict} first
  * @param {{ shows: (verdict: object) => boolean, time: { end: number, signal: AbortSignal }, isNew?: boolean }} how
@@ -106,7 +106,7 @@ async function smallest(judge, first, { shows, time, isNew = false }) {
     return null;
   };
   const small = await reduced(values, neededOf(first), firstShown, isOver);
-  return { sessions: small.map(textOf), verdict: last };
+  return { sessions: small.map(textOf), verdict: last, isCut: isOver() };
 }
 
 /* A verdict of these sessions by a driver that has performed nothing yet. */
@@ -131,8 +131,9 @@ function onceNote(first, { more }) {
 }
 
 /* What there is to note of a reduced case. */
-function notesOf(first, isOver, { more }) {
-  return [...(first.isSlow ? [`a slow driver is given more time by ${more.seconds}`] : []), ...(isOver ? [`the time for reducing was over; ${more.reduceSeconds} gives it more`] : [])];
+function notesOf(first, isCut, { more }) {
+  const slow = `as it was found the driver ${first.how}; a smaller session has less time, and ${more.seconds} gives more`;
+  return [...(first.isSlow ? [slow] : []), ...(isCut ? [`the time for reducing was over; ${more.reduceSeconds} gives it more`] : [])];
 }
 
 /**
@@ -152,10 +153,9 @@ export async function caseOf({ judge, secondsToReduce, words, spaces }, first, i
     const small = meanwhile ? [] : await lookedFor(judge, spaces, first, shows, seconds);
     for (const { verdict: start, note } of [...small, { verdict: meanwhile ?? first, note: [] }])
       for (const { from, isNew } of await waysToReduce(judge, start, shows)) {
-        const { sessions, verdict } = await smallest(judge, from, { shows, time, isNew });
-        const isOver = time.signal.aborted || (judge.jobs === 1 && performance.now() + verdict.took > time.end);
+        const { sessions, verdict, isCut } = await smallest(judge, from, { shows, time, isNew });
         const last = verdict === first || judge.isProcess ? await again(judge, sessions, first) : verdict;
-        if (shows(last)) return { sessions, verdict: last, notes: [...(sessions.length === 1 ? note : []), ...notesOf(first, isOver, words)] };
+        if (shows(last)) return { sessions, verdict: last, notes: [...(sessions.length === 1 ? note : []), ...notesOf(first, isCut, words)] };
       }
   } finally {
     time.done();

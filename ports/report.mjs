@@ -84,21 +84,24 @@ const IN_SCALARS = "lengths are in Unicode scalar values here; your port was han
 
 /**
  * @typedef {object} Words how a user calls what is said of
- * @property {{ seconds: string, reduceSeconds: string, utf16: string | null }} more the options that give more time, or that a port counts UTF-16 units; null where it does
- * @property {(text: string, name: string) => string[]} replayed how reduced sessions are tried again, with the file into which they were put
+ * @property {{ seconds: string, reduceSeconds: string, utf16: string | null, every: string }} more the options that give more time, that a port counts UTF-16 units (null where it does), or, with a number behind it, that ask for small sessions
+ * @property {(sessions: string[], name: string) => string[]} replayed how reduced sessions are tried again, with the file into which they were put
  * @property {(name: string) => string} madeBy how a session as it was found is made again
  * @property {(its: { sessions: string[], verdict: object }) => string[]} noted what else is to be noted of a reduced case
  */
 
-/** How reduced sessions are tried again: they are put into a file where one is named, the first ones alone. @param {string | undefined} file @param {(file: string) => string} inFile @param {string[]} otherwise */
+/* Sessions in one text. */
+const textOf = (sessions) => sessions.join("%%\n");
+
+/** How reduced sessions are tried again: they are put into a file where one is named, the first ones alone. @param {string | undefined} file @param {(file: string, count: number) => string} inFile of so many sessions @param {string[]} otherwise */
 export function replayedFrom(file, inFile, otherwise) {
   let owner = null; // the session whose schedule is in the file
-  return (text, name) => {
+  return (sessions, name) => {
     if (file === undefined || (owner ?? name) !== name) return otherwise;
     owner = name;
     try {
-      writeFileSync(file, text);
-      return [`the schedule is in ${file}`, `to replay it: ${inFile(file)}`];
+      writeFileSync(file, textOf(sessions));
+      return [`the schedule is in ${file}`, `to replay it: ${inFile(file, sessions.length)}`];
     } catch (fault) {
       return [`the schedule could not be saved: ${fault.message}`];
     }
@@ -115,8 +118,9 @@ function messageOf(name, found, { sessions, verdict, notes }, text, words) {
   const { answer, thrown, isEnded, isOfState } = verdict;
   const before = sessions.length > 1 ? `; the last of ${sessions.length} in one process` : "";
   const isOfUnits = !isEnded && /[\ud800-\udfff]/.test(text);
+  const [all, left] = [countOf(found), countOf(sessions.at(-1))];
   return [
-    `${inOneLine(name)}: ${countOf(found)} instructions, here reduced to ${countOf(sessions.at(-1))}${before}`,
+    `${inOneLine(name)}: ${all} instructions${left === all ? "" : `, here reduced to ${left}`}${before}`,
     "",
     ...shortened(linesOf(text), MOST_SCHEDULE, "; "),
     "",
@@ -126,7 +130,7 @@ function messageOf(name, found, { sessions, verdict, notes }, text, words) {
     ...(isOfUnits ? [words.more.utf16 === null ? IN_SCALARS : `a text has characters past U+FFFF: a port that counts UTF-16 units is tried with ${words.more.utf16}`] : []),
     ...notes,
     ...words.noted({ sessions, verdict }),
-    ...(isOfState ? words.replayed(text, name).slice(0, 1) : words.replayed(text, name)),
+    ...(isOfState ? words.replayed(sessions, name).slice(0, 1) : words.replayed(sessions, name)),
     words.madeBy(name),
   ];
 }
@@ -140,7 +144,7 @@ function messageOf(name, found, { sessions, verdict, notes }, text, words) {
  * @param {Words} words
  */
 export function failureError(name, found, kind, its, words) {
-  const schedule = its.sessions.join("%%\n");
+  const schedule = textOf(its.sessions);
   const { answer, thrown } = its.verdict;
   const message = `${messageOf(name, found, its, schedule, words).slice(0, MOST_LINES).join("\n")}\n`;
   const error = new AssertionError({ message, actual: answer?.found, expected: answer?.otjs, operator: "conforms" });

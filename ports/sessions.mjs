@@ -46,19 +46,30 @@ function* made({ sessions = 100, seed: first = 1, ...given }, generate) {
   }
 }
 
+const MARK = /^[ \t]*%%[ \t]*\r?(?:\n|$)/m;
+
 /** A schedule's text without what stands behind a line `%%`. */
-export const cutAtMark = (text) => text.split(/^[ \t]*%%[ \t]*\r?$/m, 1)[0];
+export const cutAtMark = (text) => text.split(MARK, 1)[0];
+
+/* Whether a text's first line beside comments is that of a schedule, and none that a port printed. */
+const isSchedule = (text) => /^[ \t]*clients\b/.test(text.split("\n").find((line) => !/^\s*(?:;|$)/.test(line)) ?? "");
+
+/* The schedules of a file: the first, and of what stands behind lines `%%` each that is a schedule too. */
+function schedulesIn(text) {
+  const [first, ...others] = text.split(MARK);
+  return [first, ...others.filter(isSchedule)];
+}
 
 /**
- * Sessions of one's own: of files, and of the files .ots of folders. One that is no schedule is refused with its path.
+ * Sessions of one's own: of files, of which each may have several, and of the files .ots of folders. One that is no schedule is refused with its path.
  * @param {string[]} files
  * @param {import("../npm/otbench.mjs").Bench["run"]} run
  */
 export function own(files, run) {
   const paths = files.flatMap((file) => (statSync(file).isDirectory() ? readdirSync(file).filter((name) => name.endsWith(".ots")).sort().map((name) => path.join(file, name)) : [file]));
   if (paths.length === 0) throw new OtbenchError("Usage", `${files.join(", ")}: the folder has no schedules, files *.ots`);
-  return paths.map((name) => {
-    const schedule = cutAtMark(readFileSync(name, "utf8"));
+  const named = (file) => schedulesIn(readFileSync(file, "utf8")).map((schedule, at, { length }) => ({ name: length === 1 ? file : `${file}, session ${at + 1}`, schedule }));
+  return paths.flatMap(named).map(({ name, schedule }) => {
     try {
       run(schedule);
     } catch (fault) {

@@ -40,6 +40,17 @@ export function toldOf({ clients, edits, start, letters = 1, join = false }) {
   return `every session of ${clients} clients${late} with up to ${edits} edits over ${JSON.stringify(start)}${long}`;
 }
 
+/**
+ * What says of stages that they were not tried whole, and what asks for them: a line for each number of edits.
+ * @param {import("./testing.mjs").Untried[]} untried
+ * @param {string} option in front of a number of edits
+ */
+export function untriedLines(untried, option) {
+  const numbers = [...new Set(untried.map(({ every }) => every))];
+  const those = (edits) => untried.filter(({ every }) => every === edits).map(({ said, sessions }) => `${said}: ${sessions.toLocaleString("en")}`);
+  return numbers.map((edits) => `not tried, ${option}${edits} asks for it: ${those(edits).join("; ")}`);
+}
+
 const END = "%%\n";
 
 /**

@@ -187,6 +187,15 @@ export interface Covered {
   sessions: number;
 }
 
+/** A stage of small sessions that was not tried whole. */
+export interface Untried {
+  said: string;
+  /** How many they are. */
+  sessions: number;
+  /** The number that asks for it as the option `every`. */
+  every: number;
+}
+
 export interface Session {
   name: string;
   schedule: string;
@@ -199,7 +208,7 @@ export interface Session {
 /**
  * Tries a port over the corpus, over all small sessions, over sessions made at random, and over the laws. Rejected with a ConformanceError at the first session that fails (with
  * a FailuresError where the option `all` is given), with an AssertionError where what is needed was not compared, and with a LawsError where laws are
- * broken. Resolved with how many sessions conform, which of the small ones were tried, how often each value was compared, the laws that were tried (a driver has none), and how often
+ * broken. Resolved with how many sessions conform, which of the small ones were tried and which were not, how often each value was compared, the laws that were tried (a driver has none), and how often
  * each kind came that is known.
  *
  * `otbench port` of the command tries a driver that is a program in the same way.
@@ -210,7 +219,7 @@ export interface Session {
 export function conforms(
   subject: Subject | URL,
   options?: ConformsOptions,
-): Promise<{ sessions: number; every: Covered[]; compared: Partial<Record<ComparedKey | "message", number>>; laws: Law[]; known?: Record<string, number> }>;
+): Promise<{ sessions: number; every: Covered[]; untried: Untried[]; compared: Partial<Record<ComparedKey | "message", number>>; laws: Law[]; known?: Record<string, number> }>;
 
 /** Compares over one schedule. */
 export function compare(subject: Subject, schedule: string, options?: DriveOptions): Promise<Conformance>;

@@ -10,13 +10,14 @@ import { triedLaws } from "./laws.mjs";
 import { caseOf, reducedMeanwhile } from "./reducing.mjs";
 import { failureError, hungCase, leftCase } from "./report.mjs";
 import { valuesOf } from "../common/schedule.mjs";
+import { untriedLines } from "./small.mjs";
 import { kindOf } from "./verdict.mjs";
 
 /**
  * @typedef {object} Around what a run is given beside its options
  * @property {import("./judging.mjs").Judge} judge
  * @property {Round[]} rounds
- * @property {import("./small.mjs").Space[]} spaces of small sessions, in which a failure is looked for before it is reduced
+ * @property {import("./small.mjs").Space[]} spaces of small sessions, in which a failure is looked for before it is reduced, unless the option `every` is 0
  * @property {() => number} secondsToReduce how long a failure is reduced that begins to be reduced now
  * @property {import("./report.mjs").Words} words
  * @property {import("./formats.mjs").Format[]} [formats]
@@ -32,6 +33,7 @@ import { kindOf } from "./verdict.mjs";
  * @typedef {object} Outcome
  * @property {number} sessions how many conform
  * @property {{ said: string, sessions: number }[]} every the stages that were tried whole, and how many sessions of each conform
+ * @property {import("./testing.mjs").Untried[]} untried the stages that were not tried whole
  * @property {Compared} compared
  * @property {{ kind: string, sessions: number, error: Error }[]} failures of each kind one, the most frequent kind first
  * @property {Record<string, number>} known how often each kind came that is tolerated
@@ -125,7 +127,7 @@ class Run {
     if (verdict.late !== undefined) return told(hungCase(found, verdict, this.judge.pace.most(found.length), this.words));
     this.onFailure?.(told({ sessions: [found], verdict, notes: ["a smaller session hung"] }));
     const isLike = this.options.all ? (it) => kindOf(it) === kind : (it) => !this.isKnown(it);
-    const spaces = isSmall ? [] : this.untried();
+    const spaces = isSmall || this.options.every === 0 ? [] : this.untried();
     return told(await caseOf({ ...this, spaces }, verdict, isLike, verdict.isSlow ? this.smaller.get(found) : undefined));
   }
 
@@ -167,8 +169,9 @@ class Run {
     const lacks = this.options.all || failures.length === 0 ? this.compared.lacks() : null;
     const { tried, broken } = laws ?? { tried: [], broken: [] };
     const wrong = [lacks, await this.judge.close()].filter((it) => it !== null);
-    this.tell("end", wrong, this.compared, this.known);
-    return { sessions: this.conforming, every: this.every, compared: this.compared, failures, known: this.known, wrong, laws: tried, broken };
+    const untried = this.untried().map(({ said, stage }) => ({ said, sessions: stage.count, every: stage.edits }));
+    this.tell("end", wrong, this.compared, this.known, untriedLines(untried, this.words.more.every));
+    return { sessions: this.conforming, every: this.every, untried, compared: this.compared, failures, known: this.known, wrong, laws: tried, broken };
   }
 }
 

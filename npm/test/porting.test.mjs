@@ -22,6 +22,13 @@ function port(options, driver, { input = "" } = {}) {
   return { status, stdout, stderr };
 }
 
+/* What the command prints that a report names to replay its session. */
+function again(report) {
+  const words = /^to replay it: otbench port (.*)$/m.exec(report)[1];
+  const { OTBENCH, ...env } = process.env;
+  return spawnSync("sh", ["-c", `'${process.execPath}' '${CLI}' port --reduce-seconds 1 ${words}`], { env, encoding: "utf8", cwd: folder });
+}
+
 /* A driver in sh: `text` has the schedule, `says` prints the lines of ot.js. */
 const sh = (script) => ["sh", "-c", `says() { printf '%s' "$text" | '${process.execPath}' '${CLI}' steps --documents; }; text=$(cat; echo); ${script}`];
 
@@ -60,11 +67,9 @@ test("a port that differs is reduced, the schedule is saved, and the words that 
   assert.equal(status, 1);
   assert.match(stdout, /^fails: [a-z-]+: \d+ instructions, here reduced to 3\n\nclients 1\n/);
   assert.match(stdout, /\ndiffers at 3: edit 0: client 0 buffer\n[^]*\nplace 3 is behind line \d+, instruction 2: edit 0\n/);
-  const again = /^to replay it: otbench (port .*)$/m.exec(stdout)[1];
-  assert.match(again, /^port --session '.*smaller one\.ots' --utf16 -- node /);
-  const { OTBENCH, ...env } = process.env;
-  const replayed = spawnSync("sh", ["-c", `'${process.execPath}' '${CLI}' ${again.replace("port ", "port --reduce-seconds 1 ")}`], { env, encoding: "utf8" });
-  assert.match(replayed.stdout, /^fails: .*smaller one\.ots: 3 instructions, here reduced to 3\n/, replayed.stderr);
+  assert.match(stdout, /^to replay it: otbench port --session '.*smaller one\.ots' --utf16 -- node /m);
+  const replayed = again(stdout);
+  assert.match(replayed.stdout, /^fails: .*smaller one\.ots: 3 instructions\n/, replayed.stderr);
 });
 
 test("a session made at random is tried again by the words that are given", () => {
@@ -96,7 +101,8 @@ test("a port that hangs is reduced while it does, and what it has started is end
   assert.ok(performance.now() - began < 200_000);
   assert.equal(status, 1);
   assert.match(stdout, /^fails: .*joins\.ots: 3 instructions, here reduced to 1\n\nclients 1\npresent 0\njoin 0\n\nthe driver was ended: it took more than [\d.]+ s\n/);
-  assert.match(stdout, /\na slow driver is given more time by --seconds\n/);
+  assert.match(stdout, /\nas it was found the driver was ended: it took more than [\d.]+ s; a smaller session has less time, and --seconds gives more\n/);
+  assert.match(stdout, /\nlines that the driver had not flushed when it was ended are not seen: it may have come further\n/);
   assert.ok(!fs.existsSync(mark));
 });
 
@@ -130,7 +136,7 @@ test("reducing ends where its time is over", () => {
 test("a port that fails once is shown as it failed", () => {
   const seen = path.join(folder, "failed");
   const { stdout } = port([...own(JOINS), "--jobs", "1"], sh(`if mkdir '${seen}' 2>/dev/null; then echo wrong; else says; fi`));
-  assert.match(stdout, /: 3 instructions, here reduced to 3\n[^]*\nthe driver did not do this each time\n/);
+  assert.match(stdout, /: 3 instructions\n[^]*\nthe driver did not do this each time\n/);
 });
 
 /* A driver that keeps its process: what it does at a session with `join`. */
@@ -178,14 +184,36 @@ test("a kept driver that reads to the end of its input is told what it has to do
   assert.match(stdout, /\nwith --keep-driver a driver has to answer each session at its line %%, before the end of its input\n/);
 });
 
-test("state that leaks from one session to the next", () => {
+test("state that leaks from one session to the next, and the words that are given show it again", () => {
   const sessions = own(stored("join-an-empty-log"), stored("transform-tie"));
-  const kept = port([...sessions, "--jobs", "1", "--reduce-seconds", "20", "--utf16", "--keep-driver"], [...SAMPLE, "--keep", "--bug", "log-shared"]);
+  const saved = path.join(folder, "leaks.ots");
+  const kept = port([...sessions, "--jobs", "1", "--reduce-seconds", "20", "--utf16", "--keep-driver", "--save-to", saved], [...SAMPLE, "--keep", "--bug", "log-shared"]);
   assert.equal(kept.status, 1, kept.stderr);
   assert.match(kept.stdout, /^fails: .*transform-tie\.ots: \d+ instructions, here reduced to \d+; the last of 2 in one process\n\nclients \d\n(.*\n)*take \d\n(.*\n)*%%\nclients \d\n(.*\n)*differs at /);
   const [, line, words] = /\nplace \d+ is (?:behind|before) line (\d+), instruction \d+: (.*)\n/.exec(kept.stdout);
   assert.ok(kept.stdout.split("\n\n")[1].split("\n")[line - 1].startsWith(words), kept.stdout);
   assert.equal(port([...sessions, "--utf16"], [...SAMPLE, "--bug", "log-shared"]).status, 0);
+  const replayed = again(kept.stdout);
+  const differs = /\ndiffers at [^]*?\nplace .*\n/;
+  assert.equal(differs.exec(replayed.stdout)?.[0], differs.exec(kept.stdout)[0], replayed.stderr);
+  assert.match(replayed.stdout, /^fails: .*leaks\.ots, session 2: .*; the last of 2 in one process\n/);
+  assert.equal(replayed.status, 1);
+});
+
+test("a file of several sessions, and one with a port's lines behind its session", () => {
+  const [first, last] = [READS, JOINS].map((it) => fs.readFileSync(it, "utf8"));
+  const rows = [
+    [`${first}%%\n; the second\n\n${last}%%\n`, 2],
+    [`${first}\t%% \r\n${last}`, 2],
+    [`${first}%%\n{"at":1,"document":""}\n%%\n`, 1],
+    [`${first}%%\nclient 0 is gone\n`, 1],
+  ];
+  for (const [text, count] of rows) assert.match(port(own(file("several.ots", text)), sh("says")).stdout, new RegExp(`^of one's own: ${count} sessions? conforms?\n`), text);
+  const { stdout } = port([...own(file("several.ots", rows[0][0])), "--reduce-seconds", "0.001"], sh("case $text in *join*) echo wrong;; *) says;; esac"));
+  assert.match(stdout, /^fails: .*several\.ots, session 2: 3 instructions/);
+  const { status, stderr } = port(own(file("wrong.ots", `${first}%%\nclients 0\n`)), sh("says"));
+  assert.equal(status, 2);
+  assert.match(stderr, /^otbench: .*wrong\.ots, session 2: /);
 });
 
 const DRIVER = sh("case $text in *join*) echo wrong;; *take*) says; exit 7;; *) says;; esac");
@@ -233,8 +261,8 @@ test("--junit: a test case for each session, and one for the run", () => {
   assert.match(xml, /^<\?xml version="1\.0" encoding="UTF-8"\?>\n<testsuite name="conformance" tests="4" failures="1" skipped="1">/);
   assert.match(xml, /<testcase classname="of one's own" name="[^"]*joins\.ots"><failure message="differs at 1: join 0: line" type="join: line">/);
   assert.match(xml, /takes\.ots"><skipped message="known: driver: ended with status 7"\/>/);
-  assert.match(xml, /<system-out>[^]*here reduced to [^]*<\/system-out><\/testsuite>\n$/);
-  assert.match(stdout, /here reduced to /);
+  assert.match(xml, /<system-out>[^]*joins\.ots: 3 instructions[^]*<\/system-out><\/testsuite>\n$/);
+  assert.match(stdout, /joins\.ots: 3 instructions/);
 });
 
 /* What the driver prints, changed by a script of sed. */
@@ -291,8 +319,8 @@ test("a message that was changed on its way is told", () => {
 
 test("where each session has a process of its own, --keep-driver is named", () => {
   const words = ["--utf16", "--no-corpus", "--sessions", "1"];
-  assert.match(port(words, SAMPLE).stdout, /\ncompared .*\neach session had a process of its own: with --keep-driver state that one session leaves to the next is found too\n$/);
-  assert.match(port([...words, "--keep-driver"], [...SAMPLE, "--keep"]).stdout, /\ncompared .*\n$/);
+  assert.match(port(words, SAMPLE).stdout, /\ncompared .*\n(?:not tried, .*\n)+each session had a process of its own: with --keep-driver state that one session leaves to the next is found too\n$/);
+  assert.match(port([...words, "--keep-driver"], [...SAMPLE, "--keep"]).stdout, /\ncompared .*\n(?:not tried, .*\n)+$/);
 });
 
 test("a message that is a later one of its link is told as such", () => {

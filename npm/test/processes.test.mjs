@@ -153,6 +153,8 @@ test("the line of standard error that says why", () => {
     ["throwError(1)\n^\ngone\n\nNode.js v20.20.2\n", "gone"],
     ['Exception in thread "main" java.lang.Error: a\n\tat E.main(E.java:1)\nCaused by: b: c\n\t... 1 more\n', "Caused by: b: c"],
     ["thread 'main' panicked at p.rs:1:54:\nindex out of bounds\nnote: run with `RUST_BACKTRACE=1`\n", "index out of bounds"],
+    ["\nthread 'main' (17) panicked at p.rs:1:54:\nindex out of bounds\nstack backtrace:\n   0: __rustc::rust_begin_unwind\n             at /rustc/p.rs:1:5\nnote: Some details are omitted\n", "index out of bounds"],
+    ["thread 'main' panicked at 'gone', p.rs:1:54\nstack backtrace:\n   0: std::panicking::begin_panic\n", "thread 'main' panicked at 'gone', p.rs:1:54"],
     ["Node.js v20.20.2\n", "Node.js v20.20.2"],
   ];
   for (const [errors, line] of rows) assert.equal(telling(errors), line, errors);

@@ -11,7 +11,8 @@ import { roundsOf } from "../../ports/conforming.mjs";
 import { conformsOptions } from "../../ports/options.mjs";
 import * as bench from "../otbench.mjs";
 import { valuesOf } from "../../common/schedule.mjs";
-import { dueStages, isSmall, smallSessions, spacesOf, STAGES, toldOf } from "../../ports/small.mjs";
+import { IN_ONE } from "../../ports/porting.mjs";
+import { dueStages, isSmall, smallSessions, spacesOf, STAGES, toldOf, untriedLines } from "../../ports/small.mjs";
 import { conforms, corpus } from "../../ports/testing.mjs";
 import { temporaryFolder, TOP } from "./files.mjs";
 
@@ -34,6 +35,7 @@ function port(options, driver) {
 }
 
 const SMALL = STAGES.filter(({ edits }) => edits === 2);
+const LARGER = STAGES.filter(({ edits }) => edits === 3);
 const countOf = (stages) => stages.reduce((sum, { count }) => sum + count, 0);
 
 test("each stage has as many sessions as the table says, smallest first, each performed whole, quiet, and with its reads", () => {
@@ -76,7 +78,7 @@ test("the first stage is due, and later ones as far as time or number allow", ()
   assert.deepEqual([97, 277, 598].map((count) => few({ count })), [true, true, false]);
 });
 
-test("which small sessions are tried, and where failures are looked for", () => {
+test("which small sessions are tried", () => {
   const usual = { edits: 2, fits: () => true };
   const stagesOf = (options) => {
     const { rounds, spaces } = roundsOf(conformsOptions(options), bench, usual);
@@ -85,7 +87,7 @@ test("which small sessions are tried, and where failures are looked for", () => 
   assert.deepEqual(stagesOf({}), [SMALL.length, STAGES.length]);
   assert.deepEqual(stagesOf({ every: 3 }), [STAGES.length, STAGES.length]);
   assert.deepEqual(stagesOf({ every: 1 }), [0, STAGES.length]);
-  assert.deepEqual(stagesOf({ every: 0 }), [0, 0]);
+  assert.deepEqual(stagesOf({ every: 0 }), [0, STAGES.length]);
   assert.deepEqual(stagesOf({ corpus: false }), [0, STAGES.length]);
   assert.deepEqual(stagesOf({ corpus: false, every: 2 }), [SMALL.length, STAGES.length]);
 });
@@ -94,9 +96,30 @@ test("what was covered is given and said exactly", async () => {
   const names = [];
   const result = await conforms(makePort(), { corpus: false, every: 2, sessions: 1, onSession: ({ name }) => names.push(name) });
   assert.deepEqual(result.every, SMALL.map((stage) => ({ said: toldOf(stage), sessions: stage.count })));
+  assert.deepEqual(result.untried, LARGER.map((stage) => ({ said: toldOf(stage), sessions: stage.count, every: 3 })));
   assert.equal(result.sessions, countOf(SMALL) + 1);
   assert.equal(result.compared.end, result.sessions);
   assert.deepEqual([names.length, names[0], names.at(-1)], [countOf(SMALL) + 1, `session 1 of ${toldOf(SMALL[0])}`, "session of seed 1"]);
+});
+
+const namesOf = (stages) => stages.map((stage) => `${toldOf(stage)}: ${stage.count.toLocaleString("en")}`).join("; ");
+
+test("what was not tried is said, with what asks for it, in words and in TAP and JUnit", async () => {
+  const [lines, file] = [[], path.join(folder, "untried.xml")];
+  const { every, untried } = await conforms(makePort(), { corpus: false, sessions: 1, tap: (line) => lines.push(line), junit: file });
+  assert.deepEqual([every, untried.map((it) => it.sessions)], [[], STAGES.map(({ count }) => count)]);
+  const said = [`not tried, every: 2 asks for it: ${namesOf(SMALL)}`, `not tried, every: 3 asks for it: ${namesOf(LARGER)}`];
+  assert.deepEqual(lines.filter((line) => line.includes("not tried")), said.map((line) => `# ${line}`));
+  const xml = fs.readFileSync(file, "utf8").replaceAll("&quot;", '"');
+  for (const line of said) assert.ok(xml.includes(`\n${line}`), line);
+  assert.deepEqual(untriedLines([], "--every "), []);
+});
+
+test("a kept driver has no fewer small sessions than one with a process for each session, however slow it is", () => {
+  let time = 0;
+  const isDue = dueStages(IN_ONE.fits, () => time);
+  const due = STAGES.map((stage) => isDue(stage, (time += 60_000)));
+  assert.deepEqual(due, STAGES.map((_, at) => at < 2));
 });
 
 test("a small session that fails ends the run, is the smallest, and is reduced", async () => {
@@ -146,10 +169,12 @@ test("TAP and JUnit have one point for each stage", async () => {
 test("otbench port: what was covered, with a process each and in one", () => {
   const each = port(["--utf16", "--no-corpus", "--sessions", "1"], SAMPLE);
   assert.match(each.stdout, /^at random: 1 session conforms\ncompared /, each.stderr);
+  assert.ok(each.stdout.includes(`\nnot tried, --every 2 asks for it: ${namesOf(SMALL)}\nnot tried, --every 3 asks for it: ${namesOf(LARGER)}\n`), each.stdout);
   const kept = port(["--utf16", "--no-corpus", "--every", "2", "--sessions", "1", "--keep-driver"], [...SAMPLE, "--keep"]);
   const said = SMALL.map((stage) => `${toldOf(stage)}: ${stage.count.toLocaleString("en")} conform\n`).join("");
   assert.ok(kept.stdout.startsWith(`${said}at random: 1 session conforms\ncompared `), kept.stdout + kept.stderr);
+  assert.ok(kept.stdout.endsWith(`\nnot tried, --every 3 asks for it: ${namesOf(LARGER)}\n`), kept.stdout);
   const failed = port(["--utf16", "--no-corpus", "--every", "2", "--sessions", "1", "--keep-driver", "--reduce-seconds", "2"], [...SAMPLE, "--keep", "--bug", "old-revision"]);
-  assert.match(failed.stdout, /^fails: session \d+ of every session of [^\n]*: \d+ instructions, here reduced to \d+\n/, failed.stderr);
+  assert.match(failed.stdout, /^fails: session \d+ of every session of [^\n]*: \d+ instructions(?:, here reduced to \d+)?\n/, failed.stderr);
   assert.equal(failed.status, 1);
 });

@@ -60,7 +60,7 @@ test("each of its faults is found, most in a session of a few instructions", { s
       const [fault, most] = row;
       const { status, said } = await tried(fault);
       assert.equal(status, 1, `${fault}: ${said}`);
-      if (most !== null) assert.ok(Number(/here reduced to (\d+)/.exec(said)?.[1]) <= most, `${fault}: ${said.slice(0, 2000)}`);
+      if (most !== null) assert.ok(Number(/(\d+)(?: instructions)?(?:; the last of .*)?\n\n/.exec(said)?.[1]) <= most, `${fault}: ${said.slice(0, 2000)}`);
     }
   };
   await Promise.all(Array.from({ length: AT_A_TIME }, next));
