@@ -66,11 +66,4 @@ impl Plan {
     {
         self.typing.as_slice()
     }
-
-    /// What each client's user types, with the plan given up.
-    pub fn into_typing(self) -> Vec<Vec<Typing>>
-        ensures { typing_view result.items ≡ self.typing }
-    {
-        self.typing
-    }
 }

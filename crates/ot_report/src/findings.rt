@@ -7,8 +7,8 @@ ghost use Rattle.ot_model.specs.Trace.{TraceView};
 ghost use Rattle.ot_model.specs.WeakList.{WeakListProperty};
 ghost use Rattle.ot_report.specs.Findings.{IsFound, found_json, found_text, found_value, found_words, trace_text};
 
+use crate::lines::push_stop;
 use crate::members::{stopped_member, trace_members, unsettled_members};
-use crate::running::push_stop;
 use crate::unsettled::settling;
 use crate::verdicts::{print_settling, print_verdict};
 use ot_check::{Convergence, TracedRun, traced_run};

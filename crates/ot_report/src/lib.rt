@@ -1,8 +1,8 @@
 //! What is printed of a run, and of the verdicts on it.
 //!
 //! ```text
-//!   Run ── print_run ──▶ its reads, its stop, and its end (print_end: the state of any machine)
-//!   Schedule ── write_report ──▶ the same lines as print_run's, or lines of JSON, written while the run goes
+//!   Schedule ── write_report ──▶ its reads, its stop, and its end, in words or as lines of JSON, written while the run goes
+//!   Machine ── print_end ──▶ the lines of its state
 //!   Schedule ── find ──▶ Findings: the stop of its run, whether all is quiet with one list or what is not settled, the verdict of its trace
 //!     └── found_text ──▶ its lines, or a line of JSON
 //! ```
@@ -10,7 +10,7 @@
 //! Every line ends with LF; a text is printed as a JSON string. Each call that prints answers an error only if memory runs out, and its
 //! contract says every byte: `specs/Printed.antt` has the lines of a run, `specs/RunJson.antt` those as JSON, `specs/Authors.antt` who inserted the characters of a read, `specs/Verdicts.antt` those of verdicts, `specs/Members.antt` the
 //! same as JSON, `specs/Findings.antt` what is found of a schedule; `specs/Written.antt` has what stands on the output after a fault. Begin
-//! with [`print_run`], [`write_report`] and [`find`].
+//! with [`write_report`] and [`find`].
 //!
 //! The verdict of a trace in words ([`print_words`]): which events, which elements, and what each list has.
 //!
@@ -35,7 +35,6 @@ mod finds;
 mod lines;
 mod members;
 mod run_json;
-mod running;
 mod spans;
 mod unsettled;
 mod verdicts;
@@ -46,9 +45,8 @@ pub use authors::{Author, edits_are_authors};
 pub use causes::{Cause, cause_of};
 pub use ending::print_end;
 pub use findings::{Findings, find, found_text};
-pub use lines::{print_client, print_read, print_server, print_stop, push_read, quiet_text};
+pub use lines::{print_client, print_server, print_stop, push_read, quiet_text};
 pub use members::verdict_json;
-pub use running::print_run;
 pub use spans::{Span, spans_spell};
 pub use unsettled::settling;
 pub use verdicts::{print_convergence, print_settling, print_verdict, tag_name, verdict_text};

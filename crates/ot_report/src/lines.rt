@@ -1,13 +1,13 @@
-//! The lines of reads and of a stop.
+//! The lines of reads, of a stop, of clients and of the server.
 
 ghost use Rattle.std.specs.Prelude.{◌≡◌, ◌++◌, IfOk, OnOk, string_bytes};
 ghost use Rattle.ot_report.specs.Authors.{author_in};
-ghost use Rattle.ot_report.specs.Printed.{client_text, quiet_line, read_line, read_text, reader_text, server_text, stop_line};
+ghost use Rattle.ot_report.specs.Printed.{client_text, quiet_line, read_line, read_text, reader_text, server_text, stop_line, stop_text, stopped_text};
 
 use crate::authors::Authors;
-use crate::run_json::push_read_json;
+use crate::run_json::{push_read_json, stop_json};
 use ot_isa::Tagged;
-use ot_model::{Reader, Refusal, Shown};
+use ot_model::{Reader, Refusal};
 use ot_text::Doc;
 use ot_values::{push_quoted, refusal_name};
 use std::alloc::{AllocError, Global};
@@ -56,21 +56,44 @@ pub(crate) fn push_read_text(
     }
 }
 
-/// The line of a read: `read C "text"` or `read-server "text"`.
-pub fn print_read(alloc: Global, shown: &Shown) -> Result<String, AllocError>
-    ensures { IfOk result (λ s. string_bytes s ≡ read_line shown.now) }
-{
-    let mut text = String::new(alloc);
-    push_read(alloc, &mut text, shown.who, &shown.list)?;
-    Ok(text)
-}
-
 /// The line of a run that stopped before the instruction at this place: `stopped at I: Refusal`.
 pub fn print_stop(alloc: Global, place: usize, refusal: Refusal) -> Result<String, AllocError>
     ensures { IfOk result (λ s. string_bytes s ≡ stop_line place refusal) }
 {
     let name = refusal_name(refusal);
     format!(in alloc; "stopped at {place}: {name}\n")
+}
+
+// The line of a stop before the instruction at this place.
+fn stopped_text(
+    alloc: Global,
+    json: bool,
+    place: usize,
+    refusal: Refusal,
+) -> Result<String, AllocError>
+    ensures { IfOk result (λ s. string_bytes s ≡ stopped_text json place refusal) }
+{
+    if json {
+        stop_json(alloc, place, refusal)
+    } else {
+        print_stop(alloc, place, refusal)
+    }
+}
+
+/// Adds the line of the stop, if there was one, in words or as JSON.
+pub(crate) fn push_stop(
+    alloc: Global,
+    json: bool,
+    text: &mut String,
+    stopped: Option<(usize, Refusal)>,
+) -> Result<(), AllocError>
+    ensures { OnOk result (string_bytes text.new ≡ string_bytes text.old ++ stop_text json stopped) }
+{
+    if let Some((place, refusal)) = stopped {
+        let line = stopped_text(alloc, json, place, refusal)?;
+        text.push_str(line.as_str())?;
+    }
+    Ok(())
 }
 
 /// The line of a client: `client C rev R STATE "text"`.

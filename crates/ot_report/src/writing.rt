@@ -11,8 +11,7 @@ ghost use Rattle.ot_report.specs.Written.{Flushes, Gathers, GathersReads, Gather
 
 use crate::authors::Authors;
 use crate::ending::end_text;
-use crate::lines::push_read_text;
-use crate::running::push_stop;
+use crate::lines::{push_read_text, push_stop};
 use ot_isa::Schedule;
 use ot_machine::Machine;
 use ot_model::{Reader, Refusal};
@@ -129,8 +128,7 @@ fn authors_if(alloc: Global, json: bool, schedule: &Schedule) -> Result<Authors,
 }
 
 /// Runs the schedule and writes its report while it goes, in words or as lines of `json`: the line of each read, the stop if an instruction was not performed (refused,
-/// or out of memory), and the state where the run ended. What is written in words is what [`print_run`](crate::print_run) makes of the run. Says
-/// which instruction was not performed, and why.
+/// or out of memory), and the state where the run ended. Says which instruction was not performed, and why.
 ///
 /// After a failed write a first part of the report is written, and `WriteFault` is said only where one has failed, as the output says itself; if memory ran out, the lines of the first reads, and these are whole; lines
 /// that were gathered and not yet written are lost. Memory does not grow with the reads: their lines are gathered in one buffer, which is

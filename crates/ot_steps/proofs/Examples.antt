@@ -16,6 +16,7 @@ use Rattle.ot_steps.specs.Lines.{Line, bare}
 use Rattle.ot_steps.specs.Lines as word
 use Rattle.ot_steps.specs.Steps.{first_lines, is_quiet}
 use Rattle.ot_steps.specs.Fold.{session_in, session_of}
+use Rattle.ot_steps.specs.Found.{counts, times}
 
 abbrev op : List (Run ℕ) → Operation ℕ
 op runs = operation_of runs
@@ -85,3 +86,14 @@ folds = refl
 quiet_at_the_end : option_map (λ (q : Place). is_quiet q.state) (place_at weak_order 16) ≡ Some true
 unfolding apply compose merge first_after second_after
 quiet_at_the_end = refl
+
+-- "aa" stands once in "aaa", twice in "aaaa"; and after the first edit client 0 has "z" once, the others nowhere
+overlapping : times (97 ∷ 97 ∷ []) (97 ∷ 97 ∷ 97 ∷ []) ≡ 1
+overlapping = refl
+
+side_by_side : times (97 ∷ 97 ∷ []) (97 ∷ 97 ∷ 97 ∷ 97 ∷ []) ≡ 2
+side_by_side = refl
+
+found_after_the_edit : counts (122 ∷ []) (session_of (first_lines false weak_order 1)) ≡ 0 ∷ 1 ∷ 0 ∷ []
+unfolding apply
+found_after_the_edit = refl

@@ -10,6 +10,7 @@ use Rattle.ot_steps.specs.Lines.{Line}
 use Rattle.ot_steps.specs.Steps.{first_lines}
 use Rattle.ot_steps.specs.Written.{AreRunLines}
 use Rattle.ot_steps.specs.Fold.{client_text, downlink, head_text, session_in, session_of}
+use Rattle.ot_steps.specs.Found.{counts, counts_in}
 
 -- the opening and the lines of the first p instructions fold to the state after them
 abbrev pub FoldIsRun : Type 0
@@ -27,6 +28,13 @@ abbrev pub AllLinesFold : Type 0
 AllLinesFold =
     (documents : Bool) (s : Program) (stopped : Option (ℕ × Refusal)) (lines : List Line)
     → (are : AreRunLines documents s stopped lines) → session_of lines ≡ session_in are.place.state
+
+-- a text stands in each document of the lines as often as in the table's, at every place: so between two places the same documents gain or lose it
+abbrev pub FoundByLines : Type 0
+FoundByLines =
+    (documents : Bool) (s : Program) (stopped : Option (ℕ × Refusal)) (lines : List Line) → AreRunLines documents s stopped lines
+    → (p : ℕ) (q : Place) → p ≤ reached s stopped → place_at s p ≡ Some q
+    → (text : List ℕ) → counts text (session_of (take (suc p) lines)) ≡ counts_in text q.state
 
 -- what stands on the way to a client follows: it is the log from the client's revision on
 abbrev pub DownlinksFollow : Type 0

@@ -4,6 +4,7 @@ pub mod Text
 pub mod Held
 pub mod Lettered
 pub mod Fold
+pub mod Found
 pub mod Written
 pub mod Gathered
 pub mod Laws

@@ -1,6 +1,6 @@
 //! What the lines of every run give, each law as the contract of a function that does nothing.
 
-ghost use Rattle.ot_steps.specs.Laws.{AllLinesFold, DownlinksFollow, FoldIsRun, LinesFold};
+ghost use Rattle.ot_steps.specs.Laws.{AllLinesFold, DownlinksFollow, FoldIsRun, FoundByLines, LinesFold};
 
 /// The opening and the lines of the first instructions fold to the state after them: every client's revision, state, pending operations,
 /// its text and its message to the server, the server's text, and the log with its makers. The fold applies operations to texts and
@@ -13,6 +13,11 @@ pub fn fold_is_run()
 pub fn lines_fold()
     ensures within { LinesFold }
     ensures all { AllLinesFold }
+{}
+
+/// What looks for a text in the documents that the lines give finds it where the table's documents have it, and as often. At every place, for the server and each client.
+pub fn finds_follow()
+    ensures { FoundByLines }
 {}
 
 /// What stands on the way to a client follows from the log and the client's revision.

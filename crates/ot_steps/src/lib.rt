@@ -12,7 +12,7 @@
 //! - *The lines as text* (`specs/Text.antt`): one JSON object a line, its keys in a fixed order ([`KEYS`]).
 //! - *The fold* (`specs/Fold.antt`): from the lines alone, by applying operations to texts and nothing else of the algebra, come every
 //!   client's revision, state, pending operations, text and links, the server's text and the log. [`fold_is_run`] and [`lines_fold`] are the
-//!   laws (`specs/Laws.antt`) that this is the run.
+//!   laws (`specs/Laws.antt`) that this is the run. By [`finds_follow`] (`specs/Found.antt`) a text is found in these documents where it is in the table's.
 //! - *Writing* (`specs/Written.antt`): [`print_steps`] writes the lines while the run goes, 64 KiB of them at a time (`specs/Gathered.antt`), and after a
 //!   fault a first part of them stands.
 //!
@@ -29,7 +29,7 @@ mod value;
 mod writing;
 
 pub use key::{KEYS, Key, key_text};
-pub use laws::{downlinks_follow, fold_is_run, lines_fold};
+pub use laws::{downlinks_follow, finds_follow, fold_is_run, lines_fold};
 pub use line::{Line, Step, Stop, buffer, last_operation, outstanding, placed_client, word};
 pub use operations::push_decimal;
 pub use plain::plain_operation;
