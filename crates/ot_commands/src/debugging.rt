@@ -46,7 +46,7 @@ fn loop_status(faulted: bool) -> u8
 }
 
 // Answers the commands that are left, from the schedule's opening on. So many lines stand before them.
-fn converse<I: Source, O: Sink, F: Sink>(
+fn answer_commands<I: Source, O: Sink, F: Sink>(
     alloc: Global,
     schedule: Schedule,
     earlier: u64,
@@ -82,7 +82,7 @@ pub fn debug_text<I: Source, O: Sink, F: Sink>(
     let mut ahead = ReadAhead::new();
     match assemble_until_mark(alloc, &mut ahead, input) {
         Ok((schedule, taken)) => {
-            converse(alloc, schedule, taken, &mut ahead, input, output, faults)
+            answer_commands(alloc, schedule, taken, &mut ahead, input, output, faults)
         }
         Err(fault) => {
             complain_of_line(alloc, fault, faults);

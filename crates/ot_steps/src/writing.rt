@@ -50,7 +50,7 @@ impl From<streams::WriteFault> for StepsFault {
 }
 
 // Performs the instruction and writes its line into the text, instead of what that held, or says why it was not performed.
-fn write_move(
+fn perform_and_write(
     alloc: Global,
     machine: &mut Machine,
     at: usize,
@@ -107,7 +107,7 @@ fn gather_moves<W: Sink>(
         let Some(instr) = schedule.get(place) else {
             unreachable!()
         };
-        match write_move(alloc, machine, place + 1, instr, documents, &mut line)? {
+        match perform_and_write(alloc, machine, place + 1, instr, documents, &mut line)? {
             Ok(()) => gather(held, line.as_str(), output)?,
             Err(refusal) => return Ok(Some((place, refusal))),
         }

@@ -1,6 +1,6 @@
 use Rattle.streams.specs.Taken.{before}
 use Rattle.ot_commands.proofs.Looped.{converses, breaks_off}
-use Rattle.ot_commands.proofs.debugging.converse.Goals as goal
+use Rattle.ot_commands.proofs.debugging.answer_commands.Goals as goal
 
 pub returns-in-Ok-command_loop : goal.returns-in-Ok-command_loop
 returns-in-Ok-command_loop g c =

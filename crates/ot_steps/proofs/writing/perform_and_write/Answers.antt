@@ -1,7 +1,7 @@
 use Rattle.std.proofs.Common.{sym, subst}
 use Rattle.ot_steps.specs.Held.{IsHeld}
 use Rattle.ot_steps.proofs.Progress.{did, leads_within}
-use Rattle.ot_steps.proofs.writing.write_move.Goals as goal
+use Rattle.ot_steps.proofs.writing.perform_and_write.Goals as goal
 
 pub write-requires : goal.write-requires
 write-requires c =
