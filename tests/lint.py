@@ -4,9 +4,11 @@
     python3 tests/lint.py
 
 Python is looked through by pyflakes, but for lines with `# noqa`; JavaScript by node, for its syntax, and by TypeScript's compiler, for names that are not used, not
-defined or not exported. In the page nothing reads a text as markup. The crates are in the layout of `rt fmt`, which the gate asks for. A linter that is not there is reported and left out; `tests/set-up` installs them. The last line says how many files
+defined or not exported. In the page nothing reads a text as markup. The crates are in the layout of `rt fmt`, which the gate asks for, and each of their public functions has a caller that is no test, or is a law, or is promised to
+those who use the crate as a library. A linter that is not there is reported and left out; `tests/set-up` installs them. The last line says how many files
 there are and how much was found; the status is 1 where something was.
 """
+import collections
 import pathlib
 import re
 import shutil
@@ -23,6 +25,9 @@ NOT_YET_KNOWN = re.compile(r"'(?:Dec|C)ompressionStream'")  # of browsers, by th
 
 # What reads a text as markup: the page (common, viewer/src) has none of these.
 MARKUP = re.compile(r"innerHTML|outerHTML|insertAdjacentHTML|setHTML|parseHTML|DOMParser|createContextualFragment|srcdoc|execCommand|document\s*\.\s*write")
+
+# Public functions without a caller that users of a crate as a library have: readers, and what a contract of another asks for.
+PROMISED = {"apply", "can_share", "disassemble_to", "has_failed", "is_noop", "step_kept", "steps_done", "to_components"}
 
 
 def listed(*patterns):
@@ -67,6 +72,20 @@ def out_of_layout(*names):
     return lines or [f"rattle fmt --check ended with status {ran.returncode}"] * (ran.returncode != 0)
 
 
+def without_caller():
+    """The public functions of crates that no code names. A law is a function that does nothing, or stands in a file of laws; a name that several crates have is taken for called where one of them is."""
+    sources = {name: re.sub(r"//.*|\b(?:requires|ensures)(?: \w+)? \{.*|\bghost [\w ]+= \{.*", "", (TOP / name).read_text(encoding="utf-8")) for name in listed("crates/*/src/*.rt")}
+    bodies = {name: re.sub(r"(?s)\bghost use .*?;|\b(?:pub )?use .*?;", "", text) for name, text in sources.items()}
+    uses = collections.Counter(word for text in bodies.values() for word in re.findall(r"(?<!fn )\b[a-z_][a-z0-9_]*\b", text))
+    return [
+        f"{name}: {function} has no caller"
+        for name, text in bodies.items()
+        if not re.search(r"laws\.rt$|/ot_theorem/", name)
+        for function, nothing in re.findall(r"\bpub fn (\w+)[^{;]*\{(\s*\})?", text)
+        if not nothing and not uses[function] and function not in PROMISED
+    ]
+
+
 def main():
     given(__doc__)
     scripts = [name for name in listed("*.py") + listed(":!:*.*") if is_python(name)]
@@ -75,6 +94,7 @@ def main():
     findings += [line for name in modules for line in said("node --check", name)]
     findings += [line for line in said(COMPILER, *modules) if NAMES.search(line) and not NOT_YET_KNOWN.search(line)]
     findings += out_of_layout(*listed("crates/*.rt", "crates/*.antt"))
+    findings += without_caller()
     findings += readers_of_markup(*listed("common", "viewer/src", "viewer/html.mjs"))
     print("".join(f"{line}\n" for line in findings), end="")
     print(f"lint: {len(scripts)} scripts of Python, {len(modules)} of JavaScript, {len(findings)} lines of findings")
