@@ -19,15 +19,15 @@ keep_if p (Some x) = if p x then Some x else None
 -- ---- numbers and tags
 
 -- a whole number from 0 to `most`
-abbrev pub number_to : ℕ → Data → Option ℕ
-number_to most d = keep_if (λ n. nat_le n most) (option_and_then as_u64 (as_number d))
+abbrev pub number_at_most : ℕ → Data → Option ℕ
+number_at_most most d = keep_if (λ n. nat_le n most) (option_and_then as_u64 (as_number d))
 
 abbrev pub count_of : Data → Option ℕ
-count_of d = number_to 4294967295 d
+count_of d = number_at_most 4294967295 d
 
 abbrev pub tag_with : Data → Data → Option Tag
 tag_with origin serial =
-    option_and_then (λ o. option_map (λ s. record { origin = o; serial = s }) (number_to 4294967295 serial)) (number_to 65535 origin)
+    option_and_then (λ o. option_map (λ s. record { origin = o; serial = s }) (number_at_most 4294967295 serial)) (number_at_most 65535 origin)
 
 abbrev pub tag_from : Items → Option Tag
 tag_from no_items = None
@@ -41,7 +41,7 @@ tag_of d = option_and_then tag_from (as_array d)
 
 abbrev pub placed_with : Data → Data → Data → Option Placed
 placed_with origin serial place =
-    option_and_then (λ t. option_map (λ p. record { tag = t; place = p }) (number_to 4294967295 place)) (tag_with origin serial)
+    option_and_then (λ t. option_map (λ p. record { tag = t; place = p }) (number_at_most 4294967295 place)) (tag_with origin serial)
 
 abbrev pub placed_from : Items → Option Placed
 placed_from no_items = None

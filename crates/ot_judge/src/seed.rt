@@ -51,10 +51,4 @@ impl Seed {
         }
         seed
     }
-
-    /// The hash of these tags.
-    pub fn hash(mut self, tags: &[Tag]) -> u64 {
-        self.add(tags);
-        self.state.finish()
-    }
 }

@@ -2,7 +2,7 @@
 
 ghost use Rattle.std.specs.Prelude.{◌≡◌, ◌<◌, ◌^◌, IfOk, is_some, length, option_map};
 ghost use Rattle.serde_json.specs.View.{items_view, view};
-ghost use Rattle.ot_judge.specs.Reading.{all_of, count_of, number_to, placed_from, placed_of, placed_with, tag_from, tag_of, tag_with};
+ghost use Rattle.ot_judge.specs.Reading.{all_of, count_of, number_at_most, placed_from, placed_of, placed_with, tag_from, tag_of, tag_with};
 
 use ot_isa::Tag;
 use ot_model::Placed;
@@ -10,8 +10,8 @@ use serde_json::Value;
 use std::alloc::{AllocError, Global};
 
 /// A whole number from 0 to `most`.
-pub fn number_to(value: &Value, most: u64) -> Option<u64>
-    ensures { result ≡ number_to most (view value.now) }
+pub fn number_at_most(value: &Value, most: u64) -> Option<u64>
+    ensures { result ≡ number_at_most most (view value.now) }
 {
     match value.as_u64() {
         Some(n) if n <= most => Some(n),
@@ -23,7 +23,7 @@ pub fn number_to(value: &Value, most: u64) -> Option<u64>
 pub fn count_of(value: &Value) -> Option<u32>
     ensures { result ≡ count_of (view value.now) }
 {
-    let n = number_to(value, 4_294_967_295)?;
+    let n = number_at_most(value, 4_294_967_295)?;
     Some(n as u32)
 }
 
@@ -31,8 +31,8 @@ pub fn count_of(value: &Value) -> Option<u32>
 fn tag_with(origin: &Value, serial: &Value) -> Option<Tag>
     ensures { result ≡ tag_with (view origin.now) (view serial.now) }
 {
-    let origin = number_to(origin, 65_535)?;
-    let serial = number_to(serial, 4_294_967_295)?;
+    let origin = number_at_most(origin, 65_535)?;
+    let serial = number_at_most(serial, 4_294_967_295)?;
     Some(Tag {
         origin: origin as u16,
         serial: serial as u32,
@@ -64,7 +64,7 @@ fn placed_with(origin: &Value, serial: &Value, place: &Value) -> Option<Placed>
     ensures { result ≡ placed_with (view origin.now) (view serial.now) (view place.now) }
 {
     let tag = tag_with(origin, serial)?;
-    let place = number_to(place, 4_294_967_295)?;
+    let place = number_at_most(place, 4_294_967_295)?;
     Some(Placed {
         tag,
         place: place as usize,

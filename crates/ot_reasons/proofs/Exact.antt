@@ -9,7 +9,7 @@ use Rattle.ot_isa.specs.declared.elements.Tag.{Tag}
 use Rattle.ot_model.specs.declared.trace.Placed.{Placed}
 use Rattle.ot_judge.specs.declared.fault.TraceFault.TheVariants.{BadShape, TraceFull}
 use Rattle.ot_judge.specs.Making.{is_event, has_shape, is_full, named_again, trace_from, unless_again}
-use Rattle.ot_judge.specs.Reading.{EventData, TraceData, all_of, count_of, event_data, event_from, event_of, is_replicas, items_at, items_or_none, keep_if, kind_of, number_at, number_to, placed_from, placed_of, shape_from, shape_of, tag_from, tag_of, tag_with, trace_data, trace_of_shape}
+use Rattle.ot_judge.specs.Reading.{EventData, TraceData, all_of, count_of, event_data, event_from, event_of, is_replicas, items_at, items_or_none, keep_if, kind_of, number_at, number_at_most, placed_from, placed_of, shape_from, shape_of, tag_from, tag_of, tag_with, trace_data, trace_of_shape}
 use Rattle.ot_judge.proofs.Spelled.{kept-some, map-some, then-some}
 use Rattle.ot_model.specs.Trace.{EventView, TraceView}
 use Rattle.ot_reasons.specs.declared.place.Fault.{Fault}
@@ -62,24 +62,24 @@ all-length f (item d ds) xs h =
 
 -- ---- numbers and tags
 
-number-free : (most : ℕ) (p : Place) (d : Data) → is_none (number_fault most p d) ≡ is_some (number_to most d)
-number-free most p d = free-unless (is_some (number_to most d)) p (wanted.Number most)
+number-free : (most : ℕ) (p : Place) (d : Data) → is_none (number_fault most p d) ≡ is_some (number_at_most most d)
+number-free most p d = free-unless (is_some (number_at_most most d)) p (wanted.Number most)
 
 two-some : {A B C : Type 0} (f : A → B → C) (a : Option A) (b : Option B) → is_some (option_and_then (λ x. option_map (λ y. f x y) b) a) ≡ (is_some a && is_some b)
 two-some f None b = refl
 two-some f (Some x) None = refl
 two-some f (Some x) (Some y) = refl
 
-numbers-free : (p : Place) (o s : Data) → is_none (numbers_fault p o s) ≡ (is_some (number_to 65535 o) && is_some (number_to 4294967295 s))
+numbers-free : (p : Place) (o s : Data) → is_none (numbers_fault p o s) ≡ (is_some (number_at_most 65535 o) && is_some (number_at_most 4294967295 s))
 numbers-free p o s =
-    free-two (number_fault 65535 (in_part p 0) o) (number_fault 4294967295 (in_part p 1) s) (is_some (number_to 65535 o)) (is_some (number_to 4294967295 s))
+    free-two (number_fault 65535 (in_part p 0) o) (number_fault 4294967295 (in_part p 1) s) (is_some (number_at_most 65535 o)) (is_some (number_at_most 4294967295 s))
     (number-free 65535 (in_part p 0) o) (number-free 4294967295 (in_part p 1) s)
 
 parts-free : (p : Place) (ds : Items) → is_none (tag_parts p ds) ≡ is_some (tag_from ds)
 parts-free p no_items = refl
 parts-free p (item o no_items) = refl
 parts-free p (item o (item s no_items)) =
-    numbers-free p o s ∙ sym (two-some (λ (a b : ℕ). let t : Tag = record { origin = a; serial = b } in t) (number_to 65535 o) (number_to 4294967295 s))
+    numbers-free p o s ∙ sym (two-some (λ (a b : ℕ). let t : Tag = record { origin = a; serial = b } in t) (number_at_most 65535 o) (number_at_most 4294967295 s))
 parts-free p (item o (item s (item x xs))) = refl
 
 pub tag-free : (p : Place) (d : Data) → is_none (tag_fault p d) ≡ is_some (tag_of d)
@@ -93,10 +93,10 @@ triples-free p no_items = refl
 triples-free p (item o no_items) = refl
 triples-free p (item o (item s no_items)) = refl
 triples-free p (item o (item s (item x no_items))) =
-    free-two (numbers_fault p o s) (number_fault 4294967295 (in_part p 2) x) (is_some (tag_with o s)) (is_some (number_to 4294967295 x))
-    (numbers-free p o s ∙ sym (two-some (λ (a b : ℕ). let t : Tag = record { origin = a; serial = b } in t) (number_to 65535 o) (number_to 4294967295 s)))
+    free-two (numbers_fault p o s) (number_fault 4294967295 (in_part p 2) x) (is_some (tag_with o s)) (is_some (number_at_most 4294967295 x))
+    (numbers-free p o s ∙ sym (two-some (λ (a b : ℕ). let t : Tag = record { origin = a; serial = b } in t) (number_at_most 65535 o) (number_at_most 4294967295 s)))
     (number-free 4294967295 (in_part p 2) x)
-    ∙ sym (two-some (λ (t : Tag) (n : ℕ). let r : Placed = record { tag = t; place = n } in r) (tag_with o s) (number_to 4294967295 x))
+    ∙ sym (two-some (λ (t : Tag) (n : ℕ). let r : Placed = record { tag = t; place = n } in r) (tag_with o s) (number_at_most 4294967295 x))
 triples-free p (item o (item s (item x (item y ys)))) = refl
 
 pub placed-free : (p : Place) (d : Data) → is_none (placed_fault p d) ≡ is_some (placed_of d)

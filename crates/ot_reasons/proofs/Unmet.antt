@@ -4,7 +4,7 @@ use Rattle.std.specs.Prelude.{IfSome, Option, Some, None, is_some, option_and_th
 use Rattle.std.proofs.lemmas.Bool.{false_from_ne_true, leb-true, ltb-false, ltb-true, ne_eqb, or_parts}
 use Rattle.serde_json.specs.Data.{Data, Items, no_items, item}
 use Rattle.serde_json.specs.Find.{as_array, as_number, as_object, as_str, as_u64, at, get, get_item}
-use Rattle.ot_judge.specs.Reading.{EventData, TraceData, event_data, is_replicas, items_at, items_or_none, keep_if, kind_from, kind_of, number_at, number_to, trace_data}
+use Rattle.ot_judge.specs.Reading.{EventData, TraceData, event_data, is_replicas, items_at, items_or_none, keep_if, kind_from, kind_of, number_at, number_at_most, trace_data}
 use Rattle.ot_reasons.specs.declared.place.Fault.{Fault}
 use Rattle.ot_reasons.specs.declared.place.Place.{Place}
 use Rattle.ot_reasons.specs.declared.place.Wanted.{Wanted}
@@ -51,7 +51,7 @@ pub stands : (d : Data) (p : Place) (o : Option Data) (w : Wanted) → found_at 
 stands d p o w is e = ap (is_met w) is ∙ e
 
 pub unmet-number : (d : Data) (most : ℕ) (p : Place) (x : Data) → found_at p d ≡ Some x → Unmet d (number_fault most p x)
-unmet-number d most p x is = unmet-unless d (is_some (number_to most x)) p (wanted.Number most) (λ e. stands d p (Some x) (wanted.Number most) is e)
+unmet-number d most p x is = unmet-unless d (is_some (number_at_most most x)) p (wanted.Number most) (λ e. stands d p (Some x) (wanted.Number most) is e)
 
 unmet-numbers : (d : Data) (p : Place) (o s : Data) → AtPart d (in_part p 0) o → AtPart d (in_part p 1) s → Unmet d (numbers_fault p o s)
 unmet-numbers d p o s first second =

@@ -2,7 +2,7 @@
 use Rattle.std.specs.Prelude.{ℕ, ◌+◌, ◌-◌, ◌==◌, ◌||◌, Bool, Option, Some, None, codes, is_some, nat_lt, if◌then◌else◌}
 use Rattle.serde_json.specs.Data.{Data, Items, no_items, item}
 use Rattle.serde_json.specs.Find.{as_array, as_object, get}
-use Rattle.ot_judge.specs.Reading.{EventData, TraceData, event_data, is_replicas, items_at, items_or_none, keep_if, kind_of, number_at, number_to, trace_data}
+use Rattle.ot_judge.specs.Reading.{EventData, TraceData, event_data, is_replicas, items_at, items_or_none, keep_if, kind_of, number_at, number_at_most, trace_data}
 use Rattle.ot_reasons.specs.declared.place.Fault.{Fault}
 use Rattle.ot_reasons.specs.declared.place.Field.TheVariants as field
 use Rattle.ot_reasons.specs.declared.place.Place.{Place}
@@ -36,7 +36,7 @@ count_items (item d ds) = count_items ds + 1
 -- ---- numbers and tags
 
 abbrev pub number_fault : ℕ → Place → Data → Option Fault
-number_fault most p d = unless (is_some (number_to most d)) p (wanted.Number most)
+number_fault most p d = unless (is_some (number_at_most most d)) p (wanted.Number most)
 
 abbrev pub count_fault : Place → Data → Option Fault
 count_fault p d = number_fault 4294967295 p d

@@ -4,7 +4,7 @@ use Rattle.std.specs.Str.{chars}
 use Rattle.serde_json.specs.Data.{Data, Items}
 use Rattle.serde_json.specs.Find.{as_array, as_number, as_object, as_str, as_u64}
 use Rattle.ot_isa.specs.declared.builder.TheConstants.{START_LIMIT}
-use Rattle.ot_judge.specs.Reading.{keep_if, kind_from, number_to}
+use Rattle.ot_judge.specs.Reading.{keep_if, kind_from, number_at_most}
 use Rattle.ot_plan.specs.Reading.{is_few, is_short, row_of}
 use Rattle.ot_reasons.specs.declared.place.Wanted.{Wanted}
 use Rattle.ot_reasons.specs.declared.place.Wanted.TheVariants as wanted
@@ -28,7 +28,7 @@ is_start text = nat_le (length (chars text)) START_LIMIT
 abbrev pub satisfies : Wanted → Data → Bool
 satisfies wanted.Object d = is_some (as_object d)
 satisfies (wanted.Positive most) d = is_some (keep_if (is_positive most) (option_and_then as_u64 (as_number d)))
-satisfies (wanted.Number most) d = is_some (number_to most d)
+satisfies (wanted.Number most) d = is_some (number_at_most most d)
 satisfies wanted.Array d = is_some (as_array d)
 satisfies wanted.Tag d = is_array_of 2 d
 satisfies wanted.Placed d = is_array_of 3 d

@@ -2,11 +2,11 @@
 
 ghost use Rattle.std.specs.Prelude.{◌≡◌, is_some};
 ghost use Rattle.serde_json.specs.View.{items_view, view};
-ghost use Rattle.ot_judge.specs.Reading.{number_to};
+ghost use Rattle.ot_judge.specs.Reading.{number_at_most};
 ghost use Rattle.ot_reasons.specs.Faults.{all_placed_fault, count_fault, count_items, counts_fault, number_fault, numbers_fault, placed_fault, placed_parts, tag_fault, tag_parts, tags_fault, triple_fault, unless, wants};
 
 use crate::place::{Fault, Place, Wanted};
-use ot_judge::value::number_to;
+use ot_judge::value::number_at_most;
 use serde_json::Value;
 
 /// The fault that something else is wanted at a place.
@@ -35,7 +35,7 @@ fn number_fault(value: &Value, most: u64, place: Place) -> Option<Fault>
     ensures { result ≡ number_fault most place (view value.now) }
 {
     unless(
-        number_to(value, most).is_some(),
+        number_at_most(value, most).is_some(),
         place,
         Wanted::Number(most),
     )
