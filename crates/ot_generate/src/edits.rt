@@ -36,7 +36,7 @@ fn draw_place(chance: &mut Pcg32, size: usize) -> usize
     }
 }
 
-fn draw_small(chance: &mut Pcg32, least: usize, count: u32) -> usize
+fn draw_count(chance: &mut Pcg32, least: usize, count: u32) -> usize
     requires least { least ≤ 1 }
     requires count { 1 ≤ count }
 {
@@ -48,8 +48,8 @@ fn draw_strokes(chance: &mut Pcg32, size: usize) -> (Stroke, Stroke)
     requires { size ≤ LIMIT }
 {
     let keep = draw_place(chance, size);
-    let come = draw_small(chance, 1, 3);
-    let gone = draw_small(chance, 1, 4);
+    let come = draw_count(chance, 1, 3);
+    let gone = draw_count(chance, 1, 4);
     match below(chance, 60) {
         0..=24 => (
             Stroke {
@@ -91,13 +91,13 @@ fn draw_strokes(chance: &mut Pcg32, size: usize) -> (Stroke, Stroke)
 
 fn several(chance: &mut Pcg32, come: usize, gone: usize) -> (Stroke, Stroke) {
     let first = Stroke {
-        keep: draw_small(chance, 0, 3),
+        keep: draw_count(chance, 0, 3),
         come,
-        gone: draw_small(chance, 0, 3),
+        gone: draw_count(chance, 0, 3),
     };
     let second = Stroke {
-        keep: draw_small(chance, 1, 3),
-        come: draw_small(chance, 0, 2),
+        keep: draw_count(chance, 1, 3),
+        come: draw_count(chance, 0, 2),
         gone,
     };
     (first, second)
@@ -134,7 +134,7 @@ fn draw_changes(alloc: Global, chance: &mut Pcg32, size: usize) -> Result<TextOp
     Ok(op)
 }
 
-fn keep_all(alloc: Global, size: usize) -> Result<TextOp<char>, AllocError>
+fn identity(alloc: Global, size: usize) -> Result<TextOp<char>, AllocError>
     requires { size ≤ LIMIT }
     ensures base { IfOk result (λ op. op.base ≡ size) }
     ensures none { IfOk result (λ op. length (news op.image) ≡ 0) }
@@ -159,6 +159,6 @@ pub fn draw_edit(
     match draw_changes(alloc, chance, size) {
         Ok(op) if op.inserted() <= most => Ok(op),
         Err(OpRefusal::Memory) => Err(AllocError),
-        _ => keep_all(alloc, size),
+        _ => identity(alloc, size),
     }
 }

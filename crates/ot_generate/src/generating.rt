@@ -51,7 +51,7 @@ fn draw_start(alloc: Global, chance: &mut Pcg32, shape: &Shape) -> Result<Vec<ch
 }
 
 // How many instructions are made before the reads at the end.
-fn room(shape: &Shape) -> usize
+fn instructions_before_reads(shape: &Shape) -> usize
     ensures value { result ≡ made shape.now }
     ensures most { result ≤ INSTR_LIMIT }
 {
@@ -74,7 +74,7 @@ fn begin(alloc: Global, chance: &mut Pcg32, shape: &Shape) -> Result<Walk, Alloc
         clients,
         present,
         start.as_slice(),
-        room(shape),
+        instructions_before_reads(shape),
         shape.is_open,
     )
 }

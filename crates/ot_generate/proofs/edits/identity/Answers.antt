@@ -1,7 +1,7 @@
 use Rattle.std.proofs.Common.{◌≡◌, ◌≤◌, ℕ, ap, arith, length, rules, subst, ◌∙◌}
 use Rattle.ot_operation.specs.Operation.{Operation, empty, news, with_retain, IsTooLong}
 use Rattle.ot_operation.proofs.RunLemmas.{length-news-olds, length-olds}
-use Rattle.ot_generate.proofs.edits.keep_all.Goals as goal
+use Rattle.ot_generate.proofs.edits.identity.Goals as goal
 
 not_long : (op : Operation ℕ) (n : ℕ) → op ≡ empty → n ≤ 1000000 → IsTooLong (with_retain op n) → ⊥
 not_long op n is le long =
