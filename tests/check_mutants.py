@@ -1,10 +1,10 @@
 #!/usr/bin/env python3
-"""Says which mutants do not apply.
+"""Says which mutants do not apply, and where documents count them wrongly.
 
     python3 tests/check_mutants.py
 
 A mutant, `crates/NAME/must-fail/*.edit` or `mutants/NAME/*.edit`, names files of the crate NAME, and for each a text that goes and the text in its place. A text that goes has to stand
-in its file exactly once, and no two mutants may make the same change. Nothing is proved here: `rt must-fail` and `mutants/try.py` try whether the prover refuses them.
+in its file exactly once, and no two mutants may make the same change. README.md and docs/TESTING.md have to say how many there are. Nothing is proved here: `rt must-fail` and `mutants/try.py` try whether the prover refuses them.
 The last line says how many there are and how much was found; the status is 1 where something was, or where no mutant is there.
 """
 import pathlib
@@ -15,6 +15,13 @@ from words import given
 
 TOP = pathlib.Path(__file__).resolve().parent.parent
 LINE = re.compile(r"^(file|old|new): ?(.*)$", re.MULTILINE)
+# Where documents count mutants, and the folders of those that they count.
+COUNTED = [
+    ("README.md", r"(\d+) mutants", ("crates", "mutants")),
+    ("docs/TESTING.md", r"\| mutants, each run \| (\d+) \|", ("crates",)),
+    ("docs/TESTING.md", r"\| mutants, on demand \| (\d+) \|", ("mutants",)),
+    ("docs/TESTING.md", r"\| mutants that apply, each once \| (\d+) \|", ("crates", "mutants")),
+]
 
 
 def mutants():
@@ -49,6 +56,16 @@ def changed(text, crate):
     return tuple((str(path), new) for path, (_, new) in sorted(files.items()))
 
 
+def miscounted():
+    """Where a document counts mutants, and their number is another."""
+    folders = [path.relative_to(TOP).parts[0] for path, _ in mutants()]
+    for name, words, counted in COUNTED:
+        count = sum(it in counted for it in folders)
+        said = re.search(words, (TOP / name).read_text(encoding="utf-8"))
+        if said is None or int(said.group(1)) != count:
+            yield f"{name}: there are {count} mutants in {' and '.join(counted)}"
+
+
 def main():
     given(__doc__)
     seen, count, wrong = {}, 0, 0
@@ -62,6 +79,9 @@ def main():
         except ValueError as error:
             wrong += 1
             print(f"{path.relative_to(TOP)}: {error}")
+    for finding in miscounted():
+        wrong += 1
+        print(finding)
     print(f"mutants: {count}, {wrong} findings")
     return 1 if wrong or not count else 0
 

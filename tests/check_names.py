@@ -6,8 +6,7 @@
 What stands between backquotes in a document and ends as a file does must be the end of some file's path, and so must a file of
 definitions or proofs that is named without backquotes, as proofs/NAME.antt. Of all other words
 between backquotes in the documents on proofs and definitions, each must stand in a source of the repository. The table
-of tests/README.md must have a row for each folder of tests, and must name each crate in some row. And the README says how many
-mutants there are.
+of tests/README.md must have a row for each folder of tests, and must name each crate in some row.
 The last line says how many were looked up and how many were not found; the status is 1 where one was not.
 """
 import pathlib
@@ -46,13 +45,6 @@ def untried():
     return sorted(there ^ {row[0] for row in rows}) + sorted(crates ^ tried)
 
 
-def mutants():
-    """How many mutants there are, where the README says another number."""
-    count = len(list(TOP.glob("crates/*/must-fail/*.edit"))) + len(list(TOP.glob("mutants/*/*.edit")))
-    said = re.search(r"(\d+) mutants", (TOP / "README.md").read_text(encoding="utf-8"))
-    return None if said and int(said.group(1)) == count else count
-
-
 def main():
     given(__doc__)
     files = list(sources())
@@ -79,11 +71,6 @@ def main():
     for name in untried():
         print(f"tests/README.md: its table and the folders and crates that are there differ: {name}")
         looked, missing = looked + 1, missing + 1
-    count = mutants()
-    if count is not None:
-        missing += 1
-        print(f"README.md: there are {count} mutants")
-    looked += 1
     print(f"names: {looked - missing} passed, {missing} failed")
     return 1 if missing or not looked else 0
 
