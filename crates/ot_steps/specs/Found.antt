@@ -1,5 +1,5 @@
 -- How often a text stands in each document.
-use Rattle.std.specs.Prelude.{ℕ, suc, List, [], ◌∷◌, ◌-◌, length, map, ◌==◌, if◌then◌else◌, Bool, true, false}
+use Rattle.std.specs.Prelude.{ℕ, zero, suc, List, [], ◌∷◌, ◌-◌, length, map, ◌==◌, if◌then◌else◌, Bool, true, false}
 use Rattle.ot_isa.specs.Tagging.{chars_of}
 use Rattle.ot_model.specs.Table as table
 use Rattle.ot_steps.specs.Fold.{ClientText, Session}
@@ -14,7 +14,7 @@ begins (a ∷ text) (b ∷ list) = if a == b then begins text list else false
 abbrev pub times_behind : ℕ → List ℕ → List ℕ → ℕ
 times_behind passed text [] = 0
 times_behind (suc passed) text (b ∷ list) = times_behind passed text list
-times_behind 0 text (b ∷ list) = if begins text (b ∷ list) then suc (times_behind (length text - 1) text list) else times_behind 0 text list
+times_behind zero text (b ∷ list) = if begins text (b ∷ list) then suc (times_behind (length text - 1) text list) else times_behind 0 text list
 
 abbrev pub times : List ℕ → List ℕ → ℕ
 times text list = times_behind 0 text list
