@@ -7,7 +7,7 @@ use Rattle.serde_json.specs.Data.{Data}
 use Rattle.serde_json.specs.View.{view, items_view}
 use Rattle.serde_json.specs.declared.value.Value.{Value}
 use Rattle.ot_isa.specs.declared.elements.Tag.{Tag}
-use Rattle.ot_judge.specs.Reading.{all_of}
+use Rattle.ot_json.specs.Fields.{all_of}
 
 -- ---- what passes a test
 

@@ -13,7 +13,8 @@ use Rattle.ot_judge.specs.declared.layout.Fields.{Fields}
 use Rattle.ot_judge.specs.declared.layout.Layout.{Layout}
 use Rattle.ot_model.specs.Trace.{EventView, TraceView}
 use Rattle.ot_judge.specs.Making.{is_event, has_shape, is_full, entries, unless_again, named_again, IsSized}
-use Rattle.ot_judge.specs.Reading.{keep_if, all_of, tag_from, tag_of, placed_from, placed_of, count_of, event_from, event_of, event_data, EventData, trace_data, shape_from, shape_of, trace_of_shape, is_replicas}
+use Rattle.ot_json.specs.Fields.{keep_if, all_of}
+use Rattle.ot_judge.specs.Reading.{tag_from, tag_of, placed_from, placed_of, count_of, event_from, event_of, event_data, EventData, trace_data, shape_from, shape_of, trace_of_shape, is_replicas}
 use Rattle.ot_judge.specs.Layout.{fields_view, layout_view, is_fitting, entries_of}
 
 pub tag_from-none : (vs : List Value) → length vs ≢ 2 → None ≡ tag_from (items_view vs)

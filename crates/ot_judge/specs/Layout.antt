@@ -5,7 +5,8 @@ use Rattle.serde_json.specs.View.{items_view}
 use Rattle.ot_judge.specs.declared.layout.Fields.{Fields}
 use Rattle.ot_judge.specs.declared.layout.Layout.{Layout}
 use Rattle.ot_judge.specs.Making.{entries}
-use Rattle.ot_judge.specs.Reading.{EventData, TraceData, all_of, event_of}
+use Rattle.ot_json.specs.Fields.{all_of}
+use Rattle.ot_judge.specs.Reading.{EventData, TraceData, event_of}
 
 abbrev pub fields_view : Fields → EventData
 fields_view x = record { replica = x.replica; edit = x.edit; seen = items_view x.seen.now; inserted = items_view x.inserted.now; deleted = items_view x.deleted.now; list = items_view x.list.now }

@@ -1,20 +1,16 @@
 -- What trace a JSON text is.
-use Rattle.std.specs.Prelude.{ℕ, Bool, true, false, List, [], ◌∷◌, Option, Some, None, Result, Err, codes, nat_lt, nat_le, if◌then◌else◌, option_map, option_and_then}
+use Rattle.std.specs.Prelude.{ℕ, Bool, true, false, List, Option, Some, None, Result, Err, codes, nat_lt, nat_le, if◌then◌else◌, option_map, option_and_then}
 use Rattle.std.specs.Str.{bytes_eq}
 use Rattle.serde_json.specs.Data.{Data, Items, no_items, item}
 use Rattle.serde_json.specs.Find.{get, as_array, as_number, as_str, as_u64}
 use Rattle.serde_json.specs.Read.{read}
+use Rattle.ot_json.specs.Fields.{all_of, items_at, items_or_none, keep_if, number_at}
 use Rattle.ot_isa.specs.declared.elements.Tag.{Tag}
 use Rattle.ot_model.specs.declared.trace.Placed.{Placed}
 use Rattle.ot_judge.specs.declared.fault.TraceFault.{TraceFault}
 use Rattle.ot_judge.specs.declared.fault.TraceFault.TheVariants.{NotJson, BadShape}
 use Rattle.ot_model.specs.Trace.{EventView, TraceView}
 use Rattle.ot_judge.specs.Making.{is_event, trace_from}
-
--- a value that passes a test
-abbrev pub keep_if : {A : Type 0} → (A → Bool) → Option A → Option A
-keep_if p None = None
-keep_if p (Some x) = if p x then Some x else None
 
 -- ---- numbers and tags
 
@@ -54,24 +50,7 @@ placed_from (item o (item s (item p (item x xs)))) = None
 abbrev pub placed_of : Data → Option Placed
 placed_of d = option_and_then placed_from (as_array d)
 
--- what each item of an array is, if each is something
-abbrev pub all_of : {A : Type 0} → (Data → Option A) → Items → Option (List A)
-all_of f no_items = Some []
-all_of f (item d ds) = option_and_then (λ x. option_map (λ xs. x ∷ xs) (all_of f ds)) (f d)
-
 -- ---- events
-
--- the number that stands under a key, and the array that does
-abbrev pub number_at : List ℕ → Data → Option ℕ
-number_at key d = option_and_then as_u64 (option_and_then as_number (get key d))
-
-abbrev pub items_at : List ℕ → Data → Option Items
-items_at key d = option_and_then as_array (get key d)
-
--- an array that may be missing, and is then empty
-abbrev pub items_or_none : Option Data → Option Items
-items_or_none None = Some no_items
-items_or_none (Some d) = as_array d
 
 -- whether the word is that of an edit
 abbrev pub kind_from : List ℕ → Option Bool

@@ -1,12 +1,12 @@
 //! The fields of traces and events in a JSON value, with the items of their arrays as they are.
 
 ghost use Rattle.std.specs.Prelude.{◌≡◌, ◌<◌, IfSome, is_some, length, option_map, true};
-ghost use Rattle.serde_json.specs.Find.{get};
-ghost use Rattle.serde_json.specs.View.{items_view, view};
+ghost use Rattle.serde_json.specs.View.{view};
 ghost use Rattle.ot_judge.specs.Layout.{fields_view, is_fitting, layout_view};
-ghost use Rattle.ot_judge.specs.Reading.{event_data, event_from, is_replicas, items_at, items_or_none, kind_of, number_at, trace_data};
+ghost use Rattle.ot_judge.specs.Reading.{event_data, event_from, is_replicas, kind_of, trace_data};
 
 use crate::value::{are_counts, are_placed, are_tags};
+use ot_json::{items_at, items_or_none, number_at};
 use serde_json::Value;
 
 /// The fields of an event.
@@ -28,35 +28,6 @@ pub struct Layout<'a> {
     pub events: &'a [Value],
 }
 
-/// The number under a key.
-pub fn number_at(value: &Value, key: &str) -> Option<usize>
-    ensures { result ≡ number_at key.now (view value.now) }
-{
-    let n = value.get(key)?.as_u64()?;
-    Some(n as usize)
-}
-
-/// The items of the array under a key.
-pub fn items_at<'a>(value: &'a Value, key: &str) -> Option<&'a [Value]>
-    ensures { option_map (λ s. items_view s.now) result ≡ items_at key.now (view value.now) }
-{
-    let items = value.get(key)?.as_array()?;
-    Some(items.as_slice())
-}
-
-/// The items of the array under a key, or none where the key is missing.
-pub fn items_or_none<'a>(value: &'a Value, key: &str) -> Option<&'a [Value]>
-    ensures { option_map (λ s. items_view s.now) result ≡ items_or_none (get key.now (view value.now)) }
-{
-    match value.get(key) {
-        Some(under) => {
-            let items = under.as_array()?;
-            Some(items.as_slice())
-        }
-        None => Some(&[]),
-    }
-}
-
 /// Whether an event is an edit.
 pub fn kind_of(value: &Value) -> Option<bool>
     ensures { result ≡ kind_of (view value.now) }
@@ -75,7 +46,7 @@ pub fn kind_of(value: &Value) -> Option<bool>
 pub fn fields_of(value: &Value) -> Option<Fields<'_>>
     ensures { option_map fields_view result ≡ event_data (view value.now) }
 {
-    let replica = number_at(value, "replica")?;
+    let replica = number_at(value, "replica")? as usize;
     let edit = kind_of(value)?;
     let seen = items_at(value, "seen")?;
     let inserted = items_or_none(value, "insert")?;
@@ -96,7 +67,7 @@ pub fn layout_of(value: &Value) -> Option<Layout<'_>>
     ensures fields { option_map layout_view result ≡ trace_data (view value.now) }
     ensures range { IfSome result (λ x. is_replicas x.replicas ≡ true) }
 {
-    let replicas = number_at(value, "replicas")?;
+    let replicas = number_at(value, "replicas")? as usize;
     if replicas == 0 || replicas > 65 {
         return None;
     }

@@ -5,7 +5,8 @@ ghost use Rattle.std.specs.Prelude.{◌≡◌, ◌≢◌, ◌⊎◌, ◌<◌, �
 ghost use Rattle.serde_json.specs.View.{items_view, view};
 ghost use Rattle.ot_judge.specs.Layout.{entries_of, fields_view, layout_view};
 ghost use Rattle.ot_judge.specs.Making.{IsSized};
-ghost use Rattle.ot_judge.specs.Reading.{all_of, event_from, event_of, shape_from, shape_of, tag_of, trace_data, trace_of_shape, trace_of_text};
+ghost use Rattle.ot_json.specs.Fields.{all_of};
+ghost use Rattle.ot_judge.specs.Reading.{event_from, event_of, shape_from, shape_of, tag_of, trace_data, trace_of_shape, trace_of_text};
 ghost use Rattle.ot_model.specs.Trace.{EventView};
 ghost use Rattle.ot_judge.specs.Views.{event_view, views};
 

@@ -2,7 +2,8 @@
 
 ghost use Rattle.std.specs.Prelude.{◌≡◌, ◌<◌, ◌^◌, IfOk, is_some, length, option_map};
 ghost use Rattle.serde_json.specs.View.{items_view, view};
-ghost use Rattle.ot_judge.specs.Reading.{all_of, count_of, number_at_most, placed_from, placed_of, placed_with, tag_from, tag_of, tag_with};
+ghost use Rattle.ot_json.specs.Fields.{all_of};
+ghost use Rattle.ot_judge.specs.Reading.{count_of, number_at_most, placed_from, placed_of, placed_with, tag_from, tag_of, tag_with};
 
 use ot_isa::Tag;
 use ot_model::Placed;

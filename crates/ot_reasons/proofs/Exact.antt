@@ -9,7 +9,8 @@ use Rattle.ot_isa.specs.declared.elements.Tag.{Tag}
 use Rattle.ot_model.specs.declared.trace.Placed.{Placed}
 use Rattle.ot_judge.specs.declared.fault.TraceFault.TheVariants.{BadShape, TraceFull}
 use Rattle.ot_judge.specs.Making.{is_event, has_shape, is_full, named_again, trace_from, unless_again}
-use Rattle.ot_judge.specs.Reading.{EventData, TraceData, all_of, count_of, event_data, event_from, event_of, is_replicas, items_at, items_or_none, keep_if, kind_of, number_at, number_at_most, placed_from, placed_of, shape_from, shape_of, tag_from, tag_of, tag_with, trace_data, trace_of_shape}
+use Rattle.ot_json.specs.Fields.{all_of, items_at, items_or_none, keep_if, number_at}
+use Rattle.ot_judge.specs.Reading.{EventData, TraceData, count_of, event_data, event_from, event_of, is_replicas, kind_of, number_at_most, placed_from, placed_of, shape_from, shape_of, tag_from, tag_of, tag_with, trace_data, trace_of_shape}
 use Rattle.ot_judge.proofs.Spelled.{kept-some, map-some, then-some}
 use Rattle.ot_model.specs.Trace.{EventView, TraceView}
 use Rattle.ot_reasons.specs.declared.place.Fault.{Fault}

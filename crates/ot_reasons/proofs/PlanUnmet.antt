@@ -5,10 +5,9 @@ use Rattle.std.specs.Str.{chars}
 use Rattle.std.proofs.lemmas.Bool.{or_parts}
 use Rattle.serde_json.specs.Data.{Data, Items}
 use Rattle.serde_json.specs.Find.{as_array, as_number, as_object, as_str, as_u64, get}
-use Rattle.ot_json.specs.Fields.{items_at, number_at, number_or, text_or_empty}
+use Rattle.ot_json.specs.Fields.{items_at, keep_if, number_at, number_or, text_or_empty}
 use Rattle.ot_isa.specs.declared.builder.TheConstants.{CLIENT_LIMIT, START_LIMIT}
 use Rattle.ot_operation.specs.declared.TheConstants.{LIMIT}
-use Rattle.ot_judge.specs.Reading.{keep_if}
 use Rattle.ot_plan.specs.Typing.{Action}
 use Rattle.ot_plan.specs.Reading.{PlanData, action_of, are_clients, has_lists, is_few, is_short, plan_data, row_of}
 use Rattle.ot_plan.specs.declared.fault.PlanFault.{PlanFault}

@@ -4,7 +4,8 @@ use Rattle.std.specs.Prelude.{IfSome, Option, Some, None, is_some, option_and_th
 use Rattle.std.proofs.lemmas.Bool.{false_from_ne_true, leb-true, ltb-false, ltb-true, ne_eqb, or_parts}
 use Rattle.serde_json.specs.Data.{Data, Items, no_items, item}
 use Rattle.serde_json.specs.Find.{as_array, as_number, as_object, as_str, as_u64, at, get, get_item}
-use Rattle.ot_judge.specs.Reading.{EventData, TraceData, event_data, is_replicas, items_at, items_or_none, keep_if, kind_from, kind_of, number_at, number_at_most, trace_data}
+use Rattle.ot_json.specs.Fields.{items_at, items_or_none, keep_if, number_at}
+use Rattle.ot_judge.specs.Reading.{EventData, TraceData, event_data, is_replicas, kind_from, kind_of, number_at_most, trace_data}
 use Rattle.ot_reasons.specs.declared.place.Fault.{Fault}
 use Rattle.ot_reasons.specs.declared.place.Place.{Place}
 use Rattle.ot_reasons.specs.declared.place.Wanted.{Wanted}

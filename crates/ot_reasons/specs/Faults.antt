@@ -2,7 +2,8 @@
 use Rattle.std.specs.Prelude.{ℕ, ◌+◌, ◌-◌, ◌==◌, ◌||◌, Bool, Option, Some, None, codes, is_some, nat_lt, if◌then◌else◌}
 use Rattle.serde_json.specs.Data.{Data, Items, no_items, item}
 use Rattle.serde_json.specs.Find.{as_array, as_object, get}
-use Rattle.ot_judge.specs.Reading.{EventData, TraceData, event_data, is_replicas, items_at, items_or_none, keep_if, kind_of, number_at, number_at_most, trace_data}
+use Rattle.ot_json.specs.Fields.{items_at, items_or_none, keep_if, number_at}
+use Rattle.ot_judge.specs.Reading.{EventData, TraceData, event_data, is_replicas, kind_of, number_at_most, trace_data}
 use Rattle.ot_reasons.specs.declared.place.Fault.{Fault}
 use Rattle.ot_reasons.specs.declared.place.Field.TheVariants as field
 use Rattle.ot_reasons.specs.declared.place.Place.{Place}

@@ -3,7 +3,8 @@ use Rattle.std.specs.Prelude.{ℕ, ◌+◌, Bool, false, Option, Some, None, cod
 use Rattle.serde_json.specs.Data.{Data, Items, no_items, item}
 use Rattle.serde_json.specs.Find.{get}
 use Rattle.ot_isa.specs.declared.elements.Tag.{Tag}
-use Rattle.ot_judge.specs.Reading.{items_at, items_or_none, placed_of, tag_of}
+use Rattle.ot_json.specs.Fields.{items_at, items_or_none}
+use Rattle.ot_judge.specs.Reading.{placed_of, tag_of}
 use Rattle.ot_model.specs.declared.trace.Placed.{Placed}
 use Rattle.ot_model.specs.Trace.{same_tag}
 use Rattle.ot_reasons.specs.declared.namings.Namings.{Namings}

@@ -4,7 +4,8 @@ use Rattle.std.specs.Str.{chars}
 use Rattle.serde_json.specs.Data.{Data, Items}
 use Rattle.serde_json.specs.Find.{as_array, as_number, as_object, as_str, as_u64}
 use Rattle.ot_isa.specs.declared.builder.TheConstants.{START_LIMIT}
-use Rattle.ot_judge.specs.Reading.{keep_if, kind_from, number_at_most}
+use Rattle.ot_json.specs.Fields.{keep_if}
+use Rattle.ot_judge.specs.Reading.{kind_from, number_at_most}
 use Rattle.ot_plan.specs.Reading.{is_few, is_short, row_of}
 use Rattle.ot_reasons.specs.declared.place.Wanted.{Wanted}
 use Rattle.ot_reasons.specs.declared.place.Wanted.TheVariants as wanted

@@ -6,7 +6,7 @@ use Rattle.serde_json.specs.Written.{compact_text, has_float, IsInOrder}
 use Rattle.ot_isa.specs.declared.elements.Tag.{Tag}
 use Rattle.ot_judge.specs.declared.fault.TraceFault.{TraceFault}
 use Rattle.ot_judge.specs.declared.fault.TraceFault.TheVariants as kind
-use Rattle.ot_judge.specs.Reading.{items_at}
+use Rattle.ot_json.specs.Fields.{items_at}
 use Rattle.ot_reasons.specs.declared.namings.Namings.{Namings}
 use Rattle.ot_reasons.specs.declared.place.Fault.{Fault}
 use Rattle.ot_reasons.specs.declared.place.Field.{Field}

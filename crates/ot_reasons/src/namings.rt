@@ -2,13 +2,14 @@
 
 ghost use Rattle.std.specs.Prelude.{◌≡◌, option_map};
 ghost use Rattle.serde_json.specs.View.{items_view, view};
-ghost use Rattle.ot_judge.specs.Reading.{items_at, items_or_none, placed_of, tag_of};
+ghost use Rattle.ot_json.specs.Fields.{items_at, items_or_none};
+ghost use Rattle.ot_judge.specs.Reading.{placed_of, tag_of};
 ghost use Rattle.ot_model.specs.declared.trace.Placed.{Placed};
 ghost use Rattle.ot_reasons.specs.Namings.{in_start, is_named, namings_of, note, note_each, note_event, note_placed, note_tag, with_place};
 
 use crate::place::{Field, HERE, Place};
 use ot_isa::Tag;
-use ot_judge::layout::{items_at, items_or_none};
+use ot_json::{items_at, items_or_none};
 use ot_judge::value::{placed_of, tag_of};
 use serde_json::Value;
 

@@ -10,7 +10,8 @@ ghost use Rattle.ot_reasons.specs.Faults.{count_items, event_fault, events_fault
 
 use crate::checks::{all_placed_fault, count, counts_fault, tags_fault, unless, wants};
 use crate::place::{Fault, Field, HERE, Place, Wanted};
-use ot_judge::layout::{Fields, fields_of, items_at, items_or_none, kind_of, layout_of, number_at};
+use ot_json::{items_at, items_or_none, number_at};
+use ot_judge::layout::{Fields, fields_of, kind_of, layout_of};
 use serde_json::Value;
 
 // What is wanted as the number of an event's replica.

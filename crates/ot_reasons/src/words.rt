@@ -2,7 +2,8 @@
 
 ghost use Rattle.std.specs.Prelude.{◌≡◌, IfOk, Err, codes, option_map, string_bytes};
 ghost use Rattle.serde_json.specs.View.{view};
-ghost use Rattle.ot_judge.specs.Reading.{items_at, shape_of, trace_of_shape};
+ghost use Rattle.ot_json.specs.Fields.{items_at};
+ghost use Rattle.ot_judge.specs.Reading.{shape_of, trace_of_shape};
 ghost use Rattle.ot_reasons.specs.Words.{IsFaultText, IsFoundText, IsJson, IsValueReason, event_count, field_text, full_text, index_text, key_text, namings_text, place_text, size_text, tag_text, trace_place, wanted_text};
 
 use crate::checks::count;
@@ -10,7 +11,7 @@ use crate::namings::{Namings, namings_of};
 use crate::place::{Fault, Field, Place, Wanted, found_at, key_of};
 use crate::shape::shape_fault;
 use ot_isa::Tag;
-use ot_judge::layout::items_at;
+use ot_json::items_at;
 use ot_judge::{MOST_EVENTS, TraceFault};
 use serde_json::Value;
 use std::alloc::{AllocError, Global};
