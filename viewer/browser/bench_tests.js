@@ -6,7 +6,7 @@ import { test } from "node:test";
 import { bugs } from "../../examples/port/bugs.js";
 import { drive } from "../../examples/port/drive.js";
 import { makePort } from "../../oracle/otjs.js";
-import { wait } from "./chromium.js";
+import { wait } from "./driver.js";
 import { addressOfPage, otbench } from "./otbench.js";
 import { suite } from "./suite.js";
 import { clipboardEvent, quoted } from "./user.js";

@@ -4,8 +4,7 @@ import { spawn } from "node:child_process";
 import fs from "node:fs";
 import os from "node:os";
 import path from "node:path";
-
-export const wait = (milliseconds) => new Promise((done) => setTimeout(done, milliseconds));
+import { Driver, wait, within } from "./driver.js";
 
 /* What the protocol calls the keys that are held down with others. */
 const HELD = { Alt: 1, Control: 2, Meta: 4, Shift: 8 };
@@ -38,50 +37,38 @@ async function connect(folder) {
   const [port] = fs.readFileSync(file, "utf8").split("\n");
   const targets = await (await fetch(`http://127.0.0.1:${port}/json/list`)).json();
   const socket = new WebSocket(targets.find((target) => target.type === "page").webSocketDebuggerUrl);
-  await new Promise((done) => socket.addEventListener("open", done));
+  await within(new Promise((done) => socket.addEventListener("open", done)), "chromium, its socket");
   return socket;
 }
 
-class Page {
-  constructor(child, folder, socket) {
-    Object.assign(this, { child, folder, socket, calls: new Map(), exceptions: [], loaded: null });
-    socket.addEventListener("message", ({ data }) => this.#receive(JSON.parse(data)));
-  }
+class Chromium extends Driver {
+  #loaded = null;
 
-  #receive({ id, result, error, method, params }) {
-    if (id) {
-      const { done, failed } = this.calls.get(id);
-      this.calls.delete(id);
-      if (error) failed(new Error(error.message));
-      else done(result);
-    } else if (method === "Page.loadEventFired" && this.loaded) this.loaded();
+  heard(method, params) {
+    if (method === "Page.loadEventFired") this.#loaded?.();
+    else if (method === "Inspector.targetCrashed") this.exceptions.push("the page crashed");
     else if (method === "Runtime.exceptionThrown") {
       const { exception, text } = params.exceptionDetails;
       this.exceptions.push(exception ? exception.description : text);
     }
   }
 
-  send(method, params = {}) {
-    const id = this.calls.size + 1 + Math.floor(Math.random() * 1e9);
-    this.socket.send(JSON.stringify({ id, method, params }));
-    return new Promise((done, failed) => this.calls.set(id, { done, failed }));
+  /* Waits until what a call loads has loaded. */
+  async #load(method, params) {
+    const loaded = new Promise((done) => (this.#loaded = done));
+    await this.send(method, params);
+    await within(loaded, `chromium, loading after ${method} ${params?.url ?? ""}`);
   }
 
   /* Opens a new page, and waits until it has drawn. */
   async goto(url) {
-    for (const next of ["about:blank", url]) {
-      const loaded = new Promise((done) => (this.loaded = done));
-      await this.send("Page.navigate", { url: next });
-      await loaded;
-    }
+    for (const next of ["about:blank", url]) await this.#load("Page.navigate", { url: next });
     await this.drawn();
   }
 
   /* Reloads the page, as its user does. */
   async reload() {
-    const loaded = new Promise((done) => (this.loaded = done));
-    await this.send("Page.reload");
-    await loaded;
+    await this.#load("Page.reload");
     await this.drawn();
   }
 
@@ -127,10 +114,6 @@ class Page {
     await this.drawn();
   }
 
-  drawn() {
-    return this.run("new Promise((done) => requestAnimationFrame(() => requestAnimationFrame(() => done(1))))");
-  }
-
   async size(width, height, scale = 1) {
     await this.send("Emulation.setDeviceMetricsOverride", { width, height, deviceScaleFactor: scale, mobile: false });
   }
@@ -138,13 +121,6 @@ class Page {
   async screenshot(file) {
     const { data } = await this.send("Page.captureScreenshot", { format: "png" });
     fs.writeFileSync(file, Buffer.from(data, "base64"));
-  }
-
-  async close() {
-    const gone = new Promise((done) => this.child.once("exit", done));
-    this.send("Browser.close"); // the answer may come too late to be read
-    await gone;
-    fs.rmSync(this.folder, { recursive: true, force: true, maxRetries: 30, retryDelay: 100 });
   }
 }
 
@@ -154,7 +130,7 @@ export async function openChromium({ width = 1440, height = 900 } = {}) {
   words.push("--allow-file-access-from-files", "--remote-debugging-port=0", `--user-data-dir=${folder}`, "about:blank");
   const child = spawn("chromium", words, { stdio: "ignore" });
   child.on("error", (fault) => console.error(`chromium: ${fault.message}`));
-  const page = new Page(child, folder, await connect(folder));
+  const page = new Chromium({ name: "chromium", child, folder, socket: await connect(folder), closing: "Browser.close" });
   await page.send("Page.enable");
   await page.send("Runtime.enable");
   await page.size(width, height);

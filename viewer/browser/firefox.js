@@ -4,8 +4,7 @@ import { spawn } from "node:child_process";
 import fs from "node:fs";
 import os from "node:os";
 import path from "node:path";
-
-const wait = (milliseconds) => new Promise((done) => setTimeout(done, milliseconds));
+import { Driver, wait, within } from "./driver.js";
 
 /* What WebDriver calls the keys that write nothing. */
 const KEYS = {
@@ -35,10 +34,11 @@ async function connect(child) {
     const found = /WebDriver BiDi listening on (ws:\S+)/.exec(said);
     if (found) {
       const socket = new WebSocket(`${found[1]}/session`);
-      await new Promise((done, failed) => {
+      const open = new Promise((done, failed) => {
         socket.addEventListener("open", done);
         socket.addEventListener("error", () => failed(new Error("firefox did not answer")));
       });
+      await within(open, "firefox, its socket");
       return socket;
     }
     if (turn > 1200 || child.exitCode !== null) throw new Error(`firefox did not start: ${said}`);
@@ -46,25 +46,9 @@ async function connect(child) {
   }
 }
 
-class Page {
-  constructor(child, folder, socket) {
-    Object.assign(this, { child, folder, socket, calls: new Map(), count: 0, exceptions: [], context: null });
-    socket.addEventListener("message", ({ data }) => this.#receive(JSON.parse(data)));
-  }
-
-  #receive({ id, result, error, message, method, params }) {
+class Firefox extends Driver {
+  heard(method, params) {
     if (method === "log.entryAdded" && params.type === "javascript" && params.level === "error") this.exceptions.push(params.text);
-    if (!this.calls.has(id)) return;
-    const { done, failed } = this.calls.get(id);
-    this.calls.delete(id);
-    if (error) failed(new Error(`${error}: ${message}`));
-    else done(result);
-  }
-
-  send(method, params = {}) {
-    const id = ++this.count;
-    this.socket.send(JSON.stringify({ id, method, params }));
-    return new Promise((done, failed) => this.calls.set(id, { done, failed }));
   }
 
   async open() {
@@ -125,10 +109,6 @@ class Page {
     await this.drawn();
   }
 
-  drawn() {
-    return this.run("new Promise((done) => requestAnimationFrame(() => requestAnimationFrame(() => done(1))))");
-  }
-
   async size(width, height, scale = 1) {
     await this.send("browsingContext.setViewport", { context: this.context, viewport: { width, height }, devicePixelRatio: scale });
   }
@@ -137,13 +117,6 @@ class Page {
     const { data } = await this.send("browsingContext.captureScreenshot", { context: this.context });
     fs.writeFileSync(file, Buffer.from(data, "base64"));
   }
-
-  async close() {
-    const gone = new Promise((done) => this.child.once("exit", done));
-    this.send("browser.close"); // the answer may come too late to be read
-    await gone;
-    fs.rmSync(this.folder, { recursive: true, force: true, maxRetries: 30, retryDelay: 100 });
-  }
 }
 
 export async function openFirefox({ width = 1440, height = 900 } = {}) {
@@ -151,7 +124,7 @@ export async function openFirefox({ width = 1440, height = 900 } = {}) {
   const words = ["--headless", "--no-remote", "--profile", folder, "--remote-debugging-port=0"];
   const child = spawn("firefox-esr", words, { stdio: ["ignore", "ignore", "pipe"] });
   child.on("error", (fault) => console.error(`firefox: ${fault.message}`));
-  const page = new Page(child, folder, await connect(child));
+  const page = new Firefox({ name: "firefox", child, folder, socket: await connect(child), closing: "browser.close" });
   await page.open();
   await page.size(width, height);
   return page;

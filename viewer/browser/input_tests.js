@@ -8,7 +8,7 @@ import { merge } from "../../recorder/merging.js";
 import { chance, liveSession } from "../../recorder/test/live_session.js";
 import { damaged, files } from "../test/damaging.mjs";
 import { HOSTILE, MARKUP, TREE } from "../test/hostile.mjs";
-import { wait } from "./chromium.js";
+import { wait } from "./driver.js";
 import { HARM } from "./harm.js";
 import { addressOfPage, otbench } from "./otbench.js";
 import { suite } from "./suite.js";

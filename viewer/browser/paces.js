@@ -1,6 +1,6 @@
 /* How soon the page answers in a long session: from the event of a key or a click to the frame that shows it, by real keys and clicks. */
 
-import { wait } from "./chromium.js";
+import { wait } from "./driver.js";
 import { longSchedule } from "./long_session.js";
 
 /* In the page: how long each event of a kind takes until the frame after it is drawn, in milliseconds. */

@@ -1,6 +1,6 @@
 /* A user of the page with the engine, for any browser: real keys and clicks. */
 
-import { wait } from "./chromium.js";
+import { wait } from "./driver.js";
 import { addressOfPage } from "./otbench.js";
 
 export const quoted = (value) => JSON.stringify(value);
