@@ -49,6 +49,30 @@ export function testByHand(name, openBrowser) {
       await user.until('document.getElementById("conformance").hidden', "no note");
     });
 
+    test("what conform answers stands beside its sentence as data", async () => {
+      await opened(TIE, 5);
+      const NAMES = ["verdict", "at", "client", "key"];
+      const data = (wanted) => {
+        const values = quoted(NAMES.map((name) => wanted[name] ?? null));
+        const shown = `JSON.stringify(${quoted(NAMES)}.map((name) => document.getElementById("conformance").dataset[name] ?? null))`;
+        return user.until(`${shown} === ${quoted(values)}`, values);
+      };
+      const compared = async (lines, wanted) => {
+        await user.drop("port.ots", `${TIE}%%\n${lines.join("\n")}\n`);
+        await data(wanted);
+      };
+      await data({ verdict: "none" });
+      const lines = ['{"at":1,"document":"a"}', '{"at":2,"document":"b"}', '{"at":3,"document":"a"}', '{"at":4,"document":"ba"}', '{"at":5,"document":"ba"}'];
+      await compared(lines, { verdict: "conforms" });
+      await compared([...lines.slice(0, 4), '{"at":5,"document":"ab"}'], { verdict: "differs", at: "5", client: "1", key: "document" });
+      await compared(lines.with(2, '{"at":3,"document":"x"}'), { verdict: "differs", at: "3", client: "server", key: "document" });
+      await compared(['{"at":1,"client":5}'], { verdict: "differs", at: "1", key: "client" });
+      await user.drop("port.ots", "clients 1\n%%\n");
+      await data({ verdict: "nothing compared" });
+      await user.click("#new");
+      await data({ verdict: "none" });
+    });
+
     test("one click says which operations were transformed, and which text went first; a key too", async () => {
       await opened(`; client 0 is <b>Ann</b>\n${TIE}`, 5);
       await user.until('/all will be "ba"/.test(document.getElementById("outlook").textContent)', "the verdict");

@@ -9,6 +9,15 @@ export function setText(id, text) {
   if (element(id).textContent !== text) element(id).textContent = text;
 }
 
+/** Sets an element's data of these names; where there is no value there is no attribute. */
+export function setData(id, names, values) {
+  const { dataset } = element(id);
+  for (const name of names) {
+    if (values[name] === undefined) delete dataset[name];
+    else dataset[name] = values[name];
+  }
+}
+
 const filled = new WeakMap();
 
 /** Shows trees and texts in an element, where they are others than it was given last. */

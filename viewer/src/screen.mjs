@@ -3,7 +3,7 @@
 import { authorOf } from "./cards.mjs";
 import { brief, seen } from "../../common/characters.mjs";
 import { Deck } from "./deck.mjs";
-import { element, fill, setText } from "./dom.mjs";
+import { element, fill, setData, setText } from "./dom.mjs";
 import { SERVER } from "../../common/fold.mjs";
 import { legend } from "./legend.mjs";
 import { canNote } from "../../common/noted.mjs";
@@ -13,7 +13,7 @@ import { isAnswered, outlookNow, reasonNow, shownPlace } from "./state.mjs";
 import { variablesOf } from "./theme.mjs";
 import { Timeline } from "./timeline.mjs";
 import { tree } from "./tree.mjs";
-import { apart, instructionOf, nameOfMember, sentence, shownOperation, shownValue, verdictOn } from "./words.mjs";
+import { answerData, apart, instructionOf, nameOfMember, sentence, shownOperation, shownValue, verdictOn } from "./words.mjs";
 
 /** Of a session of so many instructions, above how many milliseconds of the engine's the page says that the picture comes later. */
 const LONG = 1000;
@@ -139,6 +139,7 @@ function showVerdicts(state) {
   element("cut").hidden = cut === null;
   setVerdict("cut", `ends before its logs: ${brief(seen(cut ?? ""), 80)}`, "bad");
   element("conformance").hidden = !beside;
+  setData("conformance", ["verdict", "at", "client", "key"], answerData(state));
   showAnswer(state);
   if (!beside) return;
   const { answer, words } = beside;

@@ -125,3 +125,13 @@ export function verdictOn({ session, fault, isLate = false }) {
   if (fault || isLate) return { front: "the text before: ", look: "" };
   return { front: "", look: session.stop ? "bad" : session.end === "quiet" ? "good" : "" };
 }
+
+/**
+ * What conform answered, as data: its verdict, and of a difference the place, the key and whose value it is, `server` or a client's number. The verdict is
+ * `none` where nothing stands beside the session, `awaited` where the answer is not there yet, and `unanswered` where the page has none of the program's.
+ */
+export function answerData({ port, beside }) {
+  if (!beside) return { verdict: port === null ? "none" : "awaited" };
+  const { verdict, at, client, key } = beside.answer ?? { verdict: "unanswered" };
+  return verdict === "differs" ? { verdict, at, client: client ?? (client === null ? "server" : undefined), key } : { verdict };
+}

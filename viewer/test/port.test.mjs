@@ -7,6 +7,7 @@ import { wordsOf } from "../../common/conformance.mjs";
 import { SERVER, fold } from "../../common/fold.mjs";
 import { splitInput, unescapeLine } from "../../common/input.mjs";
 import { Port } from "../../common/printed.mjs";
+import { answerData } from "../src/words.mjs";
 import { example, linesOf, portLinesOf } from "./sessions.mjs";
 
 const session = fold(linesOf(example("weak-order")));
@@ -101,6 +102,18 @@ test("a port that stops, dies or ends", () => {
 test("what conform answered decides", () => {
   assert.equal(beside(ofBug("tie"), { verdict: "differs", at: 9 }).first, 9);
   assert.equal(beside(ofBug("tie"), { verdict: "conforms" }).first, null);
+});
+
+test("what conform answered, as data of the page", () => {
+  const dataOf = (answer) => answerData({ port: [], beside: answer && { answer } });
+  assert.deepEqual(answerData({ port: null, beside: null }), { verdict: "none" });
+  assert.deepEqual(dataOf(null), { verdict: "awaited" });
+  assert.deepEqual(answerData({ port: [], beside: beside([]) }), { verdict: "unanswered" });
+  for (const verdict of ["conforms", "nothing compared", "stopped"]) assert.deepEqual(dataOf({ verdict, at: 3 }), { verdict });
+  const differs = { verdict: "differs", at: 7, key: "document" };
+  assert.deepEqual(dataOf({ ...differs, client: 0, found: "x" }), { ...differs, client: 0 });
+  assert.deepEqual(dataOf({ ...differs, client: null }), { ...differs, client: "server" });
+  assert.deepEqual(dataOf({ ...differs, key: "line" }), { ...differs, key: "line", client: undefined });
 });
 
 test("of a line no more is dropped than `conform` drops: one CR at its end, blanks, and no byte order mark", () => {
