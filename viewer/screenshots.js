@@ -2,7 +2,7 @@
 /*
  * Takes the pictures of the page that README.md and docs/GUIDE.md show, in Chromium, each in both themes.
  *
- *     node --experimental-websocket viewer/screenshots.js [FOLDER]      into docs/, or a folder
+ *     node viewer/screenshots.js [FOLDER]      into docs/, or a folder
  *
  * The page is dist/otbench.html, or that which OTBENCH_PAGE names.
  */
@@ -73,7 +73,7 @@ async function take(folder) {
 
 const [folder, ...more] = process.argv.slice(2);
 if (more.length > 0 || folder?.startsWith("-")) {
-  console.error("usage: node --experimental-websocket viewer/screenshots.js [FOLDER]");
+  console.error("usage: node viewer/screenshots.js [FOLDER]");
   process.exit(2);
 }
 take(folder ?? fileURLToPath(new URL("../docs", import.meta.url))).catch((fault) => {

@@ -1,10 +1,9 @@
-/* Chromium, headless, over its debugging protocol, without packages: node --experimental-websocket. */
+/* Chromium, headless, over its debugging protocol, without packages. */
 
-import { spawn } from "node:child_process";
 import fs from "node:fs";
-import os from "node:os";
 import path from "node:path";
-import { Driver, wait, within } from "./driver.js";
+import { Driver, start, wait, within } from "./driver.js";
+import { openSocket } from "./socket.js";
 
 /* What the protocol calls the keys that are held down with others. */
 const HELD = { Alt: 1, Control: 2, Meta: 4, Shift: 8 };
@@ -36,9 +35,7 @@ async function connect(folder) {
   }
   const [port] = fs.readFileSync(file, "utf8").split("\n");
   const targets = await (await fetch(`http://127.0.0.1:${port}/json/list`)).json();
-  const socket = new WebSocket(targets.find((target) => target.type === "page").webSocketDebuggerUrl);
-  await within(new Promise((done) => socket.addEventListener("open", done)), "chromium, its socket");
-  return socket;
+  return within(openSocket(targets.find((target) => target.type === "page").webSocketDebuggerUrl));
 }
 
 class Chromium extends Driver {
@@ -57,7 +54,9 @@ class Chromium extends Driver {
   async #load(method, params) {
     const loaded = new Promise((done) => (this.#loaded = done));
     await this.send(method, params);
-    await within(loaded, `chromium, loading after ${method} ${params?.url ?? ""}`);
+    await within(loaded).catch(() => {
+      throw new Error(`chromium, ${method} ${params?.url ?? ""}: nothing was loaded`);
+    });
   }
 
   /* Opens a new page, and waits until it has drawn. */
@@ -124,15 +123,14 @@ class Chromium extends Driver {
   }
 }
 
-export async function openChromium({ width = 1440, height = 900 } = {}) {
-  const folder = fs.mkdtempSync(path.join(os.tmpdir(), "otbench-chromium-"));
-  const words = ["--headless", "--no-sandbox", "--disable-gpu", "--hide-scrollbars", "--force-color-profile=srgb"];
-  words.push("--allow-file-access-from-files", "--remote-debugging-port=0", `--user-data-dir=${folder}`, "about:blank");
-  const child = spawn("chromium", words, { stdio: "ignore" });
-  child.on("error", (fault) => console.error(`chromium: ${fault.message}`));
-  const page = new Chromium({ name: "chromium", child, folder, socket: await connect(folder), closing: "Browser.close" });
-  await page.send("Page.enable");
-  await page.send("Runtime.enable");
-  await page.size(width, height);
-  return page;
+export function openChromium({ width = 1440, height = 900 } = {}) {
+  const words = ["--headless", "--no-sandbox", "--disable-gpu", "--hide-scrollbars", "--force-color-profile=srgb", "--allow-file-access-from-files"];
+  const wordsFor = (folder) => [...words, "--remote-debugging-port=0", `--user-data-dir=${folder}`, "about:blank"];
+  return start("chromium", "chromium", wordsFor, async (child, folder) => {
+    const page = new Chromium({ name: "chromium", child, folder, socket: await connect(folder), closing: "Browser.close" });
+    await page.send("Page.enable");
+    await page.send("Runtime.enable");
+    await page.size(width, height);
+    return page;
+  });
 }

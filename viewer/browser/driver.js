@@ -1,19 +1,39 @@
-/* What the drivers of both browsers share: calls over a socket, each with an answer or a fault within a limit, frames, and the end. */
+/* What the drivers of both browsers share: the start, calls over a socket, each with an answer or a fault within a limit, frames, and the end. */
 
+import { spawn } from "node:child_process";
 import fs from "node:fs";
+import os from "node:os";
+import path from "node:path";
 
 export const wait = (milliseconds) => new Promise((done) => setTimeout(done, milliseconds));
 
 /* How long a browser may take for an answer, in milliseconds; on a busy machine a call takes seconds. */
 const LIMIT = 120_000;
 
-/* What a promise gives; where it gives nothing within the limit, a fault that names what was waited for. */
-export function within(promise, what, limit = LIMIT) {
+/* What a promise gives, or a fault where it gives nothing within the limit. */
+export function within(promise) {
   let timer;
   const late = new Promise((_, failed) => {
-    timer = setTimeout(() => failed(new Error(`${what}: no answer within ${limit / 1000} s`)), limit);
+    timer = setTimeout(() => failed(new Error(`no answer within ${LIMIT / 1000} s`)), LIMIT);
   });
   return Promise.race([promise, late]).finally(() => clearTimeout(timer));
+}
+
+const remove = (folder) => fs.rmSync(folder, { recursive: true, force: true, maxRetries: 30, retryDelay: 100 });
+
+/* Starts a browser with a folder of its own, and opens its page. Where that fails the browser is killed. */
+export async function start(name, command, wordsFor, open) {
+  const folder = fs.mkdtempSync(path.join(os.tmpdir(), `otbench-${name}-`));
+  const child = spawn(command, wordsFor(folder), { stdio: ["ignore", "ignore", "pipe"] });
+  child.on("error", (fault) => console.error(`${name}: ${fault.message}`));
+  child.stderr.resume().unref();
+  try {
+    return await open(child, folder);
+  } catch (fault) {
+    child.kill("SIGKILL");
+    remove(folder);
+    throw fault;
+  }
 }
 
 /* In the page: two frames later, true; where the browser draws none for seconds, false. A page that was busy gets its frame in the second wait. */
@@ -35,9 +55,9 @@ export class Driver {
   constructor({ name, child, folder, socket, closing }) {
     Object.assign(this, { name, child, folder, closing, exceptions: [] });
     this.#socket = socket;
-    socket.addEventListener("message", ({ data }) => this.#receive(JSON.parse(data)));
-    socket.addEventListener("close", () => {
-      for (const { failed } of this.#calls.values()) failed(new Error(`${this.name} has ended`));
+    socket.on("message", (text) => this.#receive(JSON.parse(text)));
+    socket.on("close", () => {
+      for (const { failed } of this.#calls.values()) failed(new Error("the connection was closed"));
     });
   }
 
@@ -48,15 +68,16 @@ export class Driver {
     else if (method) this.heard(method, params);
   }
 
-  /* The answer to a call. */
+  /* The answer to a call. A fault names the call. */
   async send(method, params = {}) {
     const id = ++this.#count;
-    const what = `${this.name}, ${method} ${JSON.stringify(params).slice(0, 300)}`;
-    if (this.#socket.readyState !== WebSocket.OPEN) throw new Error(`${what}: ${this.name} has ended`);
     const answer = new Promise((done, failed) => this.#calls.set(id, { done, failed }));
-    this.#socket.send(JSON.stringify({ id, method, params }));
     try {
-      return await within(answer, what);
+      if (!this.#socket.isOpen) throw new Error("the connection was closed before");
+      this.#socket.send(JSON.stringify({ id, method, params }));
+      return await within(answer);
+    } catch (fault) {
+      throw new Error(`${this.name}, ${method} ${JSON.stringify(params).slice(0, 300)}: ${fault.message}`, { cause: fault });
     } finally {
       this.#calls.delete(id);
     }
@@ -71,12 +92,13 @@ export class Driver {
     const { child } = this;
     if (child.exitCode === null && child.signalCode === null) {
       const gone = new Promise((done) => child.once("exit", done));
-      this.send(this.closing).catch(() => {}); // the answer may come too late to be read
-      await within(gone, `${this.name}, its end`).catch((fault) => {
+      if (this.#socket.isOpen) this.send(this.closing).catch(() => {}); // the answer may come too late to be read
+      else child.kill("SIGKILL");
+      await within(gone).catch(() => {
         child.kill("SIGKILL");
-        throw fault;
+        throw new Error(`${this.name} did not end`);
       });
     }
-    fs.rmSync(this.folder, { recursive: true, force: true, maxRetries: 30, retryDelay: 100 });
+    remove(this.folder);
   }
 }

@@ -1,10 +1,8 @@
-/* Firefox, headless, over WebDriver BiDi, without packages: node --experimental-websocket. The same page as that of chromium.js. */
+/* Firefox, headless, over WebDriver BiDi, without packages. The same page as that of chromium.js. */
 
-import { spawn } from "node:child_process";
 import fs from "node:fs";
-import os from "node:os";
-import path from "node:path";
-import { Driver, wait, within } from "./driver.js";
+import { Driver, start, wait, within } from "./driver.js";
+import { openSocket } from "./socket.js";
 
 /* What WebDriver calls the keys that write nothing. */
 const KEYS = {
@@ -32,15 +30,7 @@ async function connect(child) {
   child.stderr.on("data", (data) => (said += data));
   for (let turn = 0; ; turn++) {
     const found = /WebDriver BiDi listening on (ws:\S+)/.exec(said);
-    if (found) {
-      const socket = new WebSocket(`${found[1]}/session`);
-      const open = new Promise((done, failed) => {
-        socket.addEventListener("open", done);
-        socket.addEventListener("error", () => failed(new Error("firefox did not answer")));
-      });
-      await within(open, "firefox, its socket");
-      return socket;
-    }
+    if (found) return within(openSocket(`${found[1]}/session`));
     if (turn > 1200 || child.exitCode !== null) throw new Error(`firefox did not start: ${said}`);
     await wait(50);
   }
@@ -119,13 +109,12 @@ class Firefox extends Driver {
   }
 }
 
-export async function openFirefox({ width = 1440, height = 900 } = {}) {
-  const folder = fs.mkdtempSync(path.join(os.tmpdir(), "otbench-firefox-"));
-  const words = ["--headless", "--no-remote", "--profile", folder, "--remote-debugging-port=0"];
-  const child = spawn("firefox-esr", words, { stdio: ["ignore", "ignore", "pipe"] });
-  child.on("error", (fault) => console.error(`firefox: ${fault.message}`));
-  const page = new Firefox({ name: "firefox", child, folder, socket: await connect(child), closing: "browser.close" });
-  await page.open();
-  await page.size(width, height);
-  return page;
+export function openFirefox({ width = 1440, height = 900 } = {}) {
+  const wordsFor = (folder) => ["--headless", "--no-remote", "--profile", folder, "--remote-debugging-port=0"];
+  return start("firefox", "firefox-esr", wordsFor, async (child, folder) => {
+    const page = new Firefox({ name: "firefox", child, folder, socket: await connect(child), closing: "browser.close" });
+    await page.open();
+    await page.size(width, height);
+    return page;
+  });
 }

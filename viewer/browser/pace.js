@@ -1,7 +1,7 @@
 /*
  * How soon the page answers in a long session: from the event of a key or a click to the frame that shows it, by real keys and clicks.
  *
- *     node --experimental-websocket viewer/browser/pace.js [chromium|firefox] [CLIENTS] [INSTRUCTIONS]
+ *     node viewer/browser/pace.js [chromium|firefox] [CLIENTS] [INSTRUCTIONS]
  */
 
 import { openChromium } from "./chromium.js";

@@ -2,7 +2,7 @@
  * Takes pictures of the page to be looked at: in windows of 1440, 1280 and 390 pixels, light and dark, at 200 %, with forced colours, and as it is
  * printed; the first visit, a port with a fault and its reason, the debugger, and dialogs.
  *
- *     node --experimental-websocket viewer/browser/pictures.js FOLDER [chromium|firefox]
+ *     node viewer/browser/pictures.js FOLDER [chromium|firefox]
  *
  * Forced colours and paper are Chromium's. The page is dist/otbench.html, or that which OTBENCH_PAGE names.
  */
@@ -105,7 +105,7 @@ async function take(folder, browser) {
 
 const [folder, browser = "chromium", ...more] = process.argv.slice(2);
 if (folder === undefined || folder.startsWith("-") || more.length > 0 || !["chromium", "firefox"].includes(browser)) {
-  console.error("usage: node --experimental-websocket viewer/browser/pictures.js FOLDER [chromium|firefox]");
+  console.error("usage: node viewer/browser/pictures.js FOLDER [chromium|firefox]");
   process.exit(2);
 }
 take(folder, browser).catch((fault) => {

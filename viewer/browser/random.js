@@ -2,7 +2,7 @@
  * Does random things with the page, with hostile texts, damaged files and damaged links among them, and looks after each whether a text has become
  * more than text, the page has asked for anything, or has thrown.
  *
- *     node --experimental-websocket viewer/browser/random.js [chromium|firefox] [SECONDS] [SEED]
+ *     node viewer/browser/random.js [chromium|firefox] [SECONDS] [SEED]
  *
  * Status 1 where it has. The last line says how much was done, and in Chromium how much memory the page uses at the start and at the end.
  */

@@ -16,6 +16,7 @@ export function suite(name, openBrowser, tests) {
     const user = new User(null);
     before(async () => (user.page = await openBrowser()));
     after(async () => {
+      if (!user.page) return; // no browser was opened
       const { exceptions } = user.page;
       await user.page.close();
       assert.deepEqual(exceptions, []);
