@@ -12,6 +12,7 @@
  * @property {string} [rule]
  * @property {{ name: string, value: string }[]} [given]
  * @property {string} [note]
+ * @property {{ first: number, then: number }} [order] of a note in the page: the clients whose edits the server would have to take in this order, so that ot.js has it
  * @property {number} [line] in the schedule, from 1
  * @property {{ key: string, line: number }[]} unknown
  * @property {string} [cut]

@@ -1,23 +1,37 @@
-// What users saw in their editors, noted at places of the session: lines {"at":7,"client":0,"document":".."} beside it, as those of a
-// port, which `conform --sparse` compares. A note stands at the instruction at which the client last changed, up to the place.
+// What users saw in their editors, and what the server's document was seen to be, noted at places of the session: lines
+//
+//     {"at":7,"client":0,"document":".."}
+//     {"at":4,"do":"take","document":".."}     of the server, at a take or a read-server
+//
+// beside it, as those of a port, which `conform --sparse` compares. A note stands at the instruction at which the document last changed, up to the place.
 
 import { lastUpTo } from "./document.mjs";
+import { SERVER } from "./fold.mjs";
 import { trimmed } from "./input.mjs";
+import { versionsOf } from "./places.mjs";
 
-const KEYS = ["at", "client", "document"];
+const OF_CLIENT = "at,client,document";
+const OF_SERVER = "at,do,document";
+
+const isOfServer = (word) => word === "take" || word === "read-server";
+
+/** @typedef {{ at: number, who: number | string, word?: string, document: string }} Note whose document it is, a client's or the server's; of the server's the instruction's word */
 
 /* A line as a note; null where it is none. */
 function readNote(line) {
   try {
     const note = JSON.parse(line);
-    const isNote = note !== null && typeof note === "object" && Object.keys(note).join() === KEYS.join();
-    return isNote && Number.isInteger(note.at) && Number.isInteger(note.client) && typeof note.document === "string" ? note : null;
+    if (note === null || typeof note !== "object" || !Number.isInteger(note.at) || typeof note.document !== "string") return null;
+    const { at, client, do: word, document } = note;
+    const keys = Object.keys(note).join();
+    if (keys === OF_CLIENT && Number.isInteger(client)) return { at, who: client, document };
+    return keys === OF_SERVER && isOfServer(word) ? { at, who: SERVER, word, document } : null;
   } catch {
     return null;
   }
 }
 
-const lineOf = ({ at, client, document }) => JSON.stringify({ at, client, document });
+const lineOf = ({ at, who, word, document }) => JSON.stringify(who === SERVER ? { at, do: word, document } : { at, client: who, document });
 
 /** Whether all lines of a port are notes. */
 export const areNotes = (port) => port !== null && port.length > 0 && port.every((line) => readNote(line) !== null);
@@ -25,34 +39,35 @@ export const areNotes = (port) => port !== null && port.length > 0 && port.every
 /** Whether something can be noted: a port's own lines are left as they are. */
 export const canNote = (port) => port === null || areNotes(port);
 
-const notesIn = (port) => (areNotes(port) ? port.map(readNote) : []);
+/** The notes of a port's lines; none where they are others. @returns {Note[]} */
+export const notesIn = (port) => (areNotes(port) ? port.map(readNote) : []);
 
-/** The place that a note of a client stands at: that at which it last changed, else that of a read; 0 where it has none. */
-export function notedPlace({ members, steps }, client, place) {
-  const { statePlaces } = members[client];
-  const changedAt = statePlaces[lastUpTo(statePlaces, place)];
-  return changedAt > 0 ? changedAt : Math.max(0, steps.findLastIndex((step, at) => at <= place && step?.moved === client));
+/** The place that a note of a participant stands at: that at which its document last changed, else that of a read; 0 where it has none. */
+export function notedPlace(session, who, place) {
+  const { places } = versionsOf(session, who);
+  const changedAt = places[lastUpTo(places, place)];
+  return changedAt > 0 ? changedAt : Math.max(0, session.steps.findLastIndex((step, at) => at <= place && step?.moved === who));
 }
 
-/** What is noted of a client at a place of its own; null where nothing is. */
-export const noteAt = (port, client, at) => notesIn(port).find((note) => note.client === client && note.at === at)?.document ?? null;
+/** What is noted of a participant at a place of its own; null where nothing is. */
+export const noteAt = (port, who, at) => notesIn(port).find((note) => note.who === who && note.at === at)?.document ?? null;
 
-/** The lines with a note, in the order of places; a document of null takes the note away. null where none is left. */
-export function withNote(port, { at, client, document }) {
+/** The lines with a note, in the order of places; a document of null takes the note away. null where none is left. @param {string[] | null} port @param {Note} note */
+export function withNote(port, { at, who, word, document }) {
   const others = notesIn(port).filter((note) => note.at !== at);
-  const notes = document === null ? others : [...others, { at, client, document }];
+  const notes = document === null ? others : [...others, { at, who, word, document }];
   return notes.length ? notes.sort((a, b) => a.at - b.at).map(lineOf) : null;
 }
 
-/* The instructions of a text, and the places of those that a client performs. */
+/* The instructions of a text, and the places of those that a participant performs. */
 function instructionsOf(text, { lines }) {
   const all = text.split("\n");
   const own = new Map();
   lines.forEach((line, i) => {
     const [word, client = ""] = trimmed(all[line]).split(/[ \t]+/);
-    if (word === "take") return;
-    const number = Number(client);
-    own.set(number, [...(own.get(number) ?? []), { place: i + 1, words: trimmed(all[line]) }]);
+    const who = isOfServer(word) ? SERVER : Number(client);
+    if (!own.has(who)) own.set(who, []);
+    own.get(who).push({ place: i + 1, words: trimmed(all[line]) });
   });
   return own;
 }
@@ -65,14 +80,14 @@ function commonFront(one, other) {
 }
 
 /**
- * The notes of a text beside another one: each stands at the same instruction of its client, up to the first that is another one and behind the last.
+ * The notes of a text beside another one: each stands at the same instruction of its participant, up to the first that is another one and behind the last.
  * One at an instruction that is gone goes with it.
  */
 export function carriedNotes(port, before, after) {
   if (!areNotes(port)) return port;
   const [old, fresh] = [instructionsOf(before.text, before.outline), instructionsOf(after.text, after.outline)];
   const carried = notesIn(port).flatMap((note) => {
-    const [from, to] = [old.get(note.client) ?? [], fresh.get(note.client) ?? []];
+    const [from, to] = [old.get(note.who) ?? [], fresh.get(note.who) ?? []];
     const index = from.findIndex(({ place }) => place === note.at);
     const front = commonFront(from, to);
     const back = Math.min(commonFront(from.toReversed(), to.toReversed()), Math.min(from.length, to.length) - front);

@@ -112,10 +112,13 @@ export class Port {
     return [...differences(["message"]), { key: "stopped", found: inWords(line.stopped), ours: "performed" }];
   }
 
-  /** What was noted of a client, with the document that it has at the place: { document, differences }; null where nothing was. */
+  /** What was noted of a participant, with the document that it has at the place: { document, differences }, and `order` where conform's answer on it has one; null where nothing was. */
   noteOf(who, place) {
     const at = this.areNotes ? notedPlace(this.session, who, place) : 0;
-    return this.lines[at]?.client === who ? { document: this.lines[at].document, differences: this.differencesAt(at) } : null;
+    const line = this.lines[at];
+    if (at === 0 || !line || (line.client ?? SERVER) !== who) return null;
+    const order = this.answer?.at === at ? this.answer.order : undefined;
+    return { document: line.document, differences: this.differencesAt(at), ...(order && { order }) };
   }
 
   /* What the port printed last of a participant that is not what ot.js has. */

@@ -49,6 +49,25 @@ export function testByHand(name, openBrowser) {
       await user.until('document.getElementById("conformance").hidden', "no note");
     });
 
+    test("where the other order at the server gives what was seen, the answer says so; the server's document is noted too", async () => {
+      await opened(`${TIE}ack 1\nack 0\ndeliver 0\n`, 8);
+      const data = (wanted) => user.until(`Object.entries(${quoted(wanted)}).every(([name, value]) => document.getElementById("conformance").dataset[name] === value)`, quoted(wanted));
+      await note(1, "ab");
+      const sentence = "ot.js has \"ba\" here, if the server took client 0’s edit first. With the other order, client 1’s edit first, it has \"ab\".";
+      await user.until(`document.getElementById("noted-answer").textContent.startsWith(${quoted(sentence)})`, sentence);
+      await user.click('#noting [value="note"]');
+      await data({ verdict: "differs", at: "5", client: "1", key: "document", order: "1 0" });
+      assert.match(await user.text("#conformance"), /^differs at 5: deliver 1: client 1 document \(line 6\), unless the server took client 1’s edit first$/);
+      assert.match(await user.text("#answer"), /\nfound "ab"\not\.js "ba", if the server took client 0’s edit first\not\.js "ab", if the server took client 1’s edit first\noffset 0\n/);
+      await note("server", "ba");
+      await user.click('#noting [value="note"]');
+      await user.until('/seen.*"ba" as ot.js has it/s.test(document.querySelector(\'[data-card="server"]\').textContent)', "the server's card");
+      await data({ verdict: "differs", at: "5", client: "1" });
+      await note("server", "ab");
+      await user.click('#noting [value="note"]');
+      await data({ verdict: "differs", at: "4", client: "server", key: "document", order: "1 0" });
+    });
+
     test("what conform answers stands beside its sentence as data", async () => {
       await opened(TIE, 5);
       const NAMES = ["verdict", "at", "client", "key"];
@@ -79,7 +98,7 @@ export function testByHand(name, openBrowser) {
       assert.equal(await user.run('document.getElementById("reason").checkVisibility()'), false);
       await user.click("#why");
       const said = (pattern) => user.until(`${pattern}.test(document.getElementById("reason").innerText)`, `${pattern} as the reason`);
-      await said('/^deliver 1, place 5: AwaitingConfirm\\.applyServer transforms \\["b"\\] \\(client 1, outstanding\\) against \\["a"\\] \\(client 0 \\(<b>Ann<\\/b>\\), log entry 0\\)\\.\\n*Both insert at 0: transform puts the text of its first argument first, "b" before "a"\\.$/');
+      await said('/^deliver 1, place 5: AwaitingConfirm\\.applyServer transforms \\["b"\\] \\(client 1, outstanding\\) against \\["a"\\] \\(client 0 \\(<b>Ann<\\/b>\\), log entry 0\\)\\.\\n*Both insert at offset 0: transform puts the text of its first argument first, "b" before "a"\\.$/');
       assert.equal(await user.run('document.getElementById("why").getAttribute("aria-expanded")'), "true");
       await user.run("document.activeElement.blur()");
       await user.press("k");

@@ -4,10 +4,11 @@
 import { conformCall, isWordy, readAnswer, wordsOf } from "../../common/conformance.mjs";
 import { followLines } from "./follow.mjs";
 import { causeOf, readFault } from "../../common/faults.mjs";
-import { areNotes, notedPlace } from "../../common/noted.mjs";
+import { areNotes, notedPlace, notesIn } from "../../common/noted.mjs";
 import { lineOf } from "../../common/numbering.mjs";
 import { headsAt } from "../../common/places.mjs";
 import { Port } from "../../common/printed.mjs";
+import { otherOrder } from "./order.mjs";
 import { lastTransform, otherLine } from "./reason.mjs";
 import { outlineOf, textUpTo } from "../../common/outline.mjs";
 import { partsOf } from "../../common/told.mjs";
@@ -30,7 +31,7 @@ const textIn = (bytes) => new TextDecoder().decode(bytes);
 const besideText = (text, port) => `${text}\n%%\n${port.join("\n")}\n`;
 
 /* The note that an answer of conform is about; undefined where it is about none. */
-const noteOf = (port, { answer }) => port.map((line) => JSON.parse(line)).find(({ at }) => answer?.verdict === "differs" && answer.at === at);
+const noteOf = (port, { answer }) => notesIn(port).find(({ at }) => answer?.verdict === "differs" && answer.at === at);
 
 /** A text's fault, of what the desk has of it: { line, column, kind, cause }, line 0 where it is of none, column 0 where none is given. */
 export function faultOf({ fault, errors }) {
@@ -124,13 +125,12 @@ export class Bench {
     return this.engine.ask(words, typeof input === "string" ? new TextEncoder().encode(input) : input);
   }
 
-  /** What conform answers to what a user saw of a client's document at the place; null where nothing can be compared. */
-  async askNote(client, document) {
-    const { session } = this.state;
-    const at = notedPlace(session, client, shownPlace(this.state));
-    const { text, port } = reduce({ ...this.state, port: null }, { do: "note", client, document });
+  /** What conform answers to what a user saw of a participant's document at the place; null where nothing can be compared. */
+  async askNote(who, document) {
+    const at = notedPlace(this.state.session, who, shownPlace(this.state));
+    const { text, port } = reduce({ ...this.state, port: null }, { do: "note", who, document });
     const ask = (words, input) => this.ask(words, input);
-    return port && this.#withTie(await this.#conformed(text, port, ask), { at, client, document }, ask);
+    return port && this.#explained(await this.#conformed(text, port, ask), { at, who, document }, ask);
   }
 
   /** What the debugger answers to a command at the shown place; null: what it begins with. The page goes where that led. */
@@ -300,7 +300,7 @@ export class Bench {
     try {
       await this.#judge.load();
       const told = port && (await this.#conformed(text, port, ask));
-      const shown = told && areNotes(port) && !isOld() ? await this.#withTie(told, noteOf(port, told), ask) : told;
+      const shown = told && areNotes(port) && !isOld() ? await this.#explained(told, noteOf(port, told), ask) : told;
       if (shown && !isOld()) this.dispatch({ do: "beside", text, beside: new Port(session, port, shown, this.isSparse(port)) });
       const judged = textIn((await ask(["check", "--json"], text)).output);
       tell(judged === "" ? { fault: "not judged" } : JSON.parse(judged));
@@ -362,10 +362,23 @@ export class Bench {
     return JSON.parse(textIn(output));
   }
 
-  /* What conform answers on a note, with what it says of a tie broken the other way, where that leads to what was seen. */
+  /* What conform answers on a note, with what leads to what was seen instead: a tie broken the other way, the other order at the server. */
+  async #explained(told, note, ask) {
+    if (!note || told.answer?.verdict !== "differs") return told;
+    const { state } = this;
+    const { answer, words } = await this.#withTie(told, note, ask);
+    const becomes = async (text) => {
+      const { stopped, document } = JSON.parse(textIn((await ask(["explain", "--json"], text)).output));
+      return stopped === undefined ? document : undefined;
+    };
+    const order = isAnswered(state) && note.at > 0 ? await otherOrder(state, note, becomes) : null;
+    return { answer: { ...answer, ...(order && { order }) }, words };
+  }
+
+  /* The same with what it says of a tie alone. */
   async #withTie(told, note, ask) {
     const { session } = this.state;
-    const place = note && told.answer?.verdict === "differs" ? decidedAt(session, note) : 0;
+    const place = decidedAt(session, note);
     if (place === 0) return told;
     const call = await this.#reasonAt(place, ask);
     const line = lineOfTie(session, note, call);

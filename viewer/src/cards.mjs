@@ -6,6 +6,7 @@ import { quoted, seen } from "../../common/characters.mjs";
 import { START, sameText, walk } from "../../common/document.mjs";
 import { SERVER } from "../../common/fold.mjs";
 import { documentAt, downAt, headsAt, logLengthAt, receiptsIn, stateAt, upAt, versionsOf } from "../../common/places.mjs";
+import { orderWords } from "./order.mjs";
 import { colourOf } from "./theme.mjs";
 import { tree } from "./tree.mjs";
 import { apart, nameOfMember, shortName, shownOperation, shownValue } from "./words.mjs";
@@ -116,16 +117,18 @@ const badge = (text, look = "") => tree("span", { class: `badge ${look}` }, text
 
 const table = (rows) => rows.length > 0 && tree("dl", {}, rows.map(([name, value]) => [tree("dt", {}, name), tree("dd", {}, value)]));
 
-/* What the user saw, and what ot.js has where that is another text. */
-function noteRow({ document, differences: [difference] }) {
-  if (!difference) return ["my editor", [shownValue(JSON.stringify(document)), " as ot.js has it"]];
+/* What was seen, and what ot.js has where that is another text. */
+function noteRow(who, { document, differences: [difference], order }, names) {
+  const seen = who === SERVER ? "seen" : "my editor";
+  if (!difference) return [seen, [shownValue(JSON.stringify(document)), " as ot.js has it"]];
   const [theirs, wanted] = apart(difference.found, difference.ours).map(shownValue);
-  return [tree("span", { class: "differs" }, "my editor"), [theirs, " ", tree("span", { class: "against" }, "ot.js has ", wanted, " here")]];
+  const ours = ["ot.js has ", wanted, " here", order && [", and ", theirs, ` if the server takes ${orderWords(order, names).other} first`]];
+  return [tree("span", { class: "differs" }, seen), [theirs, " ", tree("span", { class: "against" }, ours)]];
 }
 
-function portRows(port, who, place) {
+function portRows(port, who, { place, names }) {
   if (!port) return [];
-  if (port.areNotes) return who === SERVER ? [] : [port.noteOf(who, place)].filter(Boolean).map(noteRow);
+  if (port.areNotes) return [port.noteOf(who, place)].filter(Boolean).map((note) => noteRow(who, note, names));
   return port.differencesOf(who, place).map(({ key, found, ours }) => {
     const [theirs, wanted] = apart(found, ours).map(shownValue);
     return [tree("span", { class: "differs" }, `port: ${key}`), [theirs, " ", tree("span", { class: "against" }, "ot.js: ", wanted)]];
@@ -145,17 +148,20 @@ const playButton = (instruction, title, { words = instruction, look = "", isAske
 
 const READ = { words: "read", look: "small" };
 
+const noteButton = (who, title, { canPlay, canNote }) => canPlay && canNote && tree("button", { class: "small", "data-note": who, title }, "I saw …");
+
 const acts = (...buttons) => buttons.some(Boolean) && tree("span", { class: "acts" }, buttons);
 
 function serverCard(session, view, isMoved) {
-  const { place, port, canPlay } = view;
+  const { place, canPlay } = view;
   const length = logLengthAt(session, place);
   const entries = session.log.slice(Math.max(0, length - 4), length).reverse();
   const lines = entries.map(({ number, operation, maker }) => [`${number}: `, shownOperation(operation, maker), ` ${nameOfMember(maker, view.names)}`]);
   if (length > 4) lines.push(`and ${length - 4} before`);
   const rows = length ? [["log, last first", lines.map((line, i) => [i > 0 && tree("br"), line])]] : [];
-  rows.push(...portRows(port, SERVER, place));
-  const heading = ["server ", badge(`rev ${length}`), acts(canPlay && playButton("read-server", "shows the server’s document here", READ))];
+  rows.push(...portRows(view.port, SERVER, view));
+  const read = canPlay && playButton("read-server", "shows the server’s document here", READ);
+  const heading = ["server ", badge(`rev ${length}`), acts(noteButton(SERVER, "notes what the server’s document was seen to be here, beside what ot.js has", view), read)];
   return card(SERVER, { ...view, isMoved }, heading, [shownDocument(session, SERVER, view), table(rows)]);
 }
 
@@ -190,7 +196,7 @@ function linkRows(session, client, view) {
 const STATE_LOOKS = { synchronized: "", "awaiting-confirm": "confirm", "awaiting-with-buffer": "buffer", "not-joined": "" };
 
 function clientCard(session, client, view, isMoved) {
-  const { place, port, canPlay, names } = view;
+  const { place, canPlay, names } = view;
   const { state, revision, outstanding, buffer } = stateAt(session, client, place);
   const called = names?.has(client) && [" ", tree("span", { class: "called" }, `(${shortName(names.get(client))})`)];
   const name = [tree("span", { class: "name" }, `client ${client}`), called, " ", badge(state, STATE_LOOKS[state])];
@@ -203,11 +209,10 @@ function clientCard(session, client, view, isMoved) {
   const rows = [];
   if (outstanding) rows.push(["outstanding", shownOperation(outstanding, client)]);
   if (buffer) rows.push(["buffer", shownOperation(buffer, client)]);
-  rows.push(...linkRows(session, client, view), ...portRows(port, client, place));
+  rows.push(...linkRows(session, client, view), ...portRows(view.port, client, view));
   const isSame = sameText(documentAt(session, client, place), documentAt(session, SERVER, place));
   const read = canPlay && playButton(`read ${client}`, "shows the document here (r)", READ);
-  const title = "notes what an editor showed here, beside what ot.js has";
-  const note = canPlay && view.canNote && tree("button", { class: "small", "data-note": client, title }, "I saw …");
+  const note = noteButton(client, "notes what an editor showed here, beside what ot.js has", view);
   const heading = [name, " ", badge(`rev ${revision}`), " ", badge(isSame ? "= server" : "≠ server"), acts(note, read, rename)];
   return card(client, { ...view, isMoved }, heading, [shownDocument(session, client, view), table(rows)]);
 }

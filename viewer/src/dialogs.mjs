@@ -2,12 +2,14 @@
 
 import { brief } from "../../common/characters.mjs";
 import { element, fill, setText } from "./dom.mjs";
+import { SERVER } from "../../common/fold.mjs";
 import { splitInput } from "../../common/input.mjs";
 import { noteAt, notedPlace } from "../../common/noted.mjs";
+import { orderWords } from "./order.mjs";
 import { shownPlace } from "./state.mjs";
 import { traceTable } from "./trace.mjs";
 import { built, tree } from "./tree.mjs";
-import { apart, nameOfMember } from "./words.mjs";
+import { apart, instructionOf, nameOfMember } from "./words.mjs";
 
 export function openDialog(id) {
   element(id).returnValue = "";
@@ -35,12 +37,13 @@ export function askName({ outline }, client) {
   openDialog("naming");
 }
 
-/** What a client's editor showed at the place: the text that is noted, or an empty field. */
-export function askNote({ session, port, outline, ...state }, client) {
+/** What a participant's document was seen to be at the place: the text that is noted, or an empty field. */
+export function askNote({ session, port, outline, ...state }, who) {
   const place = shownPlace({ session, ...state });
-  const noted = noteAt(port, client, notedPlace(session, client, place));
-  element("noting").dataset.client = client;
-  setText("noted", `At place ${place} the editor of ${nameOfMember(client, outline.names)} showed:`);
+  const noted = noteAt(port, who, notedPlace(session, who, place));
+  const whose = who === SERVER ? "the server’s document was" : `the editor of ${nameOfMember(who, outline.names)} showed`;
+  element("noting").dataset.who = who;
+  setText("noted", `Place ${place}, ${place === 0 ? "the opening" : `after ${instructionOf(session.steps[place].line)}`}: ${whose}`);
   element("showed").value = noted ?? "";
   setText("noted-answer", "");
   element("forget-note").hidden = noted === null;
@@ -49,18 +52,23 @@ export function askNote({ session, port, outline, ...state }, client) {
   element("showed").dispatchEvent(new Event("input"));
 }
 
-/** What conform's answer says of a note, in words; null where it gave none. @param {import("../../common/conformance.mjs").Told | null} told */
-export function noteWords(told) {
+/** What conform's answer says of a note, in words. @param {import("../../common/conformance.mjs").Told | null} told @param {Map<number, string>} names */
+export function noteWords(told, names = new Map()) {
   if (!told?.answer) return "The text has a fault: mend it first.";
-  const { verdict, found, otjs, note } = told.answer;
+  const { verdict, client, found, otjs, note, order } = told.answer;
   if (verdict === "conforms") return "ot.js has the same text here.";
   if (verdict !== "differs") return told.words[0];
   const [shown, wanted] = apart(found, otjs);
-  const isPlain = shown === found && wanted === otjs;
-  return `ot.js has ${brief(wanted, 300)} here${isPlain ? "" : `, and the editor ${brief(shown, 300)}`}.${note ? ` Of the editor’s text: ${note}.` : ""}`;
+  const seen = client === null ? "the server" : "the editor";
+  const both = shown === found && wanted === otjs ? "" : `, and ${seen} ${brief(shown, 300)}`;
+  const other = order && orderWords(order, names);
+  const ordered = other ? ` here, if the server took ${other.now} first${both}. With the other order, ${other.other} first, it has ${brief(shown, 300)}.` : ` here${both}.`;
+  return `ot.js has ${brief(wanted, 300)}${ordered}${note ? ` Of ${seen}’s text: ${note}.` : ""}`;
 }
 
 const showed = () => element("showed").value;
+
+const notedOf = () => (element("noting").dataset.who === SERVER ? SERVER : Number(element("noting").dataset.who));
 
 /* Compares the text at once; an answer that comes late is of an old text. */
 function watchNote(bench) {
@@ -68,7 +76,7 @@ function watchNote(bench) {
     const asked = showed();
     let words;
     try {
-      words = noteWords(await bench.askNote(Number(element("noting").dataset.client), asked));
+      words = noteWords(await bench.askNote(notedOf(), asked), bench.state.outline.names);
     } catch (fault) {
       words = `Not compared: ${fault.message}.`;
     }
@@ -152,8 +160,7 @@ export function watchDialogs(bench, { choices, openChoice, showEvery, take, save
   watchNote(bench);
   watchClients(bench);
   onClose("noting", (value) => {
-    const client = Number(element("noting").dataset.client);
-    if (value === "note" || value === "forget") act("note", { client, document: value === "note" ? showed() : null });
+    if (value === "note" || value === "forget") act("note", { who: notedOf(), document: value === "note" ? showed() : null });
   });
   onClose("naming", (value) => value === "name" && act("name", { client: Number(element("naming").dataset.client), name: element("called").value }));
   const hide = (hidden) => {

@@ -428,7 +428,7 @@ element("cards").onclick = (event) => {
   const button = event.target.closest("button");
   if (button?.dataset.play) return play(button.dataset.play);
   if (button?.dataset.name) return askName(bench.state, Number(button.dataset.name));
-  if (button?.dataset.note) return askNote(bench.state, Number(button.dataset.note));
+  if (button?.dataset.note) return askNote(bench.state, memberOf(button.dataset.note));
   const text = event.target.closest(".document");
   if (!text) return undefined;
   const index = indexAt(event);

@@ -8,6 +8,7 @@ import { SERVER } from "../../common/fold.mjs";
 import { legend } from "./legend.mjs";
 import { canNote } from "../../common/noted.mjs";
 import { quietAt } from "../../common/places.mjs";
+import { orderWords } from "./order.mjs";
 import { reasonWords } from "./reason.mjs";
 import { isAnswered, outlookNow, reasonNow, shownPlace } from "./state.mjs";
 import { variablesOf } from "./theme.mjs";
@@ -139,7 +140,7 @@ function showVerdicts(state) {
   element("cut").hidden = cut === null;
   setVerdict("cut", `ends before its logs: ${brief(seen(cut ?? ""), 80)}`, "bad");
   element("conformance").hidden = !beside;
-  setData("conformance", ["verdict", "at", "client", "key"], answerData(state));
+  setData("conformance", ["verdict", "at", "client", "key", "order"], answerData(state));
   showAnswer(state);
   if (!beside) return;
   const { answer, words } = beside;
@@ -147,13 +148,14 @@ function showVerdicts(state) {
   const those = beside.areNotes ? "what was seen" : "the port's lines";
   const marked = beside.first === null ? `${those}: no difference` : `${those}: a difference at ${beside.first}`;
   const line = answer?.line ? shownLine(state, answer.line) : lineOf(state, (answer?.at ?? beside.first ?? 0) - 1);
-  setVerdict("conformance", front + (words[0] ?? answer?.verdict ?? marked) + line, !conforms ? "bad" : isNow ? "good" : "");
+  const unless = answer?.order ? `, unless the server took ${orderWords(answer.order, state.outline.names).other} first` : "";
+  setVerdict("conformance", front + (words[0] ?? answer?.verdict ?? marked) + line + unless, !conforms ? "bad" : isNow ? "good" : "");
 }
 
 /* What conform answered; while an answer is awaited that of before, paler, so that nothing is covered and uncovered at each change. */
-function showAnswer({ port, beside }) {
+function showAnswer({ port, beside, outline }) {
   element("answer").classList.toggle("old", !beside);
-  if (beside) setText("answer", answerOf(beside).join("\n"));
+  if (beside) setText("answer", answerOf(beside, outline.names).join("\n"));
   else if (port === null) setText("answer", "");
   element("answered").hidden = element("answer").textContent === "";
 }
@@ -168,11 +170,14 @@ const shownLine = (state, line) => (line && isAnswered(state) ? ` (line ${line})
 /* The same of an instruction by its number. */
 const lineOf = (state, number) => shownLine(state, state.outline.lines[number] + 1);
 
-/* What conform answered, the values that differ marked: they stand behind the first line. */
-function answerOf({ answer, words }) {
+/* What conform answered, the values that differ marked: they stand behind the first line, and where a text differs behind them. */
+function answerOf({ answer, words }, names) {
   if (answer?.verdict !== "differs") return words;
   const [theirs, wanted] = apart(answer.found, answer.otjs);
-  return words.with(1, `found ${theirs}`).with(2, `ot.js ${wanted}`);
+  const [head, , , ...more] = answer.place === undefined ? words : words.with(3, `offset ${answer.place}`);
+  const { now, other } = answer.order ? orderWords(answer.order, names) : {};
+  const ordered = now ? [`ot.js ${wanted}, if the server took ${now} first`, `ot.js ${theirs}, if the server took ${other} first`] : [`ot.js ${wanted}`];
+  return [head, `found ${theirs}`, ...ordered, ...more];
 }
 
 function setVerdict(id, words, look) {
@@ -187,7 +192,8 @@ function wordsAt(state, { session, place, picked, port, followed, names, canPlay
   const parts = [sentence(session, place, names), tree("span", { class: isToldBelow ? "now waits" : "now" }, now)];
   for (const { key, found, ours } of port ? port.differencesAt(place) : []) {
     const [theirs, wanted] = apart(found, ours).map(shownValue);
-    parts.push(tree("span", { class: "differs" }, port.areNotes ? "The editor showed " : `The port: ${key} `, theirs, ", ot.js: ", wanted, "."));
+    const whose = !port.areNotes ? `The port: ${key} ` : session.steps[place].moved === SERVER ? "The server had " : "The editor showed ";
+    parts.push(tree("span", { class: "differs" }, whose, theirs, ", ot.js: ", wanted, "."));
   }
   if (followed !== null) parts.push(tree("span", { class: "now" }, `Stepping through ${nameOfMember(followed, names)}.`));
   if (picked) {

@@ -6,6 +6,7 @@ import { withClient, withMoved, withOneLate, withOnePresent, withoutClient } fro
 import { insertedText, makeElements, patched } from "../../common/document.mjs";
 import { editOf, wellFormed } from "./edits.mjs";
 import { canNote, carriedNotes, notedPlace, withNote } from "../../common/noted.mjs";
+import { SERVER } from "../../common/fold.mjs";
 import { documentAt } from "../../common/places.mjs";
 import { outlineOf, placeOfLine, withInstructions, withName, withoutInstruction } from "../../common/outline.mjs";
 
@@ -157,14 +158,16 @@ function played(state, { instructions, tag }) {
   return text === state.text ? next : { ...next, asked: [...state.asked, ...instructions], stood, draft: state.draft };
 }
 
-/* What a user saw of a client's document at the place; a document of null takes the note away. A client that has not changed gets a read to be noted at. */
-function noted(state, { client, document }) {
-  if (!canNote(state.port) || !isAnswered(state) || !state.session?.members[client]) return state;
-  const at = notedPlace(state.session, client, shownPlace(state));
-  if (at > 0) return changed(state, { text: state.text, port: withNote(state.port, { at, client, document }) });
+/* What a user saw of a participant's document at the place; a document of null takes the note away. A document that has not changed gets a read to be noted at. */
+function noted(state, { who, document }) {
+  const { session } = state;
+  if (!canNote(state.port) || !isAnswered(state) || !(who === SERVER ? session : session?.members[who])) return state;
+  const at = notedPlace(session, who, shownPlace(state));
+  if (at > 0) return changed(state, { text: state.text, port: withNote(state.port, { at, who, word: session.steps[at].line.do, document }) });
   if (document === null) return state;
-  const next = played(state, { instructions: [`read ${client}`] });
-  return { ...next, port: withNote(next.port, { at: next.place, client, document }) };
+  const read = who === SERVER ? "read-server" : `read ${who}`;
+  const next = played(state, { instructions: [read] });
+  return { ...next, port: withNote(next.port, { at: next.place, who, word: read, document }) };
 }
 
 const REDUCERS = {

@@ -128,10 +128,12 @@ export function verdictOn({ session, fault, isLate = false }) {
 
 /**
  * What conform answered, as data: its verdict, and of a difference the place, the key and whose value it is, `server` or a client's number. The verdict is
- * `none` where nothing stands beside the session, `awaited` where the answer is not there yet, and `unanswered` where the page has none of the program's.
+ * `none` where nothing stands beside the session, `awaited` where the answer is not there yet, and `unanswered` where the page has none of the program's. `order`
+ * are the clients whose edits the server would have to take in this order, so that ot.js has what was noted.
  */
 export function answerData({ port, beside }) {
   if (!beside) return { verdict: port === null ? "none" : "awaited" };
-  const { verdict, at, client, key } = beside.answer ?? { verdict: "unanswered" };
-  return verdict === "differs" ? { verdict, at, client: client ?? (client === null ? "server" : undefined), key } : { verdict };
+  const { verdict, at, client, key, order } = beside.answer ?? { verdict: "unanswered" };
+  if (verdict !== "differs") return { verdict };
+  return { verdict, at, client: client ?? (client === null ? SERVER : undefined), key, ...(order && { order: `${order.first} ${order.then}` }) };
 }

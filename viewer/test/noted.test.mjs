@@ -5,6 +5,7 @@ import { test } from "node:test";
 import { Bench } from "../src/bench.mjs";
 import { cardOf } from "../src/cards.mjs";
 import { noteWords } from "../src/dialogs.mjs";
+import { SERVER } from "../../common/fold.mjs";
 import { areNotes, canNote, carriedNotes, noteAt, withNote } from "../../common/noted.mjs";
 import { reportOf } from "../src/report.mjs";
 import { outlineOf } from "../../common/outline.mjs";
@@ -14,9 +15,11 @@ const TIE = 'clients 2\nedit 0 ["a"]\nedit 1 ["b"]\ntake 0\ntake 1\ndeliver 1\n'
 const given = (text) => ({ text, outline: outlineOf(text) });
 const note = (at, client, document) => JSON.stringify({ at, client, document });
 
-test("only lines of a place, a client and a document are notes", () => {
-  assert.ok(areNotes([note(1, 0, "")]));
-  for (const other of ["{}", "[]", "null", "3", "x", '{"at":1,"client":0,"document":"a","do":"edit"}', '{"at":1,"client":0}', '{"at":"1","client":0,"document":"a"}', '{"__proto__":1,"client":0,"document":"a"}'])
+const ofServer = (at, word, document) => JSON.stringify({ at, do: word, document });
+
+test("only lines of a place, a client or the server, and a document are notes", () => {
+  assert.ok(areNotes([note(1, 0, ""), ofServer(3, "take", "a"), ofServer(4, "read-server", "")]));
+  for (const other of [ofServer(1, "edit", "a"), ofServer(1, 3, "a"), "{}", "[]", "null", "3", "x", '{"at":1,"client":0,"document":"a","do":"edit"}', '{"at":1,"client":0}', '{"at":"1","client":0,"document":"a"}', '{"__proto__":1,"client":0,"document":"a"}'])
     assert.ok(!areNotes([note(1, 0, ""), other]), other);
   assert.ok(!areNotes([]));
   assert.ok(canNote(null));
@@ -24,12 +27,16 @@ test("only lines of a place, a client and a document are notes", () => {
 });
 
 test("a note stands once at its place, in order, and can be taken away", () => {
-  const one = withNote(null, { at: 5, client: 1, document: "ab" });
-  const two = withNote(one, { at: 1, client: 0, document: "a" });
+  const one = withNote(null, { at: 5, who: 1, document: "ab" });
+  const two = withNote(one, { at: 1, who: 0, document: "a" });
   assert.deepEqual(two, [note(1, 0, "a"), note(5, 1, "ab")]);
-  assert.deepEqual(withNote(two, { at: 5, client: 1, document: "__proto__" }), [note(1, 0, "a"), note(5, 1, "__proto__")]);
-  assert.deepEqual(withNote(two, { at: 1, client: 0, document: null }), one);
-  assert.equal(withNote(one, { at: 5, client: 1, document: null }), null);
+  assert.deepEqual(withNote(two, { at: 5, who: 1, document: "__proto__" }), [note(1, 0, "a"), note(5, 1, "__proto__")]);
+  assert.deepEqual(withNote(two, { at: 1, who: 0, document: null }), one);
+  assert.equal(withNote(one, { at: 5, who: 1, document: null }), null);
+  const three = withNote(two, { at: 4, who: SERVER, word: "take", document: "" });
+  assert.deepEqual(three, [note(1, 0, "a"), ofServer(4, "take", ""), note(5, 1, "ab")]);
+  assert.equal(noteAt(three, SERVER, 4), "");
+  assert.equal(noteAt(three, 1, 4), null);
   assert.equal(noteAt(two, 1, 5), "ab");
   assert.equal(noteAt(two, 0, 5), null);
 });
@@ -42,6 +49,11 @@ test("notes move with the instructions that they stand at", () => {
   assert.deepEqual(carried(TIE.replace('edit 0 ["a"]', 'edit 0 ["x"]')), [note(2, 1, "b"), note(5, 1, "ba")]);
   assert.deepEqual(carried(`; a comment\n\n${TIE}`), port);
   assert.equal(carried("clients 2\n"), null);
+  const seen = [ofServer(3, "take", "a")];
+  const carriedSeen = (after) => carriedNotes(seen, given(TIE), given(after));
+  assert.deepEqual(carriedSeen(TIE.replace('edit 1 ["b"]\n', 'edit 1 ["b"]\nread 1\n')), [ofServer(4, "take", "a")]);
+  assert.deepEqual(carriedSeen(`${TIE}read-server\n`), seen);
+  assert.equal(carriedSeen(TIE.replace("take 0\ntake 1", "take 1\ntake 0")), null, "the server takes another message first");
   assert.deepEqual(carriedNotes(["a stack trace"], given(TIE), given("clients 2\n")), ["a stack trace"], "a port's lines stay as they are");
 });
 
@@ -50,6 +62,11 @@ test("what conform answers is said in words", () => {
   assert.equal(noteWords({ answer: { verdict: "conforms" }, words: [] }), "ot.js has the same text here.");
   assert.equal(noteWords(differing('"ab"', '"ba"')), 'ot.js has "ba" here.');
   assert.match(noteWords(differing('"a\u200b"', '"a"')), /u\{200b\}/);
+  const ordered = differing('"ab"', '"ba"');
+  Object.assign(ordered.answer, { order: { first: 1, then: 0 }, note: "N" });
+  assert.equal(noteWords(ordered, new Map([[0, "Ann"]])), 'ot.js has "ba" here, if the server took client 0 (Ann)’s edit first. With the other order, client 1’s edit first, it has "ab". Of the editor’s text: N.');
+  ordered.answer.client = null;
+  assert.match(noteWords(ordered), /Of the server’s text: N\.$/);
   assert.equal(noteWords({ answer: { verdict: "stopped" }, words: ["stopped at 3: ClientFull"] }), "stopped at 3: ClientFull");
   for (const told of [null, { answer: null, words: [] }]) assert.match(noteWords(told), /fault/);
 });
@@ -75,9 +92,9 @@ test("a note is compared at once, and stays beside the session", { skip }, async
   assert.deepEqual([answer.at, answer.client, answer.key, words[0]], [5, 1, "document", "differs at 5: deliver 1: client 1 document"]);
   assert.equal((await bench.askNote(1, "ba")).answer.verdict, "conforms");
   assert.equal((await bench.askNote(0, "a")).answer.verdict, "conforms");
-  bench.dispatch({ do: "note", client: 1, document: "x".repeat(100000) });
-  bench.dispatch({ do: "note", client: 1, document: "</script><b>" });
-  bench.dispatch({ do: "note", client: 0, document: "a" });
+  bench.dispatch({ do: "note", who: 1, document: "x".repeat(100000) });
+  bench.dispatch({ do: "note", who: 1, document: "</script><b>" });
+  bench.dispatch({ do: "note", who: 0, document: "a" });
   assert.deepEqual(bench.state.port, [note(1, 0, "a"), note(5, 1, "</script><b>")]);
   const beside = await judged(bench);
   assert.equal(beside.first, 5);
@@ -94,32 +111,79 @@ test("a note is compared at once, and stays beside the session", { skip }, async
 test("what a tie broken the other way leads to is said to be that, at each client, also once all is quiet", { skip }, async () => {
   const NOTE = "that is what transform gives if the text of its second argument goes first";
   const quiet = `${TIE}ack 1\nack 0\ndeliver 0\nread 0\n`;
-  for (const [client, place, where] of [[1, 5, ""], [1, 8, " (deliver 1, at 5)"], [0, 9, " (take 1, at 4)"]]) {
+  for (const [client, place, where] of [[1, 5, ""], [1, 8, ""], [0, 9, " (take 1, place 4)"], [SERVER, 9, ""]]) {
     const bench = await opened(quiet, place);
     const told = await bench.askNote(client, "ab");
     assert.equal(told.answer.note, `${NOTE}${where}`, `client ${client} at ${place}`);
     assert.equal(told.words.at(-1), `note ${NOTE}${where}`);
     assert.ok(told.answer.given.length > 0);
     for (const other of ["b", "abc", ""]) assert.doesNotMatch((await bench.askNote(client, other)).answer.note ?? "", /^that is what transform/);
-    bench.dispatch({ do: "note", client, document: "ab" });
+    bench.dispatch({ do: "note", who: client, document: "ab" });
     assert.equal((await judged(bench)).words.at(-1), `note ${NOTE}${where}`);
   }
 });
 
-test("a client that has not changed is noted at a read of its document", { skip }, async () => {
+test("a note stands where the document last changed, and not at an acknowledgement", { skip }, async () => {
+  const bench = await opened(`${TIE}ack 1\nack 0\ndeliver 0\n`, 8);
+  bench.dispatch({ do: "note", who: 1, document: "ab" });
+  bench.dispatch({ do: "note", who: SERVER, document: "ab" });
+  assert.deepEqual(bench.state.port, [ofServer(4, "take", "ab"), note(5, 1, "ab")]);
+  const beside = await judged(bench);
+  assert.equal(beside.words[0], "differs at 4: take 1: server document");
+  assert.equal(beside.noteOf(SERVER, 8).document, "ab");
+  assert.equal(beside.noteOf(SERVER, 3), null);
+  assert.equal(beside.noteOf(1, 8).document, "ab");
+  bench.dispatch({ do: "note", who: SERVER, document: "ba" });
+  assert.equal((await judged(bench)).words[0], "differs at 5: deliver 1: client 1 document");
+});
+
+test("where the other order at the server gives what was seen, that is said", { skip }, async () => {
+  const orderOf = async (text, place, who, document) => (await (await opened(text, place)).askNote(who, document)).answer.order;
+  const quiet = `${TIE}ack 1\nack 0\ndeliver 0\n`;
+  for (const [who, place] of [[1, 5], [1, 6], [1, 8], [0, 8], [SERVER, 4], [SERVER, 8]]) assert.deepEqual(await orderOf(quiet, place, who, "ab"), { first: 1, then: 0 }, `${who} at ${place}`);
+  for (const document of ["b", "abab", ""]) assert.equal(await orderOf(quiet, 8, 1, document), undefined, document);
+  assert.equal(await orderOf(quiet, 2, 1, "ab"), undefined, "before the server took them");
+  const late = 'clients 2\nedit 0 ["a"]\ntake 0\nack 0\nedit 1 ["b"]\ntake 1\ndeliver 1\nack 1\ndeliver 0\n';
+  assert.deepEqual(await orderOf(late, 8, 0, "ab"), { first: 1, then: 0 }, "the server took it before the other edit was made, and its user did not know it");
+  const known = 'clients 2\nedit 0 ["a"]\ntake 0\ndeliver 1\nedit 1 ["b",1]\ntake 1\ndeliver 0\n';
+  assert.equal((await (await opened(known.replace("deliver 0", "ack 0\ndeliver 0"), 7)).askNote(0, "ab")).answer.order, undefined, "not concurrent");
+  const buffered = 'clients 2\nedit 0 ["a"]\nedit 0 [1,"c"]\nedit 1 ["b"]\ntake 0\ntake 1\nack 0\ndeliver 0\ntake 0\ndeliver 1\nack 1\ndeliver 1\n';
+  assert.deepEqual(await orderOf(buffered, 11, 1, "acb"), { first: 1, then: 0 });
+  const three = 'clients 3\nedit 0 ["a"]\nedit 1 ["b"]\nedit 2 ["c"]\ntake 0\ntake 1\ntake 2\ndeliver 2\ndeliver 2\nack 2\n';
+  assert.deepEqual(await orderOf(three, 9, 2, "bca"), { first: 2, then: 1 });
+  assert.deepEqual(await orderOf(three, 9, 2, "cab"), { first: 1, then: 0 });
+});
+
+test("the order is beside the note of the card, and what follows from a joined client is not guessed", { skip }, async () => {
+  const bench = await opened(TIE, 5);
+  bench.dispatch({ do: "note", who: 1, document: "ab" });
+  const port = await judged(bench);
+  assert.deepEqual(port.noteOf(1, 5).order, { first: 1, then: 0 });
+  const view = { session: bench.state.session, port, place: 5, picked: null, canPlay: true, canNote: true, names: new Map(), caret: null, writing: null, asked: [] };
+  assert.match(JSON.stringify(cardOf(bench.state.session, 1, view)), / if the server takes client 1’s edit first/);
+  assert.match(JSON.stringify(cardOf(bench.state.session, SERVER, view)), /"data-note":"server"/);
+  const joined = 'clients 3\npresent 2\nedit 0 ["a"]\nedit 1 ["b"]\ntake 0\njoin 2\ntake 1\ndeliver 1\n';
+  assert.equal((await (await opened(joined, 6)).askNote(1, "ab")).answer.order, undefined);
+});
+
+test("a document that has not changed is noted at a read of it", { skip }, async () => {
   const bench = await opened("clients 1\nstart \"a\"\n", 0);
-  bench.dispatch({ do: "note", client: 0, document: "b" });
+  bench.dispatch({ do: "note", who: 0, document: "b" });
   assert.equal(bench.state.text, 'clients 1\nstart "a"\nread 0\n');
   assert.deepEqual(bench.state.port, [note(1, 0, "b")]);
   const beside = await judged(bench);
   assert.equal(beside.words[0], "differs at 1: read 0: client 0 document");
-  bench.dispatch({ do: "note", client: 0, document: null });
+  bench.dispatch({ do: "note", who: 0, document: null });
   assert.equal(bench.state.port, null);
+  bench.dispatch({ do: "go", place: 0 });
+  bench.dispatch({ do: "note", who: SERVER, document: "b" });
+  assert.match(bench.state.text, /\nread-server\nread 0\n$/);
+  assert.equal((await judged(bench)).words[0], "differs at 1: read-server: server document");
 });
 
 test("the card of a client says what was noted of it", { skip }, async () => {
   const bench = await opened(TIE, 5);
-  bench.dispatch({ do: "note", client: 1, document: "zz" });
+  bench.dispatch({ do: "note", who: 1, document: "zz" });
   const port = await judged(bench);
   const view = { session: bench.state.session, port, place: 5, picked: null, canPlay: true, canNote: true, names: new Map(), caret: null, writing: null, asked: [] };
   const words = JSON.stringify(cardOf(bench.state.session, 1, view));
