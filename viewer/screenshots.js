@@ -10,23 +10,13 @@
 import fs from "node:fs";
 import path from "node:path";
 import { fileURLToPath } from "node:url";
-import { bugs } from "../examples/port/bugs.js";
-import { drive } from "../examples/port/drive.js";
-import { makePort } from "../oracle/otjs.js";
 import { openChromium } from "./browser/chromium.js";
+import { difference, portLines, weakOrder } from "./browser/faulty_port.js";
 import { User } from "./browser/user.js";
+import { example } from "./test/sessions.mjs";
 
 /** How many bytes a picture may have. */
 const MOST = 150_000;
-
-const example = (name) => fs.readFileSync(new URL(`../examples/${name}.ots`, import.meta.url), "utf8");
-
-/* The schedule of an example, and what a port with a planted fault printed. */
-function withPort(name, bug) {
-  const port = makePort();
-  bugs[bug](port);
-  return `${example(name)}%%\n${drive(example(name), port).join("\n")}\n`;
-}
 
 /* What each picture shows. */
 const PICTURES = {
@@ -43,10 +33,10 @@ const PICTURES = {
   async "page-port"(user) {
     await user.page.size(1280, 650);
     await user.press("e");
-    await user.paste("body", withPort("weak-order", "tie"));
-    await user.until('document.getElementById("conformance").textContent.startsWith("differs")', "the answer of conform");
+    await user.paste("body", `${weakOrder}%%\n${portLines}`);
+    await user.answered(difference);
     await user.press("d");
-    await user.settled(7);
+    await user.settled(difference.at);
   },
 };
 

@@ -25,9 +25,7 @@ testLong("Chromium", openChromium);
 suite("Chromium, an input method", openChromium, (user) => {
   test("what an input method composes is one edit, at its end", async () => {
     const shown = () => user.run('document.querySelector(\'.document[data-who="0"]\').textContent');
-    await user.open();
-    await user.click("#new");
-    await user.shown("/^clients 2\\n$/");
+    await user.openNew();
     await user.click('.document[data-who="0"]');
     await user.page.keys("ab");
     await user.settled(2);

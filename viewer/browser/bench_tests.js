@@ -3,10 +3,9 @@
 import assert from "node:assert/strict";
 import fs from "node:fs";
 import { test } from "node:test";
-import { bugs } from "../../examples/port/bugs.js";
-import { drive } from "../../examples/port/drive.js";
-import { makePort } from "../../oracle/otjs.js";
+import { example, portLinesOf } from "../test/sessions.mjs";
 import { wait } from "./driver.js";
+import { difference, portLines, weakOrder } from "./faulty_port.js";
 import { addressOfPage, otbench } from "./otbench.js";
 import { suite } from "./suite.js";
 import { clipboardEvent, quoted } from "./user.js";
@@ -34,12 +33,8 @@ export function testIn(name, openBrowser) {
     });
 
     test("the guide's story, from nothing, by clicks and keys, shared and opened again", async () => {
-      await user.open();
-      await user.click("#new");
-      await user.shown("/^clients 2\\n$/");
-      await user.click("#text");
-      await user.press("Control+End");
-      await user.page.type('start "x"');
+      await user.openNew();
+      await user.typeAtEnd('start "x"');
       await user.shown('/start "x"/');
       await user.click('.document[data-who="0"]');
       await user.press("End");
@@ -68,16 +63,15 @@ export function testIn(name, openBrowser) {
       for (const button of ["read 0", "read 1", "read-server"]) await user.click(`[data-play="${button}"]`);
       await user.settled(16);
       const text = await user.schedule();
-      assert.equal(text, file("weak-order.ots").replace(/^;.*\n/gm, ""));
+      assert.equal(text, weakOrder.replace(/^;.*\n/gm, ""));
       const printed = otbench(["run"], text);
       assert.ok(printed.endsWith(await user.end()), printed);
 
-      const port = makePort();
-      bugs.tie(port);
       await user.click("#paste");
-      await user.run(`document.getElementById("pasted").value = ${quoted(drive(text, port).join("\n"))}`);
+      await user.run(`document.getElementById("pasted").value = ${quoted(portLines)}`);
       await user.click('#pasting button[value="compare"]');
-      await user.until('document.getElementById("conformance").textContent === "differs at 7: deliver 0: client 0 buffer (line 9)"', "the answer of conform");
+      await user.answered(difference);
+      assert.equal(await user.text("#conformance"), "differs at 7: deliver 0: client 0 buffer (line 9)");
       assert.match(await user.text("#answer"), /note that is what transform gives if the text of its second argument goes first/);
       await user.press("d");
       await user.settled(7);
@@ -89,7 +83,7 @@ export function testIn(name, openBrowser) {
       assert.ok(link.replace(/;port=.*/, "").length < 300, link);
       await user.open(link);
       await user.settled(7);
-      await user.until('document.getElementById("conformance").textContent.startsWith("differs at 7: deliver 0")', "the port's lines of the link");
+      await user.answered(difference);
       assert.equal(await user.schedule(), text);
       assert.deepEqual(await user.documents(), ["cxz", "acz", "cx"]);
       await user.press("End");
@@ -98,9 +92,7 @@ export function testIn(name, openBrowser) {
     });
 
     test("typing, a paste, a cut, line breaks, emoji and control characters are the least edits, in scalars", async () => {
-      await user.open();
-      await user.click("#new");
-      await user.shown("/^clients 2\\n$/");
+      await user.openNew();
       await user.click('.document[data-who="0"]');
       await user.page.type("ab🙂");
       await user.shown("/🙂/");
@@ -122,9 +114,7 @@ export function testIn(name, openBrowser) {
     });
 
     test("fast typing loses no letter, and where the caret stands counts", async () => {
-      await user.open();
-      await user.click("#new");
-      await user.shown("/^clients 2\\n$/");
+      await user.openNew();
       await user.click('.document[data-who="1"]');
       await user.page.keys("the quick brown fox");
       await user.until('document.querySelectorAll(".card .document")[2].textContent === "the quick brown fox"', "the letters");
@@ -158,9 +148,7 @@ export function testIn(name, openBrowser) {
 
     test("the text: typing changes the picture, a fault stands at its column, and the place is marked both ways", async () => {
       await user.open();
-      await user.click("#text");
-      await user.press("Control+End");
-      await user.page.type("edit 1 [2,");
+      await user.typeAtEnd("edit 1 [2,");
       await user.until('/^line 12, column 1\\d: BadOperation/.test(document.getElementById("to-fault").textContent)', "the fault");
       assert.match(await user.text("#verdict"), /^the text before: ends /);
       assert.equal(await user.run('document.getElementById("verdict").className'), "verdict ");
@@ -184,9 +172,7 @@ export function testIn(name, openBrowser) {
 
     test("what does not fit is refused, with its reason, and can be left out", async () => {
       await user.open();
-      await user.click("#text");
-      await user.press("Control+End");
-      await user.page.type("ack 0\nread 1");
+      await user.typeAtEnd("ack 0\nread 1");
       await user.until('!document.getElementById("leave-out").hidden', "the refusal");
       assert.match(await user.text("#to-fault"), /^line 12, ack 0: LinkEmpty: /);
       assert.match(await user.text("#verdict"), /^stopped at 8: LinkEmpty \(line 12\); ends quiet/);
@@ -202,10 +188,9 @@ export function testIn(name, openBrowser) {
       await user.drop("late-join.img", [...fs.readFileSync(new URL("../../examples/late-join.img", import.meta.url))]);
       await user.shown("/present 1/");
       assert.equal(await user.text("#name"), "late-join.img");
-      const port = makePort();
-      await user.drop("port.jsonl", drive(file("both-delete.ots"), port).join("\n"));
+      await user.drop("port.jsonl", portLinesOf(example("both-delete")).join("\n"));
       await user.shown("/edit 1 \\[-1\\]/");
-      await user.until('document.getElementById("conformance").textContent === "conforms"', "conforms");
+      await user.answered({ verdict: "conforms" });
       await user.drop("reversed.json", file("reversed.json"));
       await user.until('document.getElementById("judged").open', "the trace");
       assert.match(await user.text("#trace-verdict"), /^reversed 2 4 0:0 1:0\nevent 2 is a read of replica 0; .*\nevent 4 is a read of replica 1; .*$/);
@@ -215,8 +200,8 @@ export function testIn(name, openBrowser) {
       await user.until('/^bad.bin cannot be opened: it is not text in UTF-8/.test(document.getElementById("notice").textContent)', "the notice");
       await user.drop("cut.img", [79, 84, 83, 50, 0]);
       await user.until('/^cut.img is no image of a schedule: otbench: byte 5: Cut/.test(document.getElementById("notice").textContent)', "the fault of the image");
-      await user.drop("both.ots", `${file("weak-order.ots")}%%\n{"at":1,"document":"q"}\n`);
-      await user.until('/^differs at 1: edit 0: client 0 document/.test(document.getElementById("conformance").textContent)', "a difference");
+      await user.drop("both.ots", `${weakOrder}%%\n{"at":1,"document":"q"}\n`);
+      await user.answered({ verdict: "differs", at: 1, client: 0, key: "document" });
     });
 
     test("hostile texts are shown and never run", async () => {
@@ -228,7 +213,7 @@ export function testIn(name, openBrowser) {
       await user.press("End");
       await user.settled(1);
       await user.paste("body", `${schedule}%%\n${bad}\n{"at":1,"document":${quoted(bad)},"stopped":${quoted(bad)}}\n`);
-      await user.until('document.getElementById("conformance").textContent !== "" && !document.getElementById("conformance").hidden', "the port");
+      await user.answered({ verdict: "differs", at: 1, key: "line" });
       await user.press("d");
       await user.drop("trace.json", `{"replicas":1,"start":[],"events":[],"more":${quoted(bad)}}`);
       await user.until('document.getElementById("judged").open', "the trace");
@@ -314,10 +299,8 @@ export function testIn(name, openBrowser) {
       await user.page.size(390, 800);
       await user.open();
       await user.until('document.getElementById("list-verdict").textContent !== ""', "the verdict");
-      const port = makePort();
-      bugs.tie(port);
-      await user.paste("body", `${file("weak-order.ots")}%%\n${drive(file("weak-order.ots"), port).join("\n")}\n`);
-      await user.until('document.getElementById("conformance").textContent.startsWith("differs at 7")', "the answer of conform");
+      await user.paste("body", `${weakOrder}%%\n${portLines}`);
+      await user.answered(difference);
       await user.press("d");
       await user.settled(7);
       const share = await user.run('document.getElementById("header").offsetHeight / innerHeight');
@@ -403,16 +386,20 @@ export function testIn(name, openBrowser) {
       await user.until('document.getElementById("list-verdict").textContent !== ""', "the verdict");
       await user.drop("many.ots", `clients 2\n${["[\"a\"]", "[-1]"].map((edit) => `edit 0 ${edit}\ntake 0\nack 0\ndeliver 1\n`).join("").repeat(30)}`);
       await user.until('document.getElementById("length").textContent === "of 240"', "the session");
-      const rows = () => user.run('document.querySelectorAll("#rows .texts text").length');
-      const before = await rows();
-      await user.run('dispatchEvent(new Event("beforeprint"))');
-      assert.ok((await rows()) > 240 * 2 && before < 240, "all rows");
-      assert.equal(await user.run("document.documentElement.dataset.theme"), "light");
-      assert.match(await user.text("#printed"), /^clients 2\n[^]*deliver 1\n$/);
-      await user.run('dispatchEvent(new Event("afterprint"))');
-      assert.ok((await rows()) < 240, "the rows in sight");
-      assert.equal(await user.run("document.documentElement.dataset.theme"), "dark");
-      assert.equal(await user.text("#printed"), "");
+      /* What is printed, at once, as a browser takes it: a verdict that comes later would draw the rows in sight again. */
+      const [before, printed, after] = await user.run(`(() => {
+        const shown = () => ({ rows: document.querySelectorAll("#rows .texts text").length, theme: document.documentElement.dataset.theme, text: document.getElementById("printed").textContent });
+        return [null, "beforeprint", "afterprint"].map((name) => {
+          if (name) dispatchEvent(new Event(name));
+          return shown();
+        });
+      })()`);
+      assert.ok(before.rows < 240, `${before.rows} texts in sight`);
+      assert.ok(printed.rows > 240 * 2, `${printed.rows} texts of all rows`);
+      assert.equal(printed.theme, "light");
+      assert.match(printed.text, /^clients 2\n[^]*deliver 1\n$/);
+      assert.ok(after.rows < 240, `${after.rows} texts in sight again`);
+      assert.deepEqual([after.theme, after.text], ["dark", ""]);
     });
 
     test("long verdicts leave the controls where they are", async () => {
@@ -433,7 +420,7 @@ export function testIn(name, openBrowser) {
       await user.open();
       const cut = "ann, event 9: deliver of operation 7, which the server did not take";
       await user.paste("body", `; client 0 is "a\\u0007b"\nclients 1\nstart "\u00e9"\nread 0\n; cut: ${quoted(cut)}\n%%\n{"at":1,"document":"e\u0301\u200b"}\n{"cut":${quoted(cut)}}\n`);
-      await user.until('document.getElementById("conformance").textContent.startsWith("differs at 1")', "the difference");
+      await user.answered({ verdict: "differs", at: 1, client: 0, key: "document" });
       assert.equal(await user.text("#cut"), `ends before its logs: ${cut}`);
       await user.press("d");
       await user.settled(1);
@@ -484,7 +471,7 @@ export function testIn(name, openBrowser) {
     });
 
     test("a page whose engine does not load says so, and leaves the viewer", async () => {
-      const lines = otbench(["steps"], file("weak-order.ots")).replaceAll("<", "\\u003c");
+      const lines = otbench(["steps"], weakOrder).replaceAll("<", "\\u003c");
       const broken = (html) => html.replace(/(id="module">)[^<]*/, "$1AAAA").replace('id="lines">\n', () => `id="lines">\n${lines}`);
       await user.page.goto(addressOfPage(broken));
       await user.until('/^The engine does not run: /.test(document.getElementById("notice").textContent)', "the notice");

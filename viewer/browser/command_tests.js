@@ -5,33 +5,22 @@ import fs from "node:fs";
 import os from "node:os";
 import path from "node:path";
 import { test } from "node:test";
-import { bugs } from "../../examples/port/bugs.js";
-import { drive } from "../../examples/port/drive.js";
-import { makePort } from "../../oracle/otjs.js";
 import { HOSTILE, MARKUP } from "../test/hostile.mjs";
+import { difference, portLines, weakOrder } from "./faulty_port.js";
 import { HARM } from "./harm.js";
 import { otbench } from "./otbench.js";
 import { suite } from "./suite.js";
 import { clipboardEvent, quoted } from "./user.js";
 
-const weakOrder = fs.readFileSync(new URL("../../examples/weak-order.ots", import.meta.url), "utf8");
-
-/* The session with names, and what a port with a fault printed of it. */
-function withPort() {
-  const port = makePort();
-  bugs.tie(port);
-  return { schedule: `; client 0 is Ann\n${weakOrder}`, lines: `${drive(weakOrder, port).join("\n")}\n` };
-}
-
 const SCRIPT = ["step", "", "next 2", 'break take 1 if doc 0 contains "a"', "watch doc 1", "display state 0", "run", "run", "run", "why", "rrun", "who 0 0", "blame 1", "find a", "rfind a", "diff 0 end", "mark here", "goto 3", "goto here", "undo", "where",
   "verdict", "list 0 3", "show", "print doc 0", "print difference", "explain 2", "until take", "runtil edit 0", "back 2", "rnext", "info", "delete 2", "help who", "constructor", "step x", "goto 99", "clear", "goto end", "help"];
 
 /* What the terminal's debugger prints. */
-function printed({ schedule, lines }, script) {
+function printed(session, script) {
   const folder = fs.mkdtempSync(path.join(os.tmpdir(), "otbench-commands-"));
   try {
     const file = path.join(folder, "session.ots");
-    fs.writeFileSync(file, `${schedule}%%\n${lines}`);
+    fs.writeFileSync(file, session);
     return otbench(["debug", file], `${script.join("\n")}\n`);
   } finally {
     fs.rmSync(folder, { recursive: true });
@@ -73,16 +62,16 @@ export function testCommands(name, openBrowser) {
     }
 
     test("a script of commands shows what it prints at the terminal and in the package", async () => {
-      const { schedule, lines } = withPort();
-      await open(`${schedule}%%\n${lines}`);
-      await user.until('document.getElementById("conformance").textContent.startsWith("differs at 7")', "the answer of conform");
+      const schedule = `; client 0 is Ann\n${weakOrder}`;
+      await open(`${schedule}%%\n${portLines}`);
+      await user.answered(difference);
       await user.press("Home");
       await perform(...SCRIPT);
       const shown = await answers();
-      assert.equal(shown.map((answer) => (answer === "" ? "" : `${answer}\n`)).join(""), printed({ schedule, lines }, SCRIPT));
+      assert.equal(shown.map((answer) => (answer === "" ? "" : `${answer}\n`)).join(""), printed(`${schedule}%%\n${portLines}`, SCRIPT));
       if (!fs.existsSync(new URL("../../engine/out/otbench.wasm", import.meta.url))) return;
       const { openDebugger } = await import("../../npm/debug.mjs");
-      const session = openDebugger(schedule, { port: lines });
+      const session = openDebugger(schedule, { port: portLines });
       assert.deepEqual(shown.slice(1), SCRIPT.map((line) => session.perform(line).join("\n")));
     });
 
@@ -157,9 +146,7 @@ export function testCommands(name, openBrowser) {
       await user.until('document.getElementById("prompt").textContent === "(15/15)"', "the session");
       assert.match(await perform("info"), /^no break 16 any more: .*\nno breaks, no watches$/);
       await user.press("Escape");
-      await user.click("#text");
-      await user.press("Control+End");
-      await user.page.type("x");
+      await user.typeAtEnd("x");
       await user.until('!document.getElementById("to-fault").hidden', "the fault");
       await user.press("Escape");
       await user.click("#debug");

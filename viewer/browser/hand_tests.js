@@ -25,6 +25,7 @@ export function testByHand(name, openBrowser) {
     };
 
     test("what an editor showed is compared at once, noted, shared and taken away", async () => {
+      const ofNote = { verdict: "differs", at: 5, client: 1, key: "document" };
       await opened(TIE, 5);
       await note(1, "ab");
       await user.until('/ot.js has "ba" here.*: that is what transform gives if the text of its second argument goes first/.test(document.getElementById("noted-answer").textContent)', "the answer");
@@ -32,21 +33,21 @@ export function testByHand(name, openBrowser) {
       await user.until('/same text/.test(document.getElementById("noted-answer").textContent)', "the answer");
       await note(1, "<img src=x onerror=window.harm=1>\u202e");
       await user.click('#noting [value="note"]');
-      await user.until('/differs at 5/.test(document.getElementById("conformance").textContent)', "conform's answer");
+      await user.answered(ofNote);
       await user.until('/my editor.*ot.js has/s.test(document.querySelector(\'[data-card="1"]\').textContent)', "the card");
       assert.equal(await user.run('"harm" in window'), false);
       await user.run('document.getElementById("link").click()');
       await user.until('/port=/.test(location.hash)', "the link");
       const hash = await user.run("location.hash");
       await user.open(hash);
-      await user.until('/differs at 5/.test(document.getElementById("conformance").textContent)', "the note of the link");
+      await user.answered(ofNote);
       await user.until('document.getElementById("list-verdict").textContent !== "" && document.getElementById("outlook").textContent !== ""', "the verdicts");
       await user.settled(5);
       await user.click('[data-note="1"]');
       await user.until('document.getElementById("noting").open');
       assert.match(await user.run('document.getElementById("showed").value'), /^<img/);
       await user.click("#forget-note");
-      await user.until('document.getElementById("conformance").hidden', "no note");
+      await user.answered({ verdict: "none" });
     });
 
     test("where the other order at the server gives what was seen, the answer says so; the server's document is noted too", async () => {
@@ -70,26 +71,20 @@ export function testByHand(name, openBrowser) {
 
     test("what conform answers stands beside its sentence as data", async () => {
       await opened(TIE, 5);
-      const NAMES = ["verdict", "at", "client", "key"];
-      const data = (wanted) => {
-        const values = quoted(NAMES.map((name) => wanted[name] ?? null));
-        const shown = `JSON.stringify(${quoted(NAMES)}.map((name) => document.getElementById("conformance").dataset[name] ?? null))`;
-        return user.until(`${shown} === ${quoted(values)}`, values);
-      };
       const compared = async (lines, wanted) => {
         await user.drop("port.ots", `${TIE}%%\n${lines.join("\n")}\n`);
-        await data(wanted);
+        await user.answered(wanted);
       };
-      await data({ verdict: "none" });
+      await user.answered({ verdict: "none" });
       const lines = ['{"at":1,"document":"a"}', '{"at":2,"document":"b"}', '{"at":3,"document":"a"}', '{"at":4,"document":"ba"}', '{"at":5,"document":"ba"}'];
       await compared(lines, { verdict: "conforms" });
-      await compared([...lines.slice(0, 4), '{"at":5,"document":"ab"}'], { verdict: "differs", at: "5", client: "1", key: "document" });
-      await compared(lines.with(2, '{"at":3,"document":"x"}'), { verdict: "differs", at: "3", client: "server", key: "document" });
-      await compared(['{"at":1,"client":5}'], { verdict: "differs", at: "1", key: "client" });
+      await compared([...lines.slice(0, 4), '{"at":5,"document":"ab"}'], { verdict: "differs", at: 5, client: 1, key: "document" });
+      await compared(lines.with(2, '{"at":3,"document":"x"}'), { verdict: "differs", at: 3, client: "server", key: "document" });
+      await compared(['{"at":1,"client":5}'], { verdict: "differs", at: 1, key: "client" });
       await user.drop("port.ots", "clients 1\n%%\n");
-      await data({ verdict: "nothing compared" });
+      await user.answered({ verdict: "nothing compared" });
       await user.click("#new");
-      await data({ verdict: "none" });
+      await user.answered({ verdict: "none" });
     });
 
     test("one click says which operations were transformed, and which text went first; a key too", async () => {

@@ -147,7 +147,7 @@ export function testInputs(name, openBrowser) {
         await user.drop(name, content);
         await user.until(`document.getElementById("notice").textContent === ${quoted(notice)}`, notice);
         assert.equal(await user.text("#name"), "two-clients");
-        assert.equal(await user.run('document.getElementById("conformance").hidden'), true);
+        await user.answered({ verdict: "none" });
         assert.equal(await user.schedule(), before);
       }
     });
@@ -166,13 +166,13 @@ export function testInputs(name, openBrowser) {
       const lines = log.trim().split("\n");
       const names = [...new Set(lines.map((line) => JSON.parse(line).who))];
       await dropTogether(names.map((who) => [`${who}.jsonl`, lines.filter((line) => JSON.parse(line).who === who).join("\n")]));
-      await user.until('document.getElementById("conformance").textContent === "conforms"', "the session of the logs");
+      await user.answered({ verdict: "conforms" });
       const { schedule } = merge(readEvents(log, "log"));
       assert.equal(await user.schedule(), `${schedule.join("\n")}\n`);
       assert.equal(await user.text("#name"), "3 logs");
       const steps = otbench(["steps"], example("buffer.ots"));
       await dropTogether([["port.jsonl", steps.replace('"revision":1', '"revision":7')], ["buffer.ots", example("buffer.ots")]]);
-      await user.until('/^differs at /.test(document.getElementById("conformance").textContent)', "the difference");
+      await user.answered({ verdict: "differs", at: 1, client: 0, key: "revision" });
       assert.equal(await user.text("#name"), "buffer.ots");
       await dropTogether([["a.ots", "clients 1\n"], ["b.ots", "clients 1\n"]]);
       await user.until('/^Of several files the page takes /.test(document.getElementById("notice").textContent)', "the notice");

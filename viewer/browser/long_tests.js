@@ -40,9 +40,7 @@ export function testLong(name, openBrowser) {
       assert.deepEqual(marked, [true, true, "10000"]);
       await user.until('document.getElementById("length").textContent === "of 10001"', "the answer", 2000);
       assert.equal(await user.run('document.querySelectorAll(".asked").length'), 0);
-      await user.click("#text");
-      await user.press("Control+End");
-      await user.page.type("x");
+      await user.typeAtEnd("x");
       await user.until('!document.getElementById("to-fault").hidden', "the fault", 2000);
       await user.press("Escape");
       await user.click(".card button.head");

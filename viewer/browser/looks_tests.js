@@ -1,15 +1,10 @@
 /* Tests of how the page looks, for any browser: contrast, what is cut, and keys alone, in windows of all sizes and both themes. */
 
 import assert from "node:assert/strict";
-import fs from "node:fs";
 import { test } from "node:test";
-import { bugs } from "../../examples/port/bugs.js";
-import { drive } from "../../examples/port/drive.js";
-import { makePort } from "../../oracle/otjs.js";
+import { difference, showFaultyPort } from "./faulty_port.js";
 import { longSchedule } from "./long_session.js";
 import { suite } from "./suite.js";
-
-const weakOrder = fs.readFileSync(new URL("../../examples/weak-order.ots", import.meta.url), "utf8");
 
 /* In the page: the texts in sight whose contrast to what is behind them is below 4.5. What is disabled may be paler. */
 const PALE = `(() => {
@@ -77,14 +72,7 @@ export function testLooks(name, openBrowser) {
     /* A port with a fault at its difference, and why. */
     async function openPort(theme) {
       await user.open(`#theme=${theme}`);
-      const port = makePort();
-      bugs.tie(port);
-      await user.paste("body", `; client 0 is Ann\n${weakOrder}%%\n${drive(weakOrder, port).join("\n")}\n`);
-      await user.until('document.getElementById("conformance").textContent.startsWith("differs at 7")', "the answer of conform");
-      await user.press("d");
-      await user.settled(7);
-      await user.press("w");
-      await user.until('/transforms/.test(document.getElementById("reason").textContent)', "the reason");
+      await showFaultyPort(user);
     }
 
     for (const theme of ["light", "dark"])
@@ -146,7 +134,7 @@ export function testLooks(name, openBrowser) {
           await user.press("Delete");
           await user.until('document.getElementById("length").textContent === "of 15"', "the answer");
           await told("list-verdict");
-          await user.until('!document.getElementById("conformance").hidden', "the answer of conform");
+          await user.answered(difference);
         });
         await user.drop("long.ots", longSchedule({ clients: 64, instructions: 300 }));
         await user.until('document.getElementById("length").textContent === "of 300"', "the session");

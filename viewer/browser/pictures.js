@@ -7,16 +7,11 @@
  * Forced colours and paper are Chromium's. The page is dist/otbench.html, or that which OTBENCH_PAGE names.
  */
 
-import fs from "node:fs";
 import path from "node:path";
-import { bugs } from "../../examples/port/bugs.js";
-import { drive } from "../../examples/port/drive.js";
-import { makePort } from "../../oracle/otjs.js";
 import { openChromium } from "./chromium.js";
+import { showFaultyPort } from "./faulty_port.js";
 import { openFirefox } from "./firefox.js";
 import { User } from "./user.js";
-
-const weakOrder = fs.readFileSync(new URL("../../examples/weak-order.ots", import.meta.url), "utf8");
 
 /* Sizes of windows; `scale` device pixels are a pixel of the page. */
 const WINDOWS = [
@@ -29,16 +24,7 @@ const WINDOWS = [
 /* What is shown, one after the other. */
 const SHOWN = {
   first: (user) => user.until('document.getElementById("list-verdict").textContent !== ""', "the verdict"),
-  async port(user) {
-    const port = makePort();
-    bugs.tie(port);
-    await user.paste("body", `; client 0 is Ann\n${weakOrder}%%\n${drive(weakOrder, port).join("\n")}\n`);
-    await user.until('document.getElementById("conformance").textContent.startsWith("differs at 7")', "the answer of conform");
-    await user.press("d");
-    await user.settled(7);
-    await user.press("w");
-    await user.until('/transforms/.test(document.getElementById("reason").textContent)', "the reason");
-  },
+  port: showFaultyPort,
   async debugger(user) {
     await user.press(":");
     await user.page.type("run");

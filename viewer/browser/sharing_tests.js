@@ -1,21 +1,11 @@
 /* Tests of how a session leaves the page, and of its first minute, for any browser. */
 
 import assert from "node:assert/strict";
-import fs from "node:fs";
 import { test } from "node:test";
-import { bugs } from "../../examples/port/bugs.js";
-import { drive } from "../../examples/port/drive.js";
-import { makePort } from "../../oracle/otjs.js";
+import { difference, portLines, weakOrder } from "./faulty_port.js";
 import { suite } from "./suite.js";
 
-const weakOrder = fs.readFileSync(new URL("../../examples/weak-order.ots", import.meta.url), "utf8");
-
-/* The session, and what a port with a fault printed of it. */
-function withPort() {
-  const port = makePort();
-  bugs.tie(port);
-  return `${weakOrder}%%\n${drive(weakOrder, port).join("\n")}\n`;
-}
+const withPort = `${weakOrder}%%\n${portLines}`;
 
 /* In the page: what is copied and saved is kept. */
 const KEEP = `(() => {
@@ -30,8 +20,8 @@ export function testSharing(name, openBrowser) {
     async function openWithPort() {
       await user.open();
       await user.run(KEEP);
-      await user.drop("report.ots", withPort());
-      await user.until('document.getElementById("conformance").textContent.startsWith("differs at 7")', "the answer of conform");
+      await user.drop("report.ots", withPort);
+      await user.answered(difference);
       await user.press("d");
       await user.settled(7);
     }
@@ -47,7 +37,7 @@ export function testSharing(name, openBrowser) {
       assert.match(report, /\nfound \[1,"a",-1,1\]\not\.js \["a",1,-1,1\]\n/);
       const [, link] = /\nThe session opens only where the page's file is: `([^`]*)`\n$/.exec(report);
       await user.open(new URL(link).hash);
-      await user.until('document.getElementById("conformance").textContent.startsWith("differs at 7")', "the port's lines");
+      await user.answered(difference);
       assert.equal(await user.text("#name"), "report.ots");
       assert.equal(await user.schedule(), weakOrder.replace(/^;.*\n/gm, ""));
     });
@@ -67,7 +57,7 @@ export function testSharing(name, openBrowser) {
       await user.press("s");
       await user.click('#saving button[value="text"]');
       await user.until("window.called", "the text");
-      assert.equal(await user.run("window.saved.text()"), withPort());
+      assert.equal(await user.run("window.saved.text()"), withPort);
       for (const [kind, file] of [["svg", "session.svg"], ["png", "session.png"]]) {
         await user.press("s");
         await user.click(`#saving button[value="${kind}"]`);
@@ -97,7 +87,7 @@ export function testSharing(name, openBrowser) {
       await user.page.type("ab");
       await user.until('/goes first \\(take 1, at 4\\)/.test(document.getElementById("noted-answer").textContent)', "the answer");
       await user.click('#noting [value="note"]');
-      await user.until('/^differs at 6/.test(document.getElementById("conformance").textContent)', "the difference");
+      await user.answered({ verdict: "differs", at: 6, client: 0, key: "document" });
       await user.click("#report");
       await user.until("window.copied", "what is copied");
       const report = await user.run("window.copied");
@@ -122,7 +112,7 @@ export function testSharing(name, openBrowser) {
         await user.press("l");
       }
       await user.press("Escape");
-      await user.until('document.getElementById("conformance").textContent.startsWith("differs at 7")', "the port's fault");
+      await user.answered(difference);
       await user.press("?");
       await user.click("#guide");
       assert.equal(await user.run('document.getElementById("guiding").open'), true);

@@ -15,6 +15,15 @@ export const clipboardEvent = (type, selector, content) => {
   return data.getData("text/plain");
 };
 
+/* What conform answered, as the page's data; what a difference alone has is null without one. */
+const ANSWER = { verdict: "none", at: null, client: null, key: null };
+
+/* In the page: whether conform's answer is one, `{ verdict, at, client, key }`. */
+export function isAnswer(wanted) {
+  const values = Object.entries({ ...ANSWER, ...wanted }).map(([name, value]) => [name, value === null ? null : String(value)]);
+  return `${quoted(values)}.every(([name, value]) => (document.getElementById("conformance").dataset[name] ?? null) === value)`;
+}
+
 /* What a test does with the page of a browser. */
 export class User {
   constructor(page) {
@@ -43,6 +52,13 @@ export class User {
     await this.started();
   }
 
+  /* Opens the page with a session of two clients and nothing else. */
+  async openNew() {
+    await this.open();
+    await this.click("#new");
+    await this.shown("/^clients 2\\n$/");
+  }
+
   async reload() {
     await this.page.reload();
     await this.started();
@@ -56,6 +72,11 @@ export class User {
   async shown(pattern) {
     await this.until(`${pattern}.test(document.getElementById("text").value)`, `${pattern} in the text`);
     await this.page.drawn();
+  }
+
+  /* When conform has answered so. */
+  async answered(wanted) {
+    await this.until(isAnswer(wanted), `the answer ${quoted(wanted)} of conform`);
   }
 
   async settled(place) {
@@ -73,6 +94,13 @@ export class User {
       await this.page.drawn();
     }
     await this.page.click(...(await this.run(middle)));
+  }
+
+  /* Types at the end of the schedule. */
+  async typeAtEnd(text) {
+    await this.click("#text");
+    await this.press("Control+End");
+    await this.page.type(text);
   }
 
   async press(...names) {

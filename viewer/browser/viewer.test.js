@@ -3,14 +3,12 @@
 import assert from "node:assert/strict";
 import fs from "node:fs";
 import { after, before, test } from "node:test";
-import { bugs } from "../../examples/port/bugs.js";
-import { drive } from "../../examples/port/drive.js";
-import { makePort } from "../../oracle/otjs.js";
+import { example } from "../test/sessions.mjs";
 import { openChromium } from "./chromium.js";
+import { difference, portLines, weakOrder } from "./faulty_port.js";
 import { longSchedule } from "./long_session.js";
 import { otbench, pageOf, pageWithoutEngine } from "./otbench.js";
-
-const example = (name) => fs.readFileSync(new URL(`../../examples/${name}.ots`, import.meta.url), "utf8");
+import { isAnswer } from "./user.js";
 
 let page;
 before(async () => (page = await openChromium()));
@@ -32,6 +30,12 @@ async function until(holds) {
 async function shows(selector, wanted) {
   await until(async () => wanted.test(await text(selector)));
   assert.match(await text(selector), wanted);
+}
+
+/* Waits for conform's answer. */
+async function answered(wanted) {
+  await until(() => page.run(isAnswer(wanted)));
+  assert.ok(await page.run(isAnswer(wanted)), await page.run('JSON.stringify(document.getElementById("conformance").dataset)'));
 }
 
 /* What the page shows of its place, in the lines of `otbench debug`. */
@@ -70,7 +74,7 @@ const write = (id, value, event) =>
   })()`);
 
 test("stepping back and forth by keys, slider, buttons and clicks", async () => {
-  await page.goto(pageOf("weak-order", example("weak-order")));
+  await page.goto(pageOf("weak-order", weakOrder));
   const keys = [
     ["ArrowRight", 1],
     ["j", 2],
@@ -145,7 +149,7 @@ test("each example at its end and its middle is what `otbench debug` shows", asy
 });
 
 test("stepping through one participant, by a click on its head", async () => {
-  await page.goto(pageOf("follow", example("weak-order")));
+  await page.goto(pageOf("follow", weakOrder));
   await page.click(...(await middle("#heads .lane", 2)));
   assert.match(await text("#sentence"), /Stepping through client 1\.$/);
   const seen = [];
@@ -160,7 +164,7 @@ test("stepping through one participant, by a click on its head", async () => {
 });
 
 test("a click on a character marks the same insertion in all documents", async () => {
-  await page.goto(`${pageOf("pick", example("weak-order"))}#at=7`);
+  await page.goto(`${pageOf("pick", weakOrder)}#at=7`);
   await page.click(...(await middle(".card .document .inserted")));
   assert.equal(await page.run('document.querySelectorAll(".picked").length'), 3);
   assert.match(await text("#sentence"), /“c” inserted by client 1 at 4$/);
@@ -180,15 +184,13 @@ test("a click within a run of one author finds the character", async () => {
 });
 
 test("a port's lines beside, with the first difference", async () => {
-  const port = makePort();
-  bugs.tie(port);
-  const input = `${otbench(["steps"], example("weak-order"))}%%\n${drive(example("weak-order"), port).join("\n")}\n`;
-  await page.goto(pageOf("plain", example("weak-order")));
+  const input = `${otbench(["steps"], weakOrder)}%%\n${portLines}`;
+  await page.goto(pageOf("plain", weakOrder));
   await until(() => page.run('document.body.classList.contains("with-engine")'));
   const paste = `(() => { const data = new DataTransfer(); data.setData("text", ${JSON.stringify(input)});
     document.body.dispatchEvent(new ClipboardEvent("paste", { clipboardData: data, bubbles: true })); })()`;
   await page.run(paste);
-  await shows("#conformance", /differs at 7: deliver 0: client 0 buffer/);
+  await answered(difference);
   await page.key("d");
   await shows("#sentence", /The port/);
   assert.match(await text("#sentence"), /The port: buffer \[1,"a",-1,1\], ot.js: \["a",1,-1,1\]/);
@@ -200,12 +202,12 @@ test("a port's lines beside, with the first difference", async () => {
 });
 
 test("lines for some instructions: the others are not compared, also once the engine has judged", async () => {
-  await page.goto(pageOf("sparse", `${example("weak-order")}%%\n{"at":12,"document":"acz"}\n`, ["--sparse"]));
-  await shows("#conformance", /^conforms/);
+  await page.goto(pageOf("sparse", `${weakOrder}%%\n{"at":12,"document":"acz"}\n`, ["--sparse"]));
+  await answered({ verdict: "conforms" });
   await until(async () => (await text("#list-verdict")) !== "");
-  await shows("#conformance", /^conforms/);
-  await page.goto(pageOf("sparse-fault", `${example("weak-order")}%%\n{"at":12,"document":"caz"}\n`, ["--sparse"]));
-  await shows("#conformance", /differs at 12: deliver 1: client 1 document/);
+  await answered({ verdict: "conforms" });
+  await page.goto(pageOf("sparse-fault", `${weakOrder}%%\n{"at":12,"document":"caz"}\n`, ["--sparse"]));
+  await answered({ verdict: "differs", at: 12, client: 1, key: "document" });
 });
 
 test("a file is dropped, and a faulty one is refused with its line", async () => {
@@ -224,7 +226,7 @@ test("a file is dropped, and a faulty one is refused with its line", async () =>
 });
 
 test("by keyboard alone, and for those who hear the page", async () => {
-  await page.goto(pageOf("keyboard", example("weak-order")));
+  await page.goto(pageOf("keyboard", weakOrder));
   const reached = [];
   for (let k = 0; k < 30; k++) {
     await page.key("Tab");
@@ -243,7 +245,7 @@ test("by keyboard alone, and for those who hear the page", async () => {
 });
 
 test("light, dark, narrow", async () => {
-  await page.goto(`${pageOf("themes", example("weak-order"))}#theme=dark`);
+  await page.goto(`${pageOf("themes", weakOrder)}#theme=dark`);
   const paper = () => page.run("getComputedStyle(document.body).backgroundColor");
   assert.equal(await paper(), "rgb(20, 23, 28)");
   await page.key("t");
@@ -256,7 +258,7 @@ test("light, dark, narrow", async () => {
 });
 
 test("the diagram is saved as an SVG file", async () => {
-  await page.goto(`${pageOf("save", example("weak-order"))}#at=7;theme=light`);
+  await page.goto(`${pageOf("save", weakOrder)}#at=7;theme=light`);
   await page.run(`(() => {
     URL.createObjectURL = (blob) => ((window.saved = blob), "about:blank");
     HTMLAnchorElement.prototype.click = () => {};

@@ -32,9 +32,7 @@ export function testWriting(name, openBrowser) {
         await user.until(`document.getElementById("length").textContent === "of ${count}"`, "the session");
         await user.press("End");
         await user.settled(count);
-        await user.click("#text");
-        await user.press("Control+End");
-        await user.page.type("read 0");
+        await user.typeAtEnd("read 0");
         await user.press("Enter");
         await user.shown("/read 0\\n$/");
         await user.page.drawn();
@@ -58,20 +56,16 @@ export function testWriting(name, openBrowser) {
     /* The last edit of the schedule. */
     const lastEdit = async () => JSON.parse(/^edit 0 (.*)$/.exec((await user.schedule()).trim().split("\n").at(-1))[1]);
 
-    const wait = (pattern) => user.shown(pattern);
-
     async function withText(text) {
       await user.open();
       await user.drop("one.ots", `clients 1\nstart ${quoted(text)}\n`);
-      await wait("/^clients 1\\nstart /");
+      await user.shown("/^clients 1\\nstart /");
       await user.until('document.getElementById("length").textContent === "of 0"', "the session");
       await user.click(EDITOR);
     }
 
     test("what is typed behind a paste of 689 characters stands behind it", async () => {
-      await user.open();
-      await user.click("#new");
-      await wait("/^clients 2\\n$/");
+      await user.openNew();
       await user.click(EDITOR);
       await user.paste(EDITOR, longText(689));
       await user.settled(1);
@@ -141,9 +135,7 @@ export function testWriting(name, openBrowser) {
     });
 
     test("the caret stands where it stood, after undo and redo", async () => {
-      await user.open();
-      await user.click("#new");
-      await wait("/^clients 2\\n$/");
+      await user.openNew();
       await user.click(EDITOR);
       await user.page.keys("abcd");
       await user.settled(4);
