@@ -33,7 +33,7 @@ export function testSharing(name, openBrowser) {
       const report = await user.run("window.copied");
       assert.match(report, /^\*\*otbench\*\* `report\.ots`: `ends quiet`; (`[^`]*`; )?`differs at 7: deliver 0: client 0 buffer \(line 11\)`\n/);
       assert.ok(report.includes(`\n\`\`\`\n${weakOrder}\`\`\`\n`), "the schedule");
-      assert.match(report, /\nAt place 7 of 16 \(`not quiet: client 0 is awaiting-with-buffer; 1 more client is not quiet`\):\n\n`They may still differ: .* all will be "acz"\.`\n\n`deliver 0, place 7: AwaitingWithBuffer\.applyServer transforms .*`\\\n`Then it transforms .*`\\\n`Both insert at offset 0: .*`\n\nWhat ot\.js has there:\n\n- server: `"cxz"`\n- `client 0`: `"acz"`\n/);
+      assert.match(report, /\n\nAt place 7 of 16 \(`not quiet: client 0 is awaiting-with-buffer; 1 more client is not quiet`\):\n\n`They may still differ: .* all will be "acz"\.`\n\n```\n[^]*\n```\n\n`deliver 0, place 7: AwaitingWithBuffer\.applyServer transforms .*`\\\n`Then it transforms .*`\\\n`Both insert at offset 0: .*`\n\nWhat ot\.js has at place 7:\n\n- server: `"cxz"`\n- `client 0`: `"acz"`\n/);
       assert.match(report, /\nfound \[1,"a",-1,1\]\not\.js \["a",1,-1,1\]\n/);
       const [, link] = /\nThe session opens only where the page's file is: `([^`]*)`\n$/.exec(report);
       await user.open(new URL(link).hash);
@@ -85,13 +85,13 @@ export function testSharing(name, openBrowser) {
       await user.click('[data-note="0"]');
       await user.until('document.getElementById("noting").open', "where to enter it");
       await user.page.type("ab");
-      await user.until('/goes first \\(take 1, at 4\\)/.test(document.getElementById("noted-answer").textContent)', "the answer");
+      await user.until('/goes first \\(take 1, place 4\\)/.test(document.getElementById("noted-answer").textContent)', "the answer");
       await user.click('#noting [value="note"]');
       await user.answered({ verdict: "differs", at: 6, client: 0, key: "document" });
       await user.click("#report");
       await user.until("window.copied", "what is copied");
       const report = await user.run("window.copied");
-      for (const part of ['`All documents must be "ba".`', '"b" before "a"', '- at 6, `client 0`: `"ab"`', "note that is what transform gives"]) assert.ok(report.includes(part), part);
+      for (const part of ['`All documents must be "ba".`', '"b" before "a"', '- place 6, `client 0`: `"ab"`', "note that is what transform gives"]) assert.ok(report.includes(part), part);
     });
 
     test("the examples are a course in its order, each with what to look for, and the last one has a port with a fault", async () => {

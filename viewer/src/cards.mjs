@@ -6,10 +6,9 @@ import { quoted, seen } from "../../common/characters.mjs";
 import { START, sameText, walk } from "../../common/document.mjs";
 import { SERVER } from "../../common/fold.mjs";
 import { documentAt, downAt, headsAt, logLengthAt, receiptsIn, stateAt, upAt, versionsOf } from "../../common/places.mjs";
-import { orderWords } from "./order.mjs";
 import { colourOf } from "./theme.mjs";
 import { tree } from "./tree.mjs";
-import { apart, nameOfMember, shortName, shownOperation, shownValue } from "./words.mjs";
+import { apart, nameOfMember, orderWords, shortName, shownOperation, shownValue } from "./words.mjs";
 
 export const authorOf = ({ maker }, names) => (maker === START ? "the start" : nameOfMember(maker, names));
 

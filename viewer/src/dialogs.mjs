@@ -1,15 +1,13 @@
 // The page's dialogs: examples, paste, save, a client's name, what an editor showed, lanes, a judged trace.
 
-import { brief } from "../../common/characters.mjs";
 import { element, fill, setText } from "./dom.mjs";
 import { SERVER } from "../../common/fold.mjs";
 import { splitInput } from "../../common/input.mjs";
 import { noteAt, notedPlace } from "../../common/noted.mjs";
-import { orderWords } from "./order.mjs";
 import { shownPlace } from "./state.mjs";
 import { traceTable } from "./trace.mjs";
 import { built, tree } from "./tree.mjs";
-import { apart, instructionOf, nameOfMember } from "./words.mjs";
+import { instructionOf, nameOfMember, noteWords } from "./words.mjs";
 
 export function openDialog(id) {
   element(id).returnValue = "";
@@ -50,20 +48,6 @@ export function askNote({ session, port, outline, ...state }, who) {
   openDialog("noting");
   element("showed").focus();
   element("showed").dispatchEvent(new Event("input"));
-}
-
-/** What conform's answer says of a note, in words. @param {import("../../common/conformance.mjs").Told | null} told @param {Map<number, string>} names */
-export function noteWords(told, names = new Map()) {
-  if (!told?.answer) return "The text has a fault: mend it first.";
-  const { verdict, client, found, otjs, note, order } = told.answer;
-  if (verdict === "conforms") return "ot.js has the same text here.";
-  if (verdict !== "differs") return told.words[0];
-  const [shown, wanted] = apart(found, otjs);
-  const seen = client === null ? "the server" : "the editor";
-  const both = shown === found && wanted === otjs ? "" : `, and ${seen} ${brief(shown, 300)}`;
-  const other = order && orderWords(order, names);
-  const ordered = other ? ` here, if the server took ${other.now} first${both}. With the other order, ${other.other} first, it has ${brief(shown, 300)}.` : ` here${both}.`;
-  return `ot.js has ${brief(wanted, 300)}${ordered}${note ? ` Of ${seen}’s text: ${note}.` : ""}`;
 }
 
 const showed = () => element("showed").value;

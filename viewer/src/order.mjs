@@ -7,7 +7,6 @@
 import { textOf } from "../../common/document.mjs";
 import { textUpTo } from "../../common/outline.mjs";
 import { documentAt, logLengthAt } from "../../common/places.mjs";
-import { nameOfMember } from "./words.mjs";
 
 /** How many other orders are tried, of the last edits first. */
 const MOST = 8;
@@ -70,6 +69,3 @@ export async function otherOrder(given, { at, who, document }, becomes) {
   }
   return null;
 }
-
-/** Whose edit the server took first, and whose it takes first in the other order. */
-export const orderWords = ({ first, then }, names) => ({ now: `${nameOfMember(then, names)}’s edit`, other: `${nameOfMember(first, names)}’s edit` });

@@ -1,12 +1,13 @@
-// The session as Markdown, for an issue: the schedule, the verdict, what each document is at the place, what a port has otherwise, and the link.
+// The session as Markdown, for an issue: the verdict, the schedule, why each document is what it is at the place, what a port has otherwise, and the link.
 
 import { brief, quoted, seen } from "../../common/characters.mjs";
 import { SERVER } from "../../common/fold.mjs";
 import { documentAt, quietAt, stateAt } from "../../common/places.mjs";
 import { textOf } from "../../common/document.mjs";
+import { notesIn } from "../../common/noted.mjs";
 import { shownPlace } from "./state.mjs";
 import { reasonWords } from "./reason.mjs";
-import { nameOfMember, operationText } from "./words.mjs";
+import { nameOfMember, noteWords, operationText } from "./words.mjs";
 
 /* The longest run of backticks in a text. */
 const ticksIn = (text) => Math.max(0, ...(text.match(/`+/g) ?? []).map((run) => run.length));
@@ -40,11 +41,17 @@ function documentsAt(session, place, names) {
 }
 
 /* The notes, each at the place where it stands. */
-const seenIn = ({ lines }, names) =>
-  lines.filter(Boolean).map(({ at, client, document }) => `- at ${at}, ${inline(nameOfMember(client, names))}: ${inline(quoted(brief(document, MOST.document)))}`);
+const seenIn = (port, names) =>
+  notesIn(port).map(({ at, who, document }) => `- place ${at}, ${inline(nameOfMember(who, names))}: ${inline(quoted(brief(document, MOST.document)))}`);
 
-/* Whether the documents must agree, and to what, in paragraphs. */
-const outlookWords = (lines) => lines.map((line) => `${inline(brief(line, 600))}\n\n`).join("");
+/* Whether the documents must agree at the place, and to what; and of a note that differs what ot.js has. */
+function verdictAt({ session, beside, outline, ...state }, outlook) {
+  const place = shownPlace({ session, ...state });
+  const lines = outlook.map((line) => inline(brief(line, 600)));
+  const { at, client, verdict } = beside?.areNotes && beside.answer ? beside.answer : {};
+  if (verdict === "differs") lines.push(`Place ${at}, ${inline(nameOfMember(client ?? SERVER, outline.names))}: ${inline(brief(noteWords(beside, outline.names), 900))}`);
+  return `At place ${place} of ${session.length} (${inline(quietAt(session, place))})${lines.length ? `:\n\n${lines.join("\n\n")}` : ""}`;
+}
 
 /* Which transform led to the documents, in lines. */
 function reasonAt({ session, outline }, reason) {
@@ -68,10 +75,11 @@ export function reportOf(state, { verdicts, outlook = [], reason = null, link, i
   const place = shownPlace(state);
   const parts = [
     `**otbench**${title ? ` ${inline(brief(title, 80))}` : ""}: ${verdicts.map((words) => inline(brief(words, 300))).join("; ")}`,
+    verdictAt(state, outlook),
     block(shortened(text)),
-    `At place ${place} of ${session.length} (${inline(quietAt(session, place))}):\n\n${outlookWords(outlook)}${reasonAt(state, reason)}What ot.js has there:\n\n${documentsAt(session, place, outline.names).join("\n")}`,
+    `${reasonAt(state, reason)}What ot.js has at place ${place}:\n\n${documentsAt(session, place, outline.names).join("\n")}`,
   ];
-  if (beside?.areNotes) parts.push(`What was seen in editors:\n\n${seenIn(beside, outline.names).join("\n")}`);
+  if (beside?.areNotes) parts.push(`What was seen:\n\n${seenIn(state.port, outline.names).join("\n")}`);
   if (beside?.answer) parts.push(`${beside.areNotes ? "That" : "What the port printed"}, beside ot.js:\n\n${block(beside.words.join("\n") || beside.answer.verdict)}`);
   parts.push(isOfFile ? `The session opens only where the page's file is: ${inline(link)}` : `[Open the session](<${link}>)`);
   return `${parts.join("\n\n")}\n`;

@@ -8,13 +8,12 @@ import { SERVER } from "../../common/fold.mjs";
 import { legend } from "./legend.mjs";
 import { canNote } from "../../common/noted.mjs";
 import { quietAt } from "../../common/places.mjs";
-import { orderWords } from "./order.mjs";
 import { reasonWords } from "./reason.mjs";
 import { isAnswered, outlookNow, reasonNow, shownPlace } from "./state.mjs";
 import { variablesOf } from "./theme.mjs";
 import { Timeline } from "./timeline.mjs";
 import { tree } from "./tree.mjs";
-import { answerData, apart, instructionOf, nameOfMember, sentence, shownOperation, shownValue, verdictOn } from "./words.mjs";
+import { answerData, apart, instructionOf, nameOfMember, orderWords, sentence, shownOperation, shownValue, verdictOn } from "./words.mjs";
 
 /** Of a session of so many instructions, above how many milliseconds of the engine's the page says that the picture comes later. */
 const LONG = 1000;

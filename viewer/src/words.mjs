@@ -137,3 +137,20 @@ export function answerData({ port, beside }) {
   if (verdict !== "differs") return { verdict };
   return { verdict, at, client: client ?? (client === null ? SERVER : undefined), key, ...(order && { order: `${order.first} ${order.then}` }) };
 }
+
+/** Whose edit the server took first, and whose it takes first in the other order. */
+export const orderWords = ({ first, then }, names) => ({ now: `${nameOfMember(then, names)}’s edit`, other: `${nameOfMember(first, names)}’s edit` });
+
+/** What conform's answer says of a note, in words. @param {import("../../common/conformance.mjs").Told | null} told @param {Map<number, string>} names */
+export function noteWords(told, names = new Map()) {
+  if (!told?.answer) return "The text has a fault: mend it first.";
+  const { verdict, client, found, otjs, note, order } = told.answer;
+  if (verdict === "conforms") return "ot.js has the same text here.";
+  if (verdict !== "differs") return told.words[0];
+  const [shown, wanted] = apart(found, otjs);
+  const seen = client === null ? "the server" : "the editor";
+  const both = shown === found && wanted === otjs ? "" : `, and ${seen} ${brief(shown, 300)}`;
+  const other = order && orderWords(order, names);
+  const ordered = other ? ` here, if the server took ${other.now} first${both}. With the other order, ${other.other} first, it has ${brief(shown, 300)}.` : ` here${both}.`;
+  return `ot.js has ${brief(wanted, 300)}${ordered}${note ? ` Of ${seen}’s text: ${note}.` : ""}`;
+}

@@ -4,11 +4,11 @@ import assert from "node:assert/strict";
 import { test } from "node:test";
 import { Bench } from "../src/bench.mjs";
 import { cardOf } from "../src/cards.mjs";
-import { noteWords } from "../src/dialogs.mjs";
 import { SERVER } from "../../common/fold.mjs";
 import { areNotes, canNote, carriedNotes, noteAt, withNote } from "../../common/noted.mjs";
 import { reportOf } from "../src/report.mjs";
 import { outlineOf } from "../../common/outline.mjs";
+import { noteWords } from "../src/words.mjs";
 import { DirectEngine, skip } from "./engines.mjs";
 
 const TIE = 'clients 2\nedit 0 ["a"]\nedit 1 ["b"]\ntake 0\ntake 1\ndeliver 1\n';
@@ -103,7 +103,8 @@ test("a note is compared at once, and stays beside the session", { skip }, async
   const [difference] = beside.noteOf(1, 5).differences;
   assert.deepEqual([difference.key, difference.found], ["document", '"</script><b>"']);
   const report = reportOf(bench.state, { verdicts: ["differs"], link: "link", isOfFile: false });
-  assert.match(report, /What was seen in editors:\n\n- at 1, `client 0`: `"a"`\n- at 5/);
+  assert.match(report, /^\*\*otbench\*\*: `differs`\n\nAt place 5 of 5 \(.*\):\n\nPlace 5, `client 1`: `ot\.js has "ba" here\.`\n\n```\nclients 2\n/);
+  assert.match(report, /What was seen:\n\n- place 1, `client 0`: `"a"`\n- place 5/);
   bench.dispatch({ do: "undo" });
   assert.deepEqual(bench.state.port, [note(5, 1, "</script><b>")]);
 });

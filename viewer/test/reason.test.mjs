@@ -89,8 +89,8 @@ test("it is asked for where it is shown, and follows the place; the report has i
   assert.equal(await shownAt(5), 5);
   assert.equal(await shownAt(11), 6);
   const report = reportOf(bench.state, { verdicts: [], ...(await bench.sayHere()), link: "l", isOfFile: false });
-  assert.match(report, /`take 1, place 6: Server\.receiveOperation transforms \["b",1\] \(client 1, its message\) against \["a",1\] \(client 0 \(Ann\), log entry 0\)\.`\\\n`Both insert at offset 0: .*`\n\nWhat ot\.js has there:\n\n- server/);
-  assert.match(report, /\n`They may still differ: .* all will be "bcas"\.`\n\n`take 1/);
+  assert.match(report, /`take 1, place 6: Server\.receiveOperation transforms \["b",1\] \(client 1, its message\) against \["a",1\] \(client 0 \(Ann\), log entry 0\)\.`\\\n`Both insert at offset 0: .*`\n\nWhat ot\.js has at place 11:\n\n- server/);
+  assert.match(report, /^\*\*otbench\*\*: \n\nAt place 11 of 11 \(.*\):\n\n`They may still differ: .* all will be "bcas"\.`\n\n```\n; client 0/);
   bench.dispatch({ do: "reason" });
   assert.equal(reasonNow(bench.state), null);
   bench.dispatch({ do: "write", text: "clients 2\nedit", line: 0, tag: "" });

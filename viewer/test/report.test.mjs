@@ -22,12 +22,12 @@ test("a report has the schedule, the verdict, the documents at the place, and th
     report,
     `**otbench** \`two\`: \`ends quiet\`; \`the weak list property holds\`
 
+At place 3 of 8 (\`not quiet: client 0 is awaiting-confirm; 1 more client is not quiet\`)
+
 \`\`\`
 ${text}\`\`\`
 
-At place 3 of 8 (\`not quiet: client 0 is awaiting-confirm; 1 more client is not quiet\`):
-
-What ot.js has there:
+What ot.js has at place 3:
 
 - server: \`"a"\`
 - \`client 0 (Ann)\`: \`"a"\`
@@ -49,7 +49,7 @@ test("what a port has otherwise is in it, and a link of a file says where it ope
 test("no text ends its block or its line", () => {
   const text = 'clients 1\nstart "``` <b> ````"\n; ```\n';
   const report = reportOf(stateOf(text, { title: "`x`\n# y" }), { verdicts: ["`"], link: "l", isOfFile: true });
-  assert.match(report, /^\*\*otbench\*\* `` `x`␊# y ``: `` ` ``\n\n`````\nclients 1\n/);
+  assert.match(report, /^\*\*otbench\*\* `` `x`␊# y ``: `` ` ``\n\nAt place 0 of 0 \(`quiet`\)\n\n`````\nclients 1\n/);
   assert.match(report, /\n- server: `````"``` <b> ````"`````\n/);
   const long = `clients 1\n${'edit 0 ["a"]\nedit 0 [-1]\n'.repeat(2000)}`;
   assert.match(reportOf(stateOf(long), { verdicts: ["x"], link: "l", isOfFile: true }), /\n; \.\. 50010 characters in all; the link has the whole\n```\n/);
