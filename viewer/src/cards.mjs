@@ -149,6 +149,9 @@ const READ = { words: "read", look: "small" };
 
 const noteButton = (who, title, { canPlay, canNote }) => canPlay && canNote && tree("button", { class: "small", "data-note": who, title }, "I saw …");
 
+/* Who it is, and its state: as wide as the buttons beside it leave it, so that they stay where they are. */
+const called = (...words) => tree("span", { class: "who" }, words);
+
 const acts = (...buttons) => buttons.some(Boolean) && tree("span", { class: "acts" }, buttons);
 
 function serverCard(session, view, isMoved) {
@@ -160,7 +163,7 @@ function serverCard(session, view, isMoved) {
   const rows = length ? [["log, last first", lines.map((line, i) => [i > 0 && tree("br"), line])]] : [];
   rows.push(...portRows(view.port, SERVER, view));
   const read = canPlay && playButton("read-server", "shows the server’s document here", READ);
-  const heading = ["server ", badge(`rev ${length}`), acts(noteButton(SERVER, "notes what the server’s document was seen to be here, beside what ot.js has", view), read)];
+  const heading = [called("server ", badge(`rev ${length}`)), acts(noteButton(SERVER, "notes what the server’s document was seen to be here, beside what ot.js has", view), read)];
   return card(SERVER, { ...view, isMoved }, heading, [shownDocument(session, SERVER, view), table(rows)]);
 }
 
@@ -197,13 +200,13 @@ const STATE_LOOKS = { synchronized: "", "awaiting-confirm": "confirm", "awaiting
 function clientCard(session, client, view, isMoved) {
   const { place, canPlay, names } = view;
   const { state, revision, outstanding, buffer } = stateAt(session, client, place);
-  const called = names?.has(client) && [" ", tree("span", { class: "called" }, `(${shortName(names.get(client))})`)];
-  const name = [tree("span", { class: "name" }, `client ${client}`), called, " ", badge(state, STATE_LOOKS[state])];
+  const given = names?.has(client) && [" ", tree("span", { class: "called" }, `(${shortName(names.get(client))})`)];
+  const name = [tree("span", { class: "name" }, `client ${client}`), given, " ", badge(state, STATE_LOOKS[state])];
   const rename = canPlay && tree("button", { class: "small", "data-name": client, title: "gives the client a name" }, "name");
   if (state === "not-joined") {
     const join = `join ${client}`;
     const asJoin = { look: "head", isAsked: isAsked(join, view) };
-    return card(client, { ...view, isMoved }, [name, acts(rename)], canPlay && playButton(join, "the client joins with the server’s document (+)", asJoin));
+    return card(client, { ...view, isMoved }, [called(name), acts(rename)], canPlay && playButton(join, "the client joins with the server’s document (+)", asJoin));
   }
   const rows = [];
   if (outstanding) rows.push(["outstanding", shownOperation(outstanding, client)]);
@@ -212,7 +215,7 @@ function clientCard(session, client, view, isMoved) {
   const isSame = sameText(documentAt(session, client, place), documentAt(session, SERVER, place));
   const read = canPlay && playButton(`read ${client}`, "shows the document here (r)", READ);
   const note = noteButton(client, "notes what an editor showed here, beside what ot.js has", view);
-  const heading = [name, " ", badge(`rev ${revision}`), " ", badge(isSame ? "= server" : "≠ server"), acts(note, read, rename)];
+  const heading = [called(name, " ", badge(`rev ${revision}`), " ", badge(isSame ? "= server" : "≠ server")), acts(note, read, rename)];
   return card(client, { ...view, isMoved }, heading, [shownDocument(session, client, view), table(rows)]);
 }
 

@@ -82,7 +82,7 @@ function followCard(view, frames) {
   const state = element("state").getBoundingClientRect();
   if (!moved || frames === 0 || view.place !== Number(element("place").value)) return;
   const { top, bottom } = moved.getBoundingClientRect();
-  if (top >= state.top && (bottom <= state.bottom - element("answered").offsetHeight || top <= state.top + 200)) return;
+  if (top >= state.top && (bottom <= state.bottom || top <= state.top + 200)) return;
   scrollToCard();
   requestAnimationFrame(() => followCard(view, frames - 1));
 }
@@ -108,8 +108,10 @@ function showHeader(state, view) {
   element("followed").value = followed === null ? "" : followed;
   element("undo").disabled = past.length === 0;
   element("redo").disabled = future.length === 0;
+  const isNew = element("notice").textContent !== notice && notice !== "";
   setText("notice", notice);
   element("notice").hidden = notice === "";
+  if (isNew) element("aside").scrollTop = element("notice").offsetTop; // where the reason stands above it
   element("about").hidden = notice === "" || !state.isWelcome;
   showVerdicts(state);
 }
@@ -147,16 +149,17 @@ function showVerdicts(state) {
   const those = beside.areNotes ? "what was seen" : "the port's lines";
   const marked = beside.first === null ? `${those}: no difference` : `${those}: a difference at ${beside.first}`;
   const line = answer?.line ? shownLine(state, answer.line) : lineOf(state, (answer?.at ?? beside.first ?? 0) - 1);
-  const unless = answer?.order ? `, unless the server took ${orderWords(answer.order, state.outline.names).other} first` : "";
-  setVerdict("conformance", front + (words[0] ?? answer?.verdict ?? marked) + line + unless, !conforms ? "bad" : isNow ? "good" : "");
+  const order = answer?.order ? " in this order" : "";
+  setVerdict("conformance", front + (words[0] ?? answer?.verdict ?? marked) + line + order, !conforms ? "bad" : isNow ? "good" : "");
 }
 
-/* What conform answered; while an answer is awaited that of before, paler, so that nothing is covered and uncovered at each change. */
+/* What conform answered; while an answer is awaited that of before, paler. */
 function showAnswer({ port, beside, outline }) {
   element("answer").classList.toggle("old", !beside);
   if (beside) setText("answer", answerOf(beside, outline.names).join("\n"));
   else if (port === null) setText("answer", "");
-  element("answered").hidden = element("answer").textContent === "";
+  element("answer").hidden = element("answer").textContent === "";
+  element("not-answered").hidden = !element("answer").hidden;
 }
 
 /** What the page says of the session, in its words. */
@@ -210,6 +213,7 @@ function showReason(state) {
   const { isReasonShown, session, outline } = state;
   const reason = reasonNow(state);
   const shown = (part) => (typeof part === "string" ? part : shownOperation(part.operation, part.maker));
+  if (isReasonShown && element("reason").hidden) element("aside").scrollTop = 0;
   element("why").setAttribute("aria-expanded", String(isReasonShown));
   element("reason").hidden = !isReasonShown;
   fill("reason", reason && reasonWords(session, reason, outline.names).map((words) => tree("p", {}, words.map(shown))));
@@ -248,11 +252,11 @@ function showFault(state) {
 function scrollToCard() {
   const moved = document.querySelector(".card.moved");
   const first = element("cards").firstElementChild;
-  const covered = { Top: isNarrow() ? 0 : first.offsetHeight + 4, Bottom: element("answered").offsetHeight };
+  const covered = isNarrow() ? 0 : first.offsetHeight + 4;
   const { style, clientHeight } = element("state");
-  for (const [side, height] of Object.entries(covered)) if (style[`scrollPadding${side}`] !== `${height}px`) style[`scrollPadding${side}`] = `${height}px`;
+  if (style.scrollPaddingTop !== `${covered}px`) style.scrollPaddingTop = `${covered}px`;
   if (!moved) return;
-  const isHigh = moved.offsetHeight > clientHeight - covered.Top - covered.Bottom && (isNarrow() || moved !== first);
+  const isHigh = moved.offsetHeight > clientHeight - covered && (isNarrow() || moved !== first);
   const { scrollX, scrollY } = window;
   moved.scrollIntoView({ block: isHigh ? "start" : "nearest" });
   scrollTo(scrollX, scrollY); // a page that is higher than a narrow window stays where it is
