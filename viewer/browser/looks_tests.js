@@ -151,6 +151,66 @@ export function testLooks(name, openBrowser) {
         await user.page.size(1440, 900);
       });
 
+    for (const [width, height] of [[1440, 900], [1280, 720], [640, 360]])
+      test(`a notice, a reason, a name and a note move no button that is used next, at ${width} x ${height}`, async () => {
+        await user.page.size(width, height);
+        await user.open();
+        const text = 'clients 2\nedit 0 ["a"]\nedit 1 ["b"]\ntake 0\ntake 1\ndeliver 1\nack 1\nack 0\ndeliver 0\n';
+        await user.paste("body", text);
+        await user.until(`document.getElementById("text").value === ${JSON.stringify(text)} && document.getElementById("length").textContent === "of 8"`, "the session");
+        await user.press("End");
+        await user.settled(8);
+        await user.until('document.getElementById("outlook").textContent !== ""', "the verdict");
+        const stood = () =>
+          user.run(`(() => {
+            const card = document.querySelector('[data-card="1"]').getBoundingClientRect();
+            const above = ["time", "why", "next", "cards"].map((id) => document.getElementById(id).getBoundingClientRect());
+            const own = ["note", "name", "play"].map((act) => document.querySelector('[data-card="1"] [data-' + act + "]").getBoundingClientRect());
+            const of = (box, { left = 0, top = 0 }) => [Math.round(box.left - left), Math.round(box.top - top)].join();
+            return [...above.slice(0, 3).map((box) => of(box, { top: -scrollY })), Math.round(above[3].left), Math.round(above[3].width), ...own.map((box) => of(box, card))].join("; ");
+          })()`);
+        const before = await stood();
+        const stays = async (what, condition) => {
+          await user.until(condition, what, 1000);
+          await user.page.drawn();
+          assert.equal(await stood(), before, what);
+        };
+        await user.press("u");
+        await stays("a notice", 'document.getElementById("notice").textContent !== ""');
+        await user.press("w");
+        await stays("a reason", '/transforms/.test(document.getElementById("reason").textContent)');
+        await user.click('[data-name="1"]');
+        await user.page.type("Ben");
+        await user.press("Enter");
+        await stays("a name", '/Ben/.test(document.querySelector(\'[data-card="1"] h2\').textContent)');
+        await user.click('[data-note="1"]');
+        await user.page.type("ab");
+        await user.until('document.getElementById("noted-answer").textContent !== ""', "the answer");
+        await user.click('#noting [value="note"]');
+        await stays("a note", 'document.getElementById("conformance").dataset.verdict === "differs"');
+        await user.page.size(1440, 900);
+      });
+
+    test("at 640 x 360 the page is scrolled as a whole, and each control can be reached", async () => {
+      await user.page.size(640, 360);
+      await openPort("light");
+      assert.deepEqual(await user.run(CUT), []);
+      assert.ok(await user.run("document.documentElement.scrollHeight > innerHeight + 100"), "more than the window");
+      const faulty = await user.run(`(() => {
+        const controls = [...document.querySelectorAll(".card button, .card .document, #answer")];
+        const isCut = (control) => {
+          control.scrollIntoView({ block: "start" });
+          const { left, right, top, bottom } = control.getBoundingClientRect();
+          const hit = document.elementFromPoint((left + right) / 2, (top + Math.min(bottom, top + 24)) / 2);
+          return left < 0 || right > innerWidth || !control.contains(hit);
+        };
+        const low = ["time", "state"].filter((id) => document.getElementById(id).clientHeight < 200);
+        return [...low, ...controls.filter(isCut).map((control) => control.dataset.play ?? control.textContent)];
+      })()`);
+      assert.deepEqual(faulty, []);
+      await user.page.size(1440, 900);
+    });
+
     for (const [width, height] of [[1280, 720], [390, 844], [720, 450]])
       test(`at ${width} x ${height} the diagram and the place stay in sight with the reason and the debugger open`, async () => {
         await user.page.size(width, height);
