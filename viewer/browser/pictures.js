@@ -2,9 +2,10 @@
  * Takes pictures of the page to be looked at: in windows of 1440, 1280 and 390 pixels, light and dark, at 200 %, with forced colours, and as it is
  * printed; the first visit, a port with a fault and its reason, the debugger, and dialogs.
  *
- *     node viewer/browser/pictures.js FOLDER [chromium|firefox]
+ *     node viewer/browser/pictures.js FOLDER [chromium|firefox] [NAME ...]
  *
- * Forced colours and paper are Chromium's. The page is dist/otbench.html, or that which OTBENCH_PAGE names.
+ * A name is that of a window and a theme, as 1280-dark, or forced, or paper; without one all are taken. Forced colours and paper are Chromium's. The page is
+ * dist/otbench.html, or that which OTBENCH_PAGE names.
  */
 
 import path from "node:path";
@@ -12,6 +13,8 @@ import { openChromium } from "./chromium.js";
 import { showFaultyPort } from "./faulty_port.js";
 import { openFirefox } from "./firefox.js";
 import { User } from "./user.js";
+
+const BROWSERS = { chromium: openChromium, firefox: openFirefox };
 
 /* Sizes of windows; `scale` device pixels are a pixel of the page. */
 const WINDOWS = [
@@ -54,6 +57,14 @@ async function takeAll(user, folder, name) {
 /* What media queries of colours and paper see; Chromium alone can say it. */
 const media = (page, media, features = []) => page.send("Emulation.setEmulatedMedia", { media, features });
 
+async function takeForced(user, folder) {
+  await user.page.size(1280, 720);
+  await media(user.page, "", [{ name: "forced-colors", value: "active" }]);
+  await user.open();
+  await takeAll(user, folder, "forced");
+  await media(user.page, "");
+}
+
 async function takePaper(user, folder) {
   await user.open();
   await SHOWN.port(user);
@@ -68,33 +79,36 @@ async function takePaper(user, folder) {
   await media(user.page, "");
 }
 
-async function take(folder, browser) {
-  const page = await { chromium: openChromium, firefox: openFirefox }[browser]();
-  const user = new User(page);
-  try {
-    for (const { name, width, height, scale = 1 } of WINDOWS)
-      for (const theme of ["light", "dark"]) {
-        await page.size(width, height, scale);
+/* What can be taken of a browser, by name. */
+function setsOf(browser) {
+  const sets = new Map();
+  for (const { name, width, height, scale = 1 } of WINDOWS)
+    for (const theme of ["light", "dark"])
+      sets.set(`${name}-${theme}`, async (user, folder) => {
+        await user.page.size(width, height, scale);
         await user.open(`#theme=${theme}`);
         await takeAll(user, folder, `${browser}-${name}-${theme}`);
-      }
-    if (browser !== "chromium") return;
-    await page.size(1280, 720);
-    await media(page, "", [{ name: "forced-colors", value: "active" }]);
-    await user.open();
-    await takeAll(user, folder, "forced");
-    await takePaper(user, folder);
+      });
+  if (browser === "chromium") sets.set("forced", takeForced).set("paper", takePaper);
+  return sets;
+}
+
+async function take(folder, browser, names) {
+  const page = await BROWSERS[browser]();
+  try {
+    const user = new User(page);
+    for (const [name, takeSet] of setsOf(browser)) if (names.length === 0 || names.includes(name)) await takeSet(user, folder);
   } finally {
     await page.close();
   }
 }
 
-const [folder, browser = "chromium", ...more] = process.argv.slice(2);
-if (folder === undefined || folder.startsWith("-") || more.length > 0 || !["chromium", "firefox"].includes(browser)) {
-  console.error("usage: node viewer/browser/pictures.js FOLDER [chromium|firefox]");
+const [folder, browser = "chromium", ...names] = process.argv.slice(2);
+if (folder === undefined || folder.startsWith("-") || !Object.hasOwn(BROWSERS, browser) || names.some((name) => !setsOf(browser).has(name))) {
+  console.error("usage: node viewer/browser/pictures.js FOLDER [chromium|firefox] [NAME ...]");
   process.exit(2);
 }
-take(folder, browser).catch((fault) => {
+take(folder, browser, names).catch((fault) => {
   console.error(`pictures: ${fault.message}`);
   process.exitCode = 1;
 });
