@@ -38,9 +38,8 @@ test("find goes by the documents that reads show, at each place", options, () =>
   for (const text of ["ab", "ac", "zd", "x"]) {
     const changes = places.slice(1).filter((place) => ["read 0", "read 1", "read-server"].some((line) => times(place - 1, line, text) !== times(place, line, text)));
     const session = open(SESSION);
-    const found = [];
-    while (!session.perform(`find ${text}`)[0].startsWith("no further")) found.push(session.place);
-    assert.deepEqual(found, changes, text);
+    const found = [...changes, null].map(() => (session.perform(`find ${text}`)[0].startsWith("no further") ? null : session.place));
+    assert.deepEqual(found, [...changes, null], text);
   }
 });
 
