@@ -39,7 +39,7 @@ export const COMMANDS = {
   undo: { takes: "", most: 0, does: "goes back to where the last move began" },
   where: { takes: "", most: 0, does: "says which instruction was performed or undone last, and where that led" },
   verdict: { takes: "", most: 0, does: "says whether all documents must agree at the place, and to what" },
-  list: { takes: "[P [Q]]", most: 2, does: "shows the instructions around the place, around P, or from P to Q, with their lines" },
+  list: { takes: "[P [Q]]", most: 2, does: "shows the instructions around the place, around P, or from P to Q, with their lines, and the operations of edits" },
   show: { takes: "[C|server]", most: 1, does: "shows documents, states, outstanding operations, buffers and links; what is long is cut" },
   print: { takes: "doc|state|outstanding|buffer|message|link C, print doc server, print server, print instruction [N], print difference", most: 2, does: "shows the whole of one value, or of what conform answers" },
   explain: { takes: "[N]", most: 1, does: "describes the instruction that was performed or undone last, or instruction N, in words" },

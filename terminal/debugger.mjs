@@ -9,7 +9,7 @@ import { nearest } from "../common/nearest.mjs";
 import { RefusedText } from "./recording.mjs";
 import { Stops } from "./stops.mjs";
 import { clientOf, memberOf, subjectOf, textOf, titleOf, WATCHED } from "./subjects.mjs";
-import { shortLine, shortVerdict, shortWords } from "./values.mjs";
+import { shortLine, shortOperation, shortVerdict, shortWords } from "./values.mjs";
 import { reasonsOf } from "../common/why.mjs";
 
 const AROUND = 4; // how many instructions `list` shows before and behind the place
@@ -368,7 +368,14 @@ export class Debugger {
     const [from, to] = second === undefined ? [Math.max(0, middle - AROUND), middle + AROUND] : [middle, this.#placeOf(second)];
     if (from > to) throw new Complaint(`${from} is behind ${to}`);
     const width = String(end).length;
-    return instructions.slice(from, to).map((it) => `${this.#mark(it.number)} ${String(it.number).padStart(width)}  line ${it.line}: ${it.words}${it.refused ? "  (refused)" : ""}`);
+    return instructions.slice(from, to).map((it) => `${this.#mark(it.number)} ${String(it.number).padStart(width)}  line ${it.line}: ${this.#listed(it)}`);
+  }
+
+  /** An instruction of a list; an edit that is performed with its operation. */
+  #listed({ number, words, refused }) {
+    if (refused) return `${words}  (refused)`;
+    const { edit } = this.#instructionAt(number);
+    return edit === undefined ? words : `${words} ${shortOperation(edit)}`;
   }
 
   _show([word]) {

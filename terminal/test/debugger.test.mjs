@@ -131,6 +131,13 @@ test("list marks the last instruction and the next one", options, () => {
   assert.deepEqual(listed.split("\n").slice(3, 5), ["->  6  line 11: deliver 0", " >  7  line 12: ack 0"]);
 });
 
+test("list shows the operation of an edit, a long one cut, and of a refused one none", options, () => {
+  const [listed] = answers(["list"], `clients 1\nedit 0 ["a"]\nedit 0 [1,${JSON.stringify("typed ".repeat(40))}]\nread 0\nedit 0 [9]\n`);
+  const [first, long, read, refused] = listed.split("\n").map((line) => line.replace(/^.*?line /, ""));
+  assert.deepEqual([first, read, refused], ['2: edit 0 ["a"]', "4: read 0", "5: edit 0  (refused)"]);
+  assert.equal(long, '3: edit 0 [1,"typed typed typed typed ".."typed typed typed typed " (240 characters)]');
+});
+
 test("the place where a port differs is a break, with conform's answer", options, () => {
   const port = ask(["steps"], WEAK).output.replace('"buffer":["a",1,-1,1],"applied"', '"buffer":["a",-1,1],"applied"');
   const [stopped] = answers(["run"], WEAK, port);
@@ -313,7 +320,7 @@ test("a word too many is named", options, () => {
 test("next N, list P Q and explain N mean something", options, () => {
   const [, , next, listed, told, none, back] = answers(["step 3", "step", "next 2", "list 3 5", "explain 6", "explain 99", "list 5 3"]);
   assert.equal(next.split("\n")[0], "behind line 14, instruction 9: ack 1");
-  assert.deepEqual(listed.split("\n").map((line) => line.trim()), ["3  line 8: edit 1", "4  line 9: take 1"]);
+  assert.deepEqual(listed.split("\n").map((line) => line.trim()), ['3  line 8: edit 1 ["c",1]', "4  line 9: take 1"]);
   assert.equal(told.split("\n")[0], "line 11, instruction 6: deliver 0");
   assert.match(none, /^99 is no instruction: they are 0 to 15; /);
   assert.match(back, /^5 is behind 3; /);
