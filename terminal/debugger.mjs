@@ -59,9 +59,16 @@ export class Debugger {
     const { opening, difference, conforms, showsNothing, unknown, cut } = this.recording;
     const ends = cut === null ? [] : [`the schedule ends before its logs: ${cut}`];
     const said = difference ? this.#tellDifference(difference) : [];
-    if (conforms) said.push("the port conforms");
+    if (conforms) said.push(this.#conforming());
     if (showsNothing) said.push("the port's lines have no value that can be compared");
     return [shortLine(opening), ...ends, ...said, ...unknown.map(shortLine), "help lists the commands"];
+  }
+
+  /** That the port conforms; of lines for some instructions also where they end, if that is before the end: nothing is compared behind it. */
+  #conforming() {
+    const { port, end } = this.recording;
+    const last = port.isSparse ? port.lines.length - 1 : end;
+    return last < end ? `the port conforms; its lines end at place ${last}` : "the port conforms";
   }
 
   /** That the port differs, and in which line; at the first place, to which no command goes on, with conform's answer. */

@@ -219,6 +219,12 @@ test("a port that conforms is said to, and one whose lines have no value to show
   assert.deepEqual(greeting(null), []);
 });
 
+test("of a port's lines for some instructions it is said where they end", options, () => {
+  const greeting = (port) => new Debugger(new Recording(ask, WEAK, port, true)).greeting().slice(1, -1);
+  assert.deepEqual(greeting('{"at":7,"revision":1}\n{"at":12,"document":"acz"}\n'), ["the port conforms; its lines end at place 12"]);
+  assert.deepEqual(greeting('{"at":12,"document":"acz"}\n{"at":16,"document":"acz"}\n'), ["the port conforms"]);
+});
+
 test("a refused instruction ends the run with its reason", options, () => {
   const [ended] = answers(["run"], "clients 1\nedit 0 [\"a\"]\ntake 0\ntake 0\n");
   assert.equal(ended.split("\n").at(-2), "the end: line 4, instruction 2: take 0 is refused");
