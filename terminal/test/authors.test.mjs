@@ -56,6 +56,14 @@ test("find goes to where a document gains or loses a text, and rfind back", opti
   assert.match(empty, /^the text is empty/);
 });
 
+test("find and rfind count how often, from the first instruction to the last, and stop there", options, () => {
+  const session = open('clients 1\nstart "ab"\nedit 0 ["ab",2]\nedit 0 [-2,2]\nedit 0 [2,"c"]\nedit 0 [-1,2]\n');
+  const gone = (word) => [session.perform(`${word} ab`).at(-1), session.place];
+  const said = (from, to) => `client 0 doc: "ab" ${from} -> ${to}`;
+  assert.deepEqual(Array.from({ length: 4 }, () => gone("find")), [[said("once", "2 times"), 1], [said("2 times", "once"), 2], [said("once", "nowhere"), 4], ['no further instruction changes how often a document has "ab"', 4]]);
+  assert.deepEqual(Array.from({ length: 4 }, () => gone("rfind")), [[said("once", "nowhere"), 3], [said("2 times", "once"), 1], [said("once", "2 times"), 0], ['no earlier instruction changes how often a document has "ab"', 0]]);
+});
+
 test("diff shows two places, and two documents at one", options, () => {
   const session = open();
   const [both, one, , documents, same] = answers(["diff 0 3", "diff 3 0 1", "goto 3", "diff doc 0 1", "diff doc server server"], session);
