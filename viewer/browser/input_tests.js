@@ -172,7 +172,7 @@ export function testInputs(name, openBrowser) {
       assert.equal(await user.text("#name"), "3 logs");
       const steps = otbench(["steps"], example("buffer.ots"));
       await dropTogether([["port.jsonl", steps.replace('"revision":1', '"revision":7')], ["buffer.ots", example("buffer.ots")]]);
-      await user.answered({ verdict: "differs", at: 1, client: 0, key: "revision" });
+      await user.answered({ verdict: "differs", at: 4, client: "server", key: "revision" });
       assert.equal(await user.text("#name"), "buffer.ots");
       await dropTogether([["a.ots", "clients 1\n"], ["b.ots", "clients 1\n"]]);
       await user.until('/^Of several files the page takes /.test(document.getElementById("notice").textContent)', "the notice");
