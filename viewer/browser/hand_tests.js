@@ -64,6 +64,7 @@ export function testByHand(name, openBrowser) {
       await user.click('#noting [value="note"]');
       await user.until('/seen.*"ba" as ot.js has it/s.test(document.querySelector(\'[data-card="server"]\').textContent)', "the server's card");
       await data({ verdict: "differs", at: "5", client: "1" });
+      assert.equal(await user.run('document.getElementById("conformance").dataset.order ?? null'), null, "the server's document is that of this order");
       await note("server", "ab");
       await user.click('#noting [value="note"]');
       await data({ verdict: "differs", at: "4", client: "server", key: "document", order: "1 0" });

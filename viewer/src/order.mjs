@@ -5,6 +5,8 @@
 //     edit 0, edit 1, take 1, take 0                 explain: all will be "ab"
 
 import { textOf } from "../../common/document.mjs";
+import { SERVER } from "../../common/fold.mjs";
+import { notedPlace, notesIn } from "../../common/noted.mjs";
 import { textUpTo } from "../../common/outline.mjs";
 import { documentAt, logLengthAt } from "../../common/places.mjs";
 
@@ -53,15 +55,18 @@ function* otherOrders({ session, text, outline }, place) {
 }
 
 /**
- * The clients whose edits the server would have to take in this order for a document that was seen; null where no such order is found.
- * @param {{ session: import("../../common/fold.mjs").Session, text: string, outline: import("../../common/outline.mjs").Outline }} given an answered text
+ * The clients whose edits the server would have to take in this order for a document that was seen; null where no such order is found, and where the server's
+ * document was seen to be that of the order there is.
+ * @param {{ session: import("../../common/fold.mjs").Session, text: string, outline: import("../../common/outline.mjs").Outline, port: string[] | null }} given an answered text, and the notes beside it
  * @param {import("../../common/noted.mjs").Note} note
  * @param {(text: string) => Promise<string | undefined>} becomes what all documents are, or become; undefined where that is open
  * @returns {Promise<{ first: number, then: number } | null>}
  */
 export async function otherOrder(given, { at, who, document }, becomes) {
-  const { session, text, outline } = given;
-  if ((await becomes(textUpTo(text, outline, at))) !== textOf(documentAt(session, who, at))) return null;
+  const { session, text, outline, port } = given;
+  const now = textOf(documentAt(session, who, at));
+  const isOfNow = (note) => note.who === SERVER && note.document === now && note.at === notedPlace(session, SERVER, at);
+  if (notesIn(port).some(isOfNow) || (await becomes(textUpTo(text, outline, at))) !== now) return null;
   let tried = 0;
   for (const { first, then, text: other } of otherOrders(given, at)) {
     if ((await becomes(other)) === document) return { first, then };

@@ -134,8 +134,12 @@ test("a note stands where the document last changed, and not at an acknowledgeme
   assert.equal(beside.noteOf(SERVER, 8).document, "ab");
   assert.equal(beside.noteOf(SERVER, 3), null);
   assert.equal(beside.noteOf(1, 8).document, "ab");
+  assert.deepEqual((await bench.askNote(1, "ab")).answer.order, { first: 1, then: 0 });
   bench.dispatch({ do: "note", who: SERVER, document: "ba" });
-  assert.equal((await judged(bench)).words[0], "differs at 5: deliver 1: client 1 document");
+  const { words, answer } = await judged(bench);
+  assert.equal(words[0], "differs at 5: deliver 1: client 1 document");
+  assert.equal(answer.order, undefined, "the server's document is that of this order");
+  assert.equal((await bench.askNote(1, "ab")).answer.order, undefined);
 });
 
 test("where the other order at the server gives what was seen, that is said", { skip }, async () => {
