@@ -7,8 +7,8 @@ import path from "node:path";
 
 export const wait = (milliseconds) => new Promise((done) => setTimeout(done, milliseconds));
 
-/* How long a browser may take for an answer, in milliseconds; on a busy machine a call takes seconds. */
-const LIMIT = 120_000;
+/* How long a browser may take for an answer, in milliseconds: on a machine of 4 cores with a load of 20 Firefox takes more than two minutes to start. */
+const LIMIT = 300_000;
 
 /* What a promise gives, or a fault where it gives nothing within the limit. */
 export function within(promise) {
