@@ -70,6 +70,19 @@ export function testByHand(name, openBrowser) {
       await data({ verdict: "differs", at: "4", client: "server", key: "document", order: "1 0" });
     });
 
+    test("a button that is pressed stays until its click, whatever is told meanwhile", async () => {
+      const typed = (text) => `clients 2\nedit 0 [${quoted(text)}]\nedit 1 ["b"]\n`;
+      await opened(typed("a"), 2);
+      const card = () => user.text('[data-card="0"]');
+      await user.run('(window.pressed = document.querySelector(\'[data-play="take 0"]\')).dispatchEvent(new PointerEvent("pointerdown", { bubbles: true }))');
+      await user.run(`((field) => ((field.value = ${quoted(typed("axy"))}), field.dispatchEvent(new Event("input", { bubbles: true }))))(document.getElementById("text"))`);
+      await user.until('/axy/.test(document.getElementById("outlook").textContent)', "the other text's verdict");
+      assert.equal(await user.run("window.pressed.isConnected"), true);
+      assert.doesNotMatch(await card(), /axy/);
+      await user.run("window.pressed.click()");
+      await user.until('document.getElementById("length").textContent === "of 3" && /axy/.test(document.querySelector(\'[data-card="0"]\').textContent)', "the take");
+    });
+
     test("what conform answers stands beside its sentence as data", async () => {
       await opened(TIE, 5);
       const compared = async (lines, wanted) => {

@@ -191,6 +191,20 @@ export function testLooks(name, openBrowser) {
         await user.page.size(1440, 900);
       });
 
+    test("the server's card stays in sight beside those of clients, and never over one in low windows", async () => {
+      const position = () => user.run('getComputedStyle(document.querySelector(".card.server")).position');
+      await user.page.size(1440, 900);
+      await openPort("light");
+      assert.equal(await position(), "sticky");
+      for (const [width, height] of [[1280, 720], [720, 450]]) {
+        await user.page.size(width, height);
+        await user.press(":");
+        assert.equal(await position(), "static", `${width} x ${height}`);
+        await user.press("Escape");
+      }
+      await user.page.size(1440, 900);
+    });
+
     test("at 640 x 360 the page is scrolled as a whole, and each control can be reached", async () => {
       await user.page.size(640, 360);
       await openPort("light");

@@ -1,5 +1,5 @@
 // The cards on the page. Only those that are others than they were are renewed; the focus, the caret and how far a document is
-// scrolled stay.
+// scrolled stay. While one of their buttons is pressed all stay as they are, since a browser gives no click to a button that is exchanged.
 
 import { cardOf, cardParts } from "./cards.mjs";
 import { element } from "./dom.mjs";
@@ -13,9 +13,29 @@ export class Deck {
   #scrolled = new Map(); // how far each document is scrolled: asked of all of them it would be slow
   #entered = null; // the editor that the focus has come to
   composing = null; // the client whose document an input method writes into: its card stays as it is
+  #isPressed = false; // whether a button of a card is
+  #awaited = null; // what is to be shown when it is no longer
+
+  /** The cards hear that a button is pressed, and show what they missed behind its click, or where none comes. */
+  listen() {
+    element("cards").addEventListener("pointerdown", ({ target }) => (this.#isPressed = target.closest("button") !== null));
+    for (const type of ["click", "pointercancel"]) addEventListener(type, () => this.#release());
+    addEventListener("pointerup", () => this.#isPressed && setTimeout(() => this.#release(), 100));
+  }
+
+  #release() {
+    this.#isPressed = false;
+    const awaited = this.#awaited;
+    this.#awaited = null;
+    if (awaited) this.show(...awaited);
+  }
 
   /** @param {object} view see `cardOf` @param {boolean} isPut whether what is selected in the state is to be selected on the page, else the user may have moved the caret since */
   show(view, isPut) {
+    if (this.#isPressed) {
+      this.#awaited = [view, isPut];
+      return;
+    }
     const parent = element("cards");
     const members = [SERVER, ...[...view.session.members.keys()].filter((client) => !view.hidden.has(client))];
     const editor = this.#editorInUse();
