@@ -54,12 +54,12 @@ export function testByHand(name, openBrowser) {
       await opened(`${TIE}ack 1\nack 0\ndeliver 0\n`, 8);
       const data = (wanted) => user.until(`Object.entries(${quoted(wanted)}).every(([name, value]) => document.getElementById("conformance").dataset[name] === value)`, quoted(wanted));
       await note(1, "ab");
-      const sentence = "ot.js has \"ba\" here, if the server took client 0’s edit first. With the other order, client 1’s edit first, it has \"ab\".";
+      const sentence = "ot.js has \"ba\" here, since the server took client 0’s edit first. With the other order, client 1’s edit first, it would have \"ab\".";
       await user.until(`document.getElementById("noted-answer").textContent.startsWith(${quoted(sentence)})`, sentence);
       await user.click('#noting [value="note"]');
       await data({ verdict: "differs", at: "5", client: "1", key: "document", order: "1 0" });
       assert.match(await user.text("#conformance"), /^differs at 5: deliver 1: client 1 document \(line 6\) in this order$/);
-      assert.match(await user.text("#answer"), /\nfound "ab"\not\.js "ba", if the server took client 0’s edit first\not\.js "ab", if the server took client 1’s edit first\noffset 0\n/);
+      assert.match(await user.text("#answer"), /\nfound "ab"\not\.js "ba", since the server took client 0’s edit first\not\.js "ab", if it had taken client 1’s edit first\noffset 0\n/);
       await note("server", "ba");
       await user.click('#noting [value="note"]');
       await user.until('/seen.*"ba" as ot.js has it/s.test(document.querySelector(\'[data-card="server"]\').textContent)', "the server's card");

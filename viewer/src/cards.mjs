@@ -121,7 +121,7 @@ function noteRow(who, { document, differences: [difference], order }, names) {
   const seen = who === SERVER ? "seen" : "my editor";
   if (!difference) return [seen, [shownValue(JSON.stringify(document)), " as ot.js has it"]];
   const [theirs, wanted] = apart(difference.found, difference.ours).map(shownValue);
-  const ours = ["ot.js has ", wanted, " here", order && [", and ", theirs, ` if the server takes ${orderWords(order, names).other} first`]];
+  const ours = ["ot.js has ", wanted, " here", order && [", and would have ", theirs, ` if the server had taken ${orderWords(order, names).other} first`]];
   return [tree("span", { class: "differs" }, seen), [theirs, " ", tree("span", { class: "against" }, ours)]];
 }
 

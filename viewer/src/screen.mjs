@@ -179,7 +179,7 @@ function answerOf({ answer, words }, names) {
   const [theirs, wanted] = apart(answer.found, answer.otjs);
   const [head, , , ...more] = answer.place === undefined ? words : words.with(3, `offset ${answer.place}`);
   const { now, other } = answer.order ? orderWords(answer.order, names) : {};
-  const ordered = now ? [`ot.js ${wanted}, if the server took ${now} first`, `ot.js ${theirs}, if the server took ${other} first`] : [`ot.js ${wanted}`];
+  const ordered = now ? [`ot.js ${wanted}, since the server took ${now} first`, `ot.js ${theirs}, if it had taken ${other} first`] : [`ot.js ${wanted}`];
   return [head, `found ${theirs}`, ...ordered, ...more];
 }
 

@@ -151,6 +151,6 @@ export function noteWords(told, names = new Map()) {
   const seen = client === null ? "the server" : "the editor";
   const both = shown === found && wanted === otjs ? "" : `, and ${seen} ${brief(shown, 300)}`;
   const other = order && orderWords(order, names);
-  const ordered = other ? ` here, if the server took ${other.now} first${both}. With the other order, ${other.other} first, it has ${brief(shown, 300)}.` : ` here${both}.`;
+  const ordered = other ? ` here, since the server took ${other.now} first${both}. With the other order, ${other.other} first, it would have ${brief(shown, 300)}.` : ` here${both}.`;
   return `ot.js has ${brief(wanted, 300)}${ordered}${note ? ` Of ${seen}’s text: ${note}.` : ""}`;
 }

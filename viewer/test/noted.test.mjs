@@ -64,7 +64,7 @@ test("what conform answers is said in words", () => {
   assert.match(noteWords(differing('"a\u200b"', '"a"')), /u\{200b\}/);
   const ordered = differing('"ab"', '"ba"');
   Object.assign(ordered.answer, { order: { first: 1, then: 0 }, note: "N" });
-  assert.equal(noteWords(ordered, new Map([[0, "Ann"]])), 'ot.js has "ba" here, if the server took client 0 (Ann)’s edit first. With the other order, client 1’s edit first, it has "ab". Of the editor’s text: N.');
+  assert.equal(noteWords(ordered, new Map([[0, "Ann"]])), 'ot.js has "ba" here, since the server took client 0 (Ann)’s edit first. With the other order, client 1’s edit first, it would have "ab". Of the editor’s text: N.');
   ordered.answer.client = null;
   assert.match(noteWords(ordered), /Of the server’s text: N\.$/);
   assert.equal(noteWords({ answer: { verdict: "stopped" }, words: ["stopped at 3: ClientFull"] }), "stopped at 3: ClientFull");
@@ -165,7 +165,7 @@ test("the order is beside the note of the card, and what follows from a joined c
   const port = await judged(bench);
   assert.deepEqual(port.noteOf(1, 5).order, { first: 1, then: 0 });
   const view = { session: bench.state.session, port, place: 5, picked: null, canPlay: true, canNote: true, names: new Map(), caret: null, writing: null, asked: [] };
-  assert.match(JSON.stringify(cardOf(bench.state.session, 1, view)), / if the server takes client 1’s edit first/);
+  assert.match(JSON.stringify(cardOf(bench.state.session, 1, view)), / if the server had taken client 1’s edit first/);
   assert.match(JSON.stringify(cardOf(bench.state.session, SERVER, view)), /"data-note":"server"/);
   const joined = 'clients 3\npresent 2\nedit 0 ["a"]\nedit 1 ["b"]\ntake 0\njoin 2\ntake 1\ndeliver 1\n';
   assert.equal((await (await opened(joined, 6)).askNote(1, "ab")).answer.order, undefined);
