@@ -372,8 +372,8 @@ export function testIn(name, openBrowser) {
       for (const [width, height] of [[390, 844], [1280, 720]]) {
         await user.page.size(width, height);
         await user.page.drawn();
-        const [right, isSeen] = await user.run(`[document.documentElement.scrollWidth, document.getElementById("verdict").getBoundingClientRect().bottom <= document.querySelector(".told").getBoundingClientRect().bottom]`);
-        assert.deepEqual([right, isSeen], [width, true], `${width} x ${height}`);
+        const [isWider, isSeen] = await user.run(`[document.documentElement.scrollWidth > innerWidth, document.getElementById("verdict").getBoundingClientRect().bottom <= document.querySelector(".told").getBoundingClientRect().bottom]`);
+        assert.deepEqual([isWider, isSeen], [false, true], `${width} x ${height}`);
       }
       await user.page.size(1440, 900);
       await user.drop(`${long}.bin`, [255, 254, 0, 1]);
