@@ -380,6 +380,7 @@ element("slider").oninput = () => {
 };
 
 element("time").onscroll = () => requestAnimationFrame(() => timeline.measure());
+deck.listen();
 addEventListener("scroll", ({ target }) => target.matches?.(".document") && deck.keepScrolled(target), true);
 function resized() {
   requestAnimationFrame(() => {

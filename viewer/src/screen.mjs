@@ -21,7 +21,6 @@ const SLOW = 100;
 
 export const timeline = new Timeline();
 export const deck = new Deck();
-deck.listen();
 
 export const isNarrow = () => innerWidth <= 800;
 
