@@ -8,7 +8,7 @@
  */
 
 import { EngineFault } from "../engine/host.mjs";
-import { announce, ANSWERING_EACH, asksForHelp, FILES, inputOf, isFile, OPTIONS, split, Unreadable } from "./files.mjs";
+import { announce, ANSWERING_EACH, asksForHelp, FILES, hasLines, inputOf, isFile, OPTIONS, split, Unreadable } from "./files.mjs";
 import { fileWord, quoted } from "./shell.mjs";
 import { complain, print, STDIN } from "./streams.mjs";
 import { bytesOf, joined, textOf } from "../common/text.mjs";
@@ -62,6 +62,9 @@ const CUT = Buffer.from("cut:");
 /* Whether a recorded schedule may end before its logs do, which is told with each status. */
 const isCut = (input) => Buffer.from(input.buffer, input.byteOffset, input.length).includes(CUT);
 
+/* Whether a port's lines that conform may end before the schedule does, which is told, too. */
+const isSparse = (word, flags) => word === "conform" && flags.includes("--sparse");
+
 /* Runs a subcommand of the program on a file, or two; with the hints below its answer. */
 async function answer(context, word, flags, files) {
   const { program, name } = context;
@@ -74,7 +77,7 @@ async function answer(context, word, flags, files) {
   if (!isWritten) return status;
   const input = bytesIn(parts);
   if (status === USAGE) await hintAtWords(context, [word, ...flags]);
-  else if (status === FAULT ? input.length > 0 : isCut(input)) {
+  else if (status === FAULT ? input.length > 0 : isCut(input) || isSparse(word, flags)) {
     const { hintsOf } = await import("./hints.mjs");
     const call = { word, flags, files, name, ask: program.ask };
     hintsOf(call, status, { input, output: joined(output), errors: joined(errors) }).forEach((line) => complain(`${line}\n`));
@@ -121,10 +124,10 @@ const asker = ({ program }) => (words, text) => {
   return { status, output: textOf(output), errors: textOf(errors) };
 };
 
-/* Whether the words behind `debug` ask for the debugger at a terminal: a schedule alone, or with options, which the program's `debug` does not have. */
+/* Whether the words behind `debug` ask for the debugger at a terminal: a schedule alone, with a port's lines, or with options, which the program's `debug` does not have. */
 function isDebugging(words) {
   const { flags, files } = split(words);
-  return files.length > 0 && files[0] !== "-" && (files.length === 1 || flags.length > 0);
+  return files.length > 0 && files[0] !== "-" && (files.length === 1 || flags.length > 0 || (files.length === 2 && hasLines(files[1])));
 }
 
 /* The subcommands that are not the program's; of `debug` that at a terminal. */

@@ -1,5 +1,5 @@
 /*
- * What the command says below an answer of status 1, on standard error:
+ * What the command says below an answer of status 1, on standard error; and of status 0 where a recording is cut, or a port's lines end early:
  *
  *     stopped at 3: LinkEmpty                                   the program
  *     otbench: instruction 3 is line 7: deliver 0               the line of what it has named
@@ -8,14 +8,14 @@
 
 import { seen } from "../terminal/names.mjs";
 import { conformCall, readAnswer } from "../common/conformance.mjs";
-import { placeTold, stopTold } from "../common/numbering.mjs";
+import { linesEndIn, linesEndTold, placeTold, stopTold } from "../common/numbering.mjs";
 import { outlineOf } from "../common/outline.mjs";
 import { formOf } from "./files.mjs";
 import { kindOf } from "./kinds.mjs";
 import { misspelled, misspelledIn } from "./misspelled.mjs";
 import { pointing, wordsBelow } from "./pointing.mjs";
 import { fileWord } from "./shell.mjs";
-import { markIn, textOf } from "../common/text.mjs";
+import { lastLineIn, markIn, textOf } from "../common/text.mjs";
 
 /**
  * @typedef {object} Call words that were run
@@ -89,6 +89,31 @@ function cutOf({ word, flags, files: [file = "-"] }, input) {
   return cut === null ? [] : [`${file === "-" ? "the schedule" : fileWord(file)} ends before its logs: ${seen(cut)}`];
 }
 
+/* The sessions of an input, each { schedule, lines }: one, or many with a line `%%` behind each part. */
+function sessionsIn(input, areMany) {
+  const sessions = [];
+  for (let [rest, mark] = [input, markIn(input)]; mark !== null; mark = markIn(rest)) {
+    const behind = rest.subarray(mark.end);
+    const end = (areMany && markIn(behind)) || { start: behind.length, end: behind.length };
+    sessions.push({ schedule: rest.subarray(0, mark.start), lines: behind.subarray(0, end.start) });
+    rest = behind.subarray(end.end);
+  }
+  return sessions;
+}
+
+/* Of lines for some instructions, which conform, where they end, if that is before the schedule's last one: nothing is compared from there on. */
+function linesEndOf({ word, flags }, input) {
+  if (word !== "conform" || !flags.includes("--sparse")) return [];
+  const areMany = flags.includes("--many");
+  const [first, ...more] = sessionsIn(input, areMany).flatMap(({ schedule, lines }, i) => {
+    const text = textOf(schedule);
+    const place = linesEndIn(lastLineIn(lines), text);
+    return place === null ? [] : [`${areMany ? `session ${i + 1}: ` : ""}the port's ${linesEndTold(place, text)}`];
+  });
+  if (more.length === 0) return first === undefined ? [] : [first];
+  return [first, `the lines of ${more.length} more session${more.length === 1 ? "" : "s"} end before the last instruction, too`];
+}
+
 /* Of an input that was refused: where its fault is. */
 function refused({ word, flags, ask }, reads, input, errors) {
   const isTold = word === "explain" && !flags.includes("--json");
@@ -118,7 +143,7 @@ function ofFault(call, kept) {
   const mark = reads === "schedule" ? markIn(kept.input) : null;
   const schedule = mark ? kept.input.subarray(0, mark.start) : kept.input;
   const conformance = word === "conform" && errors === "" ? conformanceOf(call, kept.input) : null;
-  if (conformance?.verdict === "conforms") return []; // of a schedule that is cut
+  if (conformance?.verdict === "conforms") return said(linesEndOf(call, kept.input)); // of a schedule that is cut
   if (conformance) return said(answered(call, reads, [placeTold(conformance, textOf(schedule)), faultOfLines(conformance), ...misspelled(conformance.unknown)]));
   const told = reads === "schedule" ? checked(ask, schedule) : {};
   const isStopped = RUNNING.has(word) && told.stopped !== undefined;
@@ -133,4 +158,4 @@ function ofFault(call, kept) {
  * @param {{ input: Uint8Array, output: Uint8Array, errors: Uint8Array }} kept what it read; of `judge` and `conform` what was printed; and what it said on standard error
  * @returns {string[]}
  */
-export const hintsOf = (call, status, kept) => [...(status === 1 ? ofFault(call, kept) : []), ...said(status > 1 ? [] : cutOf(call, kept.input))];
+export const hintsOf = (call, status, kept) => [...(status === 1 ? ofFault(call, kept) : status === 0 ? said(linesEndOf(call, kept.input)) : []), ...said(status > 1 ? [] : cutOf(call, kept.input))];

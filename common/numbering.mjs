@@ -29,6 +29,22 @@ export function stopTold(number, text) {
 /** The line of what conform names, a difference or a limit: at the end that of the last instruction performed; null where there is none. @param {import("./conformance.mjs").Answer} answer @param {string} text */
 export const lineNamed = ({ at, line }, text) => line ?? lineOf(at - 1, text);
 
+/**
+ * The place at which a port's lines for some instructions end, where that is before the schedule's last one: nothing is compared from there on. Null where the last
+ * line is that of the last instruction, of a stop or of the end. The lines conform.
+ * @param {string} last of the lines @param {string} text of the schedule
+ */
+export function linesEndIn(last, text) {
+  const { at, stopped, end } = JSON.parse(last);
+  return stopped === undefined && end === undefined && lineOf(at, text) !== null ? at : null;
+}
+
+/** The words for that, behind `the port's` or `its`. @param {number} place @param {string} text */
+export function linesEndTold(place, text) {
+  const line = lineOf(place, text);
+  return `lines end at place ${place}, before line ${line}, instruction ${place}: ${wordsOf(line, text)}; nothing is compared from there on`;
+}
+
 /** The sentence that says this line; null where there is none. @param {import("./conformance.mjs").Answer} answer @param {string} text */
 export function placeTold({ verdict, at, ...named }, text) {
   if (verdict === "stopped") return stopTold(at, text);

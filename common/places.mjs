@@ -39,20 +39,25 @@ export function headsAt(session, client, place) {
 export const receiptsIn = (instructions, client) =>
   instructions.filter((instruction) => instruction === `deliver ${client}` || instruction === `ack ${client}`).length;
 
-/* What of a client is under way at a place, or null. One whose message is under way to the server awaits a confirmation. */
+/* What of a client is under way at a place, or null: { client, state } of one that is not synchronized, else { client, count } of its messages. One whose message is under way to the server awaits a confirmation. */
 function openOf(session, client, place) {
   const { state } = stateAt(session, client, place);
   if (state === "not-joined") return null;
-  if (state !== "synchronized") return `client ${client} is ${state}`;
+  if (state !== "synchronized") return { client, state };
   const { from, to } = downAt(session, client, place);
-  return from < to ? `${to - from} message${to - from > 1 ? "s are" : " is"} under way to client ${client}` : null;
+  return from < to ? { client, count: to - from } : null;
 }
+
+/** What is under way at a place, of each client that is not quiet there. */
+export const openAt = (session, place) =>
+  Array.from({ length: session.clients }, (_, client) => openOf(session, client, place)).filter((open) => open !== null);
 
 /* "quiet", or the first thing that is under way, and of how many more clients something is. */
 export function quietAt(session, place) {
-  const all = Array.from({ length: session.clients }, (_, client) => openOf(session, client, place));
-  const [first, ...more] = all.filter((open) => open !== null);
+  const [first, ...more] = openAt(session, place);
   if (first === undefined) return "quiet";
+  const { client, state, count } = first;
+  const told = state ? `client ${client} is ${state}` : `${count} message${count > 1 ? "s are" : " is"} under way to client ${client}`;
   const others = more.length === 0 ? "" : `; ${more.length} more client${more.length > 1 ? "s are" : " is"} not quiet`;
-  return `not quiet: ${first}${others}`;
+  return `not quiet: ${told}${others}`;
 }

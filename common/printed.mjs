@@ -39,11 +39,11 @@ function messageOf({ do: word }, received) {
   return word === "deliver" ? received.operation : undefined;
 }
 
-/* The values that ot.js has at a place, by the keys that a port prints. */
-function valuesAt(session, place) {
+/* The values that ot.js has at a place, by the keys that a port prints; the document only where one is wanted. */
+function valuesAt(session, place, hasDocument) {
   const { line, moved, received } = session.steps[place];
   const message = messageOf(line, received);
-  const document = textOf(documentAt(session, moved, place));
+  const document = hasDocument ? textOf(documentAt(session, moved, place)) : undefined;
   if (moved === SERVER) return { ...line, message, revision: logLengthAt(session, place), document };
   const { revision, state, outstanding, buffer } = stateAt(session, moved, place);
   const applied = line.do === "edit" ? line.edit : line.applied;
@@ -80,7 +80,8 @@ export class Port {
     this.lines = linesByPlace(texts.map(readLine), this.isSparse);
     this.memo = new Map();
     this.moves = new Map([SERVER, ...session.members.keys()].map((who) => [who, [0]]));
-    session.steps.forEach((step, place) => step && this.lines[place] && this.moves.get(step.moved).push(place));
+    session.steps.forEach((step, place) => step && this.lines[place] && this.lines[place].end === undefined && this.moves.get(step.moved).push(place));
+    this.last = Math.max(...[...this.moves.values()].map((places) => places.at(-1))); // the last place that has a line
     this.answer = told?.answer ?? null;
     this.words = told?.words ?? [];
     this.cut = cutIn(texts);
@@ -105,11 +106,40 @@ export class Port {
     if (place === 0 || place > this.session.length || (this.isSparse && !line)) return [];
     if (!line || line.end !== undefined) return place === this.lines.length ? [{ key: "line", found: "nothing", ours: "a line" }] : [];
     if (line.text !== undefined) return [{ key: "line", found: inWords(line.text), ours: "a line of JSON" }];
-    const ours = valuesAt(this.session, place);
-    const differs = (key) => line[key] !== undefined && !sameValue(line[key], ours[key]);
-    const differences = (keys) => keys.filter(differs).map((key) => ({ key, found: inWords(line[key]), ours: inWords(ours[key]) }));
-    if (line.stopped === undefined) return differences(KEYS);
-    return [...differences(["message"]), { key: "stopped", found: inWords(line.stopped), ours: "performed" }];
+    const differences = this.valuesThatDiffer(place).map(({ key, found, ours }) => ({ key, found: inWords(found), ours: inWords(ours) }));
+    return line.stopped === undefined ? differences : [...differences, { key: "stopped", found: inWords(line.stopped), ours: "performed" }];
+  }
+
+  /** The values that a line of the port has and ot.js does not: [{ key, found, ours }]. None where there is no such line. @param {number} place */
+  valuesThatDiffer(place) {
+    const line = this.valuesIn(place);
+    if (line === null) return [];
+    const ours = valuesAt(this.session, place, line.document !== undefined);
+    const keys = line.stopped === undefined ? KEYS : ["message"];
+    return keys.filter((key) => line[key] !== undefined && !sameValue(line[key], ours[key])).map((key) => ({ key, found: line[key], ours: ours[key] }));
+  }
+
+  /** The port's line of the instruction that leads to a place, as an object; null where it has none. @param {number} place */
+  valuesIn(place) {
+    const line = this.lines[place];
+    return place > 0 && place <= this.session.length && line && line.text === undefined && line.end === undefined ? line : null;
+  }
+
+  /**
+   * The documents that the port printed, in the order of their places: whose each is, what the port printed of it before, or the opening's text, and what it printed.
+   * @returns {{ at: number, who: number | string, before: string, after: string }[]}
+   */
+  get documents() {
+    const { present, start, steps, members } = this.session;
+    const opening = typeof this.lines[0]?.start === "string" ? this.lines[0].start : start;
+    const last = new Map([SERVER, ...members.keys()].map((who) => [who, who === SERVER || who < present ? opening : ""]));
+    return steps.flatMap((step, at) => {
+      const { document, stopped, end } = (step && this.lines[at]) || {};
+      if (typeof document !== "string" || stopped !== undefined || end !== undefined) return [];
+      const before = last.get(step.moved);
+      last.set(step.moved, document);
+      return [{ at, who: step.moved, before, after: document }];
+    });
   }
 
   /** What was noted of a participant, with the document that it has at the place: { document, differences }, and `order` where conform's answer on it has one; null where nothing was. */
@@ -123,7 +153,21 @@ export class Port {
 
   /* What the port printed last of a participant that is not what ot.js has. */
   differencesOf(who, place) {
+    return this.differencesAt(this.placeOf(who, place));
+  }
+
+  /** The last place up to this one that has a line of a participant; 0 where there is none. */
+  placeOf(who, place) {
     const places = this.moves.get(who);
-    return this.differencesAt(places[lastUpTo(places, place)]);
+    return places[lastUpTo(places, place)];
+  }
+
+  /**
+   * What the port printed last of a participant by a key, up to a place: { at, value }, the value null where there is none; null where it has not printed it.
+   * @param {number | "server"} who @param {string} key @param {number} place
+   */
+  printedOf(who, key, place) {
+    const at = this.moves.get(who).findLast((p) => p <= place && Object.hasOwn(this.valuesIn(p) ?? {}, key));
+    return at === undefined ? null : { at, value: this.valuesIn(at)[key] };
   }
 }

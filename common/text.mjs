@@ -60,6 +60,17 @@ export function markIn(bytes) {
 
 const isBlank = (byte) => byte === SPACE || byte === TAB;
 
+/** The last line that is not blank; empty where there is none. @param {Uint8Array} bytes */
+export function lastLineIn(bytes) {
+  for (let end = bytes.length; end > 0; ) {
+    const start = bytes.lastIndexOf(LF, end - 1) + 1;
+    const line = textOf(bytes.subarray(start, end)).trim();
+    if (line !== "") return line;
+    end = start - 1;
+  }
+  return "";
+}
+
 /** A schedule with blanks in the place of its comments. @param {Uint8Array} schedule */
 export function withoutComments(schedule) {
   const kept = Uint8Array.from(schedule);

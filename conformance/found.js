@@ -49,7 +49,7 @@ const middle = (numbers) => {
   return (sorted[Math.floor((sorted.length - 1) / 2)] + sorted[Math.ceil((sorted.length - 1) / 2)]) / 2;
 };
 
-const cell = (numbers) => `${middle(numbers)}, ${Math.max(...numbers)}`;
+const cell = (numbers) => [...new Set([middle(numbers), Math.max(...numbers)])].join(", ");
 
 async function page({ seeds, sessions: count }, faults) {
   const ofSeeds = Array.from({ length: seeds }, (_, i) =>
@@ -59,17 +59,18 @@ async function page({ seeds, sessions: count }, faults) {
 Printed by \`conformance/found.js --seeds ${seeds}\`: at most ${count} sessions for each of ${seeds} seeds. Found means that a line of the faulty port is another than
 ot.js' own.
 
-| Fault | Sessions to find it: median, most | Instructions after reducing: median, most |
+| Fault | Sessions to find it: median, and most if that is another | Instructions after reducing, likewise |
 |---|---|---|`);
-  const missed = [];
+  const missed = new Map();
   for (const fault of faults) {
     const found = [];
     for (const sessions of ofSeeds) found.push(await find(fault, sessions));
     const those = found.filter((it) => it !== null);
     if (those.length > 0) console.log(`| ${fault} | ${cell(those.map((it) => it.count))} | ${cell(those.map((it) => it.size))} |`);
-    if (those.length < seeds) missed.push(`${fault} with ${seeds - those.length} of ${seeds} seeds`);
+    if (those.length < seeds) missed.set(seeds - those.length, [...(missed.get(seeds - those.length) ?? []), fault]);
   }
-  console.log(`\nNot found: ${missed.join(", ") || "none"}. Not tried, since one session cannot show it: ${Object.keys(leaks).join(", ")}. The corpus finds each fault ([COVERAGE](COVERAGE.md)).`);
+  const lines = [...missed].toSorted(([one], [other]) => other - one).map(([count, names]) => `with ${count} of ${seeds} seeds: ${names.join(", ")}`);
+  console.log(`\n${lines.length === 0 ? "Each is found" : `Not found ${lines.join("; ")}`}. Not tried, since one session cannot show it: ${Object.keys(leaks).join(", ")}. The corpus finds each fault ([COVERAGE](COVERAGE.md)).`);
 }
 
 const { values, positionals } = parseArgs({ allowPositionals: true, options: { seeds: { type: "string", default: "3" }, sessions: { type: "string", default: "100" } } });

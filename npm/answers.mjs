@@ -1,7 +1,8 @@
 /* What the program prints as data, as the values of the package. docs/FORMATS.md has each. */
 
 import { isConforming } from "../common/conformance.mjs";
-import { lineNamed } from "../common/numbering.mjs";
+import { lineNamed, linesEndIn } from "../common/numbering.mjs";
+import { lastLineIn, textOf } from "../common/text.mjs";
 
 /* A text's lines, each ended by LF. */
 const linesOf = (text) => text.split("\n").slice(0, -1);
@@ -59,4 +60,20 @@ export function readConformMany(text, placeOf) {
   const answer = JSON.parse(text);
   if (!("session" in answer)) return { ...answer, conforms: isConforming(answer), unknown: answer.unknown.map(({ key, line }) => ({ key, ...placeOf(line) })) };
   return conformIn({ ...answer, unknown: answer.unknown.map(({ key, line }) => ({ key, line: placeOf(line).line })) }, answer.schedule);
+}
+
+/**
+ * Where a port's lines for some instructions end, if that is before the schedule's last one: `linesEnd`, a place. Of many sessions which all conform, for each such one
+ * { session, place }. Nothing where they do not conform so far.
+ * @param {{ verdict: string, session?: number, sessions?: number }} answer @param {[schedule: Uint8Array, lines: Uint8Array][]} sessions
+ */
+export function linesEndOf({ verdict, session, sessions: count }, sessions) {
+  if (verdict !== "conforms") return {};
+  const placeIn = ([schedule, lines]) => linesEndIn(lastLineIn(lines), textOf(schedule));
+  if (count === undefined) {
+    const place = placeIn(sessions[(session ?? 1) - 1]);
+    return place === null ? {} : { linesEnd: place };
+  }
+  const ended = sessions.map((parts, i) => ({ session: i + 1, place: placeIn(parts) })).filter(({ place }) => place !== null);
+  return ended.length === 0 ? {} : { linesEnd: ended };
 }

@@ -4,7 +4,7 @@
  *     arguments ── call ──▶ words, input ── serve ──▶ status, output, errors ── read ──▶ a value, or an OtbenchError
  */
 
-import { readCheck, readCheckOfAll, readConform, readConformMany, readJudge, readRun, readSteps } from "./answers.mjs";
+import { linesEndOf, readCheck, readCheckOfAll, readConform, readConformMany, readJudge, readRun, readSteps } from "./answers.mjs";
 import { conformCall } from "../common/conformance.mjs";
 import { check, OtbenchError } from "./errors.mjs";
 import { lineOf } from "../common/numbering.mjs";
@@ -70,7 +70,8 @@ const calls = {
   *conform(text, lines, { sparse = false } = {}) {
     const bytes = schedule(text);
     if (markIn(bytes)) yield* printed(["run", "--json"], bytes);
-    return readConform(yield* printed([...conformCall(sparse), "--json"], besides(bytes, lines)), textOf(bytes));
+    const answer = readConform(yield* printed([...conformCall(sparse), "--json"], besides(bytes, lines)), textOf(bytes));
+    return sparse ? { ...answer, ...linesEndOf(answer, [[bytes, linesOf(lines)]]) } : answer;
   },
 
   /* Up to the first session that the program would take for two, which has a line `%%` of its own: that one is compared alone, and does not conform. */
@@ -78,7 +79,8 @@ const calls = {
     const given = Array.from(sessions, ({ schedule: text, lines }) => [schedule(text), linesOf(lines)]);
     const alone = given.findIndex((parts) => parts.some(markIn));
     const among = given.slice(0, alone < 0 ? given.length : alone).map(sessionOf);
-    const answer = readConformMany(yield* printedOfMany([...conformCall(sparse), "--many", "--json"], among), (line) => placeAmong(among, line));
+    const told = readConformMany(yield* printedOfMany([...conformCall(sparse), "--many", "--json"], among), (line) => placeAmong(among, line));
+    const answer = sparse ? { ...told, ...linesEndOf(told, given.slice(0, among.length)) } : told;
     if (alone < 0 || "session" in answer) return answer;
     const [text, lines] = given[alone];
     return { ...(yield* calls.conform(text, lines, { sparse })), session: alone + 1, schedule: textOf(text) };

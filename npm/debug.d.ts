@@ -19,10 +19,11 @@ export interface Session {
   /** What the last word of a line may go on with. */
   complete(line: string): string[];
   step(count?: number): string[];
-  next(count?: number): string[];
+  next(count?: number | "difference"): string[];
   back(count?: number): string[];
-  rnext(count?: number): string[];
+  rnext(count?: number | "difference"): string[];
   run(): string[];
+  continue(): string[];
   rrun(): string[];
   until(...words: Word[]): string[];
   runtil(...words: Word[]): string[];
@@ -31,13 +32,16 @@ export interface Session {
   watch(what: "doc" | "state" | "outstanding" | "buffer" | "server", client?: Client): string[];
   unwatch(): string[];
   display(what: "doc" | "state" | "outstanding" | "buffer" | "server", client?: Client): string[];
-  info(): string[];
+  info(what?: "breaks"): string[];
+  info(what: "outstanding" | "buffer" | "message", client: number): string[];
   delete(number: number): string[];
   clear(place?: number): string[];
   who(client: Client, character: number): string[];
-  blame(client: Client): string[];
+  blame(client: Client, from?: number, to?: number): string[];
   find(text: string): string[];
+  find(whose: "port", text: string): string[];
   rfind(text: string): string[];
+  rfind(whose: "port", text: string): string[];
   diff(from: number | "doc", to: Client, client?: Client): string[];
   mark(name?: string): string[];
   undo(): string[];

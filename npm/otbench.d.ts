@@ -160,6 +160,8 @@ export interface Conforms {
   verdict: "conforms";
   conforms: true;
   compared: Record<ComparedKey, number>;
+  /** With `sparse`: the place at which the port's lines end, where that is before the schedule's last instruction. Nothing is compared from there on. */
+  linesEnd?: number;
   unknown: UnknownKey[];
   /** The answer as it is printed. */
   text: string;
@@ -228,6 +230,8 @@ export interface AllConform {
   sessions: number;
   /** How often each value was printed and equal, in all together. */
   compared: Record<ComparedKey, number>;
+  /** With `sparse`: the sessions, from 1, in which the port's lines end before the schedule's last instruction, each with the place. */
+  linesEnd?: { session: number; place: number }[];
   /** The unknown keys of all: the session, from 1, and the line in it, as that of `conform`. */
   unknown: (UnknownKey & { session: number })[];
 }

@@ -3,27 +3,25 @@
 
 import { SERVER } from "../common/fold.mjs";
 import { documentAt, stateAt } from "../common/places.mjs";
-import { shortText } from "./values.mjs";
+import { shortOperation, shortText } from "./values.mjs";
 
 const nameOf = (who) => (who === SERVER ? "the server" : `client ${who}`);
 const madeBy = (author) => (author === null ? "the start text" : `client ${author.client}, instruction ${author.instruction}`);
-
-/** @param {import("./recording.mjs").Recording} recording @param {number} place */
-const at = ({ instructions }, place) => `line ${instructions[place - 1].line}, instruction ${place - 1}: ${instructions[place - 1].words}`;
 
 /** The way of an element into a document, up to a place: a line for the edit, which is its author, the message, the log's entry, the delivery. */
 function wayOf(recording, { client: maker, instruction }, element, who, place) {
   const { members, log, messages } = recording.session;
   const has = ({ elements }) => elements.includes(element);
-  const way = [`inserted by client ${maker}: ${at(recording, instruction + 1)}`];
+  const at = (led) => recording.leading(led);
+  const way = [`inserted by client ${maker}: ${at(instruction + 1)}`];
   const sent = members[maker].sent.find((message) => message.sent <= place && has(message));
-  if (sent && sent.sent !== instruction + 1) way.push(`sent from the buffer: ${at(recording, sent.sent)}`);
+  if (sent && sent.sent !== instruction + 1) way.push(`sent from the buffer: ${at(sent.sent)}`);
   const entry = log.find((it) => it.sent <= place && has(it));
-  if (entry) way.push(`taken by the server as revision ${entry.number + 1}: ${at(recording, entry.sent)}`);
+  if (entry) way.push(`taken by the server as revision ${entry.number + 1}: ${at(entry.sent)}`);
   if (who === SERVER || who === maker || !entry) return way;
   const delivered = messages.find(({ kind, client, number, got }) => kind === "down" && client === who && number === entry.number && got <= place);
-  if (delivered) way.push(`delivered to client ${who}: ${at(recording, delivered.got)}`);
-  else way.push(`client ${who} has it since it joined: ${at(recording, recording.session.members[who].statePlaces[1])}`);
+  if (delivered) way.push(`delivered to client ${who}: ${at(delivered.got)}`);
+  else way.push(`client ${who} has it since it joined: ${at(recording.session.members[who].statePlaces[1])}`);
   return way;
 }
 
@@ -39,10 +37,11 @@ export function whoIs(recording, who, index, place) {
   return [head, ...wayOf(recording, author, documentAt(recording.session, who, place)[index], who, place).map((line) => `  ${line}`)];
 }
 
-/** A document in spans of one author, a line for each. */
-export function authorsOf(recording, who, place) {
+/** A document in spans of one author, a line for each; of the characters from one up to another, if these are given. */
+export function authorsOf(recording, who, place, first = 0, end = Infinity) {
   const { document, spans } = recording.authors(who, place);
-  return spans.map(({ from, count, author }) => `${shortText(document.slice(from, from + count).join(""))}  ${madeBy(author)}`);
+  const within = spans.filter(({ from, count }) => from < end && from + count > first);
+  return within.map(({ from, count, author }) => `${shortText(document.slice(Math.max(from, first), Math.min(from + count, end)).join(""))}  ${madeBy(author)}`);
 }
 
 /**
@@ -63,6 +62,8 @@ export function between(before, after) {
   return parts;
 }
 
+const CHANGES = 40; // of a difference that are shown
+
 /** A difference of two documents in words: the operation, and what it deletes and inserts. */
 export function differenceOf(before, after) {
   const parts = between(before, after);
@@ -70,13 +71,15 @@ export function differenceOf(before, after) {
   if (parts.every(({ kind }) => kind === "retain")) return ["the same characters"];
   const length = (text) => [...text].length;
   const component = { insert: (text) => text, delete: (text) => -length(text), retain: length };
-  const lines = [JSON.stringify(parts.map(({ kind, text }) => component[kind](text)))];
+  const lines = [];
   let place = 0;
   for (const { kind, text } of parts) {
     if (kind !== "retain") lines.push(`  at ${place}: ${kind === "insert" ? "+" : "-"} ${shortText(text)}`);
     if (kind !== "delete") place += length(text);
   }
-  return lines;
+  const more = lines.length - CHANGES;
+  const shown = more > 0 ? [...lines.slice(0, CHANGES), `  .. ${more} more of ${lines.length} changes`] : lines;
+  return [shortOperation(parts.map(({ kind, text }) => component[kind](text))), ...shown];
 }
 
 /** Whether a client has a document at a place. */

@@ -7,7 +7,7 @@ const KINDS = [
   [/^the port's first difference /, RED],
   [/^(behind|before|the end:) /, BOLD],
   [/^->/, GREEN],
-  [/^(break at place \d|(client \d+( \(.*?\))? (doc|state|outstanding|buffer)|the server's (revision|document))(:| at \d))/, YELLOW],
+  [/^(break at place \d|(client \d+( \(.*?\))? (doc|state|outstanding|buffer)|the server's (revision|document))( of (ot\.js|the port))?(:| at \d))/, YELLOW],
 ];
 
 /**

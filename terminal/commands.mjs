@@ -7,41 +7,42 @@ const ANY = Infinity;
 /** A command that cannot be performed, and why. */
 export class Complaint extends Error {}
 
-const WORD = /"(?:[^"\\]|\\.)*"|\S+/g;
+const WORD = /"(?:[^"\\]|\\.)*"|\[(?:"(?:[^"\\]|\\.)*"|[^"\]\s])*\](?!\S)|\S+/g;
 
-/** The words of a line; a JSON string is one. @param {string} line @returns {string[]} */
+/** The words of a line; a JSON string is one, and so is an operation without blanks between its components. @param {string} line @returns {string[]} */
 export const wordsIn = (line) => line.match(WORD) ?? [];
 
 /** @type {Record<string, { takes: string, most: number, does: string }>} */
 export const COMMANDS = {
   step: { takes: "[N]", most: 1, does: "performs one instruction, or N" },
-  next: { takes: "[N]", most: 1, does: "goes to behind the same client's next instruction, or its N-th" },
+  next: { takes: "[N|difference]", most: 1, does: "goes to behind the same client's next instruction, or its N-th; next difference goes on to the next value in which the port differs, and did not differ the same way before" },
   back: { takes: "[N]", most: 1, does: "undoes one instruction, or N" },
-  rnext: { takes: "[N]", most: 1, does: "goes back to before the same client's last instruction, or its N-th" },
+  rnext: { takes: "[N|difference]", most: 1, does: "goes back to before the same client's last instruction, or its N-th; rnext difference goes back to before the last such difference" },
   run: { takes: "", most: 0, does: "goes on to the next break, change or difference, or to the end" },
+  continue: { takes: "", most: 0, does: "does what run does" },
   rrun: { takes: "", most: 0, does: "goes back to the last break, change or difference, or to the opening" },
   until: { takes: "WORDS", most: ANY, does: "goes on to behind the next instruction with these first words: until take 0" },
   runtil: { takes: "WORDS", most: ANY, does: "goes back to before the last instruction with these first words" },
   goto: { takes: "P|end|NAME", most: 1, does: "goes to place P: P instructions are performed there; to the end; or to a place with a mark" },
-  break: { takes: "[P|line L|WORDS] [if CONDITION] [time N]", most: ANY, does: 'stops at place P, behind the instruction of line L, behind each with these first words, or where CONDITION begins to hold: break take 1 if doc 0 contains "x"' },
+  break: { takes: "[P|line L|WORDS] [if CONDITION] [time N]", most: ANY, does: 'stops at place P, behind the instruction of line L, behind each with these first words, or where CONDITION begins to hold: break take 1 if doc 0 contains "x", break edit 5 [100,-2]' },
   watch: { takes: "doc|state|outstanding|buffer C, watch server", most: 2, does: "stops where that changes" },
   unwatch: { takes: "", most: 0, does: "removes all watches" },
   display: { takes: "doc|state|outstanding|buffer C, display server", most: 2, does: "shows that behind each move" },
-  info: { takes: "[breaks]", most: 1, does: "lists breaks, watches and displays with their numbers, and at how many places a break stops" },
+  info: { takes: "[breaks], info outstanding|buffer|message C", most: 2, does: "lists breaks, watches and displays with their numbers, and at how many places a break stops; or the edits that made an operation of client C, and what transformed and sent it: info buffer 0" },
   delete: { takes: "N", most: 1, does: "removes the break, watch or display of this number" },
   clear: { takes: "[P]", most: 1, does: "removes the breaks at place P, or all breaks, watches and displays" },
   who: { takes: "C|server N", most: 2, does: "says who inserted character N of a document, counted from 0, and how it came there" },
-  blame: { takes: "C|server", most: 1, does: "shows a document with the author and the instruction of each piece" },
-  find: { takes: "TEXT", most: 1, does: "goes on to behind the next instruction by which a document gains or loses TEXT, a word or a JSON string" },
-  rfind: { takes: "TEXT", most: 1, does: "goes back to before the last such instruction" },
+  blame: { takes: "C|server [FROM TO]", most: 3, does: "shows a document with the author and the instruction of each piece, the first ones of many; or of the characters from FROM up to TO all" },
+  find: { takes: "[port] TEXT", most: 2, does: "goes on to behind the next instruction by which a document of ot.js gains or loses TEXT, a word or a JSON string; find port TEXT searches the documents that the port's lines have" },
+  rfind: { takes: "[port] TEXT", most: 2, does: "goes back to before the last such instruction" },
   diff: { takes: "P Q [C|server], diff doc C|server C|server", most: 3, does: "shows what changed between two places, in all documents or in one, or what two documents differ in" },
   mark: { takes: "[NAME]", most: 1, does: "names the place, for goto NAME; lists the names" },
-  undo: { takes: "", most: 0, does: "goes back to where the last move began" },
+  undo: { takes: "", most: 0, does: "goes back to where the last move began, or brings back what clear, delete or unwatch removed" },
   where: { takes: "", most: 0, does: "says which instruction was performed or undone last, and where that led" },
   verdict: { takes: "", most: 0, does: "says whether all documents must agree at the place, and to what" },
   list: { takes: "[P [Q]]", most: 2, does: "shows the instructions around the place, around P, or from P to Q, with their lines, and the operations of edits" },
   show: { takes: "[C|server]", most: 1, does: "shows documents, states, outstanding operations, buffers and links; what is long is cut" },
-  print: { takes: "doc|state|outstanding|buffer|message|link C, print doc server, print server, print instruction [N], print difference", most: 2, does: "shows the whole of one value, or of what conform answers" },
+  print: { takes: "doc|state|outstanding|buffer|message|link C, print doc server, print server, print instruction [N], print difference, print port doc|state|outstanding|buffer|revision|message|sent|edit|applied|appended C|server", most: 3, does: "shows the whole of one value of ot.js, of one that the port printed last, or of what conform answers of the port's line at the place, or else of the first one that differs; info says what made an operation" },
   explain: { takes: "[N]", most: 1, does: "describes the instruction that was performed or undone last, or instruction N, in words" },
   why: { takes: "[N]", most: 1, does: "says by which method of ot.js the last instruction, or instruction N, led where it did, what each transform made, and its ties" },
   source: { takes: "FILE", most: 1, does: "performs the commands of a file, line by line" },
@@ -56,7 +57,7 @@ export const COMMANDS = {
 const NAMES = Object.keys(COMMANDS);
 
 /** Letters that several words begin with, and which of them is meant. */
-const SHORT = { s: "step", b: "back", r: "run", ru: "run", c: "clear", d: "display", e: "explain", u: "until", w: "watch", l: "list", h: "help", q: "quit", n: "next", i: "info", p: "print" };
+const SHORT = { s: "step", b: "back", r: "run", ru: "run", c: "continue", co: "continue", d: "display", e: "explain", u: "until", w: "watch", l: "list", h: "help", q: "quit", n: "next", i: "info", p: "print" };
 
 /**
  * The word that this one is or begins.
@@ -74,6 +75,15 @@ export function commandOf(word) {
 }
 
 const lineOf = (name) => `${`${name} ${COMMANDS[name].takes}`.trimEnd()}: ${COMMANDS[name].does}`;
+
+const SHORT_TAKES = 60; // characters
+
+/** What a command takes, in few words. @param {string} name */
+export function takenBy(name) {
+  const { takes } = COMMANDS[name];
+  if (takes === "") return `${name} takes no word`;
+  return takes.length > SHORT_TAKES ? `${name}: help ${name} says what it takes` : `${name} ${takes}`;
+}
 
 /** The lines of help. @param {string} [word] */
 export function helpOf(word) {

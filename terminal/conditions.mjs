@@ -15,8 +15,7 @@ export function conditionOf(words, clients) {
   if (at < 0) throw new Complaint("a condition is a value, contains or is, and a text");
   if (given.length !== at + 2) throw new Complaint(given.length > at + 2 ? `${given[at + 2]} is a word too many` : `${given[at]} takes a text`);
   const subject = subjectOf(given.slice(0, at), clients);
-  const isText = given[at] === "contains" || subject.what === "doc";
-  return { isNot, subject, verb: given[at], wanted: isText ? textOf(given[at + 1]) : given[at + 1] };
+  return { isNot, subject, verb: given[at], wanted: textOf(given[at + 1]) };
 }
 
 /** Whether a condition holds in a place. A client that has not joined has no document, which has no text and is none. */

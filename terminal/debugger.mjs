@@ -3,9 +3,12 @@
 import { SERVER } from "../common/fold.mjs";
 import { documentAt } from "../common/places.mjs";
 import { authorsOf, differenceOf, hasDocument, whoIs } from "./authors.mjs";
-import { COMMANDS, commandOf, Complaint, helpOf, wordsIn } from "./commands.mjs";
+import { COMMANDS, commandOf, Complaint, helpOf, takenBy, wordsIn } from "./commands.mjs";
+import { MADE, makingOf } from "./making.mjs";
+import { INSTRUCTIONS, matching } from "./matching.mjs";
 import { named } from "./names.mjs";
 import { nearest } from "../common/nearest.mjs";
+import { linesEndTold } from "../common/numbering.mjs";
 import { RefusedText } from "./recording.mjs";
 import { Stops } from "./stops.mjs";
 import { clientOf, memberOf, subjectOf, textOf, titleOf, WATCHED } from "./subjects.mjs";
@@ -13,11 +16,21 @@ import { shortLine, shortOperation, shortVerdict, shortWords } from "./values.mj
 import { reasonsOf } from "../common/why.mjs";
 
 const AROUND = 4; // how many instructions `list` shows before and behind the place
+const PIECES = 40; // of a document that `blame` shows
 const MANY = 16; // clients that `show` shows with all that they have
 
-const INSTRUCTIONS = ["edit", "take", "deliver", "ack", "join", "read", "read-server"];
 const WHOLE = ["print", "source", "blame", "diff"]; // what these show is not cut once more
 const PRINTED = [...WATCHED, "message", "link"];
+const PORT = { doc: "document", state: "state", outstanding: "outstanding", buffer: "buffer", revision: "revision", message: "message", sent: "sent", edit: "edit", applied: "applied", appended: "appended" };
+
+/** Whether a word is the beginning of another. */
+const isBegun = (word, whole) => word !== undefined && whole.startsWith(word);
+
+/** How often a text stands in two documents; null where that is the same. */
+function countsOf(text, ...documents) {
+  const [before, after] = documents.map((document) => document.split(text).length - 1);
+  return before === after ? null : [before, after];
+}
 
 /** @typedef {{ read: (file: string) => string, write: (file: string, text: string) => void }} Files a file that is there is not written; faults are complaints */
 
@@ -35,7 +48,7 @@ export class Debugger {
     this.files = files;
     this.stops = new Stops(recording);
     this.marks = new Map();
-    this.jumps = []; // the places from which the moves began
+    this.jumps = []; // the places from which the moves began, and the breaks, watches and displays that were removed
     this.place = 0;
     this.last = null; // the number of the instruction that was performed or undone last
     this.isOver = false;
@@ -56,19 +69,14 @@ export class Debugger {
 
   /** What stands above the first prompt. */
   greeting() {
-    const { opening, difference, conforms, showsNothing, unknown, cut } = this.recording;
+    const { opening, difference, conforms, showsNothing, linesEnd, schedule, unknown, cut } = this.recording;
     const ends = cut === null ? [] : [`the schedule ends before its logs: ${cut}`];
     const said = difference ? this.#tellDifference(difference) : [];
-    if (conforms) said.push(this.#conforming());
+    const early = linesEnd === null ? null : linesEndTold(linesEnd, schedule);
+    if (conforms) said.push(`the port conforms${early === null ? "" : `; its ${early}`}`);
+    else if (early !== null) said.push(`the port's ${early}`);
     if (showsNothing) said.push("the port's lines have no value that can be compared");
     return [shortLine(opening), ...ends, ...said, ...unknown.map(shortLine), "help lists the commands"];
-  }
-
-  /** That the port conforms; of lines for some instructions also where they end, if that is before the end: nothing is compared behind it. */
-  #conforming() {
-    const { port, end } = this.recording;
-    const last = port.isSparse ? port.lines.length - 1 : end;
-    return last < end ? `the port conforms; its lines end at place ${last}` : "the port conforms";
   }
 
   /** That the port differs, and in which line; at the first place, to which no command goes on, with conform's answer. */
@@ -129,7 +137,7 @@ export class Debugger {
       return WHOLE.includes(name) ? said : said.map(shortLine);
     } catch (complaint) {
       if (!(complaint instanceof Complaint)) throw complaint;
-      throw new Complaint(`${complaint.message}; ${helpOf(name)[0]}`);
+      throw new Complaint(`${complaint.message}; ${takenBy(name)}`);
     }
   }
 
@@ -145,13 +153,22 @@ export class Debugger {
   #wordsBehind(command, count) {
     const clients = Array.from({ length: this.recording.clients }, (_, client) => String(client));
     if (command === "watch" || command === "display") return count === 1 ? [...WATCHED, "server"] : [...clients, "server"];
-    if (command === "print") return count === 1 ? [...PRINTED, "instruction", "difference"] : [...clients, "server"];
+    if (command === "next" || command === "rnext") return this.recording.port ? ["difference"] : [];
+    if (command === "print") return this.#printable(count, clients);
     if (["show", "who", "blame"].includes(command)) return [...clients, "server"];
     if (command === "diff") return count === 1 ? ["doc"] : [...clients, "server"];
     if (command === "help") return Object.keys(COMMANDS);
+    if (command === "info") return count === 1 ? ["breaks", ...MADE] : clients;
+    if (command === "find" || command === "rfind") return count === 1 && this.recording.port ? ["port"] : [];
     if (command === "until" || command === "runtil") return count === 1 ? INSTRUCTIONS : clients;
     if (command === "break") return count === 1 ? ["line", "if", ...INSTRUCTIONS] : ["if", "time", "contains", "is", "not", ...WATCHED, ...clients];
-    return command === "goto" ? ["end", ...this.marks.keys()] : command === "info" ? ["breaks"] : [];
+    return command === "goto" ? ["end", ...this.marks.keys()] : [];
+  }
+
+  #printable(count, clients) {
+    const isBeside = this.recording.port !== null;
+    if (count === 1) return [...PRINTED, "instruction", "difference", ...(isBeside ? ["port"] : [])];
+    return [...(isBeside && count === 2 ? Object.keys(PORT) : []), ...clients, "server"];
   }
 
   _step([word]) {
@@ -170,18 +187,29 @@ export class Debugger {
 
   _mark([name]) {
     if (name === undefined) return this.marks.size ? [...this.marks].map(([mark, place]) => `${mark} at place ${place}`) : ["no marks"];
-    if (!/^\p{L}[\p{L}\p{N}_-]*$/u.test(name) || name === "end") throw new Complaint(`${name} is no name: it begins with a letter, and has letters, digits, - and _`);
+    if (name === "end") throw new Complaint("end is the last place already: goto end goes there");
+    if (!/^\p{L}[\p{L}\p{N}_-]*$/u.test(name)) throw new Complaint(`${name} is no name: it begins with a letter, and has letters, digits, - and _`);
     this.marks.set(name, this.place);
     return [`${name} at place ${this.place}`];
   }
 
   _undo() {
-    const place = this.jumps.pop();
-    return place === undefined ? ["no move to undo"] : this.#moveTo(place);
+    const last = this.jumps.pop();
+    if (last === undefined) return ["no move to undo"];
+    if (typeof last === "number") return this.#moveTo(last);
+    this.stops.bringBack(last);
+    return this.stops.list(this.place);
+  }
+
+  /** Keeps what was removed, so that `undo` brings it back. */
+  #gone(removed) {
+    if (removed.length) this.jumps.push(removed);
+    return removed;
   }
 
   _next([word]) {
-    let count = this.#count(word);
+    if (isBegun(word, "difference")) return this.#nextDifference();
+    let count = this.#count(word, 1);
     if (this.last === null) {
       const said = this.#moveTo(1);
       if (this.last === null || --count === 0) return said;
@@ -192,11 +220,55 @@ export class Debugger {
   }
 
   _rnext([word]) {
-    let count = this.#count(word);
+    if (isBegun(word, "difference")) return this.#lastDifference();
+    let count = this.#count(word, 1);
     if (this.last === null) return [this.recording.opening];
     const { client } = this.#instructionAt(this.last);
     for (let number = this.place - 1; number >= 0; number--) if (this.#instructionAt(number).client === client && --count === 0) return this.#moveTo(number);
     return this.#noneOf(client, "earlier");
+  }
+
+  /** Goes on to behind the next instruction in whose line the port differs in another way than before. */
+  #nextDifference() {
+    const { difference } = this.recording;
+    const found = this.#differences().after(this.place);
+    if (found === null) return this.#interrupted();
+    const at = Math.min(found ?? Infinity, difference !== null && difference.place > this.place ? difference.place : Infinity);
+    return at <= this.recording.end ? [...this.#moveTo(at), ...this.#differenceAt(at)] : ["the port has no further difference"];
+  }
+
+  /** Goes back to before the last such instruction. */
+  #lastDifference() {
+    const { difference } = this.recording;
+    const found = this.#differences().upTo(this.place);
+    if (found === null) return this.#interrupted();
+    const first = difference !== null && difference.number >= 0 && difference.number < this.place ? difference.number + 1 : 0;
+    const at = Math.max(found ?? 0, first);
+    return at > 0 ? [...this.#moveTo(at - 1), ...this.#differenceAt(at)] : ["the port has no earlier difference"];
+  }
+
+  #differences() {
+    if (this.recording.port === null) throw new Complaint("there are no lines of a port");
+    return this.recording.differences;
+  }
+
+  /** What the port's line of the instruction that leads to a place differs in: conform's answer, and what else is new in it, short. */
+  #differenceAt(place, cut = shortVerdict) {
+    const { recording } = this;
+    const first = recording.difference?.place === place ? recording.difference : null;
+    const all = recording.port.differencesAt(place).map(({ key }) => key);
+    const fresh = recording.differences.keysAt(place);
+    const named = first === null ? (fresh[0] ?? all[0]) : first.key;
+    const words = first === null ? recording.differing(place, named) : first.words;
+    const others = all.filter((key) => key !== named);
+    const isFresh = (key) => fresh.length === 0 || fresh.includes(key);
+    const same = others.filter((key) => !isFresh(key));
+    return [...cut(words), ...others.filter(isFresh).flatMap((key) => cut(recording.differingShort(place, key))), ...(same.length ? [`differs as before: ${same.join(", ")}`] : [])];
+  }
+
+  /** What is said of a search that a person has ended. */
+  #interrupted() {
+    return ["interrupted; the place is as it was"];
   }
 
   #noneOf(client, which) {
@@ -205,22 +277,20 @@ export class Debugger {
   }
 
   _until(words) {
-    const wanted = this.#wanted(words);
-    const { instructions, end } = this.recording;
-    for (let p = this.place; p < end; p++) if (`${instructions[p].words} `.startsWith(wanted)) return this.#moveTo(p + 1);
-    return [`no further instruction begins with ${wanted.trimEnd()}${this.#meant(words[0])}`];
+    const isWanted = this.#wanted(words);
+    for (let p = this.place + 1; p <= this.recording.end; p++) if (isWanted(p)) return this.#moveTo(p);
+    return [`no further instruction begins with ${words.join(" ")}${this.#meant(words[0])}`];
   }
 
   _runtil(words) {
-    const wanted = this.#wanted(words);
-    const { instructions } = this.recording;
-    for (let p = this.place - 1; p >= 0; p--) if (`${instructions[p].words} `.startsWith(wanted)) return this.#moveTo(p);
-    return [`no earlier instruction begins with ${wanted.trimEnd()}${this.#meant(words[0])}`];
+    const isWanted = this.#wanted(words);
+    for (let p = this.place; p > 0; p--) if (isWanted(p)) return this.#moveTo(p - 1);
+    return [`no earlier instruction begins with ${words.join(" ")}${this.#meant(words[0])}`];
   }
 
   #wanted(words) {
     if (!words.length) throw new Complaint("the first words of an instruction are missing");
-    return `${words.join(" ")} `;
+    return matching(words, this.recording);
   }
 
   #meant(word) {
@@ -231,14 +301,20 @@ export class Debugger {
   _run() {
     if (this.place === this.recording.end) return this.#ending();
     for (let p = this.place + 1; p <= this.recording.end; p++) {
+      if (this.recording.isStopped()) return this.#interrupted();
       const stops = [...this.stops.changesAt(p), ...this.stops.breaksAt(p), ...this.#differenceIf((it) => it.place === p)];
       if (stops.length) return [...this.#moveTo(p), ...stops];
     }
     return this.#moveTo(this.recording.end);
   }
 
+  _continue() {
+    return this._run();
+  }
+
   _rrun() {
     for (let p = this.place - 1; p >= 0; p--) {
+      if (this.recording.isStopped()) return this.#interrupted();
       const stops = [...this.stops.changesAt(p + 1), ...this.stops.breaksAt(p), ...this.#differenceIf((it) => it.number === p)];
       if (stops.length) return [...this.#moveTo(p), ...stops];
     }
@@ -247,8 +323,7 @@ export class Debugger {
 
   _break(words) {
     if (!words.length) return this._info([]);
-    const [said] = this.stops.addBreak(words, (word) => this.#placeOf(word, this.recording.written), (word) => this.#placeOfLine(word));
-    return [`${said}${this.#meant(words[0])}`];
+    return this.stops.addBreak(words, (word) => this.#placeOf(word, this.recording.written), (word) => this.#placeOfLine(word));
   }
 
   _watch(words) {
@@ -256,7 +331,7 @@ export class Debugger {
   }
 
   _unwatch() {
-    this.stops.removeWatches();
+    this.#gone(this.stops.removeWatches());
     return ["no watches"];
   }
 
@@ -269,26 +344,30 @@ export class Debugger {
     const subject = subjectOf(words, this.recording.clients);
     const isThere = this.stops.addLook(kind, subject);
     const { what, client } = subject;
-    const told = what === "server" ? "server's revision" : `${what} of ${client === null ? "the server" : `client ${client}`}`;
+    const told = what === "server" ? "the server's revision" : `${what} of ${client === null ? "the server" : `client ${client}`}`;
     return [`${isThere ? "already " : ""}${doing} ${told}`];
   }
 
-  _info([word]) {
-    if (word !== undefined && !"breaks".startsWith(word)) throw new Complaint(`${word} is not known`);
+  _info([word = "breaks", client]) {
+    const what = ["breaks", ...MADE].find((name) => name.startsWith(word));
+    if (what === undefined) throw new Complaint(`${word} is not known`);
+    if (what !== "breaks") return makingOf(this.recording, what, clientOf(client, this.recording.clients), this.place);
+    if (client !== undefined) throw new Complaint(`${client} is a word too many`);
     const lines = this.stops.list(this.place);
     return lines.length ? lines : ["no breaks, no watches"];
   }
 
   _delete([word]) {
     if (word === undefined) throw new Complaint("a number is missing");
-    return [this.stops.remove(this.#count(word))];
+    const [{ command }] = this.#gone(this.stops.remove(this.#count(word)));
+    return [`no ${command} any more`];
   }
 
   _clear([word]) {
     const place = word === undefined ? null : this.#placeOf(word, this.recording.written);
-    const hasRemoved = this.stops.clear(place);
-    if (place === null) return ["no breaks, no watches"];
-    return [hasRemoved ? `no break at place ${place} any more` : `there was no break at place ${place}`];
+    const { length } = this.#gone(this.stops.clear(place));
+    if (place === null) return [`no breaks, no watches${length ? `; undo brings back ${length === 1 ? "the one" : `the ${length}`}` : ""}`];
+    return [length ? `no break at place ${place} any more` : `there was no break at place ${place}`];
   }
 
   _who([who, word]) {
@@ -299,9 +378,21 @@ export class Debugger {
     return this.#byReading(() => whoIs(this.recording, member, Number(word), this.place));
   }
 
-  _blame([who]) {
+  _blame([who, first, second]) {
     const member = memberOf(who, this.recording.clients);
-    return this.#documentOf(member).length ? this.#byReading(() => authorsOf(this.recording, member, this.place)) : ["the document is empty"];
+    const { length } = this.#documentOf(member);
+    if (length === 0) return ["the document is empty"];
+    if (first === undefined) return this.#byReading(() => this.#firstOf(authorsOf(this.recording, member, this.place), who));
+    if (second === undefined) throw new Complaint("the number behind the last character is missing");
+    const [from, to] = [this.#count(first), this.#count(second)];
+    if (from >= to || to > length) throw new Complaint(`${from} to ${to} is no part of the document, which has ${length} characters`);
+    return this.#byReading(() => authorsOf(this.recording, member, this.place, from, to));
+  }
+
+  /** The first ones of many pieces, and how many more there are. */
+  #firstOf(pieces, who) {
+    if (pieces.length <= PIECES) return pieces;
+    return [...pieces.slice(0, PIECES), `.. ${pieces.length - PIECES} more of ${pieces.length} pieces; blame ${who} FROM TO shows those of a part`];
   }
 
   /** What otbench says by a read behind the place. A schedule that is as long as one may be has no room for it. */
@@ -319,29 +410,50 @@ export class Debugger {
     return documentAt(this.recording.session, member, place);
   }
 
-  _find([word]) {
-    return this.#find(word, 1);
+  _find(words) {
+    return this.#find(words, 1);
   }
 
-  _rfind([word]) {
-    return this.#find(word, -1);
+  _rfind(words) {
+    return this.#find(words, -1);
   }
 
-  /** Goes on, or back, over the next instruction by which a document has a text more or less often. The documents are those that the lines of `steps` lead to: what reads show. */
-  #find(word, direction) {
-    if (word === undefined) throw new Complaint("a text is missing");
-    const text = textOf(word);
+  /** Goes on, or back, over the next instruction by which a document has a text more or less often: one of ot.js, or one that the port printed. */
+  #find(words, direction) {
+    const isOfPort = words.length > 1 && words[0] === "port";
+    if (words.length > 1 && !isOfPort) throw new Complaint(`${words[1]} is a word too many`);
+    if (words.length === 0) throw new Complaint("a text is missing");
+    const text = textOf(words.at(-1));
     if (text === "") throw new Complaint("the text is empty");
-    const { session, end } = this.recording;
-    const isLast = (p) => (direction > 0 ? p > end : p < 1);
-    for (let p = direction > 0 ? this.place + 1 : this.place; !isLast(p); p += direction) {
-      const client = session.steps[p].moved === SERVER ? null : session.steps[p].moved;
-      const [before, after] = [p - 1, p].map((at) => this.recording.text(client, at).split(text).length - 1);
-      if (before === after) continue;
-      const times = (count) => (count === 0 ? "nowhere" : count === 1 ? "once" : `${count} times`);
-      return [...this.#moveTo(direction > 0 ? p : p - 1), `${titleOf({ what: "doc", client })}: ${JSON.stringify(text)} ${times(before)} -> ${times(after)}`];
+    const whose = this.recording.port === null ? "" : isOfPort ? " of the port" : " of ot.js";
+    const found = isOfPort ? this.#findPrinted(text, direction) : this.#findOurs(text, direction);
+    if (found === null) return this.#interrupted();
+    if (found === undefined) return [`no ${direction > 0 ? "further" : "earlier"} instruction changes how often a document${whose} has ${JSON.stringify(text)}`];
+    const { at, who, counts } = found;
+    const [before, after] = counts.map((count) => (count === 0 ? "nowhere" : count === 1 ? "once" : `${count} times`));
+    const title = titleOf({ what: "doc", client: who === SERVER ? null : who });
+    return [...this.#moveTo(direction > 0 ? at : at - 1), `${title}${whose}: ${JSON.stringify(text)} ${before} -> ${after}`];
+  }
+
+  /** The documents of ot.js are those that the lines of `steps` lead to: what reads show. Null where a person has ended the search. */
+  #findOurs(text, direction) {
+    const occurrences = this.recording.occurrences(text);
+    const at = direction > 0 ? occurrences.after(this.place) : occurrences.upTo(this.place);
+    return at ? { at, ...occurrences.at(at) } : at;
+  }
+
+  /** A document of the port is what it printed last of a participant. */
+  #findPrinted(text, direction) {
+    const { port } = this.recording;
+    if (port === null) throw new Complaint("there are no lines of a port");
+    const { documents } = port;
+    if (documents.length === 0) throw new Complaint("the port's lines have no document");
+    const ahead = direction > 0 ? documents.filter(({ at }) => at > this.place) : documents.filter(({ at }) => at <= this.place).reverse();
+    for (const { at, who, before, after } of ahead) {
+      const counts = countsOf(text, before, after);
+      if (counts !== null) return { at, who, counts };
     }
-    return [`no ${direction > 0 ? "further" : "earlier"} instruction changes how often a document has ${JSON.stringify(text)}`];
+    return undefined;
   }
 
   _diff([first, second, third]) {
@@ -394,14 +506,33 @@ export class Debugger {
     return [...all.map((client) => recording.head(client, place)), ...recording.server(place), "show C shows what client C awaits, and its links"];
   }
 
-  _print([what, word]) {
+  _print([what, word, third]) {
     const { recording, place } = this;
+    if (what === "port") return this.#printPort(word, third);
+    if (third !== undefined) throw new Complaint(`${third} is a word too many`);
     if (what === "instruction") return this.#told(word);
-    if (what === "difference" && word === undefined) return recording.difference?.words ?? ["none"];
+    if (what === "difference" && word === undefined) return this.#printDifference();
     const { client } = subjectOf(word === undefined ? [what] : [what, word], recording.clients, PRINTED);
     const links = { link: () => recording.link(client, place), message: () => recording.message(client, place) };
     const found = Object.hasOwn(links, what) ? links[what]() : [recording.value({ what, client }, place)];
     return found.length ? found : ["none"];
+  }
+
+  /** A value as the port printed it last. */
+  #printPort(what, who) {
+    const { recording, place } = this;
+    if (recording.port === null) throw new Complaint("there are no lines of a port");
+    if (what === undefined) throw new Complaint("a value is missing");
+    if (!Object.hasOwn(PORT, what)) throw new Complaint(`${what} is no value of a port's line: they are ${Object.keys(PORT).join(", ")}`);
+    return recording.printed(memberOf(who, recording.clients), PORT[what], place);
+  }
+
+  /** The difference of the place in which the port differs, else the first one. */
+  #printDifference() {
+    const { difference, port } = this.recording;
+    if (this.place > 0 && (difference?.place === this.place || port?.differencesAt(this.place).length)) return this.#differenceAt(this.place, (words) => words);
+    if (!difference) return ["none"];
+    return difference.place === this.place ? difference.words : [`the port does not differ at place ${this.place}; its first difference:`, ...difference.words];
   }
 
   _explain([word]) {
@@ -414,7 +545,8 @@ export class Debugger {
     const number = word === undefined ? this.last : Number(word);
     if (number === null || number >= this.recording.end) return told;
     const call = this.recording.call(number);
-    return call === null ? [...told, "  nothing is transformed"] : [...told.slice(0, -1), ...reasonsOf(call, this.recording.session.log)];
+    const said = call === null ? [...told, "  nothing is transformed"] : [...told.slice(0, -1), ...reasonsOf(call, this.recording.session.log)];
+    return [...said, ...this.recording.portAt(number + 1)];
   }
 
   /** An instruction in words: by its number, or that which was performed or undone last. */
@@ -517,9 +649,10 @@ export class Debugger {
     return [];
   }
 
-  #count(word) {
+  #count(word, least = 0) {
     if (word === undefined) return 1;
     if (!/^\d{1,9}$/.test(word)) throw new Complaint(`${word} is no number`);
+    if (Number(word) < least) throw new Complaint(`a number from ${least} is wanted`);
     return Number(word);
   }
 
@@ -553,8 +686,8 @@ export class Debugger {
   }
 
   /** Where the place is, and, behind an instruction, where that led. */
-  #whereIs({ line, number, words, told }, isBack = false) {
-    const head = `line ${line}, instruction ${number}: ${words}`;
+  #whereIs({ number, told }, isBack = false) {
+    const head = this.recording.leading(number + 1);
     return isBack ? [`before ${head}`] : [`behind ${head}`, told.at(-1)];
   }
 
@@ -569,8 +702,8 @@ export class Debugger {
     return difference && isIt(difference) ? shortVerdict(difference.words) : [];
   }
 
-  /** Which instruction was performed or undone last, and which comes next. */
+  /** Which instruction was the last one performed at the place, and which comes next. */
   #mark(number) {
-    return number === this.last ? "->" : number === this.place ? " >" : "  ";
+    return number === this.place - 1 ? "->" : number === this.place ? " >" : "  ";
   }
 }

@@ -3,7 +3,7 @@
 import { spawnSync } from "node:child_process";
 import { createInterface } from "node:readline";
 import { setImmediate } from "node:timers/promises";
-import { readFile, Unreadable } from "../command/files.mjs";
+import { hasLines, readFile, Unreadable } from "../command/files.mjs";
 import { complain, complainOfWriting, print } from "../command/streams.mjs";
 import { markIn } from "../common/text.mjs";
 import { colouring } from "./colours.mjs";
@@ -11,14 +11,16 @@ import { helpOf } from "./commands.mjs";
 import { Debugger } from "./debugger.mjs";
 import { files } from "./filing.mjs";
 import { openHistory } from "./history.mjs";
+import { Interruption } from "./interrupting.mjs";
 import { nearest } from "../common/nearest.mjs";
 import { isLong, page } from "./pager.mjs";
 import { Recording, RefusedText } from "./recording.mjs";
 import { shownOn } from "../common/visible.mjs";
 
-export const USAGE = `usage: otbench debug FILE [--port PORT-LINES] [--sparse]
+export const USAGE = `usage: otbench debug FILE [[--port] PORT-LINES] [--sparse]
 Steps through the run of a schedule's text, forth and back. With the lines that a port printed, which may stand in FILE behind a line '%%', it stops where the
-port differs. --sparse: instructions without a line are not compared.
+port differs. --sparse: instructions without a line are not compared. Without --port the second file is PORT-LINES where it begins with a '{', else the program's
+commands.
 `;
 
 /** The usage, and the commands at the prompt. */
@@ -27,10 +29,10 @@ const HELP = `${USAGE}\n${helpOf().join("\n")}\n`;
 /**
  * A session: prompts where the input is a terminal, and answers each line. Lines are edited, and the prompt stands, on the output, or on standard error where
  * that is the terminal. Ends with the first fault of the output, or null.
- * @param {Debugger} session @param {import("node:tty").ReadStream} input @param {import("node:tty").WriteStream} output
+ * @param {Debugger} session @param {import("node:tty").ReadStream} input @param {import("node:tty").WriteStream} output @param {Interruption} interruption
  * @returns {Promise<Error | null>}
  */
-async function converse(session, input, output) {
+async function converse(session, input, output, interruption) {
   const shown = input.isTTY ? [output, process.stderr].find(({ isTTY }) => isTTY) : undefined;
   const history = shown === undefined ? null : openHistory();
   const reader = createInterface({ input, output: shown, terminal: shown !== undefined, completer: (line) => session.complete(line), history: history?.lines });
@@ -59,9 +61,13 @@ async function converse(session, input, output) {
   for await (const line of reader) {
     if (fault) break;
     history?.add(line);
-    say(session.perform(line));
+    if (shown !== undefined) interruption.begin();
+    const said = session.perform(line);
+    const typed = interruption.end();
+    say(said);
     if (session.isOver) break;
     prompt();
+    if (typed.length) input.unshift(typed);
   }
   release();
   reader.close();
@@ -98,15 +104,16 @@ class Misunderstood extends Error {}
 
 const isHelp = (word) => word === "-h" || word === "--help";
 
-/** The words as { file, port, isSparse }. Behind `--` no word is an option. */
+/** The words as { file, port, isSparse }. Behind `--` no word is an option. A second file is a port's lines where it has such. */
 function wordsOf(words) {
   const asked = { file: null, port: null, isSparse: false };
   let isFile = false;
   for (let i = 0; i < words.length; i++) {
     const word = words[i];
     if (isFile || !word.startsWith("-")) {
-      if (asked.file !== null) throw new Misunderstood(`unexpected argument '${word}' found; the lines of a port stand behind '--port'`);
-      asked.file = word;
+      if (asked.file === null) asked.file = word;
+      else if (asked.port === null && hasLines(word)) asked.port = word;
+      else throw new Misunderstood(`unexpected argument '${word}' found; the lines of a port stand behind '--port'`);
     } else if (word === "--") isFile = true;
     else if (word === "--sparse") asked.isSparse = true;
     else if (word === "--port") {
@@ -132,15 +139,15 @@ function read({ file, port }) {
 
 /** Reads the files that the words name, again and again, and opens the schedule in the editor that a person has chosen. */
 class Source {
-  constructor(asked, ask) {
-    Object.assign(this, { asked, ask });
+  constructor(asked, ask, isStopped) {
+    Object.assign(this, { asked, ask, isStopped });
   }
 
   /** The run of the files as they are. A file that cannot be read is refused, too. */
   open() {
     try {
       const { schedule, port } = read(this.asked);
-      return new Recording(this.ask, schedule, port, this.asked.isSparse);
+      return new Recording(this.ask, schedule, port, this.asked.isSparse, this.isStopped);
     } catch (fault) {
       if (!(fault instanceof Unreadable)) throw fault;
       throw new RefusedText(`otbench debug: ${fault.message}\n`);
@@ -170,9 +177,10 @@ class Source {
 export async function debug(words, ask, input = process.stdin, output = process.stdout) {
   if (words.some(isHelp)) return print(HELP) ? 0 : 1;
   try {
-    const source = new Source(wordsOf(words), ask);
+    const interruption = new Interruption();
+    const source = new Source(wordsOf(words), ask, () => interruption.isThere());
     const session = new Debugger(source.open(), { source, files });
-    const fault = await converse(session, input, output);
+    const fault = await converse(session, input, output, interruption);
     if (fault === null) return 0;
     complainOfWriting(fault);
     return 1;

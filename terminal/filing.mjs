@@ -1,20 +1,27 @@
 // The files of the debugger's commands, under node.
 
 import { readFileSync, writeFileSync } from "node:fs";
+import { dirname } from "node:path";
 import { reasonOf } from "../command/files.mjs";
 import { Complaint } from "./commands.mjs";
 
-function withFile(file, call) {
+function read(file) {
   try {
-    return call();
+    return readFileSync(file, "utf8");
   } catch (fault) {
-    if (!fault.code) throw fault;
-    throw new Complaint(reasonOf(file, fault));
+    throw fault.code ? new Complaint(reasonOf(file, fault)) : fault;
   }
 }
 
 /** @type {import("./debugger.mjs").Files} */
 export const files = {
-  read: (file) => withFile(file, () => readFileSync(file, "utf8")),
-  write: (file, text) => withFile(file, () => writeFileSync(file, text, { flag: "wx" })),
+  read,
+  write: (file, text) => {
+    try {
+      writeFileSync(file, text, { flag: "wx" });
+    } catch (fault) {
+      if (fault.code === "ENOENT") throw new Complaint(`${file}: there is no folder ${dirname(file)}`);
+      throw fault.code ? new Complaint(reasonOf(file, fault)) : fault;
+    }
+  },
 };

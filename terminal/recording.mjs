@@ -2,16 +2,18 @@
 
 import { conformCall, isConforming, isWordy, wordsOf } from "../common/conformance.mjs";
 import { fold, SERVER } from "../common/fold.mjs";
-import { lineNamed } from "../common/numbering.mjs";
+import { lineNamed, linesEndIn } from "../common/numbering.mjs";
 import { documentAt, downAt, logLengthAt, quietAt, stateAt, upAt } from "../common/places.mjs";
 import { textOf } from "../common/document.mjs";
-import { bytesOf, textOf as textOfBytes, withRest } from "../common/text.mjs";
+import { bytesOf, lastLineIn, textOf as textOfBytes, withRest } from "../common/text.mjs";
 import { splitInput } from "../common/input.mjs";
 import { Port } from "../common/printed.mjs";
+import { Differences } from "./differing.mjs";
+import { Occurrences } from "./occurring.mjs";
 import { outlineOf, textUpTo } from "../common/outline.mjs";
 import { partsOf } from "../common/told.mjs";
 import { commentsOf } from "./names.mjs";
-import { shortOperation, shortText } from "./values.mjs";
+import { beside, shortOperation, shortText } from "./values.mjs";
 
 /**
  * @typedef {{ status: number, output: string, errors: string }} Answer
@@ -20,6 +22,12 @@ import { shortOperation, shortText } from "./values.mjs";
 
 /** A text that otbench refuses, with what it says of it. */
 export class RefusedText extends Error {}
+
+/** Keys that are of a line as a whole. */
+const OF_ALL = new Set(["at", "do", "client", "line", "stopped"]);
+
+/** Keys of values that a participant keeps; the others are of one instruction. */
+const LASTING = new Set(["revision", "state", "outstanding", "buffer", "document"]);
 
 const LINK = 4; // messages of a link that are all shown
 
@@ -45,11 +53,11 @@ const linesOfPort = (port) => bytesOf(port, "the port's lines");
 /** A schedule's text, a line `%%` and a port's lines. */
 const besides = (schedule, port) => withRest(bytesOf(schedule, "the schedule"), linesOfPort(port));
 
-const ALIKE = { difference: null, conforms: false, showsNothing: false, unknown: [] };
+const ALIKE = { difference: null, conforms: false, showsNothing: false, linesEnd: null, unknown: [] };
 
 /**
- * What conform says of a port: where it differs, { place, number, line, words } or null; else whether it conforms, whether it shows nothing, so that no value was
- * compared, and which of its keys are unknown, in lines.
+ * What conform says of a port: where it differs, { place, number, line, key, words } or null; else whether it conforms, whether it shows nothing, so that no value was
+ * compared, which of its keys are unknown, in lines, and the place at which lines for some instructions end, where that is before the schedule's last one.
  */
 function conformOf(ask, schedule, { port, isSparse }, { lines }) {
   if (port === null) return ALIKE;
@@ -57,14 +65,15 @@ function conformOf(ask, schedule, { port, isSparse }, { lines }) {
   const { output, errors } = ask([...conformCall(isSparse), "--json"], input);
   if (errors) throw new RefusedText(errors);
   const answer = JSON.parse(output);
-  const { verdict, at } = answer;
+  const { verdict, at, key } = answer;
   const words = isWordy(answer) ? wordsOf(answer, ask(conformCall(isSparse), input).output) : [];
   const unknown = words.splice(words.length - answer.unknown.length);
   if (verdict === "differs") {
     const line = lineNamed(answer, schedule);
-    return { ...ALIKE, difference: { place: at, number: lines.indexOf(line - 1), line, words } };
+    return { ...ALIKE, difference: { place: at, number: lines.indexOf(line - 1), line, key: key?.split(" ")[0], words } };
   }
-  return { ...ALIKE, conforms: isConforming(answer), showsNothing: verdict === "nothing compared", unknown };
+  const linesEnd = isSparse && verdict === "conforms" ? linesEndIn(lastLineIn(linesOfPort(port)), schedule) : null;
+  return { ...ALIKE, conforms: isConforming(answer), showsNothing: verdict === "nothing compared", linesEnd, unknown };
 }
 
 /** A run, with the state at each place. Place p is the one where p instructions are performed. */
@@ -74,12 +83,14 @@ export class Recording {
    * @param {string | Uint8Array} text of a schedule; bytes that are no UTF-8 are refused
    * @param {string | Uint8Array | null} port the lines that a port printed, if there are some
    * @param {boolean} isSparse whether instructions without a line are not compared
+   * @param {() => boolean} isStopped whether a person ends what is searched for
    */
-  constructor(ask, text, port = null, isSparse = false) {
+  constructor(ask, text, port = null, isSparse = false, isStopped = () => false) {
     const told = ask(["explain"], text);
     if (told.errors) throw new RefusedText(told.errors);
     const schedule = typeof text === "string" ? text : textOfBytes(text);
     this.ask = ask;
+    this.isStopped = isStopped;
     this.schedule = schedule;
     Object.assign(this, commentsOf(schedule)); // names and cut
     this.session = fold(ask(["steps"], schedule).output.split("\n").filter(Boolean));
@@ -88,8 +99,15 @@ export class Recording {
     this.opening = opening;
     this.written = outline.lines.length; // instructions of the schedule, those behind a refused one too
     this.instructions = instructionsOf(this.session, outline, instructions);
-    Object.assign(this, conformOf(ask, schedule, { port, isSparse }, outline)); // difference, conforms, showsNothing, unknown
+    Object.assign(this, conformOf(ask, schedule, { port, isSparse }, outline)); // difference, conforms, showsNothing, linesEnd, unknown
     this.port = port === null ? null : new Port(this.session, linesIn(linesOfPort(port)), null, isSparse);
+    this.differences = this.port && new Differences(this.port, isStopped);
+  }
+
+  /** The instructions that change how often a text stands in the documents; those of the last text are kept. @param {string} text */
+  occurrences(text) {
+    if (this.lastSought?.text !== text) this.lastSought = new Occurrences(this, text);
+    return this.lastSought;
   }
 
   /** The schedule's text up to a place; completed, with the instructions by which all that is under way there arrives. @param {number} place */
@@ -144,9 +162,32 @@ export class Recording {
     return rule === null ? null : { rule, given };
   }
 
+  /** What conform says of one value of the port's line of the instruction that leads to a place: its words. @param {number} place @param {string} key of a value that differs */
+  differing(place, key) {
+    const line = this.port.valuesIn(place);
+    const value = line?.[key];
+    const said = OF_ALL.has(key) ? [] : this.ask(conformCall(true), besides(this.scheduleUpTo(place), `${JSON.stringify({ at: place, [key]: value })}\n`)).output.split("\n").slice(0, -1);
+    if (said[0]?.startsWith("differs at ")) return said;
+    return this.differingShort(place, key);
+  }
+
+  /** Its first three lines alone. @param {number} place @param {string} key of a value that differs */
+  differingShort(place, key) {
+    const { found, ours } = this.port.differencesAt(place).find((it) => it.key === key);
+    const { moved } = this.session.steps[place];
+    const whose = OF_ALL.has(key) ? "" : moved === SERVER ? "server " : `client ${moved} `;
+    return [`differs at ${place}: ${this.instructions[place - 1].words}: ${whose}${key}`, `found ${found}`, `ot.js ${ours}`];
+  }
+
   /** The last place. */
   get end() {
     return this.session.length;
+  }
+
+  /** The instruction that leads to a place: its line, its number and its words. @param {number} place */
+  leading(place) {
+    const { line, number, words } = this.instructions[place - 1];
+    return `line ${line}, instruction ${number}: ${words}`;
   }
 
   /** The refused instruction with which the run ended, or null. */
@@ -231,10 +272,37 @@ export class Recording {
     return [...lines, ...this.#ofPort(client, place)];
   }
 
-  /** What the port printed last of a participant and ot.js does not have. */
+  /** What the port printed last of a participant and ot.js does not have. What is of an earlier instruction, and no value that lasts, is said to be; and that the port has no more lines. */
   #ofPort(who, place) {
-    const differences = this.port?.differencesOf(who, place) ?? [];
-    return differences.map(({ key, found, ours }) => `  port: ${key} ${found}, ot.js ${ours}`);
+    if (this.port === null) return [];
+    const { last } = this.port;
+    const at = this.port.placeOf(who, place);
+    const of = (key) => (at < place && (place > last || !LASTING.has(key)) ? `  (of ${this.leading(at)})` : "");
+    const differences = this.#besides(at).map(({ key, said }) => `  port: ${said}${of(key)}`);
+    return place > last ? [...differences, `  port: no line here; its lines end at place ${last}`] : differences;
+  }
+
+  #besides(place) {
+    return this.port.differencesAt(place).map(({ key, found, ours }) => ({ key, said: `${key} ${beside(found, ours)}` }));
+  }
+
+  /** What the port's line of the instruction that leads to a place has and ot.js does not, in lines. @param {number} place */
+  portAt(place) {
+    return this.port === null ? [] : this.#besides(place).map(({ said }) => `  port: ${said}`);
+  }
+
+  /**
+   * What the port printed last of a participant, whole; of a value of an earlier instruction also which.
+   * @param {number | "server"} who @param {string} key @param {number} place @returns {string[]}
+   */
+  printed(who, key, place) {
+    const found = this.port.printedOf(who, key, place);
+    const { last } = this.port;
+    const ended = place > last ? [`  the port has no line here: its lines end at place ${last}`] : [];
+    if (found === null) return ["the port has not printed it", ...ended];
+    const { at, value } = found;
+    const isOther = at < place && (place > last || !LASTING.has(key));
+    return [value === null ? "none" : key === "state" && typeof value === "string" ? value : JSON.stringify(value), ...(isOther ? [`  of ${this.leading(at)}`] : []), ...ended];
   }
 
   /** What there is to show of the server and of the whole. @param {number} place */

@@ -2,6 +2,7 @@
 
 import { Complaint } from "./commands.mjs";
 import { conditionOf, holdingOf } from "./conditions.mjs";
+import { checkWords, matching } from "./matching.mjs";
 import { titleOf, wordsOf } from "./subjects.mjs";
 import { change } from "./values.mjs";
 
@@ -19,6 +20,7 @@ function partsOf(words) {
   if (hasTime && !/^[1-9]\d{0,8}$/.test(words[at + 1] ?? "")) throw new Complaint("time takes a number from 1");
   const rest = hasTime ? words.slice(0, at) : words;
   const from = rest.includes("if") ? rest.indexOf("if") : rest.length;
+  if (rest.slice(0, from).includes("time")) throw new Complaint("time N stands last, behind if CONDITION");
   return { head: rest.slice(0, from), condition: from < rest.length ? rest.slice(from + 1) : null, time: hasTime ? Number(words[at + 1]) : null };
 }
 
@@ -69,10 +71,10 @@ export class Stops {
   /** The places behind instructions with these first words; without words those behind each. */
   #placesBehind(head, condition) {
     if (head.length === 0 && condition === null) throw new Complaint("a place, words or a condition are missing");
-    const wanted = `${head.join(" ")} `;
-    const { instructions, end } = this.recording;
-    const places = Array.from({ length: end }, (_, number) => number + 1);
-    return head.length === 0 ? places : places.filter((p) => `${instructions[p - 1].words} `.startsWith(wanted));
+    const places = Array.from({ length: this.recording.end }, (_, number) => number + 1);
+    if (head.length === 0) return places;
+    checkWords(head, this.recording.clients);
+    return places.filter(matching(head, this.recording));
   }
 
   /** Those places at which a condition holds; without words, at which it begins to. */
@@ -87,23 +89,33 @@ export class Stops {
     return this.#add({ kind, command: `${kind} ${wordsOf(subject)}`, subject });
   }
 
-  /** Removes one by its number. @param {number} number */
+  /** Removes one by its number; answers it. @param {number} number */
   remove(number) {
     const at = this.all.findIndex((stop) => stop.number === number);
     if (at < 0) throw new Complaint(`there is no break, watch or display ${number}`);
-    return `no ${this.all.splice(at, 1)[0].command} any more`;
+    return this.all.splice(at, 1);
   }
 
+  /** Removes all watches; answers them. */
   removeWatches() {
-    this.all = this.all.filter(({ kind }) => kind !== "watch");
+    return this.#removeIf(({ kind }) => kind === "watch");
   }
 
-  /** Removes the breaks at one place, or all breaks, watches and displays. @param {number | null} place */
+  /** Removes the breaks at one place, or all breaks, watches and displays; answers them. @param {number | null} place */
   clear(place) {
-    const kept = place === null ? [] : this.all.filter((stop) => stop.kind !== "break" || stop.place !== place);
-    const hasRemoved = kept.length < this.all.length;
-    this.all = kept;
-    return hasRemoved;
+    return this.#removeIf((stop) => place === null || (stop.kind === "break" && stop.place === place));
+  }
+
+  #removeIf(isGone) {
+    const gone = this.all.filter(isGone);
+    this.all = this.all.filter((stop) => !isGone(stop));
+    return gone;
+  }
+
+  /** Brings back what was removed, but what has been set again since. @param {(Break | Look)[]} gone */
+  bringBack(gone) {
+    const isThere = new Set(this.all.map(({ command }) => command));
+    this.all = [...this.all, ...gone.filter(({ command }) => !isThere.has(command))].sort((one, other) => one.number - other.number);
   }
 
   /** A line for each; of a break at how many places it stops, and how many of them are reached. @param {number} now */

@@ -84,6 +84,54 @@ export function change(title, from, to) {
   return `${title}: ${shortJson(from)} -> ${shortJson(to)}`;
 }
 
+/** What stands around the component at a number of an operation: the one in front of it, and those from it on. */
+function componentsAround(operation, at) {
+  const from = Math.max(0, at - 1);
+  const to = at + COMPONENTS;
+  const parts = operation.slice(from, to).map((component) => (typeof component === "string" ? shortText(component) : JSON.stringify(component)));
+  return `[${[...(from > 0 ? [".."] : []), ...parts, ...(to < operation.length ? [".."] : [])].join(",")}] (${counted(operation.length)} components)`;
+}
+
+/** How many characters of the document components retain and delete. */
+const spanOf = (components) => components.reduce((sum, component) => sum + (typeof component === "number" ? Math.abs(component) : 0), 0);
+
+/** What stands around the character at a number of a text. */
+const charactersAround = (all, at) => `${front(all, at)}|${behind(all, at)} (${counted(all.length)} characters)`;
+
+/** Two values of one kind, cut around where they part, and where that is; null where they are of two kinds. */
+function parted(found, ours) {
+  if (typeof found === "string" && typeof ours === "string") {
+    const [one, other] = [[...found], [...ours]];
+    const { at } = parting(one, other);
+    return { found: charactersAround(one, at), ours: charactersAround(other, at), where: `from character ${at}` };
+  }
+  if (Array.isArray(found) && Array.isArray(ours)) {
+    const { at } = parting(found, ours);
+    return { found: componentsAround(found, at), ours: componentsAround(ours, at), where: `from component ${at}, offset ${spanOf(ours.slice(0, at))}` };
+  }
+  if (!Array.isArray(found?.operation) || !Array.isArray(ours?.operation)) return null;
+  const { where, ...both } = parted(found.operation, ours.operation);
+  return { found: `${both.found} of revision ${shortJson(JSON.stringify(found.revision) ?? "none")}`, ours: `${both.ours} of revision ${ours.revision}`, where };
+}
+
+/** A JSON text as a value; what is none, as null. */
+function valueOf(text) {
+  try {
+    return JSON.parse(text);
+  } catch {
+    return null;
+  }
+}
+
+/**
+ * A value of a port and ot.js' own, both JSON texts or words: whole where they are short, else cut around the first component or character that differs.
+ * @param {string} found @param {string} ours
+ */
+export function beside(found, ours) {
+  const cut = found.length + ours.length > 2 * LONG ? parted(valueOf(found), valueOf(ours)) : null;
+  return cut === null ? `${found}, ot.js ${ours}` : `${cut.found}, ot.js ${cut.ours}; ${cut.where}`;
+}
+
 const HEAD = "found ".length; // as long as "ot.js "
 
 /** Two lines with long values, of which what stands around their first difference is left. */

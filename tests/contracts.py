@@ -380,9 +380,20 @@ class Crates:
     """The contracts of all crates."""
 
     def __init__(self, top=TOP):
-        self.library, self.sources = Library(top), {}
+        self.library, self.sources, self.known = Library(top), {}, {}
         for path in sorted(top.glob("crates/*/src/*.rt")):
             self.sources.setdefault(path.parent.parent.name, []).append(Source(path))
+        listed = top / "crates.txt"
+        self.listed = [it.partition(":") for it in listed.read_text(encoding="utf-8").split("\n") if it] if listed.exists() else []
+
+    def place(self, crate):
+        """The place of a crate in `crates.txt`, which has the lowest first."""
+        return next((at for at, it in enumerate(self.listed) if it[0] == crate), len(self.listed))
+
+    def ported(self):
+        """The crates that `crates.txt` names and the repository does not have, in its order."""
+        own = {it[0] for it in self.listed}
+        return list(dict.fromkeys(word for it in self.listed for word in it[2].split() if word not in own))
 
     def is_out(self, contract):
         """Whether other crates can name it: it, or the type that it is of, is a public name of the crate or of one of its public modules."""
@@ -411,5 +422,8 @@ class Crates:
 
     def reached(self, contracts):
         """All that the clauses of these contracts reach, and what they see of the values that they speak of."""
-        roots = [root for it in contracts for root in it.roots(self.library)]
-        return self.library.closure(roots + [root for it in contracts for name in sorted(it.spoken_of() - {None}) for root in self.views(name)])
+        if tuple(contracts) not in self.known:
+            roots = [root for it in contracts for root in it.roots(self.library)]
+            views = [root for it in contracts for name in sorted(it.spoken_of() - {None}) for root in self.views(name)]
+            self.known[tuple(contracts)] = self.library.closure(roots + views)
+        return self.known[tuple(contracts)]

@@ -292,6 +292,9 @@ test("lines for some instructions", () => {
   for (const program of PROGRAMS) {
     assert.match(call(["debug", name], "", program)[1], /the port's first difference/);
     assert.doesNotMatch(call(["debug", "--sparse", name], "", program)[1], /first difference/);
+    const [status, output, errors] = call(["conform", "--sparse", name], "", program);
+    assert.deepEqual([status, output.split("\n")[0], errors], [0, "conforms", "otbench: the port's lines end at place 12, before line 17, instruction 12: ack 0; nothing is compared from there on\n"]);
+    assert.match(call(["debug", "--sparse", name], "", program)[1], /\nthe port conforms; its lines end at place 12, before line 17, instruction 12: ack 0; nothing is compared from there on\n/);
   }
 });
 

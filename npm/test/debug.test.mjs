@@ -42,6 +42,15 @@ test("of a sparse port the instructions without a line are not compared", () => 
   assert.match(openDebugger(TIE, { port, sparse: true }).run().join("\n"), /differs at 4/);
 });
 
+test("info says what made an operation, and find searches a port's documents", () => {
+  const session = openDebugger(TIE, { port: '{"at":1,"document":"a b"}\n{"at":2,"document":"c"}\n' });
+  assert.equal(session.find("port", "c").at(-1), 'client 1 doc of the port: "c" nowhere -> once');
+  assert.equal(session.place, 2);
+  assert.deepEqual(session.info("outstanding", 1), ['client 1 outstanding: ["b"]; made of 1 edit', '  made and sent by line 3, instruction 1: edit 1 ["b"]']);
+  assert.deepEqual(session.info("buffer", 1), ["none"]);
+  assert.match(session.rfind("port", "a b").at(-1), /^client 0 doc of the port: "a b" nowhere -> once$/);
+});
+
 test("a refused text, and an option that is none, are errors", () => {
   assert.throws(() => openDebugger("clients 1\nedti\n"), (fault) => fault instanceof OtbenchError && fault.kind === "UnknownWord" && fault.line === 2);
   assert.throws(() => openDebugger(TIE, { prot: "" }), (fault) => fault.kind === "Usage" && /no option prot/.test(fault.message));

@@ -191,6 +191,29 @@ test("of a recording that is cut where, with each status", () => {
   assert.deepEqual(hints("check", [], ["a"], 'clients 1\nread 0\n; cut: x\n', 0), []);
 });
 
+test("of lines for some instructions, which conform, where they end, if that is before the last instruction", () => {
+  const schedule = 'clients 1\n; a note\nedit 0 ["a"]\n\n take  0\nack 0\n';
+  const ofSparse = (lines, flags = [], text = schedule, wanted = 0) => hints("conform", ["--sparse", ...flags], ["a.ots", "b"], `${text} %%\r\n${lines}`, wanted);
+  const told = "the port's lines end at place 1, before line 5, instruction 1: take 0; nothing is compared from there on";
+  for (const lines of ['{"at":1,"document":"a"}', '{"at":0,"clients":1}\n{"at":1,"document":"a"}\r\n \t\r\n\n']) for (const flags of [[], ["--json"]]) assert.deepEqual(ofSparse(lines, flags), [told]);
+  for (const lines of ['{"at":3,"revision":1}\n', '{"at":3,"end":"quiet"}\n']) assert.deepEqual(ofSparse(lines), [], lines);
+  assert.deepEqual(ofSparse('{"at":1,"document":"a"}\n', [], `${schedule}; cut: "x"\n`, 1), [told]);
+  const refused = TWICE.replace("take 0\n", "");
+  assert.deepEqual(hints("conform", [], ["a.ots", "b"], `${refused}%%\n{"at":1,"document":"a"}\n{"at":2}\n`, 0), []);
+  assert.ok(ofSparse('{"at":1,"document":"b"}\n', [], schedule, 1).every((line) => !line.includes("lines end")));
+});
+
+test("the same of many sessions: of the first one, and how many more there are", () => {
+  const schedule = 'clients 1\nedit 0 ["a"]\ntake 0\n';
+  const [early, whole] = ['{"at":1,"document":"a"}', '{"at":2,"revision":1}'].map((line) => `${schedule}%%\n${line}\n%%\n`);
+  const ofMany = (sessions, flags = []) => hints("conform", ["--sparse", "--many", ...flags], ["a"], sessions.join(""), 0);
+  const told = "the port's lines end at place 1, before line 3, instruction 1: take 0; nothing is compared from there on";
+  assert.deepEqual(ofMany([whole, whole]), []);
+  for (const flags of [[], ["--json"], ["--all"]]) assert.deepEqual(ofMany([whole, early], flags), [`session 2: ${told}`]);
+  assert.deepEqual(ofMany([early, whole, early]), [`session 1: ${told}`, "the lines of 1 more session end before the last instruction, too"]);
+  assert.deepEqual(ofMany([early, early, early])[1], "the lines of 2 more sessions end before the last instruction, too");
+});
+
 /* What a terminal shows of the command, where nothing is typed but the key that ends the input. */
 function shown(...words) {
   const script = "import pty, sys; pty.spawn(sys.argv[1:])";

@@ -151,6 +151,31 @@ test("conform: lines for some instructions", () => {
   assert.deepEqual(conform(schedule, [{ at: 4, document: "a" }]).found, "4");
 });
 
+test("conform: where lines for some instructions end before the last one, linesEnd has the place", () => {
+  const schedule = 'clients 2\nedit 0 ["a"]\ntake 0\nack 0\ndeliver 1\n';
+  const end = (lines, text = schedule, sparse = true) => conform(text, lines, { sparse }).linesEnd;
+  assert.equal(end([{ at: 2, revision: 1 }]), 2);
+  assert.equal(end('{"at":1,"revision":0}\n{"at":3,"revision":1}\n \t\n'), 3);
+  assert.equal(end([{ at: 0, clients: 2 }]), 0);
+  const whole = [[{ at: 4, document: "a" }], [{ at: 4, end: "quiet" }], [{ at: 2, revision: 1 }, { at: 4, end: "quiet" }]];
+  for (const lines of whole) assert.equal("linesEnd" in conform(schedule, lines, { sparse: true }), false);
+  for (const lines of [[{ at: 2 }], [{ at: 2, revision: 7 }], []]) assert.equal(end(lines), undefined);
+  assert.equal(end([{ at: 1, revision: 0 }], schedule.slice(0, schedule.indexOf("take")), false), undefined);
+  assert.equal(end([{ at: 2, revision: 1 }], `${schedule}; cut: "ann, event 9"\n`), 2);
+});
+
+test("conformMany: which sessions' lines for some instructions end before the last one", () => {
+  const schedule = 'clients 1\nedit 0 ["a"]\ntake 0\n';
+  const [early, whole] = [{ schedule, lines: [{ at: 1, document: "a" }] }, { schedule, lines: [{ at: 2, revision: 1 }] }];
+  assert.deepEqual(conformMany([early, whole, early], { sparse: true }).linesEnd, [{ session: 1, place: 1 }, { session: 3, place: 1 }]);
+  assert.equal("linesEnd" in conformMany([whole], { sparse: true }), false);
+  assert.equal("linesEnd" in conformMany([], { sparse: true }), false);
+  assert.equal("linesEnd" in conformMany([early, { schedule, lines: [{ at: 1, document: "b" }] }], { sparse: true }), false);
+  const cut = { ...early, schedule: `${schedule}; cut: "x"\n` };
+  const { session, verdict, linesEnd } = conformMany([whole, cut], { sparse: true });
+  assert.deepEqual({ session, verdict, linesEnd }, { session: 2, verdict: "conforms", linesEnd: 1 });
+});
+
 const SESSION = { schedule: 'clients 1\nedit 0 ["a"]\n', lines: [{ at: 1, document: "a" }] };
 
 test("conformMany: all conform, with what was compared of all, or there is none", () => {

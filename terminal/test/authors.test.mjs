@@ -46,6 +46,26 @@ test("blame shows each piece with its author and instruction", options, () => {
   assert.equal(all, '"b"  client 1, instruction 1\n"c"  client 1, instruction 2\n"a"  client 0, instruction 0\n"s"  the start text');
 });
 
+test("blame of a part, and of many pieces the first ones", options, () => {
+  const session = open();
+  session.perform("goto end");
+  assert.deepEqual(session.perform("blame server 1 3"), ['"c"  client 1, instruction 2', '"a"  client 0, instruction 0']);
+  for (const [words, complaint] of [["1", "the number behind the last character is missing"], ["3 3", "3 to 3 is no part of the document, which has 4 characters"], ["0 5", "0 to 5 is no part"], ["x 2", "x is no number"], ["0 1 2", "2 is a word too many"]]) assert.match(session.perform(`blame 0 ${words}`)[0], new RegExp(`^${complaint}`), words);
+  const many = open(`clients 1\n${Array.from({ length: 50 }, (_, i) => `edit 0 [${i ? `${i},` : ""}"${String.fromCharCode(97 + (i % 26))}"]\n`).join("")}`);
+  many.perform("goto end");
+  const said = many.perform("blame 0");
+  assert.deepEqual([said.length, said[0], said[40]], [41, '"a"  client 0, instruction 0', ".. 10 more of 50 pieces; blame 0 FROM TO shows those of a part"]);
+  assert.equal(many.perform("blame 0 0 50").length, 50);
+  assert.deepEqual(many.perform("blame 0 45 46"), ['"t"  client 0, instruction 45']);
+});
+
+test("diff of many changes shows the first ones, and its operation cut", options, () => {
+  const session = open(`clients 1\nstart "${"ab".repeat(60)}"\nedit 0 [${Array.from({ length: 60 }, () => '1,"x",1').join(",")}]\n`);
+  const said = session.perform("diff 0 1 0");
+  assert.equal(said[0], 'client 0 doc: [1,"x",2,"x",..] (121 components)');
+  assert.deepEqual([said.length, said[1], said.at(-1)], [42, '  at 1: + "x"', "  .. 20 more of 60 changes"]);
+});
+
 test("find goes to where a document gains or loses a text, and rfind back", options, () => {
   const session = open();
   const [one, two, , back, none, empty] = answers(["find bc", 'find "bca"', "goto end", "rfind bca", "rfind \"zz\"", 'find ""'], session);
@@ -89,7 +109,7 @@ test("marks are places with names, and undo takes moves back", options, () => {
   assert.match(back, /^before line 7, instruction 4/);
   assert.match(again, /^behind line 14/);
   assert.match(last, /^before line 7/);
-  assert.match(bad, /^end is no name/);
+  assert.match(bad, /^end is the last place already/);
   assert.equal(answers(["undo", "undo"], session).at(-1), "no move to undo");
   assert.match(answers(["goto constructor"], session)[0], /^constructor is no place/);
 });

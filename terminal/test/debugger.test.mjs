@@ -31,7 +31,8 @@ test("first letters name a command, and an unknown word is answered with the nea
   assert.equal(commandOf("wach").fault, "there is no wach; nearest: watch");
   assert.equal(commandOf("backwards").fault, "there is no backwards; nearest: back");
   assert.deepEqual(["oto", "qit", "hlep", "unitl", "steps"].map((word) => nearest(word)[0]), ["goto", "quit", "help", "until", "step"]);
-  for (const word of ["continue", "foo", "bar", "rat"]) assert.equal(commandOf(word).fault, `there is no ${word}; help lists all words`);
+  assert.deepEqual(["c", "co", "cont", "continue", "cl", "clear"].map((word) => commandOf(word).name), ["continue", "continue", "continue", "continue", "clear", "clear"]);
+  for (const word of ["foo", "bar", "rat"]) assert.equal(commandOf(word).fault, `there is no ${word}; help lists all words`);
   assert.deepEqual(nearest("x"), []);
 });
 
@@ -220,9 +221,24 @@ test("a port that conforms is said to, and one whose lines have no value to show
 });
 
 test("of a port's lines for some instructions it is said where they end", options, () => {
-  const greeting = (port) => new Debugger(new Recording(ask, WEAK, port, true)).greeting().slice(1, -1);
-  assert.deepEqual(greeting('{"at":7,"revision":1}\n{"at":12,"document":"acz"}\n'), ["the port conforms; its lines end at place 12"]);
-  assert.deepEqual(greeting('{"at":12,"document":"acz"}\n{"at":16,"document":"acz"}\n'), ["the port conforms"]);
+  const greeting = (port, schedule = WEAK) => new Debugger(new Recording(ask, schedule, port, true)).greeting().slice(1, -1);
+  const told = "lines end at place 12, before line 17, instruction 12: ack 0; nothing is compared from there on";
+  const seven = '{"at":7,"revision":1}\n';
+  for (const behind of ["", "\n \t\r\n"]) assert.deepEqual(greeting(`${seven}{"at":12,"document":"acz"}\n${behind}`), [`the port conforms; its ${told}`]);
+  for (const last of ['{"at":16,"document":"acz"}', '{"at":16,"end":"quiet"}']) assert.deepEqual(greeting(`${seven}${last}\n`), ["the port conforms"], last);
+  assert.deepEqual(greeting('{"at":16,"end":"quiet"}\n'), ["the port conforms"]);
+  assert.deepEqual(greeting('{"at":0,"clients":2}\n'), ["the port conforms; its lines end at place 0, before line 5, instruction 0: edit 0; nothing is compared from there on"]);
+  assert.deepEqual(greeting(`${seven}{"at":12,"document":"caz"}\n`), ["the port's first difference is at place 12, line 16: run stops there"]);
+  assert.deepEqual(greeting('{"at":7}\n'), ["the port's lines have no value that can be compared"]);
+  const cut = `${WEAK}; cut: "ann, event 9"\n`;
+  assert.deepEqual(greeting('{"at":12,"document":"acz"}\n', cut), ["the schedule ends before its logs: ann, event 9", `the port's ${told}`]);
+});
+
+test("a port's lines end early where it does not say what it did with a refused instruction", options, () => {
+  const greeting = (port) => new Debugger(new Recording(ask, 'clients 1\nedit 0 ["a"]\ntake 0\ntake 0\nread 0\n', port, true)).greeting().slice(1, -1);
+  const two = '{"at":2,"revision":1}\n';
+  assert.deepEqual(greeting(two), ["the port conforms; its lines end at place 2, before line 4, instruction 2: take 0; nothing is compared from there on"]);
+  assert.deepEqual(greeting(`${two}{"at":2,"stopped":"LinkEmpty"}\n`), ["the port conforms"]);
 });
 
 test("a refused instruction ends the run with its reason", options, () => {
@@ -287,7 +303,7 @@ test("where the recorder's logs are cut stands above the first prompt", options,
 
 test("what conform says of the cut is not said again where the port differs, and a port that conforms so far does not conform", options, () => {
   const cut = `${WEAK}; cut: "ann, event 9"\n`;
-  const [all] = answers(["print difference"], cut, '{"at":1,"document":"y"}\n');
+  const [, all] = answers(["goto 1", "print difference"], cut, '{"at":1,"document":"y"}\n');
   assert.match(all, /^differs at 1: edit 0: client 0 document\n/);
   assert.doesNotMatch(all, /the schedule ends/);
   const said = new Debugger(new Recording(ask, cut, ask(["steps"], cut).output)).greeting();
@@ -318,7 +334,7 @@ test("the README has each command", () => {
 });
 
 test("a word too many is named", options, () => {
-  const rows = ["run 5", "rrun 5", "next 4 x", "explain 1 x", "list 3 4 x", "goto 1 x", "step 1 x", "back 1 x", "clear 1 x", "show 0 x", "help step x", "quit x", "watch server x", "break 5 x", "break line 5 x", "info breaks x", "delete 1 x"];
+  const rows = ["run 5", "rrun 5", "next 4 x", "explain 1 x", "list 3 4 x", "find a x", "rfind a x", "find port a x", "info buffer 0 x", "goto 1 x", "step 1 x", "back 1 x", "clear 1 x", "show 0 x", "help step x", "quit x", "watch server x", "break 5 x", "break line 5 x", "info breaks x", "delete 1 x"];
   const said = answers(rows);
   rows.forEach((row, i) => assert.match(said[i], new RegExp(`^${row.split(" ").at(-1)} is a word too many; ${row.split(" ")[0]}[ :]`), row));
 });
@@ -376,6 +392,21 @@ test("print has all that can be watched", options, () => {
   assert.deepEqual(answers(["goto 3", "print state 0", "print outstanding 0", "print buffer 0", "print doc 0", "print server", "print doc server"]).slice(1), ["awaiting-with-buffer", '[1,"z"]', '["a",-1,1]', '"az"', "0", '"x"']);
 });
 
+test("a complaint is the reason, and then in few words what the command takes", options, () => {
+  const said = answers(["goto 17", "run 5", "print link 9", "next 0", "rnext 0", "mark end", "export /nosuch/x", "watch server", "display server"]);
+  assert.deepEqual(said.slice(0, 8), [
+    "17 is no place: they are 0 to 16; goto P|end|NAME",
+    "5 is a word too many; run takes no word",
+    "9 is no client: they are 0 to 1; print: help print says what it takes",
+    "a number from 1 is wanted; next [N|difference]",
+    "a number from 1 is wanted; rnext [N|difference]",
+    "end is the last place already: goto end goes there; mark [NAME]",
+    "/nosuch/x: there is no folder /nosuch; export FILE [complete]",
+    "watching the server's revision",
+  ]);
+  assert.match(said[8], /^displaying the server's revision\n/);
+});
+
 test("what is watched already is not watched twice", options, () => {
   const [, again, stopped] = answers(["watch doc 1", "watch doc 1", "run"]);
   assert.equal(again, "already watching doc of client 1");
@@ -389,9 +420,47 @@ test("a break behind the first words of an instruction, with a condition and a c
   assert.equal(back.split("\n").at(-1), "break at place 7: deliver");
   assert.equal(answers(["break deliver 1 time 2", "run"])[1].split("\n").at(-1), "break at place 12: deliver 1 time 2");
   assert.equal(answers(["break take 1 time 2"])[0], "break take 1 time 2: it stops nowhere");
-  assert.equal(answers(["break delver"])[0], "break delver: it stops nowhere; nearest: deliver");
   assert.equal(answers(['break deliver if not doc 0 contains "a"'])[0], 'break deliver if not doc 0 contains "a": it stops nowhere');
   assert.equal(answers(["break deliver 1 if doc 1 is acz"])[0], "break deliver 1 if doc 1 is acz: at place 12");
+});
+
+test("a break and until at the edits of a client with an operation, as list shows it", options, () => {
+  assert.equal(answers(['break edit 0 [1,"z"]'])[0], 'break edit 0 [1,"z"]: at place 1');
+  assert.equal(answers(['break edit 1 [1,"z"]'])[0], 'break edit 1 [1,"z"]: it stops nowhere');
+  const schedule = 'clients 2\nstart "a b"\nedit 1 [3]\nedit 1 [1,"  x",2]\nedit 1 [1,-1,4]\n';
+  const [set, stopped, , gone, back] = answers(['break edit 1 [1,"  x",2] if doc 1 contains "x"', "run", "goto 0", "until edit 1 [1,-1,4]", 'runtil edit 1 [1,"  x",2]'], schedule);
+  assert.equal(set, 'break edit 1 [1,"  x",2] if doc 1 contains "x": at place 2');
+  assert.equal(stopped.split("\n").at(-1), 'break at place 2: edit 1 [1,"  x",2] if doc 1 contains "x"');
+  assert.match(gone, /^behind line 5, instruction 2: edit 1\n/);
+  assert.match(back, /^before line 4, instruction 1: edit 1/);
+});
+
+test("a JSON string in a condition is the word that it has, whatever the value is", options, () => {
+  const places = (condition) => answers([`break if ${condition}`])[0].replace(/^.*: /, "");
+  for (const [word, string, at] of [["state 0 is awaiting-with-buffer", 'state 0 is "awaiting-with-buffer"', "at place 2"], ['outstanding 0 is [2,"z"]', 'outstanding 0 is "[2,\\"z\\"]"', "at place 7"], ["server is 2", 'server is "2"', "at place 6"]])
+    assert.deepEqual([places(word), places(string)], [at, at], word);
+});
+
+test("c goes on as run does, and undo brings back what clear, delete and unwatch removed", options, () => {
+  const [, , stopped, run] = answers(["break 7", "watch doc 1", "c", "continue"]);
+  assert.match(stopped, /^behind line 8, instruction 3: edit 1\n/);
+  assert.match(run, /\nbreak at place 7$/);
+  const said = answers(["break 7", "watch doc 1", "break deliver", "clear", "info", "break 7", "undo", "delete 2", "undo", "unwatch", "undo", "clear 7", "undo", "undo", "clear", "goto 3", "undo", "where", "undo"]);
+  const all = ["7  (at 1 place, 0 of them up to here)", "deliver  (at 3 places, 0 of them up to here)"];
+  assert.equal(said[3], "no breaks, no watches; undo brings back the 3");
+  assert.equal(said[4], "no breaks, no watches");
+  assert.equal(said[6], `2 watch doc 1\n3 break ${all[1]}\n4 break ${all[0]}`);
+  for (const i of [8, 10, 12]) assert.equal(said[i], said[6], String(i));
+  assert.equal(said[13], "no move to undo");
+  assert.match(said[16], /^before line 5, /);
+  assert.equal(said[18], said[6]);
+});
+
+test("list marks the last instruction performed at the place behind a way back, too", options, () => {
+  const marks = (lines) => answers([...lines, "list 0 16"]).at(-1).split("\n").map((line) => line.slice(0, 6).trim()).filter((line) => /^(->|>)/.test(line)).join();
+  assert.equal(marks(["goto 7", "goto 6"]), "->  5,>  6");
+  assert.equal(marks(["goto 7", "back 7"]), ">  0");
+  assert.equal(marks(["goto end"]), "-> 15");
 });
 
 test("a break where a condition begins to hold", options, () => {
@@ -461,6 +530,17 @@ test("conditions that are none are complained of", options, () => {
     ['break take 1 if doc 0 contains "\\x"', '"\\x" is no JSON string'],
     ["break take 1 if constructor 0 is x", "constructor is no value of a client: they are doc, state, outstanding, buffer"],
     ["break take 1 time 0", "time takes a number from 1"],
+    ["break take 1 time 2 if doc 0 is x", "time N stands last, behind if CONDITION"],
+    ["break time 2 if doc 0 is x", "time N stands last, behind if CONDITION"],
+    ["break delver", "delver is no instruction; nearest: deliver"],
+    ["break tie", "tie is no instruction: they are edit, take, deliver, ack, join, read, read-server"],
+    ["break constructor", "constructor is no instruction: they are edit, take, deliver, ack, join, read, read-server"],
+    ["break take 2", "2 is no client: they are 0 to 1"],
+    ["break take x if doc 0 is x", "x is no client: they are 0 to 1"],
+    ["break take 1 1", "1 is a word too many"],
+    ["break read-server 0", "0 is a word too many"],
+    ["break edit 0 [1 time 1", "[1 is no operation"],
+    ["break edit 0 [1] 2", "2 is a word too many"],
     ["break time 2", "a place, words or a condition are missing"],
   ];
   const said = answers(rows.map(([row]) => row));
@@ -480,9 +560,9 @@ test("breaks, watches and displays are listed and removed by their numbers", opt
   const [, , , listed, removed, none, left, cleared] = answers(["break deliver", "watch doc 0", "display server", "info", "delete 2", "delete 2", "info breaks", "clear"]);
   assert.equal(listed, "1 break deliver  (at 3 places, 0 of them up to here)\n2 watch doc 0\n3 display server");
   assert.equal(removed, "no watch doc 0 any more");
-  assert.match(none, /^there is no break, watch or display 2; delete N: /);
+  assert.match(none, /^there is no break, watch or display 2; delete N$/);
   assert.equal(left, "1 break deliver  (at 3 places, 0 of them up to here)\n3 display server");
-  assert.equal(cleared, "no breaks, no watches");
+  assert.equal(cleared, "no breaks, no watches; undo brings back the 2");
 });
 
 test("next and until, backwards", options, () => {
@@ -500,7 +580,7 @@ test("what is saved is there again when it is sourced; a file is not written ove
   const commands = ['break take 1 if doc 1 contains "c" time 1', "break 7", "watch doc server", "display buffer 0"];
   const [saved, again] = answers([...commands, `save ${file}`, `save ${file}`]).slice(4);
   assert.equal(saved, `4 commands in ${file}; source ${file} performs them`);
-  assert.match(again, /: is there already; save FILE: /);
+  assert.match(again, /: is there already; save FILE$/);
   assert.equal(readFileSync(file, "utf8"), `${commands.join("\n")}\n`);
   const [sourced, info] = answers([`source ${file}`, "info"]);
   assert.equal(sourced.split("\n").filter((line) => line.startsWith("> ")).length, 4);

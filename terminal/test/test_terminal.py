@@ -119,6 +119,22 @@ class Debugging(unittest.TestCase):
             self.assertNotIn("no place", terminal.type("step\r", r"behind line[^\r]*\r\n[^\r]*\r\n\(\d/8\) $"))
         self.assertIn("behind line", terminal.type("\r", r"\(4/8\) $"))
 
+    def test_the_key_that_interrupts_ends_a_search_where_it_began(self):
+        """What is typed behind the key is the next line."""
+        folder = tempfile.TemporaryDirectory()
+        self.addCleanup(folder.cleanup)
+        schedule = pathlib.Path(folder.name, "long.ots")
+        length = 30_000
+        schedule.write_text('clients 1\nstart "' + "\U0001f600" * length + '"\n' + f"edit 0 [1,\"x\",{length - 1}]\nedit 0 [1,-1,{length - 1}]\n" * 1500)
+        terminal = self.start(str(schedule))
+        terminal.type("step\r", r"\(1/3000\) ")
+        os.write(terminal.master, b"find nosuch\r")
+        time.sleep(0.5)
+        shown = terminal.type("lost\x03goto 2\r", r"\(2/3000\) ")
+        self.assertIn("interrupted; the place is as it was", shown)
+        self.assertNotIn("lost", shown.split("interrupted")[1])
+        self.assertIn("(1/3000) goto 2", shown)
+
     def test_history_completion_and_the_end(self):
         terminal = self.start(str(TOP / "examples/two-clients.ots"))
         terminal.type("ste\t\r", r"\(1/8\) $")

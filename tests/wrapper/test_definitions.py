@@ -1,14 +1,19 @@
-"""Which definitions a contract reaches, and what `tests/definitions.py` writes into the documents: over two small crates."""
+"""Which definitions a contract reaches, and what `tests/definitions.py` writes into the documents: over small crates, and over the repository's documents with what breaks them."""
+import contextlib
+import io
 import pathlib
+import re
 import shutil
 import sys
 import tempfile
 import unittest
+from unittest import mock
 
 TOP = pathlib.Path(__file__).resolve().parents[2]
 sys.path.insert(0, str(TOP / "tests"))
 from contracts import Crates, Unknown  # noqa: E402
-from definitions import Documents, cited, files_in, lines_of  # noqa: E402
+import definitions  # noqa: E402
+from definitions import DEFINED, FILES, Documents, cells_of, cited, file_of, files_in, lines_of, named, row_of, tables  # noqa: E402
 
 SHAPES = """-- Shapes.
 use Rattle.std.specs.Prelude.{ℕ, suc, ◌+◌, List, [], ◌∷◌}
@@ -169,31 +174,60 @@ class Definitions(unittest.TestCase):
         )
         self.assertEqual(files_in("| `low/specs/A.antt`, `B.antt` | `c`, `D.antt`"), ["low/specs/A.antt", "low/specs/B.antt", "low/specs/D.antt"])
 
+    def compared(self):
+        documents = Documents(Crates(self.top), self.top)
+        documents.compare()
+        return documents
+
+    @mock.patch.object(definitions, "PARTS", (("low",),))
     def test_documents(self):
-        documents = Documents(Crates(self.top), self.top)
-        documents.compare()
-        self.assertEqual(documents.texts["README.md"], README.replace("7 lines", "11 lines").replace("| 1 |", "| 11 |"))
-        self.assertEqual(documents.texts["docs/PROOFS.md"], PROOFS.replace("| 0 | 0 |", "| 11 | 0 |", 1).replace("| 0 | 0 |", "| 2 | 2 |"))
-        self.assertEqual(
-            [it.partition(":")[2].strip()[:40] for it in documents.findings if "should be" not in it],
-            ["low has no public function or type none ", "the main theorem reaches no definition o", "the number of lines of definitions of th"],
-        )
-        written = dict(documents.texts)
-        for name, text in written.items():
-            self.put(name, text)
-        documents = Documents(Crates(self.top), self.top)
-        documents.compare()
+        documents = self.compared()
+        written = {
+            "README.md": README.replace("7 lines", "11 lines").replace("`low/specs/Shapes.antt`, `Again.antt` | 1 |", "`low/specs/Shapes.antt` | 11 |"),
+            "docs/DEFINITIONS.md": PAGE,
+            "docs/PROOFS.md": PROOFS.replace("| 0 | 0 |", "| 11 | 0 |", 1).replace("| 0 | 0 |", "| 2 | 2 |"),
+        }
         self.assertEqual(documents.texts, written)
+        self.assertEqual(documents.by_hand, ["docs/PROOFS.md: low has no public function or type none with clauses"])
+        self.assertEqual([it[: it.index(":", 15)] for it in documents.findings()], ["README.md: line 3 should be", "README.md: line 7 should be", *(f"docs/PROOFS.md: line {at} should be" for at in (3, 4))])
+        documents.write()
+        documents = self.compared()
+        self.assertEqual((documents.texts, list(documents.findings())), (written, []))
 
     def test_a_file_that_is_not_named_and_one_that_is_named_too_early(self):
         self.put("crates/low/src/lib.rt", LOW.replace("Shapes.{size, unused}", "Again.{Joins as size}"))
-        documents = Documents(Crates(self.top), self.top)
-        documents.compare()
-        self.assertIn("docs/DEFINITIONS.md: names low/specs/Again.antt before low/specs/Shapes.antt, which it uses", documents.findings)
+        self.assertIn("docs/DEFINITIONS.md: names low/specs/Again.antt before low/specs/Shapes.antt, which it uses", self.compared().by_hand)
         self.put("docs/DEFINITIONS.md", "")
-        documents = Documents(Crates(self.top), self.top)
-        documents.compare()
-        self.assertIn("docs/DEFINITIONS.md: does not name low/specs/Again.antt, which a contract of PROOFS reaches", documents.findings)
+        self.assertIn("no row names a definition of low/specs/Again.antt, which a contract of PROOFS reaches", "".join(self.compared().by_hand))
+        self.assertIn("which `PARTS` of tests/definitions.py gives no row", "".join(self.compared().by_hand))
+
+    @mock.patch.object(definitions, "PARTS", (("low",),))
+    def test_the_command(self):
+        def run(*words):
+            with contextlib.redirect_stdout(io.StringIO()) as out:
+                return definitions.main([*words], self.top), out.getvalue().split("\n")[:-1]
+
+        self.put("docs/PROOFS.md", PROOFS.replace("; `low`: `none`", ""))
+        before = [(self.top / name).read_text(encoding="utf-8") for name in ("README.md", "docs/PROOFS.md")]
+        status, lines = run()
+        self.assertEqual((status, lines[0]), (1, "README.md: line 3 should be: It rests on 11 lines of definitions."))
+        self.assertEqual(lines[-2:], ["definitions: 4 findings", "python3 tests/definitions.py --write mends 4 of them"])
+        self.assertEqual([(self.top / name).read_text(encoding="utf-8") for name in ("README.md", "docs/PROOFS.md")], before)
+        self.assertEqual(run("--write"), (0, ["definitions: 4 places written, 0 findings to mend by hand"]))
+        self.assertEqual(run(), (0, ["definitions: 0 findings"]))
+        self.assertEqual(run("--write"), (0, ["definitions: 0 places written, 0 findings to mend by hand"]))
+
+    def test_tables_that_are_not_understood(self):
+        rows = [
+            ("README.md", README.replace("| 1 | shapes |", "| shapes |"), "README.md: line 7 has 2 cells, where the head of its table has 3: | `low/specs/Shapes.antt`, `Again.antt` | shapes |"),
+            ("README.md", README.replace("| Lines |", "| Line |"), "README.md has no table with the head | File | Lines | What it defines |"),
+        ]
+        for name, text, said in rows:
+            self.put(name, text)
+            with contextlib.redirect_stdout(io.StringIO()) as out:
+                self.assertEqual(definitions.main(["--write"], self.top), 1)
+            self.assertEqual(out.getvalue().split("\n")[:-1], [said, "definitions: nothing was compared"])
+            self.assertEqual((self.top / name).read_text(encoding="utf-8"), text)
 
     def test_the_repository_s_own(self):
         """Each definition is understood, and the machine's step reaches the table."""
@@ -204,6 +238,133 @@ class Definitions(unittest.TestCase):
         counts = lines_of(crates.reached(crates.contracts("ot_machine", "Machine::step"))[0])
         self.assertIn("ot_model/specs/Table.antt", counts)
         self.assertNotIn("ot_asm/specs/Spelling.antt", counts)
+
+
+class Broken(unittest.TestCase):
+    """The repository's documents with a break: it is found, and what is written is the text as it was."""
+
+    @classmethod
+    def setUpClass(cls):
+        cls.crates = Crates()
+        cls.texts = Documents(cls.crates).read
+
+    def mends(self, name, text):
+        """The findings in a text, which is no longer the committed one."""
+        self.assertNotEqual(text, self.texts[name])
+        documents = Documents(self.crates)
+        documents.texts[name] = documents.read[name] = text
+        documents.compare()
+        self.assertEqual(documents.by_hand, [])
+        self.assertEqual(documents.texts, self.texts)
+        found = list(documents.findings())
+        self.assertTrue(found)
+        self.assertTrue(all(re.match(re.escape(name) + r": (line \d+ should|behind line \d+ should stand: )", it) for it in found), found)
+        return found
+
+    def lines(self, name):
+        return self.texts[name].split("\n")
+
+    def changed(self, name, head, change):
+        """The document with the files of each row as `change` gives them."""
+        lines = self.lines(name)
+        for start, end in tables(lines, head):
+            for at in range(start, end):
+                cells = cells_of(lines[at])
+                if cells[0]:
+                    lines[at] = row_of([named(change(at, files_in(cells[0]))), *cells[1:]])
+        return "\n".join(lines)
+
+    def test_as_they_are(self):
+        documents = Documents(self.crates)
+        documents.compare()
+        self.assertEqual((list(documents.findings()), documents.by_hand), ([], []))
+
+    def test_numbers(self):
+        lines = self.lines("README.md")
+        start, end = next(tables(lines, FILES))
+        for at in range(start, end):
+            cells = cells_of(lines[at])
+            lines[at] = row_of([cells[0], str(int(cells[1]) + 1), cells[2]])
+        self.assertEqual([int(re.search(r"line (\d+)", it)[1]) for it in self.mends("README.md", "\n".join(lines))], [at + 1 for at in range(start, end)])
+        for name in ("README.md", "docs/DEFINITIONS.md"):
+            at = next(at for at, line in enumerate(self.lines(name)) if definitions.TOTAL.search(line))
+            self.assertIn(f"{name}: line {at + 1} should be: ", self.mends(name, definitions.TOTAL.sub("1", self.texts[name]))[0])
+        lines = self.lines("docs/PROOFS.md")
+        start, end = next(tables(lines, definitions.CLAIMS))
+        for at in range(start, end):
+            cells = cells_of(lines[at])
+            lines[at] = row_of([*cells[:2], str(int(cells[2]) - 1), str(int(cells[3]) + 1)])
+        self.assertEqual(len(self.mends("docs/PROOFS.md", "\n".join(lines))), end - start)
+
+    def test_rows_that_are_moved(self):
+        for name, head in (("README.md", FILES), ("docs/DEFINITIONS.md", DEFINED)):
+            lines = self.lines(name)
+            for start, end in tables(self.lines(name), head):
+                units = []
+                for line in lines[start:end]:
+                    if cells_of(line)[0]:
+                        units.append([])
+                    units[-1].append(line)
+                lines[start:end] = [line for unit in reversed(units) for line in unit]
+            self.mends(name, "\n".join(lines))
+        lines = self.lines("docs/PROOFS.md")
+        start, end = next(tables(lines, definitions.CLAIMS))
+        lines[start:end] = [*lines[start + 1 : end], lines[start]]
+        self.mends("docs/PROOFS.md", "\n".join(lines))
+
+    def test_one_row_that_is_moved(self):
+        lines = self.lines("docs/DEFINITIONS.md")
+        start = next(at for at, line in enumerate(lines) if line.startswith("| `ot_model/specs/SessionLaws.antt`"))
+        lines.insert(start - 2, lines.pop(start))
+        self.assertEqual(len(self.mends("docs/DEFINITIONS.md", "\n".join(lines))), 2)
+
+    def test_a_section_that_is_moved(self):
+        text = self.texts["docs/DEFINITIONS.md"]
+        second, third, fourth = (text.index(f"### {number}. ") for number in (2, 3, 4))
+        self.mends("docs/DEFINITIONS.md", text[:second] + text[third:fourth] + text[second:third] + text[fourth:])
+
+    def test_files_that_are_left_out(self):
+        for which in range(14):
+            def rest(row, files):
+                return files if len(files) == 1 or row % 2 != which % 2 else [it for at, it in enumerate(files) if at != which // 2]
+
+            self.mends("docs/DEFINITIONS.md", self.changed("docs/DEFINITIONS.md", DEFINED, rest))
+        for which in range(6):
+            self.mends("README.md", self.changed("README.md", FILES, lambda _, files: files if len(files) == 1 else [it for at, it in enumerate(files) if at != which]))
+        for which in range(6):
+            self.mends("docs/DEFINITIONS.md", self.changed("docs/DEFINITIONS.md", DEFINED, lambda at, files: files if len(files) > 1 or at % 6 != which else []))
+        self.mends("README.md", self.changed("README.md", FILES, lambda at, files: [] if files == ["ot_model/specs/Table.antt"] else files))
+
+    def test_files_too_many(self):
+        named_here = {name for line in self.lines("docs/DEFINITIONS.md") for name in definitions.NAME.findall(line)}
+        modules = self.crates.library.modules.values()
+        other = next(file_of(next(iter(it.items.values()))) for it in modules if it.items and not named_here & {*it.items, *it.owners})
+        for more in (other, "ot_codes/specs/Nowhere.antt"):
+            self.mends("docs/DEFINITIONS.md", self.changed("docs/DEFINITIONS.md", DEFINED, lambda _, files: [*files, more]))
+            self.mends("README.md", self.changed("README.md", FILES, lambda _, files: [more, *files]))
+
+    def test_crates_of_the_toolchain(self):
+        text = self.texts["docs/PROOFS.md"]
+        self.mends("docs/PROOFS.md", text.replace("`strsim`, `itoa`", "`itoa`"))
+        self.mends("docs/PROOFS.md", text.replace("`strsim`, `itoa`", "`strsim`, `rand`, `itoa`"))
+
+    def test_what_people_have_to_write(self):
+        """A row that is gone has words that no script has, and a name may be that of no definition."""
+        lines = self.lines("README.md")
+        gone = next(at for at, line in enumerate(lines) if line.startswith("| `ot_model/specs/Table.antt`"))
+        documents = Documents(self.crates)
+        documents.texts["README.md"] = "\n".join(lines[:gone] + lines[gone + 1 :])
+        page = self.texts["docs/DEFINITIONS.md"]
+        documents.texts["docs/DEFINITIONS.md"] = page.replace("| `IsFound` |", "|").replace("`Answers` |", "`Answerings` |")
+        documents.compare()
+        at = next(at for at, line in enumerate(page.split("\n")) if "`Answers` |" in line)
+        self.assertEqual(
+            documents.by_hand[:2],
+            [
+                "README.md: the main theorem reaches ot_model/specs/Table.antt: write a row with these files, and with words of what they define",
+                f"docs/DEFINITIONS.md: line {at + 1} names Answerings: of which file? Its first cell has to say it",
+            ],
+        )
 
 
 if __name__ == "__main__":

@@ -99,6 +99,30 @@ class Choice(Programs):
         self.tree.has_proved()
         self.answers("proved", environment=NEEDS_PROVED)
 
+    def test_a_program_that_is_named_runs_and_nothing_is_built(self):
+        other = self.tree.put("another program", "#!/bin/sh\nprintf '%s.' \"other: $*\" \"${OTBENCH-}\"\ncat\n")
+        other.chmod(0o755)
+        named = {"OTBENCH": str(other)}
+        self.assertEqual(self.tree.run("run", given="input", environment=named), (0, "other: run..input", ""))
+        self.assertEqual(self.tree.run("--which", environment=named), (0, f"{other}\n", ""))
+        self.assertEqual(self.tree.built(), [])
+        said = f"otbench: OTBENCH names {other}, and OTBENCH_NEEDS_PROVED allows the proved program of these sources alone\n"
+        self.assertEqual(self.tree.run("run", environment={**named, **NEEDS_PROVED}), (1, "", said))
+        nowhere = self.tree.room / "no such/program"
+        self.assertEqual(self.tree.run("run", environment={"OTBENCH": str(nowhere)}), (1, "", f"otbench: {nowhere}: there is no such file\n"))
+        self.assertEqual(self.tree.built(), [])
+        self.tree.has_proved()
+        self.answers("proved", environment={"OTBENCH": str(self.tree.proved), **NEEDS_PROVED})
+        self.tree.source.write_text("two", encoding="utf-8")
+        self.assertEqual(self.tree.run("run", environment={"OTBENCH": str(self.tree.proved), **NEEDS_PROVED})[0], 1)
+
+    def test_a_script_of_javascript_or_this_one_is_no_program_that_is_named(self):
+        self.tree.has_proved()
+        link = self.tree.room / "link"
+        link.symlink_to(self.tree.top / "otbench")
+        for name in ("", "some.js", "some.mjs", "some.cjs", self.tree.top / "otbench", link):
+            self.answers("proved", environment={"OTBENCH": str(name)})
+
     def test_which(self):
         self.assertEqual(self.tree.run("--which"), (0, f"{self.tree.quick}\n", BUILDING))
         self.tree.has_proved()

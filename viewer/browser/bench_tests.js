@@ -20,8 +20,9 @@ export function testIn(name, openBrowser) {
       await user.settled(2);
       assert.equal(await user.text("#name"), "two-clients");
       assert.deepEqual(await user.documents(), ["", "a", "b"]);
-      await user.until('/holds/.test(document.getElementById("list-verdict").textContent)', "the verdict");
-      assert.equal(await user.text("#verdict"), "ends quiet");
+      await user.until('/^all documents order letters alike$/.test(document.getElementById("list-verdict").textContent)', "the verdict");
+      assert.equal(await user.text("#verdict"), "all messages arrive");
+      assert.doesNotMatch(await user.run("document.body.innerText"), /quiet|weak list|offset|in this order/, "the first sight has plain words");
       const text = await user.schedule();
       await user.click('[data-play="take 0"]');
       await user.settled(3);
@@ -29,7 +30,7 @@ export function testIn(name, openBrowser) {
       await user.click('[data-play="deliver 1"]');
       await user.settled(4);
       assert.match(await user.schedule(), /take 0\ndeliver 1\ntake 1\nack 1\n/);
-      await user.until('document.getElementById("verdict").textContent === "ends quiet"', "the verdict");
+      await user.until('document.getElementById("verdict").textContent === "all messages arrive"', "the verdict");
     });
 
     test("the guide's story, from nothing, by clicks and keys, shared and opened again", async () => {
@@ -132,7 +133,7 @@ export function testIn(name, openBrowser) {
       await user.until('document.getElementById("place").value === "3"', "the edit");
       const typed = await user.schedule();
       await user.press("Escape", "q");
-      await user.until('document.querySelector("#sentence .now").textContent === "quiet."', "quiet");
+      await user.until('document.querySelector("#sentence .now").textContent === "All messages have arrived."', "quiet");
       const last = await user.schedule();
       assert.deepEqual(typed.split("\n").filter((line) => !last.split("\n").includes(line)), [], "what came behind is kept");
       assert.deepEqual(last.match(/^take [01]$/gm), ["take 0", "take 1", "take 0"], "and no message is taken twice");
@@ -150,14 +151,14 @@ export function testIn(name, openBrowser) {
       await user.open();
       await user.typeAtEnd("edit 1 [2,");
       await user.until('/^line 12, column 1\\d: BadOperation/.test(document.getElementById("to-fault").textContent)', "the fault");
-      assert.match(await user.text("#verdict"), /^the text before: ends /);
+      assert.match(await user.text("#verdict"), /^the text before: (not )?all messages arrive/);
       assert.equal(await user.run('document.getElementById("verdict").className'), "verdict ");
       assert.equal(await user.run('getComputedStyle(document.getElementById("time")).opacity'), "0.5");
       assert.equal(await user.text("#marks .bad mark"), " ");
       assert.equal(await user.run('document.querySelector("#numbers .bad").textContent'), "12");
       await user.page.type('"c"]');
       await user.until('document.getElementById("to-fault").hidden', "no fault");
-      assert.match(await user.text("#verdict"), /^ends /);
+      assert.match(await user.text("#verdict"), /^(not )?all messages arrive/);
       await user.settled(9);
       assert.deepEqual(await user.documents(), ["ba", "ba", "bac"]);
       await user.press("ArrowUp", "ArrowUp");
@@ -175,7 +176,7 @@ export function testIn(name, openBrowser) {
       await user.typeAtEnd("ack 0\nread 1");
       await user.until('!document.getElementById("leave-out").hidden', "the refusal");
       assert.match(await user.text("#to-fault"), /^line 12, ack 0: LinkEmpty: /);
-      assert.match(await user.text("#verdict"), /^stopped at 8: LinkEmpty \(line 12\); ends quiet/);
+      assert.match(await user.text("#verdict"), /^stopped at place 8: LinkEmpty \(line 12\); all messages arrive/);
       const colours = await user.run('["stop", "end"].map((id) => getComputedStyle(document.getElementById(id)).color)');
       assert.deepEqual(colours, ["rgb(196, 22, 42)", "rgb(95, 104, 117)"]);
       await user.click("#leave-out");
@@ -242,7 +243,7 @@ export function testIn(name, openBrowser) {
     test("by keyboard alone: from an empty session to a verdict", async () => {
       await user.open();
       const reached = new Set();
-      for (let k = 0; k < 40 && !reached.has("document of client 1"); k++) {
+      for (let k = 0; k < 44 && !reached.has("document of client 1"); k++) {
         await user.page.key("Tab");
         reached.add(await user.run('document.activeElement.id || document.activeElement.dataset.play || document.activeElement.getAttribute("aria-label") || ""'));
       }
@@ -263,12 +264,12 @@ export function testIn(name, openBrowser) {
       await user.press("n");
       await user.settled(4);
       await user.press("1", "n", "r", "q");
-      await user.until('document.querySelector("#sentence .now").textContent === "quiet."', "quiet");
+      await user.until('document.querySelector("#sentence .now").textContent === "All messages have arrived."', "quiet");
       assert.deepEqual(await user.documents(), ["hi", "hi", "hi"]);
       await user.press("u");
       assert.equal(await user.text("#notice"), "No message of client 1 is under way to the server.");
       await user.press("Delete");
-      await user.until('!document.getElementById("verdict").textContent.startsWith("ends quiet")', "one instruction less");
+      await user.until('!document.getElementById("verdict").textContent.startsWith("all messages")', "one instruction less");
     });
 
     test("names of clients, lanes that are hidden, both themes, a phone's width", async () => {
@@ -408,7 +409,7 @@ export function testIn(name, openBrowser) {
       const places = '[...document.querySelectorAll(".tools button")].map((button) => (({ left, top }) => [left, top])(button.getBoundingClientRect()).join())';
       const before = await user.run(places);
       await user.drop("refused.ots", 'clients 2\nstart "hello"\nedit 0 [3,"a"]\n');
-      await user.until('document.getElementById("verdict").textContent === "stopped at 0: BadBase (line 3); ends quiet"', "the refusal");
+      await user.until('document.getElementById("verdict").textContent === "stopped at place 0: BadBase (line 3); all messages arrive"', "the refusal");
       await user.until('document.getElementById("list-verdict").textContent !== ""', "the verdict");
       assert.deepEqual(await user.run(places), before);
       const right = await user.run('Math.max(...[...document.querySelectorAll(".verdict")].map((verdict) => verdict.getBoundingClientRect().right))');
@@ -462,6 +463,25 @@ export function testIn(name, openBrowser) {
       assert.equal(await user.schedule(), read);
       await user.open();
       assert.equal(await user.schedule(), first, "a new visit");
+    });
+
+    test("what is changed in the turn of a reload is there again, and also where the address becomes another one while the page is left", async () => {
+      const noticed = 'document.getElementById("notice").textContent.startsWith("What was changed before")';
+      const write = (line) => `((field) => { field.value += ${quoted(`${line}\n`)}; field.dispatchEvent(new Event("input", { bubbles: true })); })(document.getElementById("text"))`;
+      await user.open();
+      await user.run(`(() => { window.isOld = true; ${write("read 1")}; setTimeout(() => location.reload()); })()`);
+      await user.until("window.isOld === undefined", "the page anew");
+      await user.started();
+      await user.until(noticed, "the notice");
+      assert.match(await user.schedule(), /\nread 1\n$/);
+      await user.press("c");
+      await user.until('location.hash.includes("image=")', "the link");
+      await user.run(write("read 0"));
+      await user.run('addEventListener("pagehide", () => history.replaceState(null, "", "#at=1"), { capture: true })');
+      await user.reload();
+      assert.match(await user.run("location.hash"), /image=/, "the address of before");
+      await user.until(noticed, "the notice, of the link's session");
+      assert.match(await user.schedule(), /\nread 1\nread 0\n$/);
     });
 
     test("until the engine has started the page says that it starts, and nothing else", async () => {

@@ -10,7 +10,7 @@ import { difference, portLines, weakOrder } from "./faulty_port.js";
 import { HARM } from "./harm.js";
 import { otbench } from "./otbench.js";
 import { suite } from "./suite.js";
-import { clipboardEvent, quoted } from "./user.js";
+import { clipboardEvent, keepSaved, quoted } from "./user.js";
 
 const SCRIPT = ["step", "", "next 2", 'break take 1 if doc 0 contains "a"', "watch doc 1", "display state 0", "run", "run", "run", "why", "rrun", "who 0 0", "blame 1", "find a", "rfind a", "diff 0 end", "mark here", "goto 3", "goto here", "undo", "where",
   "verdict", "list 0 3", "show", "print doc 0", "print difference", "explain 2", "until take", "runtil edit 0", "back 2", "rnext", "info", "delete 2", "help who", "constructor", "step x", "goto 99", "clear", "goto end", "help"];
@@ -127,10 +127,7 @@ export function testCommands(name, openBrowser) {
 
     test("several lines that are pasted are performed, and files are saved", async () => {
       await open(weakOrder);
-      await user.run(`(() => {
-        URL.createObjectURL = (blob) => { window.saved = blob; return "about:blank"; };
-        HTMLAnchorElement.prototype.click = function () { window.called = this.download; };
-      })()`);
+      await user.run(`(${keepSaved})()`);
       await user.run(`(${clipboardEvent})("paste", "#command", "; words\\ngoto 5\\n\\nbreak 7\\nrun\\nsave breaks\\n")`);
       await user.settled(7);
       await user.until('window.called === "breaks"', "the file");

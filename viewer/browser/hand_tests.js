@@ -58,8 +58,8 @@ export function testByHand(name, openBrowser) {
       await user.until(`document.getElementById("noted-answer").textContent.startsWith(${quoted(sentence)})`, sentence);
       await user.click('#noting [value="note"]');
       await data({ verdict: "differs", at: "5", client: "1", key: "document", order: "1 0" });
-      assert.match(await user.text("#conformance"), / \(line 6\) in this order$/);
-      assert.match(await user.text("#answer"), /\nfound "ab"\not\.js "ba", since the server took client 0’s edit first\not\.js "ab", if it had taken client 1’s edit first\noffset 0\n/);
+      assert.match(await user.text("#conformance"), /^Client 1’s editor differs from ot\.js, first at place 5 \(line 6\)$/);
+      assert.match(await user.text("#answer"), /\nfound "ab"\not\.js "ba", since the server took client 0’s edit first\not\.js "ab", if it had taken client 1’s edit first\nthey differ from the first character on\n/);
       await note("server", "ba");
       await user.click('#noting [value="note"]');
       await user.until('/seen.*"ba" as ot.js has it/s.test(document.querySelector(\'[data-card="server"]\').textContent)', "the server's card");
@@ -68,6 +68,42 @@ export function testByHand(name, openBrowser) {
       await note("server", "ab");
       await user.click('#noting [value="note"]');
       await data({ verdict: "differs", at: "4", client: "server", key: "document", order: "1 0" });
+    });
+
+    test("from a report that one user sees ab and the other ba to its first difference, the page says what to do next, what is compared and what is not", async () => {
+      const hint = (pattern) => user.until(`${pattern}.test(document.getElementById("notice").textContent) && document.getElementById("notice").checkVisibility()`, `${pattern} as the hint`);
+      await user.openNew();
+      await hint("/^Type what each user typed/");
+      for (const [client, letter] of ["a", "b"].entries()) {
+        await user.click(`.document[data-who="${client}"]`);
+        await user.page.type(letter);
+        await user.settled(client + 1);
+      }
+      await hint("/^Let the messages through in their order/");
+      for (const [i, instruction] of ["take 0", "take 1", "ack 0", "deliver 0", "deliver 1", "ack 1"].entries()) {
+        await user.click(`[data-play="${instruction}"]`);
+        await user.settled(3 + i);
+      }
+      await hint("/^All messages have arrived here/");
+      await note(0, "ba");
+      await user.click('#noting [value="note"]');
+      await user.answered({ verdict: "conforms" });
+      await hint("/^Enter what the editor of client 1 showed at the end, too/");
+      assert.equal(await user.text("#conformance"), "ot.js has the 1 text that you noted. Client 1: nothing noted yet.");
+      assert.equal(await user.text("#conformance .good"), "ot.js has the 1 text that you noted.");
+      assert.equal(await user.run('document.getElementById("conformance").classList.contains("good")'), false, "it is not green as a whole");
+      assert.equal(await user.text("#answer"), "ot.js has the 1 text that you noted.\nClient 1: nothing noted yet.");
+      await note(1, "ab");
+      assert.match(await user.text("#noted"), /^At place 8, after ack 1, the editor of client 1 showed \(ot\.js’ text has been the same since place 7, after deliver 1; the note stands there\):$/);
+      await user.click('#noting [value="note"]');
+      await user.answered({ verdict: "differs", at: 7, client: 1, key: "document" });
+      assert.equal(await user.text("#conformance"), "Client 1’s editor differs from ot.js, first at place 7 (line 8)");
+      assert.equal(await user.text("#answer b"), 'Client 1’s editor differs from ot.js, first at place 7, after deliver 1 (line 8): from there up to place 8 ot.js has "ba", and the editor showed "ab".');
+      await hint("/^Go to place 7, where it differs first/");
+      await user.click("#answer");
+      await user.settled(7);
+      assert.equal(await user.text("#numbers .now"), "8", "the line in the text");
+      await hint("/^Did the server take client 1’s edit first\\?/");
     });
 
     test("a button that is pressed stays until its click, whatever is told meanwhile", async () => {
@@ -107,7 +143,7 @@ export function testByHand(name, openBrowser) {
       assert.equal(await user.run('document.getElementById("reason").checkVisibility()'), false);
       await user.click("#why");
       const said = (pattern) => user.until(`${pattern}.test(document.getElementById("reason").innerText)`, `${pattern} as the reason`);
-      await said('/^deliver 1, place 5: AwaitingConfirm\\.applyServer transforms \\["b"\\] \\(client 1, outstanding\\) against \\["a"\\] \\(client 0 \\(<b>Ann<\\/b>\\), log entry 0\\)\\.\\n*Both insert at offset 0: transform puts the text of its first argument first, "b" before "a"\\.$/');
+      await said('/^deliver 1, place 5: AwaitingConfirm\\.applyServer transforms \\["b"\\] \\(client 1, outstanding\\) against \\["a"\\] \\(client 0 \\(<b>Ann<\\/b>\\), log entry 0\\)\\.\\n*Both insert at the start: transform puts the text of its first argument first, "b" before "a"\\.$/');
       assert.equal(await user.run('document.getElementById("why").getAttribute("aria-expanded")'), "true");
       await user.run("document.activeElement.blur()");
       await user.press("k");

@@ -191,6 +191,50 @@ export function testLooks(name, openBrowser) {
         await user.page.size(1440, 900);
       });
 
+    for (const [width, height] of [[1440, 900], [1280, 720], [390, 844]])
+      test(`the whole answer and each verdict can be read, and steps move neither, at ${width} x ${height}`, async () => {
+        await user.page.size(width, height);
+        await user.open();
+        const text = 'clients 2\nedit 0 ["a"]\nedit 1 ["b"]\ntake 0\ntake 1\ndeliver 1\nack 1\nack 0\ndeliver 0\n';
+        await user.paste("body", text);
+        await user.until(`document.getElementById("text").value === ${JSON.stringify(text)} && document.getElementById("length").textContent === "of 8"`, "the session");
+        await user.press("End");
+        await user.settled(8);
+        await user.click('[data-note="1"]');
+        await user.page.type("ab");
+        await user.until('document.getElementById("noted-answer").textContent !== ""', "the answer");
+        await user.click('#noting [value="note"]');
+        await user.answered({ verdict: "differs", at: 5, client: 1, key: "document" });
+        /* Whether a box shows all of its text, or its button says that there is more. */
+        const isMarked = (id) => user.until(`((room) => (room.scrollHeight - room.clientHeight <= 2) === document.querySelector('[data-room="${id}"]').hidden)(document.getElementById("${id}"))`, `the mark of ${id}`);
+        await isMarked("answered");
+        const [first, whole] = await user.run(`((room) => {
+          const { bottom } = document.querySelector("#answer b").getBoundingClientRect();
+          return [bottom <= room.getBoundingClientRect().bottom, room.scrollHeight - room.clientHeight <= 2];
+        })(document.getElementById("answered"))`);
+        assert.ok(first, "the first sentence is seen");
+        if (width === 1440) assert.ok(whole, "so is the whole answer");
+        const more = 'document.querySelector(\'[data-room="answered"]\')';
+        for (let k = 0; k < 8 && !(await user.run(`${more}.hidden`)); k++) {
+          const before = await user.run('document.getElementById("answered").scrollTop');
+          await user.click('[data-room="answered"]');
+          await user.until(`document.getElementById("answered").scrollTop > ${before}`, "more of the answer");
+          await user.until(`((room) => (room.scrollHeight - room.scrollTop - room.clientHeight <= 2) === ${more}.hidden)(document.getElementById("answered"))`, "the mark");
+        }
+        assert.ok(await user.run('((room) => room.scrollHeight - room.scrollTop - room.clientHeight <= 2)(document.getElementById("answered"))'), "its end is reached");
+        const stood = () => user.run('["time", "answered", "aside"].map((id) => document.getElementById(id).getBoundingClientRect()).map(({ top, height }) => [Math.round(top), Math.round(height)].join()).join("; ")');
+        const before = await stood();
+        for (let place = 7; place >= 0; place--) {
+          await user.press("ArrowLeft");
+          await user.settled(place);
+          await user.until('document.getElementById("outlook").textContent !== ""', "the verdict");
+          await isMarked("outlook");
+          if (width >= 1280) assert.ok(await user.run('document.querySelector(\'[data-room="outlook"]\').hidden'), `the verdict of place ${place} is seen whole`);
+          assert.equal(await stood(), before, `place ${place}`);
+        }
+        await user.page.size(1440, 900);
+      });
+
     test("the server's card stays in sight beside those of clients, and never over one in low windows", async () => {
       const position = () => user.run('getComputedStyle(document.querySelector(".card.server")).position');
       await user.page.size(1440, 900);
@@ -202,6 +246,16 @@ export function testLooks(name, openBrowser) {
         assert.equal(await position(), "static", `${width} x ${height}`);
         await user.press("Escape");
       }
+      await user.page.size(1440, 900);
+    });
+
+    test("in a low window the lanes fit their room as soon as the menu opens or closes", async () => {
+      await user.page.size(720, 450);
+      await openPort("dark");
+      await user.page.drawn();
+      const fits = '((time) => time.scrollWidth <= time.clientWidth)(document.getElementById("time"))';
+      const turned = await user.run(`[0, 1, 2].map(() => (document.getElementById("menu").click(), [document.body.classList.contains("with-menu"), ${fits}]))`);
+      assert.deepEqual(turned, [[true, true], [false, true], [true, true]]);
       await user.page.size(1440, 900);
     });
 
@@ -248,6 +302,40 @@ export function testLooks(name, openBrowser) {
         await user.page.size(1440, 900);
       });
 
+    for (const [width, height] of [[1440, 900], [390, 844]])
+      test(`plain words say their term at the pointer, at the focus and at a click, at ${width} x ${height}`, async () => {
+        await user.page.size(width, height);
+        await user.open();
+        await user.until('document.getElementById("list-verdict").textContent !== ""', "the verdict");
+        const said = () => user.run(`((box) => {
+          if (box.hidden) return "";
+          const { left, top, right, bottom } = box.getBoundingClientRect();
+          return left >= 0 && top >= 0 && right <= innerWidth && bottom <= innerHeight ? box.textContent : "out of the window";
+        })(document.getElementById("explained"))`);
+        const send = (id, type) => user.run(`document.getElementById("${id}").dispatchEvent(new PointerEvent("${type}", { bubbles: true }))`);
+        assert.equal(await said(), "");
+        await send("verdict", "pointerover");
+        assert.match(await said(), /^In ot\.js’ words the session is quiet: .*\.$/);
+        await send("time", "pointerover");
+        assert.equal(await said(), "");
+        await user.run('document.getElementById("name").scrollIntoView()');
+        for (let k = 0; k < 3 && (await user.run("document.activeElement.id")) !== "verdict"; k++) await user.press("Tab");
+        assert.equal(await user.run("document.activeElement.id"), "verdict", "by keyboard");
+        assert.match(await said(), /quiet/);
+        await user.press("Escape");
+        assert.equal(await said(), "");
+        await user.run('document.activeElement.blur()');
+        await user.click("#verdict");
+        assert.match(await said(), /quiet/);
+        await user.run('document.activeElement.blur()');
+        assert.equal(await said(), "");
+        if (width > 800) {
+          await user.click("#list-verdict");
+          assert.match(await said(), /^This is the weak list property: .*\.$/);
+        }
+        await user.page.size(1440, 900);
+      });
+
     test("on paper of any width all that is told is there", async () => {
       await user.page.size(700, 900);
       await openPort("light");
@@ -260,7 +348,7 @@ export function testLooks(name, openBrowser) {
         return [parts.length, ...parts.filter((part) => !part.checkVisibility()), ...cut].map((part) => part.id || part.className || part);
       })()`);
       assert.deepEqual(faulty, [9]);
-      assert.equal(await user.text("#list-verdict"), "the weak list property holds");
+      assert.equal(await user.text("#list-verdict"), "all documents order letters alike");
       await user.page.size(1440, 900);
     });
 

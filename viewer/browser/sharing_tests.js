@@ -4,15 +4,14 @@ import assert from "node:assert/strict";
 import { test } from "node:test";
 import { difference, portLines, weakOrder } from "./faulty_port.js";
 import { suite } from "./suite.js";
+import { keepSaved } from "./user.js";
 
 const withPort = `${weakOrder}%%\n${portLines}`;
 
 /* In the page: what is copied and saved is kept. */
 const KEEP = `(() => {
   Object.defineProperty(navigator, "clipboard", { value: { writeText: async (text) => { if (window.refuses) throw new Error(); window.copied = text; } }, configurable: true });
-  const make = URL.createObjectURL;
-  URL.createObjectURL = (blob) => { window.saved = blob; return make(blob); };
-  HTMLAnchorElement.prototype.click = function () { window.called = this.download; };
+  (${keepSaved})();
 })()`;
 
 export function testSharing(name, openBrowser) {
@@ -31,9 +30,9 @@ export function testSharing(name, openBrowser) {
       await user.press("i");
       await user.until("window.copied", "what is copied");
       const report = await user.run("window.copied");
-      assert.match(report, /^\*\*otbench\*\* `report\.ots`: `ends quiet`; (`[^`]*`; )?`[^`]* \(line 11\)`\n/);
+      assert.match(report, /^\*\*otbench\*\* `report\.ots`: `all messages arrive`; (`[^`]*`; )?`[^`]* \(line 11\)`\n/);
       assert.ok(report.includes(`\n\`\`\`\n${weakOrder}\`\`\`\n`), "the schedule");
-      assert.match(report, /\n\nAt place 7 of 16 \(`not quiet: client 0 is awaiting-with-buffer; 1 more client is not quiet`\):\n\n`They may still differ: .* all will be "acz"\.`\n\n```\n[^]*\n```\n\n`deliver 0, place 7: AwaitingWithBuffer\.applyServer transforms .*`\\\n`Then it transforms .*`\\\n`Both insert at offset 0: .*`\n\nWhat ot\.js has at place 7:\n\n- server: `"cxz"`\n- `client 0`: `"acz"`\n/);
+      assert.match(report, /\n\nAt place 7 of 16 \(`not quiet: client 0 is awaiting-with-buffer; 1 more client is not quiet`\):\n\n`They may still differ: .* all will be "acz"\.`\n\n```\n[^]*\n```\n\n`deliver 0, place 7: AwaitingWithBuffer\.applyServer transforms .*`\\\n`Then it transforms .*`\\\n`Both insert at the start: .*`\n\nWhat ot\.js has at place 7:\n\n- server: `"cxz"`\n- `client 0`: `"acz"`\n/);
       assert.match(report, /\nfound \[1,"a",-1,1\]\not\.js \["a",1,-1,1\]\n/);
       const [, link] = /\nThe session opens only where the page's file is: `([^`]*)`\n$/.exec(report);
       await user.open(new URL(link).hash);

@@ -15,6 +15,18 @@ export const clipboardEvent = (type, selector, content) => {
   return data.getData("text/plain");
 };
 
+/* In the page: a file that it saves is kept as `window.saved`, by its name `window.called`. The script of its worker is no file. */
+export const keepSaved = () => {
+  const make = URL.createObjectURL;
+  URL.createObjectURL = (blob) => {
+    if (blob.type !== "text/javascript") window.saved = blob;
+    return make.call(URL, blob);
+  };
+  HTMLAnchorElement.prototype.click = function () {
+    window.called = this.download;
+  };
+};
+
 /* What conform answered, as the page's data; what a difference alone has is null without one. */
 const ANSWER = { verdict: "none", at: null, client: null, key: null };
 
@@ -127,7 +139,7 @@ export class User {
         if (card.classList.contains("server")) return "server " + first + " " + text;
         return "client " + card.dataset.card + " " + (second.startsWith("rev") ? second : "rev 0") + " " + first + " " + text;
       });
-      const [now] = /^(not )?quiet/.exec(document.querySelector("#sentence .now").textContent);
+      const now = /^All messages have arrived/.test(document.querySelector("#sentence .now").textContent) ? "quiet" : "not quiet";
       return [...lines.slice(1), lines[0], now].join("\\n") + "\\n";
     })()`);
   }

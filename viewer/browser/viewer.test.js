@@ -8,7 +8,7 @@ import { openChromium } from "./chromium.js";
 import { difference, portLines, weakOrder } from "./faulty_port.js";
 import { longSchedule } from "./long_session.js";
 import { otbench, pageOf, pageWithoutEngine } from "./otbench.js";
-import { isAnswer } from "./user.js";
+import { isAnswer, keepSaved } from "./user.js";
 
 let page;
 before(async () => (page = await openChromium()));
@@ -47,7 +47,7 @@ const SHOWN = `(() => {
     if (card.classList.contains("server")) return "server " + first + " " + text;
     return card.getAttribute("aria-label") + " " + (second.startsWith("rev") ? second : "rev 0") + " " + first + " " + text;
   });
-  const [now] = /^(not )?quiet/.exec(document.querySelector("#sentence .now").textContent);
+  const now = /^All messages have arrived/.test(document.querySelector("#sentence .now").textContent) ? "quiet" : "not quiet";
   return [...lines.slice(1), lines[0], now].join("\\n") + "\\n";
 })()`;
 
@@ -259,10 +259,7 @@ test("light, dark, narrow", async () => {
 
 test("the diagram is saved as an SVG file", async () => {
   await page.goto(`${pageOf("save", weakOrder)}#at=7;theme=light`);
-  await page.run(`(() => {
-    URL.createObjectURL = (blob) => ((window.saved = blob), "about:blank");
-    HTMLAnchorElement.prototype.click = () => {};
-  })()`);
+  await page.run(`(${keepSaved})()`);
   await page.key("s");
   await page.click(...(await middle('#saving button[value="svg"]')));
   await until(() => page.run("window.saved !== undefined"));

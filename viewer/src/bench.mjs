@@ -33,7 +33,7 @@ const besideText = (text, port) => `${text}\n%%\n${port.join("\n")}\n`;
 /* The note that an answer of conform is about; undefined where it is about none. */
 const noteOf = (port, { answer }) => notesIn(port).find(({ at }) => answer?.verdict === "differs" && answer.at === at);
 
-/** A text's fault, of what the desk has of it: { line, column, kind, cause }, line 0 where it is of none, column 0 where none is given. */
+/** A text's fault, of what the dispatcher has of it: { line, column, kind, cause }, line 0 where it is of none, column 0 where none is given. */
 export function faultOf({ fault, errors }) {
   const said = readFault(fault);
   if (said !== null) return { line: said.line, column: said.column ?? 0, kind: said.fault, cause: causeOf(said) };
@@ -162,7 +162,7 @@ export class Bench {
     this.#other.giveUp("it was ended");
   }
 
-  /** See `Desk.every`. */
+  /** See `Dispatcher.every`. */
   async every(words) {
     await this.#other.load();
     return (await this.#other.every(words)).sessions;

@@ -7,7 +7,7 @@ import { noteAt, notedPlace } from "../../common/noted.mjs";
 import { shownPlace } from "./state.mjs";
 import { traceTable } from "./trace.mjs";
 import { built, tree } from "./tree.mjs";
-import { instructionOf, nameOfMember, noteWords } from "./words.mjs";
+import { nameOfMember, noteWords, placeWords } from "./words.mjs";
 
 export function openDialog(id) {
   element(id).returnValue = "";
@@ -38,10 +38,12 @@ export function askName({ outline }, client) {
 /** What a participant's document was seen to be at the place: the text that is noted, or an empty field. */
 export function askNote({ session, port, outline, ...state }, who) {
   const place = shownPlace({ session, ...state });
-  const noted = noteAt(port, who, notedPlace(session, who, place));
+  const at = notedPlace(session, who, place);
+  const noted = noteAt(port, who, at);
   const whose = who === SERVER ? "the server’s document was" : `the editor of ${nameOfMember(who, outline.names)} showed`;
+  const since = at > 0 && at < place ? ` (ot.js’ text has been the same since ${placeWords(session, at)}; the note stands there)` : "";
   element("noting").dataset.who = who;
-  setText("noted", `Place ${place}, ${place === 0 ? "the opening" : `after ${instructionOf(session.steps[place].line)}`}: ${whose}`);
+  setText("noted", `At ${placeWords(session, place)}, ${whose}${since}:`);
   element("showed").value = noted ?? "";
   setText("noted-answer", "");
   element("forget-note").hidden = noted === null;

@@ -51,22 +51,22 @@ export class Engine {
     return this.#call("ask", [words, input]);
   }
 
-  /** See `Desk.steps`. */
+  /** See `Dispatcher.steps`. */
   steps(text) {
     return this.#call("steps", [text]);
   }
 
-  /** See `Desk.debug`. */
+  /** See `Dispatcher.debug`. */
   debug(shown, line) {
     return this.#call("debug", [shown, line]);
   }
 
-  /** See `Desk.complete`. */
+  /** See `Dispatcher.complete`. */
   complete(shown, line) {
     return this.#call("complete", [shown, line]);
   }
 
-  /** See `Desk.every`. */
+  /** See `Dispatcher.every`. */
   every(words) {
     return this.#call("every", [words]);
   }

@@ -18,7 +18,7 @@ export class Keeper {
 
   /**
    * Keeps the session of a state, where it was changed. False where it is changed and cannot be kept.
-   * @param {string} from what the page was opened with
+   * @param {string[]} from what the page was opened with, each of them where its address became another one while it was left
    * @param {import("./state.mjs").State} state
    */
   keep(from, { text, port, title, place, past }) {
@@ -44,7 +44,7 @@ export class Keeper {
     } catch {
       return null;
     }
-    if (kept?.from !== from || !isText(kept.text) || !isText(kept.title) || !Number.isInteger(kept.place)) return null;
+    if (!Array.isArray(kept?.from) || !kept.from.includes(from) || !isText(kept.text) || !isText(kept.title) || !Number.isInteger(kept.place)) return null;
     const { text, title, place, port } = kept;
     return { text, title, place, port: Array.isArray(port) && port.every(isText) ? port : null };
   }

@@ -28,7 +28,7 @@ const OF_HEADS = { "font-size": 11, fill: "var(--dim)" };
 /** What stands above the texts. */
 export const headTexts = (layout) => [
   tree("rect", { width: layout.textWidth - GAP, height: HEAD_HEIGHT, fill: "var(--background)" }),
-  svgText(44, 19, "at", { "text-anchor": "end", ...OF_HEADS }),
+  svgText(44, 19, "place", { "text-anchor": "end", ...OF_HEADS }),
   svgText(56, 19, layout.textWidth < 200 ? "instruction" : "instruction, operation", OF_HEADS),
 ];
 

@@ -19,16 +19,18 @@ import { choose, played, watchCards } from "./playing.mjs";
 import { Port } from "../../common/printed.mjs";
 import { scheduleOf, textOfSchedule } from "./reader.mjs";
 import { reportOf } from "./report.mjs";
+import { watchRooms } from "./rooms.mjs";
 import { savePicture, savePoints, saveSession } from "./saving.mjs";
-import { deck, isNarrow, setSplit, setTheme, show, showEmpty, showLegend, shownVerdicts, themeNow, timeline, toPaper, viewOf } from "./screen.mjs";
+import { cards, isNarrow, setSplit, setTheme, show, showEmpty, showLegend, shownVerdicts, themeNow, timeline, toPaper, viewOf } from "./screen.mjs";
 import { lineOfPlace } from "../../common/outline.mjs";
 import { readAddress } from "./share.mjs";
-import { Sheet } from "./sheet.mjs";
+import { TextPane } from "./text_pane.mjs";
 import { shownPlace } from "./state.mjs";
+import { watchTerms } from "./terms.mjs";
 
 const frame = () => new Promise((done) => setTimeout(done));
 const bench = new Bench(changed, frame);
-const sheet = new Sheet({
+const textPane = new TextPane({
   write: (text, line, tag) => act("write", { text, line, tag }),
   go: (place) => go(place),
 });
@@ -49,7 +51,7 @@ function changed(action) {
   const isOther = place !== shown || ["go", "answer", "resize"].includes(action.do);
   shown = place;
   const isPut = ["type", "undo", "redo"].includes(action.do) || action.isPut === true;
-  show(state, { canPlay, isOther, isPut, sheet });
+  show(state, { canPlay, isOther, isPut, textPane });
   if (!isOther || action.do !== "go") return;
   clearTimeout(naming);
   naming = setTimeout(showAddress, 200); // browsers allow it now and then
@@ -85,10 +87,10 @@ const letThrough = () => (bench.state.fault?.line ? play() : bench.quiet());
 
 function writeInDocument() {
   const { chosen } = bench.state;
-  const editor = chosen === null ? null : deck.editorOf(chosen);
+  const editor = chosen === null ? null : cards.editorOf(chosen);
   if (!editor) return say("Choose a client that has joined: by its number’s key, or by a click on its card.");
   editor.focus();
-  deck.enter(editor);
+  cards.enter(editor);
   const { caret } = bench.state;
   const end = Number(editor.dataset.length);
   const index = caret?.client === chosen ? Math.min(caret.focus, end) : end;
@@ -188,11 +190,9 @@ async function copied(text) {
   }
 }
 
-/* An empty session of two users, and what to do with it. */
+/* An empty session of two users. */
 function openNew() {
-  act("open", { text: "clients 2\n" });
-  const notice = "Type what each user typed into the documents, and let the messages through in their order. Did an editor show another text then? Enter it at I saw …, and Report copies all for an issue.";
-  act("notice", { notice, isKept: true });
+  act("open", { text: "clients 2\n", isGuided: true });
 }
 
 /* Dialogs. */
@@ -234,13 +234,19 @@ function turnText(isShown = element("writing").hidden) {
   timeline.measure();
   changed({ do: "go" });
   setSplit();
-  sheet.measure();
+  textPane.measure();
 }
 
 /* Says why, or does not any more: what is below has another height then. */
 function turnReason() {
   act("reason");
   resized();
+}
+
+/* A low window has a scroll bar with the menu, and none without: the lanes fit what room it leaves at once. */
+function turnMenu() {
+  element("menu").setAttribute("aria-expanded", String(document.body.classList.toggle("with-menu")));
+  timeline.measure();
 }
 
 const KEYS = {
@@ -348,7 +354,7 @@ const CLICKS = {
   lanes: () => showLanes(bench.state),
   "text-shown": () => turnText(),
   debug: () => commandLine.turn(),
-  menu: () => element("menu").setAttribute("aria-expanded", String(document.body.classList.toggle("with-menu"))),
+  menu: turnMenu,
   quiet: letThrough,
   why: turnReason,
   "give-up": () => bench.stop(),
@@ -356,7 +362,7 @@ const CLICKS = {
   "leave-out": () => act("leaveOut"),
   "to-fault": () => {
     const { fault, refusal } = bench.state;
-    sheet.select((fault ?? refusal).line - 1, fault ? Math.max(0, fault.column - 1) : 0);
+    textPane.select((fault ?? refusal).line - 1, fault ? Math.max(0, fault.column - 1) : 0);
   },
 };
 for (const [id, click] of Object.entries(CLICKS)) element(id).onclick = click;
@@ -380,13 +386,13 @@ element("slider").oninput = () => {
 };
 
 element("time").onscroll = () => requestAnimationFrame(() => timeline.measure());
-deck.listen();
-addEventListener("scroll", ({ target }) => target.matches?.(".document") && deck.keepScrolled(target), true);
+cards.listen();
+addEventListener("scroll", ({ target }) => target.matches?.(".document") && cards.keepScrolled(target), true);
 function resized() {
   requestAnimationFrame(() => {
     timeline.measure();
     if (bench.state.session) changed({ do: "resize" });
-    sheet.resized();
+    textPane.resized();
   });
 }
 onresize = resized;
@@ -528,10 +534,13 @@ function takeBack() {
   return true;
 }
 
-const keep = () => !isStarted || keeper.keep(openedWith(), bench.state);
+/* The address that is loaded anew is that of when the page began to be left: what is put into it later does not count. */
+let left = null;
+const keep = () => !isStarted || keeper.keep([openedWith(), left ?? openedWith()], bench.state);
 addEventListener("pagehide", keep);
 document.addEventListener("visibilitychange", keep);
 addEventListener("beforeunload", (event) => {
+  left = openedWith();
   if (!keep()) event.preventDefault(); // the browser asks whether to leave
 });
 
@@ -583,6 +592,8 @@ async function start() {
   return undefined;
 }
 
+watchRooms();
+watchTerms();
 watchCards(bench);
 watchRows(bench, timeline, go);
 watchDialogs(bench, { choices, openChoice, showEvery: watchEvery(bench, openSmall), take: takeText, save });

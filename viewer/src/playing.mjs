@@ -3,7 +3,7 @@
 import { element } from "./dom.mjs";
 import { SERVER } from "../../common/fold.mjs";
 import { headsAt, receiptsIn, stateAt } from "../../common/places.mjs";
-import { deck } from "./screen.mjs";
+import { cards } from "./screen.mjs";
 import { selectionNow } from "./selection.mjs";
 import { documentNow, shownPlace } from "./state.mjs";
 import { watchTyping } from "./typing.mjs";
@@ -27,7 +27,7 @@ export function played(state, name) {
 
 /* What is selected of an editor's document, which the state has from now on. */
 function selected(bench, editor) {
-  deck.enter(editor);
+  cards.enter(editor);
   const selection = selectionNow(editor, bench.state.caret);
   if (selection) keepSelected(bench, { client: Number(editor.dataset.who), ...selection });
   return selection;
@@ -50,12 +50,12 @@ export function watchCards(bench) {
     undo: () => act("undo"),
     redo: () => act("redo"),
     compose: (client) => {
-      if (client === null) deck.forget(deck.composing);
-      deck.composing = client;
+      if (client === null) cards.forget(cards.composing);
+      cards.composing = client;
     },
   });
   document.addEventListener("selectionchange", () => {
-    if (deck.writing !== null && deck.composing === null) selected(bench, document.activeElement);
+    if (cards.writing !== null && cards.composing === null) selected(bench, document.activeElement);
   });
   for (const name of ["focusin", "click"])
     element("cards").addEventListener(name, (event) => {

@@ -47,7 +47,7 @@ function argumentsOf({ steps, log }, { place, given }, transforms) {
 }
 
 const tieWords = ({ place, first, second }) =>
-  `Both insert at offset ${place}: transform puts the text of its first argument first, ${quoted(brief(first, 60))} before ${quoted(brief(second, 60))}.`;
+  `Both insert ${place === 0 ? "at the start" : `after ${place} character${place > 1 ? "s" : ""}`}: transform puts the text of its first argument first, ${quoted(brief(first, 60))} before ${quoted(brief(second, 60))}.`;
 
 const more = (count) => (count > 0 ? [[`and ${count} more`]] : []);
 

@@ -54,13 +54,15 @@ function stepText(step, y, strong) {
 /* In a narrow column the text beside the diagram, or the line above it, says what was refused and why. */
 const refusedText = (stop, { textWidth }) => (textWidth < 200 ? "refused" : `${instructionOf(stop)} refused: ${stop.stopped}`);
 
+const endWords = (end) => (end === "quiet" ? "all arrived" : end === null ? end : "under way");
+
 /* The rows behind the last place: a refused instruction, and the end. */
 function closingRow(session, layout, row) {
   const y = layout.y(row);
   const isStop = session.stop && row === session.length + 1;
   const isGood = session.end === "quiet" && !session.stop;
   const colour = isStop ? "var(--bad)" : isGood ? "var(--good)" : "var(--dim)";
-  const words = isStop ? refusedText(session.stop, layout) : session.end;
+  const words = isStop ? refusedText(session.stop, layout) : endWords(session.end);
   const texts = svgText(56, y + 4, words, { "font-size": 12, ...bold(true), fill: colour });
   if (!isStop) return { texts, marks: null };
   const who = session.stop.client === undefined || session.stop.do === "take" ? SERVER : session.stop.client;

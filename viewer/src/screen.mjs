@@ -2,32 +2,33 @@
 
 import { authorOf } from "./cards.mjs";
 import { brief, seen } from "../../common/characters.mjs";
-import { Deck } from "./deck.mjs";
+import { answerLines, answerParts } from "./compared.mjs";
+import { CardList } from "./card_list.mjs";
 import { element, fill, setData, setText } from "./dom.mjs";
 import { SERVER } from "../../common/fold.mjs";
+import { hintOf } from "./hint.mjs";
 import { legend } from "./legend.mjs";
-import { canNote } from "../../common/noted.mjs";
-import { quietAt } from "../../common/places.mjs";
+import { areNotes, canNote } from "../../common/noted.mjs";
 import { reasonWords } from "./reason.mjs";
 import { isAnswered, outlookNow, reasonNow, shownPlace } from "./state.mjs";
 import { variablesOf } from "./theme.mjs";
 import { Timeline } from "./timeline.mjs";
 import { tree } from "./tree.mjs";
-import { answerData, apart, instructionOf, nameOfMember, orderWords, sentence, shownOperation, shownValue, verdictOn } from "./words.mjs";
+import { answerData, apart, arrivedWords, instructionOf, nameOfMember, sentence, shownOperation, shownValue, verdictOn } from "./words.mjs";
 
 /** Of a session of so many instructions, above how many milliseconds of the engine's the page says that the picture comes later. */
 const LONG = 1000;
 const SLOW = 100;
 
 export const timeline = new Timeline();
-export const deck = new Deck();
+export const cards = new CardList();
 
 export const isNarrow = () => innerWidth <= 800;
 
 /** What is drawn of a state. */
 export function viewOf(state, canPlay) {
   const { session, beside, followed, picked, hidden, draft, chosen, caret, outline, asked, port } = state;
-  const { writing } = deck;
+  const { writing } = cards;
   const shownState = { session, port: beside, place: shownPlace(state), followed, picked, hidden, draft, asked, chosen, caret };
   return { ...shownState, writing, names: outline.names, canPlay, canNote: canNote(port) };
 }
@@ -42,7 +43,7 @@ function isPictured(state, view, isOther) {
 }
 
 /** Shows a state; `isOther` where it has another place, `isPut` where what is selected is what the page has selected. */
-export function show(state, { canPlay, isOther, isPut, sheet }) {
+export function show(state, { canPlay, isOther, isPut, textPane }) {
   const { session } = state;
   element("refused").textContent = session ? "" : faultWords(state);
   if (!session && state.fault) showEmpty();
@@ -51,6 +52,7 @@ export function show(state, { canPlay, isOther, isPut, sheet }) {
   element("starting").hidden = element("empty").hidden = element("broken").hidden = true;
   element("header").hidden = element("main").hidden = false;
   document.body.classList.toggle("with-port", state.port !== null);
+  document.body.classList.toggle("with-notes", areNotes(state.port));
   document.body.classList.toggle("of-text-before", state.fault !== null || state.isLate);
   element("late").hidden = !state.isLate;
   element("outlook").hidden = element("why").hidden = state.isLate;
@@ -60,10 +62,10 @@ export function show(state, { canPlay, isOther, isPut, sheet }) {
     if (isFirst) timeline.measure();
     timeline.show(view, { isNarrow: isNarrow() || !element("writing").hidden, isOther });
     if (isFirst) setSplit();
-    deck.show(view, isPut);
+    cards.show(view, isPut);
   }
-  sheet.show(state, view.place);
-  if (isFirst) sheet.measure();
+  textPane.show(state, view.place);
+  if (isFirst) textPane.measure();
   showFault(state);
   if (!isOther) return;
   scrollToCard();
@@ -88,7 +90,8 @@ function followCard(view, frames) {
 }
 
 function showHeader(state, view) {
-  const { session, title, past, future, notice } = state;
+  const { session, title, past, future } = state;
+  const notice = state.notice || hintOf(state);
   const { place, followed } = view;
   const called = brief(seen(title), 36);
   setText("name", called || "otbench");
@@ -112,7 +115,7 @@ function showHeader(state, view) {
   setText("notice", notice);
   element("notice").hidden = notice === "";
   if (isNew) element("aside").scrollTop = element("notice").offsetTop; // where the reason stands above it
-  element("about").hidden = notice === "" || !state.isWelcome;
+  element("about").hidden = state.notice === "" || !state.isWelcome;
   showVerdicts(state);
 }
 
@@ -124,8 +127,8 @@ function showMembers({ members }, names) {
 
 function showVerdicts(state) {
   const { session, beside, verdict } = state;
-  const stop = session.stop ? `stopped at ${session.stop.at}: ${session.stop.stopped}${lineOf(state, session.stop.at)}; ` : "";
-  const end = session.end === null ? "no end line" : `ends ${session.end}`;
+  const stop = session.stop ? `stopped at place ${session.stop.at}: ${session.stop.stopped}${lineOf(state, session.stop.at)}; ` : "";
+  const end = session.end === null ? "no end line" : `${session.end === "quiet" ? "" : "not "}all messages arrive`;
   const [waits] = verdict?.unsettled ?? [];
   const more = waits ? ` (${waits.what} ${waits.client})` : "";
   const list = verdict?.verdict ?? "";
@@ -133,7 +136,7 @@ function showVerdicts(state) {
   setText("stop", front + stop);
   setText("end", end + more);
   element("verdict").className = `verdict ${look}`;
-  const lists = new Map([["holds", "the weak list property holds"], ["trace full", "too long to judge its lists"]]);
+  const lists = new Map([["holds", "all documents order letters alike"], ["trace full", "too long to compare the order of letters"]]);
   element("list-verdict").hidden = list === "";
   const isNow = front === "";
   setVerdict("list-verdict", front + (lists.get(list) ?? list), list === "holds" && isNow ? "good" : "");
@@ -144,42 +147,43 @@ function showVerdicts(state) {
   setData("conformance", ["verdict", "at", "client", "key", "order"], answerData(state));
   showAnswer(state);
   if (!beside) return;
-  const { answer, words } = beside;
-  const conforms = answer === null ? beside.first === null : answer.verdict === "conforms";
-  const those = beside.areNotes ? "what was seen" : "the port's lines";
-  const marked = beside.first === null ? `${those}: no difference` : `${those}: a difference at ${beside.first}`;
-  const line = answer?.line ? shownLine(state, answer.line) : lineOf(state, (answer?.at ?? beside.first ?? 0) - 1);
-  const order = answer?.order ? " in this order" : "";
-  setVerdict("conformance", front + (words[0] ?? answer?.verdict ?? marked) + line + order, !conforms ? "bad" : isNow ? "good" : "");
+  const parts = answerParts(comparedOf(state));
+  fill("conformance", [front, parts.map(({ words, look: own }) => tree("span", { class: isNow || own === "bad" ? own : "" }, words))]);
+  element("conformance").className = `verdict ${parts[0].look === "bad" ? "bad" : isNow && parts.length === 1 ? parts[0].look : ""}`;
+}
+
+/* What an answer of conform is shown of. */
+function comparedOf(state) {
+  const { session, port, beside, outline } = state;
+  const { answer, first } = beside;
+  return { session, port, beside, names: outline.names, line: shownLine(state, answer?.line ?? state.outline.lines[(answer?.at ?? first ?? 0) - 1] + 1) };
 }
 
 /* What conform answered; while an answer is awaited that of before, paler. */
-function showAnswer({ port, beside, outline }) {
+function showAnswer(state) {
+  const { port, beside } = state;
   element("answer").classList.toggle("old", !beside);
-  if (beside) setText("answer", answerOf(beside, outline.names).join("\n"));
-  else if (port === null) setText("answer", "");
+  if (beside) {
+    const [first, ...more] = answerLines(comparedOf(state));
+    const isBad = beside.answer === null ? beside.first !== null : beside.answer.verdict !== "conforms";
+    element("answer").classList.toggle("bad", isBad);
+    fill("answer", first ? [tree("b", {}, first), more.map((line) => `\n${line}`)] : []);
+  } else if (port === null) fill("answer", []);
   element("answer").hidden = element("answer").textContent === "";
   element("not-answered").hidden = !element("answer").hidden;
 }
 
 /** What the page says of the session, in its words. */
 export const shownVerdicts = () =>
-  [...document.querySelectorAll("#verdict, #list-verdict, #conformance, #cut")].filter(({ hidden }) => !hidden).map(({ textContent }) => textContent);
+  ["verdict", "list-verdict", "conformance", "cut"].map(element).filter(({ hidden }) => !hidden).map(({ textContent }) => textContent);
 
-/* A line of the text, from 1, behind what is said of it; nothing where there is none, or the text is another one by now. */
-const shownLine = (state, line) => (line && isAnswered(state) ? ` (line ${line})` : "");
+/* A line of the text, from 1; 0 where there is none, or the text is another one by now. */
+const shownLine = (state, line) => (line && isAnswered(state) ? line : 0);
 
-/* The same of an instruction by its number. */
-const lineOf = (state, number) => shownLine(state, state.outline.lines[number] + 1);
-
-/* What conform answered, the values that differ marked: they stand behind the first line, and where a text differs behind them. */
-function answerOf({ answer, words }, names) {
-  if (answer?.verdict !== "differs") return words;
-  const [theirs, wanted] = apart(answer.found, answer.otjs);
-  const [head, , , ...more] = answer.place === undefined ? words : words.with(3, `offset ${answer.place}`);
-  const { now, other } = answer.order ? orderWords(answer.order, names) : {};
-  const ordered = now ? [`ot.js ${wanted}, since the server took ${now} first`, `ot.js ${theirs}, if it had taken ${other} first`] : [`ot.js ${wanted}`];
-  return [head, `found ${theirs}`, ...ordered, ...more];
+/* The same of an instruction by its number, behind what is said of it. */
+function lineOf(state, number) {
+  const line = shownLine(state, state.outline.lines[number] + 1);
+  return line ? ` (line ${line})` : "";
 }
 
 function setVerdict(id, words, look) {
@@ -190,7 +194,7 @@ function setVerdict(id, words, look) {
 /* What the line above the diagram says. */
 function wordsAt(state, { session, place, picked, port, followed, names, canPlay }) {
   const now = state.asked.length && state.took > SLOW ? waits(state.asked) : nowAt(state, place);
-  const isToldBelow = canPlay && now.startsWith("not quiet"); // by the verdict
+  const isToldBelow = canPlay && / messages have arrived/.test(now); // by the verdict
   const parts = [sentence(session, place, names), tree("span", { class: isToldBelow ? "now waits" : "now" }, now)];
   for (const { key, found, ours } of port ? port.differencesAt(place) : []) {
     const [theirs, wanted] = apart(found, ours).map(shownValue);
@@ -199,14 +203,20 @@ function wordsAt(state, { session, place, picked, port, followed, names, canPlay
   }
   if (followed !== null) parts.push(tree("span", { class: "now" }, `Stepping through ${nameOfMember(followed, names)}.`));
   if (picked) {
-    const when = picked.born ? `inserted by ${authorOf(picked, names)} at ${picked.born}` : "of the start text";
+    const when = picked.born ? `inserted by ${authorOf(picked, names)} at place ${picked.born}` : "of the start text";
     parts.push(tree("span", { class: "badge" }, `“${seen(picked.character)}” ${when}`));
   }
   return parts.flatMap((part, i) => (i ? [" ", part] : [part]));
 }
 
 /* What the documents must be, or become. The line keeps its height while that is not known. */
-const shownOutlook = (state) => outlookNow(state).flatMap((line, i) => [i > 0 && tree("br"), seen(line)]);
+const shownOutlook = (state) => outlookNow(state).flatMap((line, i) => (i > 0 ? [tree("br"), seen(line)] : begun(seen(line))));
+
+/* A text whose beginning stands out: up to its first colon or full stop. */
+function begun(text) {
+  const end = text.search(/[.:](?= |$)/) + 1 || text.length;
+  return [tree("b", {}, text.slice(0, end)), text.slice(end)];
+}
 
 /* Which transform led to the documents. */
 function showReason(state) {
@@ -226,7 +236,7 @@ function nowAt(state, place) {
   const { session, refusal } = state;
   const stop = place === session.length && session.stop;
   const reason = refusal && isAnswered(state) ? refusal.reason : session.stop?.stopped;
-  return stop ? `Then ${instructionOf(stop)} is refused: ${reason}.` : `${quietAt(session, place)}.`;
+  return stop ? `Then ${instructionOf(stop)} is refused: ${reason}.` : `${arrivedWords(session, place)}.`;
 }
 
 function faultWords({ fault }) {

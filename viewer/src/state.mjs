@@ -19,7 +19,7 @@ import { outlineOf, placeOfLine, withInstructions, withName, withoutInstruction 
  * @property {number} place the place that is looked at
  * @property {string[]} asked the instructions that were played and that the engine has not answered yet
  * @property {number | null} stood the place that is shown until it has, the one that they were played at
- * @property {object[]} past what undo restores: { text, port, place, title, caret, tag }
+ * @property {object[]} past what undo restores: { text, port, place, title, caret, isGuided, tag }
  * @property {object[]} future what redo leads on to
  * @property {string | null} answered the text that the session is of
  * @property {import("../../common/fold.mjs").Session | null} session
@@ -39,7 +39,7 @@ import { outlineOf, placeOfLine, withInstructions, withName, withoutInstruction 
  * @property {Set<number>} hidden the clients whose lanes are not shown
  * @property {string} notice what the page has to say
  * @property {boolean} isWelcome whether that is said to who comes for the first time
- * @property {boolean} isKept whether that stays while the session is played
+ * @property {boolean} isGuided whether the session was begun with what users typed: the page says what to do next
  */
 
 /** @typedef {{ do: string, [key: string]: any }} Action the name of what is done, as below, and what it is done with */
@@ -73,17 +73,14 @@ export const emptyState = () => ({
   hidden: new Set(),
   notice: "",
   isWelcome: false,
-  isKept: false,
+  isGuided: false,
 });
 
 /** How many steps back are kept, and how many characters their texts may have together. */
 const DEPTH = 1000;
 const ROOM = 1 << 26;
 
-const snapshot = ({ text, port, place, title, caret }, tag) => ({ text, port, place, title, caret, tag });
-
-/* What the page still says when the session has changed. */
-const keptNotice = ({ isKept, notice }) => (isKept ? notice : "");
+const snapshot = ({ text, port, place, title, caret, isGuided }, tag) => ({ text, port, place, title, caret, isGuided, tag });
 
 /* Nothing that was played waits for the engine. */
 const NOT_ASKED = { asked: [], stood: null, draft: null };
@@ -97,16 +94,16 @@ function changed(state, { text, port: given, place = state.place, title = state.
   const joins = tag !== null && last !== undefined && last.tag === tag;
   const depth = Math.min(DEPTH, Math.ceil(ROOM / (text.length + 1)));
   const past = joins ? state.past : [...state.past.slice(-depth), snapshot(state, tag)];
-  return { ...state, text, outline, port, place, title, past, future: [], ...NOT_ASKED, beside: null, notice: keptNotice(state) };
+  return { ...state, text, outline, port, place, title, past, future: [], ...NOT_ASKED, beside: null, notice: "" };
 }
 
 /* Undo and redo: the last of one list takes the state's place, which goes to the other list. */
 function restored(state, from, to) {
   const list = state[from];
   if (list.length === 0) return state;
-  const { text, port, place, title, caret, tag } = list[list.length - 1];
+  const { text, port, place, title, caret, isGuided, tag } = list[list.length - 1];
   const lists = { [from]: list.slice(0, -1), [to]: [...state[to], snapshot(state, tag)] };
-  return { ...state, ...lists, text, port, place, title, caret, outline: outlineOf(text), ...NOT_ASKED, beside: null, notice: keptNotice(state) };
+  return { ...state, ...lists, text, port, place, title, caret, isGuided, outline: outlineOf(text), ...NOT_ASKED, beside: null, notice: "" };
 }
 
 /** Whether the session is that of the text. */
@@ -171,11 +168,11 @@ function noted(state, { who, document }) {
 }
 
 const REDUCERS = {
-  /* Another session in the place of this one: { text, title, port, place }. */
-  open: (state, { text, title = "", port = null, place = 0 }) => {
+  /* Another session in the place of this one: { text, title, port, place, isGuided }. */
+  open: (state, { text, title = "", port = null, place = 0, isGuided = false }) => {
     const next = changed(state, { text, title, port, place });
     const past = state.text === "" ? [] : next.past;
-    return { ...next, past, followed: null, picked: null, chosen: null, caret: null, hidden: new Set(), notice: "", isKept: false };
+    return { ...next, past, followed: null, picked: null, chosen: null, caret: null, hidden: new Set(), notice: "", isGuided };
   },
   /* The text as it was typed: { text, line, tag }, line being where the caret stands. */
   write: (state, { text, line, tag }) => {
@@ -228,7 +225,7 @@ const REDUCERS = {
   select: (state, { client, anchor, focus }) => ({ ...state, caret: { client, anchor, focus } }),
   pick: (state, { element }) => ({ ...state, picked: element === state.picked ? null : element }),
   hide: (state, { hidden }) => ({ ...state, hidden: new Set(hidden) }),
-  notice: (state, { notice, isWelcome = false, isKept = false }) => ({ ...state, notice, isWelcome, isKept }),
+  notice: (state, { notice, isWelcome = false }) => ({ ...state, notice, isWelcome }),
   /* What the engine said of a text: a session, or a fault. */
   answer: (state, { text, session, refusal, took }) => {
     const isNow = text === state.text;

@@ -3,7 +3,7 @@
 import { brief, isUnseen, quoted, seen } from "../../common/characters.mjs";
 import { colourOf } from "./theme.mjs";
 import { SERVER } from "../../common/fold.mjs";
-import { logLengthAt, stateAt } from "../../common/places.mjs";
+import { logLengthAt, openAt, stateAt } from "../../common/places.mjs";
 import { tree } from "./tree.mjs";
 
 /* A text with code points for the characters that are not seen, and for those from..to that are not of ASCII. */
@@ -55,6 +55,21 @@ export function shownOperation(operation, maker) {
 }
 
 export const instructionOf = (line) => (line.client === undefined ? line.do : `${line.do} ${line.client}`);
+
+/** A place as the page names it: how many instructions have been performed, the last of them, and its line in the text where that is known. */
+export function placeWords(session, place, line) {
+  const last = place === 0 ? "the opening" : `after ${instructionOf(session.steps[place].line)}`;
+  return `place ${place}, ${last}${line ? ` (line ${line})` : ""}`;
+}
+
+/** Whether all messages have arrived at a place, in words; of those that have not the first, and how many more clients wait. */
+export function arrivedWords(session, place) {
+  const [first, ...more] = openAt(session, place);
+  if (!first) return "All messages have arrived";
+  const { client, state, count } = first;
+  const what = state ? `client ${client} awaits a confirmation` : `${count} message${count > 1 ? "s are" : " is"} under way to client ${client}`;
+  return `Not all messages have arrived: ${what}${more.length ? `; ${more.length} more client${more.length > 1 ? "s wait" : " waits"}` : ""}`;
+}
 
 /** A value as it is printed. */
 export const shownValue = (value) => tree("code", {}, brief(value, 200));

@@ -1,7 +1,7 @@
-// The worker: the engine's module is unpacked once, and each message is a job for the desk.
+// The worker: the engine's module is unpacked once, and each message is a job for the dispatcher.
 
 import { serve } from "../../engine/host.mjs";
-import { Desk } from "./desk.mjs";
+import { Dispatcher } from "./dispatcher.mjs";
 
 /* The module: a compiled one, or the base64 of its gzip. */
 async function unpack(module) {
@@ -15,17 +15,17 @@ async function unpack(module) {
   }
 }
 
-let desk = null;
+let dispatcher = null;
 
 onmessage = async ({ data: { id, call, given } }) => {
   try {
     if (call === "load") {
       const module = await unpack(given[0]);
-      desk = new Desk((words, input) => serve(module, words, input));
+      dispatcher = new Dispatcher((words, input) => serve(module, words, input));
       postMessage({ id, answer: module });
     } else {
       const began = performance.now();
-      const answer = desk[call](...given);
+      const answer = dispatcher[call](...given);
       postMessage({ id, answer: { ...answer, took: performance.now() - began } });
     }
   } catch (fault) {

@@ -51,7 +51,7 @@ async function shownOf(text, port, script, isSparse = false) {
   return said.map((line) => `${line}\n`).join("");
 }
 
-const SCRIPT = ["help", "step", "", "next 2", "break take 1 if doc 0 contains \"a\"", "watch doc 1", "display state 0", "run", "run", "why", "rrun", "who 0 0", "who server 9", "blame 1", "find a", "rfind a", "diff 0 end", "diff 0 7", "diff doc 0 1",
+const SCRIPT = ["help", "step", "", "next 2", "break take 1 if doc 0 contains \"a\"", "watch doc 1", "display state 0", "run", "run", "why", "rrun", "who 0 0", "who server 9", "blame 1", "find a", "rfind a", "find port a", "rfind port c", "info buffer 0", "info outstanding 1", "info message 0", "diff 0 end", "diff 0 7", "diff doc 0 1",
   "mark here", "goto here", "goto 3", "undo", "where", "verdict", "list", "list 0 3", "show", "show server", "print doc 0", "print link 1", "print difference", "explain", "explain 2", "until take", "runtil edit 0", "back 2", "rnext", "info", "delete 2",
   "clear", "unwatch", "constructor", "help __proto__", "step x", "goto 99", "break line", "s", "b", "goto end", "run", "print instruction 1"];
 
@@ -124,7 +124,7 @@ test("files are saved by the page, and none is read", { skip }, async () => {
   const [part, whole] = [await bench.command("export part.ots"), await bench.command("export whole.ots complete")];
   assert.deepEqual(part.files, [{ name: "part.ots", text: "clients 2\nedit 0 [\"a\"]\n" }]);
   assert.match(whole.files[0].text, /^clients 2\nedit 0 \["a"\]\ntake 0\n(deliver 1\nack 0|ack 0\ndeliver 1)\n$/);
-  assert.match((await bench.command("source /etc/passwd")).said[0], /^a page does not read \/etc\/passwd; its lines can be pasted here; source FILE: /);
+  assert.match((await bench.command("source /etc/passwd")).said[0], /^a page does not read \/etc\/passwd; its lines can be pasted here; source FILE$/);
   assert.deepEqual((await bench.command("edit")).said, ["a person edits the schedule in the page"]);
   assert.equal((await bench.command("quit")).isOver, true);
   assert.equal((await bench.command("where")).isOver, false);
@@ -145,7 +145,7 @@ test("of a text with a fault no command is performed", { skip }, async () => {
 test("hostile words are answered as words", { skip }, async () => {
   const bench = await benchOf("clients 1\nedit 0 [\"a\"]\n", ['{"at":1,"__proto__":{},"document":3}', "<b>"]);
   for (const value of HOSTILE)
-    for (const front of ["", "find ", "goto ", "help ", "mark ", "break ", "who 0 "]) {
+    for (const front of ["", "find ", "find port ", "info ", "info buffer ", "goto ", "help ", "mark ", "break ", "who 0 "]) {
       const line = `${front}${typeof value === "string" ? value : JSON.stringify(value)}`;
       const { said } = await bench.command(line);
       assert.ok(said.every((line) => typeof line === "string" && !/[\u202e\u0007]|\[object|undefined|native code/.test(line)), front);

@@ -1,10 +1,10 @@
-// The engine for tests: the page's desk over the program itself. OTBENCH names the program, else it is that of the repository;
+// The engine for tests: the page's dispatcher over the program itself. OTBENCH names the program, else it is that of the repository;
 // without one these tests are skipped.
 
 import { spawnSync } from "node:child_process";
 import fs from "node:fs";
 import { fileURLToPath, pathToFileURL } from "node:url";
-import { Desk } from "../src/desk.mjs";
+import { Dispatcher } from "../src/dispatcher.mjs";
 
 export const program = process.env.OTBENCH || fileURLToPath(new URL("../../crates/otbench/out/otbench", import.meta.url));
 
@@ -32,7 +32,7 @@ const served = await serveEngine();
 export class DirectEngine {
   constructor(serve = served) {
     this.serve = serve;
-    this.desk = new Desk(serve);
+    this.dispatcher = new Dispatcher(serve);
   }
 
   beside() {
@@ -44,22 +44,22 @@ export class DirectEngine {
   giveUp() {}
 
   async ask(words, input) {
-    return { ...this.desk.ask(words, input), took: 0 };
+    return { ...this.dispatcher.ask(words, input), took: 0 };
   }
 
   async steps(text) {
-    return { ...this.desk.steps(text), took: 0 };
+    return { ...this.dispatcher.steps(text), took: 0 };
   }
 
   async debug(shown, line) {
-    return this.desk.debug(shown, line);
+    return this.dispatcher.debug(shown, line);
   }
 
   async every(words) {
-    return this.desk.every(words);
+    return this.dispatcher.every(words);
   }
 
   async complete(shown, line) {
-    return this.desk.complete(shown, line);
+    return this.dispatcher.complete(shown, line);
   }
 }

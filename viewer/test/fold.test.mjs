@@ -5,6 +5,7 @@ import { test } from "node:test";
 import { textOf } from "../../common/document.mjs";
 import { SERVER, fold } from "../../common/fold.mjs";
 import { documentAt, downAt, logLengthAt, quietAt, stateAt, upAt } from "../../common/places.mjs";
+import { arrivedWords } from "../src/words.mjs";
 import { example, linesOf, portLinesOf, seededSchedule } from "./sessions.mjs";
 
 test("the lines of these tests are those of `otbench steps`", () => {
@@ -79,6 +80,8 @@ test("states and links", () => {
   assert.equal(quietAt(session, 7), "not quiet: client 0 is awaiting-with-buffer; 1 more client is not quiet");
   assert.equal(quietAt(session, 11), "not quiet: client 0 is awaiting-confirm; 1 more client is not quiet");
   assert.equal(quietAt(session, 13), "quiet");
+  assert.equal(arrivedWords(session, 7), "Not all messages have arrived: client 0 awaits a confirmation; 1 more client waits");
+  assert.equal(arrivedWords(session, 13), "All messages have arrived");
 });
 
 test("a client that joins has the server's document", () => {

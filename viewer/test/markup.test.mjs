@@ -103,7 +103,7 @@ test("the end has the colour of success where no instruction was refused", () =>
   const end = (stop) => {
     const session = fold([...lines, ...stop, '{"at":0,"end":"quiet"}']);
     const drawn = picture(session, { from: 0, to: rowCount(session) - 1, place: 0, followed: null, port: null }, "light");
-    return /fill="([^"]*)">quiet</.exec(drawn)[1];
+    return /fill="([^"]*)">all arrived</.exec(drawn)[1];
   };
   assert.equal(end([]), "#15763a");
   assert.equal(end(['{"at":0,"do":"edit","client":0,"edit":[3,"a"],"stopped":"BadBase"}']), "#5f6875");

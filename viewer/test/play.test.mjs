@@ -151,21 +151,20 @@ test("what is typed before the engine has answered is not lost", { skip }, async
   assert.equal(bench.state.place, 7);
 });
 
-test("what is said to be kept stays while the session is played, until something else is said or another session opens", { skip }, async () => {
+test("what is said goes with the next change, and a session that was begun with what users typed stays so until another one opens", { skip }, async () => {
   const bench = openBench();
-  bench.dispatch({ do: "open", text: "clients 2\n" });
-  bench.dispatch({ do: "notice", notice: "how to go on", isKept: true });
+  bench.dispatch({ do: "open", text: "clients 2\n", isGuided: true });
+  bench.dispatch({ do: "notice", notice: "it is copied" });
   await bench.settled();
   bench.dispatch({ do: "type", client: 0, from: 0, to: 0, text: "a" });
-  bench.dispatch({ do: "play", instructions: ["take 0"] });
-  bench.dispatch({ do: "undo" });
-  assert.equal(bench.state.notice, "how to go on");
+  assert.deepEqual([bench.state.notice, bench.state.isGuided], ["", true]);
   bench.dispatch({ do: "notice", notice: "it is copied" });
-  bench.dispatch({ do: "redo" });
-  assert.equal(bench.state.notice, "");
-  bench.dispatch({ do: "notice", notice: "how to go on", isKept: true });
+  bench.dispatch({ do: "undo" });
+  assert.deepEqual([bench.state.notice, bench.state.isGuided], ["", true]);
   bench.dispatch({ do: "open", text: "clients 1\n" });
-  assert.equal(bench.state.notice, "");
+  assert.equal(bench.state.isGuided, false);
+  bench.dispatch({ do: "undo" });
+  assert.equal(bench.state.isGuided, true);
 });
 
 test("what is typed into a document while the text has a fault is refused in words", { skip }, async () => {

@@ -39,11 +39,11 @@ test("the last transform is told with its method, its operations and each tie", 
   assert.deepEqual(await saidAt(bench, 4), ["Nothing has been transformed up to here."]);
   assert.deepEqual(await saidAt(bench, 5), [
     'deliver 1, place 5: AwaitingWithBuffer.applyServer transforms ["b",1] (client 1, outstanding) against ["a",1] (client 0 (Ann), log entry 0).',
-    'Both insert at offset 0: transform puts the text of its first argument first, "b" before "a".',
+    'Both insert at the start: transform puts the text of its first argument first, "b" before "a".',
     'Then it transforms [1,"c",1] (client 1, buffer) against [1,"a",1] (client 0 (Ann), log entry 0).',
-    'Both insert at offset 1: transform puts the text of its first argument first, "c" before "a".',
+    'Both insert after 1 character: transform puts the text of its first argument first, "c" before "a".',
   ]);
-  const taken = ['take 1, place 6: Server.receiveOperation transforms ["b",1] (client 1, its message) against ["a",1] (client 0 (Ann), log entry 0).', 'Both insert at offset 0: transform puts the text of its first argument first, "b" before "a".'];
+  const taken = ['take 1, place 6: Server.receiveOperation transforms ["b",1] (client 1, its message) against ["a",1] (client 0 (Ann), log entry 0).', 'Both insert at the start: transform puts the text of its first argument first, "b" before "a".'];
   for (const place of [6, 7, 11]) assert.deepEqual(await saidAt(bench, place), taken);
 });
 
@@ -89,7 +89,7 @@ test("it is asked for where it is shown, and follows the place; the report has i
   assert.equal(await shownAt(5), 5);
   assert.equal(await shownAt(11), 6);
   const report = reportOf(bench.state, { verdicts: [], ...(await bench.sayHere()), link: "l", isOfFile: false });
-  assert.match(report, /`take 1, place 6: Server\.receiveOperation transforms \["b",1\] \(client 1, its message\) against \["a",1\] \(client 0 \(Ann\), log entry 0\)\.`\\\n`Both insert at offset 0: .*`\n\nWhat ot\.js has at place 11:\n\n- server/);
+  assert.match(report, /`take 1, place 6: Server\.receiveOperation transforms \["b",1\] \(client 1, its message\) against \["a",1\] \(client 0 \(Ann\), log entry 0\)\.`\\\n`Both insert at the start: .*`\n\nWhat ot\.js has at place 11:\n\n- server/);
   assert.match(report, /^\*\*otbench\*\*: \n\nAt place 11 of 11 \(.*\):\n\n`They may still differ: .* all will be "bcas"\.`\n\n```\n; client 0/);
   bench.dispatch({ do: "reason" });
   assert.equal(reasonNow(bench.state), null);
@@ -103,7 +103,7 @@ test("hostile texts are quoted", { skip }, async () => {
     const text = JSON.stringify(value.toWellFormed().slice(0, 9000));
     const bench = await opened(`; client 0 is ${text}\nclients 2\nedit 0 [${text}]\nedit 1 [${text}]\ntake 0\ntake 1\n`);
     const [, tie] = await saidAt(bench, 4);
-    assert.match(tie, /^Both insert at offset 0: transform puts the text of its first argument first, ".*" before ".*"\.$/);
+    assert.match(tie, /^Both insert at the start: transform puts the text of its first argument first, ".*" before ".*"\.$/);
     assert.ok(tie.length < 700);
     assert.doesNotMatch(tie, /[\u202e\u2066\u0007\ufffe]/);
   }

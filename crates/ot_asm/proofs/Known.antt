@@ -1,7 +1,6 @@
 -- Running over the lines of a reader whose bytes may be known.
 use Rattle.std.proofs.Common.{◌≡◌, ◌≢◌, ◌⊎◌, inl, inr, ◌+◌, ◌-◌, ◌<◌, ◌&&◌, ℕ, List, [], length, Bool, true, false, Option, Some, None, Result, Ok, Err, refl, ap, ◌∙◌, arith}
 use Rattle.std.specs.Prelude.{IfSome, OnOk, ⊤}
-use Rattle.std.specs.Io.KnownBytes.{prepend_known}
 use Rattle.streams.specs.Lines.{lines_of}
 use Rattle.streams.specs.Taken.{TakesLine, Spends, LosesPiece}
 use Rattle.ot_isa.specs.Program.{Program}
@@ -82,10 +81,6 @@ stopped_known marked None now next line draft h p = tt
 stopped_known marked (Some text) None next line draft h p = absurd h
 stopped_known marked (Some text) (Some now) None line draft h p = absurd p.2
 stopped_known marked (Some text) (Some now) (Some next) line draft h p = (p.0, p.1, rest_is h ∙ ap lines_of p.2)
-
-pub nothing_held : (held : List ℕ) (known : Option (List ℕ)) → held ≡ [] → prepend_known held known ≡ known
-nothing_held held None e = refl
-nothing_held held (Some text) e = rw e refl
 
 pub spends_none : (most : ℕ) (text : Option (List ℕ)) → Spends most most text text
 spends_none most None = tt

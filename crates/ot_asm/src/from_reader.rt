@@ -3,7 +3,6 @@
 ghost use Rattle.std.specs.Prelude.{◌≡◌, ◌≢◌, ◌⊎◌, ◌+◌, ◌<◌, ◌^◌, ℕ, true, false, Ok, Err, IfOk, IfErr, IfSome, OnOk, length};
 ghost use Rattle.std.specs.Io.KnownBytes.{IsAtEnd};
 ghost use Rattle.streams.specs.Lines.{lines_of};
-ghost use Rattle.streams.specs.Taken.{may_take, before};
 ghost use Rattle.ot_asm.specs.Stepping.{ended, outcome, outcome_of_lines, IsFaultlessBefore, OutOfMemoryIn};
 ghost use Rattle.ot_asm.specs.Spelling.{Spells};
 ghost use Rattle.ot_isa.specs.Program.{Program};
@@ -16,7 +15,7 @@ use crate::marks::ends_part;
 use crate::stepping::numbered_step;
 use ot_isa::Schedule;
 use std::alloc::Global;
-use streams::{LineFault, ReadAhead, Source};
+use streams::{LineFault, Source};
 
 /// The schedule at the end of lines, and how many lines were taken.
 fn finished_part(body: Option<Body>, line: u64, taken: u64) -> Result<(Schedule, u64), AsmFault>
@@ -35,27 +34,26 @@ fn finished_part(body: Option<Body>, line: u64, taken: u64) -> Result<(Schedule,
 /// mark among them.
 fn assemble_part<R: Source>(
     alloc: Global,
-    ahead: &mut ReadAhead,
     reader: &mut R,
     marked: bool,
 ) -> Result<(Schedule, u64), AsmFault>
-    ensures ok { IfOk result (λ p. IfSome (before ahead.old (R.remaining reader.old)) (λ text. outcome_of_lines (lines_before marked (lines_of text)) ≡ Ok p.0)) }
-    ensures part { IfOk result (λ p. TakesPart marked (before ahead.old (R.remaining reader.old)) (before ahead.new (R.remaining reader.new)) p.1) }
-    ensures end { OnOk result (marked ≡ false → IsAtEnd (before ahead.new (R.remaining reader.new))) }
-    ensures short { OnOk result (marked ≡ false → IfSome (before ahead.old (R.remaining reader.old)) (λ text. length text < may_take ahead.old (R.left reader.old))) }
-    ensures err { IfErr result (λ f. f.kind ≢ Kind.Memory → f.kind ≢ Kind.ReadFault → IfSome (before ahead.old (R.remaining reader.old)) (λ text. outcome_of_lines (lines_before marked (lines_of text)) ≡ Err f)) }
-    ensures faultless { IfErr result (λ f. IfSome (before ahead.old (R.remaining reader.old)) (λ text. IsFaultlessBefore (lines_before marked (lines_of text)) f.line)) }
-    ensures memory { IfErr result (λ f. f.kind ≡ Kind.Memory → IfSome (before ahead.old (R.remaining reader.old)) (λ text. OutOfMemoryIn (lines_before marked (lines_of text)) f.line) ⊎ StopsIn (before ahead.old (R.remaining reader.old)) (before ahead.new (R.remaining reader.new)) f.line) }
-    ensures stop { IfErr result (λ f. f.kind ≡ Kind.ReadFault → StopsIn (before ahead.old (R.remaining reader.old)) (R.remaining reader.new) f.line) }
+    ensures ok { IfOk result (λ p. IfSome (R.remaining reader.old) (λ text. outcome_of_lines (lines_before marked (lines_of text)) ≡ Ok p.0)) }
+    ensures part { IfOk result (λ p. TakesPart marked (R.remaining reader.old) (R.remaining reader.new) p.1) }
+    ensures end { OnOk result (marked ≡ false → IsAtEnd (R.remaining reader.new)) }
+    ensures short { OnOk result (marked ≡ false → IfSome (R.remaining reader.old) (λ text. length text < R.left reader.old)) }
+    ensures err { IfErr result (λ f. f.kind ≢ Kind.Memory → f.kind ≢ Kind.ReadFault → IfSome (R.remaining reader.old) (λ text. outcome_of_lines (lines_before marked (lines_of text)) ≡ Err f)) }
+    ensures faultless { IfErr result (λ f. IfSome (R.remaining reader.old) (λ text. IsFaultlessBefore (lines_before marked (lines_of text)) f.line)) }
+    ensures memory { IfErr result (λ f. f.kind ≡ Kind.Memory → IfSome (R.remaining reader.old) (λ text. OutOfMemoryIn (lines_before marked (lines_of text)) f.line) ⊎ StopsIn (R.remaining reader.old) (R.remaining reader.new) f.line) }
+    ensures stop { IfErr result (λ f. f.kind ≡ Kind.ReadFault → StopsIn (R.remaining reader.old) (R.remaining reader.new) f.line) }
     ensures cause { IfErr result (λ f. f.kind ≡ Kind.ReadFault → R.failed reader.new ≡ true) }
 {
     // For the proof: its bound.
-    let _most = ahead.may_take(reader);
+    let _most = reader.left();
     let mut piece = Vec::new(alloc);
     let mut body: Option<Body> = None;
     let mut line = 1;
     loop {
-        match ahead.next_line(reader, &mut piece) {
+        match reader.next_line(&mut piece) {
             Ok(true) => {}
             Ok(false) => {
                 return finished_part(body, line, line - 1);
@@ -98,10 +96,9 @@ pub fn assemble_from<R: Source>(alloc: Global, reader: &mut R) -> Result<Schedul
     ensures stop { IfErr result (λ f. f.kind ≡ Kind.ReadFault → StopsIn (R.remaining reader.old) (R.remaining reader.new) f.line) }
     ensures cause { IfErr result (λ f. f.kind ≡ Kind.ReadFault → R.failed reader.new ≡ true) }
 {
-    let mut ahead = ReadAhead::new();
     // For the proof: its bound.
-    let _left = reader.left();
-    match assemble_part(alloc, &mut ahead, reader, false) {
+    let _most = reader.left();
+    match assemble_part(alloc, reader, false) {
         Ok((schedule, _)) => {
             // For the proof: the invariant of every schedule.
             let _clients = schedule.clients();
@@ -112,20 +109,19 @@ pub fn assemble_from<R: Source>(alloc: Global, reader: &mut R) -> Result<Schedul
 }
 
 /// The schedule that the lines of a reader as far as the first line `%%` spell, and how many lines were taken, that
-/// line among them. The lines behind it stay with `ahead` and the reader.
+/// line among them. The lines behind it stay with the reader.
 pub fn assemble_until_mark<R: Source>(
     alloc: Global,
-    ahead: &mut ReadAhead,
     reader: &mut R,
 ) -> Result<(Schedule, u64), AsmFault>
-    ensures ok { IfOk result (λ p. IfSome (before ahead.old (R.remaining reader.old)) (λ text. outcome_of_lines (lines_before true (lines_of text)) ≡ Ok p.0)) }
-    ensures part { IfOk result (λ p. TakesPart true (before ahead.old (R.remaining reader.old)) (before ahead.new (R.remaining reader.new)) p.1) }
-    ensures err { IfErr result (λ f. f.kind ≢ Kind.Memory → f.kind ≢ Kind.ReadFault → IfSome (before ahead.old (R.remaining reader.old)) (λ text. outcome_of_lines (lines_before true (lines_of text)) ≡ Err f)) }
-    ensures faultless { IfErr result (λ f. IfSome (before ahead.old (R.remaining reader.old)) (λ text. IsFaultlessBefore (lines_before true (lines_of text)) f.line)) }
+    ensures ok { IfOk result (λ p. IfSome (R.remaining reader.old) (λ text. outcome_of_lines (lines_before true (lines_of text)) ≡ Ok p.0)) }
+    ensures part { IfOk result (λ p. TakesPart true (R.remaining reader.old) (R.remaining reader.new) p.1) }
+    ensures err { IfErr result (λ f. f.kind ≢ Kind.Memory → f.kind ≢ Kind.ReadFault → IfSome (R.remaining reader.old) (λ text. outcome_of_lines (lines_before true (lines_of text)) ≡ Err f)) }
+    ensures faultless { IfErr result (λ f. IfSome (R.remaining reader.old) (λ text. IsFaultlessBefore (lines_before true (lines_of text)) f.line)) }
     // Out of memory names a line that has no fault but one of its JSON text, or one that was not read to its end.
-    ensures memory { IfErr result (λ f. f.kind ≡ Kind.Memory → IfSome (before ahead.old (R.remaining reader.old)) (λ text. OutOfMemoryIn (lines_before true (lines_of text)) f.line) ⊎ StopsIn (before ahead.old (R.remaining reader.old)) (before ahead.new (R.remaining reader.new)) f.line) }
-    ensures stop { IfErr result (λ f. f.kind ≡ Kind.ReadFault → StopsIn (before ahead.old (R.remaining reader.old)) (R.remaining reader.new) f.line) }
+    ensures memory { IfErr result (λ f. f.kind ≡ Kind.Memory → IfSome (R.remaining reader.old) (λ text. OutOfMemoryIn (lines_before true (lines_of text)) f.line) ⊎ StopsIn (R.remaining reader.old) (R.remaining reader.new) f.line) }
+    ensures stop { IfErr result (λ f. f.kind ≡ Kind.ReadFault → StopsIn (R.remaining reader.old) (R.remaining reader.new) f.line) }
     ensures cause { IfErr result (λ f. f.kind ≡ Kind.ReadFault → R.failed reader.new ≡ true) }
 {
-    assemble_part(alloc, ahead, reader, true)
+    assemble_part(alloc, reader, true)
 }

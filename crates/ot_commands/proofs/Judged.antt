@@ -1,7 +1,7 @@
 -- A comparison behind a mark, from its parts.
 use Rattle.std.proofs.Common.{◌≡◌, ◌-◌, ℕ, Bool, true, List, [], Option, Some, None, Ok, length, refl, ap, arith, inl, inr, subst}
 use Rattle.std.specs.Prelude.{IfSome}
-use Rattle.std.specs.Io.KnownBytes.{Keeps, prepend_known}
+use Rattle.std.specs.Io.KnownBytes.{Keeps}
 use Rattle.streams.specs.Lines.{lines_of}
 use Rattle.ot_isa.specs.Program.{Program}
 use Rattle.ot_asm.specs.Parts.{lines_before, lines_behind, TakesPart}
@@ -39,40 +39,37 @@ broke_off sparse json unread session earlier (Some text) stop streams behind sil
     inr (inl (record { stop = stop; behind = behind; silent = silent; cause = cause; tells = tells; status_is = refl }))
 
 -- the lines before the mark, and the comparison of those behind it
-pub compared : (sparse json unread : Bool) (held : List ℕ) (known rest : Option (List ℕ)) (kept shown : List ℕ) (said : Said) (schedule : Program) (taken status : ℕ) (streams : Streams) → held ≡ []
-    → TakesPart true (prepend_known held known) rest taken
-    → IfSome (prepend_known held known) (λ text. outcome_of_lines (lines_before true (lines_of text)) ≡ Ok schedule)
-    → IfSome (prepend_known held known) (λ text. lines_of kept ≡ lines_before true (lines_of text))
+pub compared : (sparse json unread : Bool) (known rest : Option (List ℕ)) (kept shown : List ℕ) (said : Said) (schedule : Program) (taken status : ℕ) (streams : Streams)
+    → TakesPart true known rest taken
+    → IfSome known (λ text. outcome_of_lines (lines_before true (lines_of text)) ≡ Ok schedule)
+    → IfSome known (λ text. lines_of kept ≡ lines_before true (lines_of text))
     → said ≡ comments_of kept
     → shown ≡ kept
     → IfSome rest (λ behind. MayJudge sparse json unread (record { lines = lines_of shown; said = said; schedule = schedule }) (lines_of behind) taken status streams)
     → IfSome known (λ text. Compares sparse json unread text status streams)
-compared sparse json unread held None rest kept shown said schedule taken status streams none part spelled keeps told is judged = tt
-compared sparse json unread held (Some text) None kept shown said schedule taken status streams none part spelled keeps told is judged = absurd part
-compared sparse json unread held (Some text) (Some behind) kept shown said schedule taken status streams none part spelled keeps told is judged =
-    let here = rw none at part in
-    let so_many : taken ≡ length (lines_of text) - length (lines_behind true (lines_of text)) = omega (arith, here.1, ap length here.0) in
-    let spells = rw none at spelled in
-    let same = rw none at keeps in
-    inr (schedule, spells, rw (← so_many, ← here.0, ← same, ← told, ← is) judged)
+compared sparse json unread None rest kept shown said schedule taken status streams part spelled keeps told is judged = tt
+compared sparse json unread (Some text) None kept shown said schedule taken status streams part spelled keeps told is judged = absurd part
+compared sparse json unread (Some text) (Some behind) kept shown said schedule taken status streams part spelled keeps told is judged =
+    let so_many : taken ≡ length (lines_of text) - length (lines_behind true (lines_of text)) = omega (arith, part.1, ap length part.0) in
+    inr (schedule, spelled, rw (← so_many, ← part.0, ← keeps, ← told, ← is) judged)
 
 -- memory for their comments ran out
-pub wanted : (sparse json unread : Bool) (held : List ℕ) (known : Option (List ℕ)) (schedule : Program) (status : ℕ) (streams : Streams) → held ≡ []
-    → IfSome (prepend_known held known) (λ text. outcome_of_lines (lines_before true (lines_of text)) ≡ Ok schedule)
+pub wanted : (sparse json unread : Bool) (known : Option (List ℕ)) (schedule : Program) (status : ℕ) (streams : Streams)
+    → IfSome known (λ text. outcome_of_lines (lines_before true (lines_of text)) ≡ Ok schedule)
     → OutOfMemory status streams
     → IfSome known (λ text. Compares sparse json unread text status streams)
-wanted sparse json unread held None schedule status streams none spelled wants = tt
-wanted sparse json unread held (Some text) schedule status streams none spelled wants = inr (schedule, rw none at spelled, inr (inr wants))
+wanted sparse json unread None schedule status streams spelled wants = tt
+wanted sparse json unread (Some text) schedule status streams spelled wants = inr (schedule, spelled, inr (inr wants))
 
 -- they are refused
-pub refused : (sparse json unread : Bool) (held : List ℕ) (known : Option (List ℕ)) (kept shown : List ℕ) (fault : AsmFault) (status : ℕ) (streams : Streams) → held ≡ []
-    → IfSome (prepend_known held known) (λ text. IsLineFault unread (lines_before true (lines_of text)) fault)
-    → IfSome (prepend_known held known) (λ text. HasFaultIn (lines_of kept) (lines_before true (lines_of text)) fault)
+pub refused : (sparse json unread : Bool) (known : Option (List ℕ)) (kept shown : List ℕ) (fault : AsmFault) (status : ℕ) (streams : Streams)
+    → IfSome known (λ text. IsLineFault unread (lines_before true (lines_of text)) fault)
+    → IfSome known (λ text. HasFaultIn (lines_of kept) (lines_before true (lines_of text)) fault)
     → shown ≡ kept
     → TellsFault json (lines_of shown) fault status streams
     → IfSome known (λ text. Compares sparse json unread text status streams)
-refused sparse json unread held None kept shown fault status streams none is has same tells = tt
-refused sparse json unread held (Some text) kept shown fault status streams none is has same tells =
+refused sparse json unread None kept shown fault status streams is has same tells = tt
+refused sparse json unread (Some text) kept shown fault status streams is has same tells =
     let lines = lines_before true (lines_of text) in
     let told = subst (λ (t : List ℕ). TellsFault json (lines_of t) fault status streams) same tells in
-    inl (record { fault = fault; is_fault = rw none at is; tells = tells_in json (lines_of kept) lines fault status streams (rw none at has) told })
+    inl (record { fault = fault; is_fault = is; tells = tells_in json (lines_of kept) lines fault status streams has told })

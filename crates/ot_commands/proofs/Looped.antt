@@ -1,7 +1,6 @@
 -- A command loop behind a mark, from its parts.
 use Rattle.std.proofs.Common.{◌≡◌, ◌-◌, ◌++◌, ℕ, Bool, true, List, [], Option, Some, None, Ok, length, refl, ap, arith, inl, inr}
 use Rattle.std.specs.Prelude.{IfSome}
-use Rattle.std.specs.Io.KnownBytes.{prepend_known}
 use Rattle.std.proofs.KnownBytes.{Keeps-refl}
 use Rattle.streams.specs.Lines.{lines_of}
 use Rattle.ot_isa.specs.Program.{Program}
@@ -51,15 +50,13 @@ breaks_off schedule before after stop (Some rest) (Some behind) earlier old new 
     }))
 
 -- the lines before the mark, and the command loop behind it
-pub debugged : (held : List ℕ) (known rest : Option (List ℕ)) (unread : Bool) (schedule : Program) (taken status : ℕ) (streams : Streams) → held ≡ []
-    → TakesPart true (prepend_known held known) rest taken
-    → IfSome (prepend_known held known) (λ text. outcome_of_lines (lines_before true (lines_of text)) ≡ Ok schedule)
+pub debugged : (known rest : Option (List ℕ)) (unread : Bool) (schedule : Program) (taken status : ℕ) (streams : Streams)
+    → TakesPart true known rest taken
+    → IfSome known (λ text. outcome_of_lines (lines_before true (lines_of text)) ≡ Ok schedule)
     → IfSome rest (λ behind. MayConverse unread schedule (lines_of behind) taken status streams)
     → IfSome known (λ text. Debugs unread text status streams)
-debugged held None rest unread schedule taken status streams none part spelled looped = tt
-debugged held (Some text) None unread schedule taken status streams none part spelled looped = absurd part
-debugged held (Some text) (Some behind) unread schedule taken status streams none part spelled looped =
-    let here = rw none at part in
-    let so_many : taken ≡ length (lines_of text) - length (lines_behind true (lines_of text)) = omega (arith, here.1, ap length here.0) in
-    let spells = rw none at spelled in
-    inr (schedule, spells, rw (← so_many, ← here.0) looped)
+debugged None rest unread schedule taken status streams part spelled looped = tt
+debugged (Some text) None unread schedule taken status streams part spelled looped = absurd part
+debugged (Some text) (Some behind) unread schedule taken status streams part spelled looped =
+    let so_many : taken ≡ length (lines_of text) - length (lines_behind true (lines_of text)) = omega (arith, part.1, ap length part.0) in
+    inr (schedule, spelled, rw (← so_many, ← part.0) looped)

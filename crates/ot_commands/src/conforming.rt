@@ -13,7 +13,6 @@
 
 ghost use Rattle.std.specs.Prelude.{◌≡◌, IfSome};
 ghost use Rattle.streams.specs.Lines.{lines_of};
-ghost use Rattle.streams.specs.Taken.{before};
 ghost use Rattle.ot_conform.specs.Compared.{verdict_status};
 ghost use Rattle.ot_commands.specs.Answered.{session_value};
 ghost use Rattle.ot_commands.specs.Conformed.{Compares, MayJudge, MayWrite, answer_status, stop_fault};
@@ -24,7 +23,7 @@ use crate::part::read_part;
 use ot_asm::{AsmFault, Comments, Kind, comments_of};
 use ot_conform::{CompareStop, Compared, Verdict, compare_lines};
 use std::alloc::Global;
-use streams::{ReadAhead, Sink, Source, complain_of_memory, give};
+use streams::{Sink, Source, complain_of_memory, give};
 
 /// Why a comparison broke off, as the fault of a line.
 pub(crate) fn stop_fault(stop: CompareStop) -> AsmFault
@@ -92,14 +91,13 @@ fn judge<I: Source, O: Sink, F: Sink>(
     json: bool,
     session: &Session<'_>,
     earlier: u64,
-    ahead: &mut ReadAhead,
     input: &mut I,
     output: &mut O,
     faults: &mut F,
 ) -> u8
-    ensures { IfSome (before ahead.old (I.remaining input.old)) (λ rest. MayJudge sparse json (I.failed input.new) (session_value session.now) (lines_of rest) earlier result (record { output = O.contents output.old; output' = O.contents output.new; broken = O.failed output.new; faults = F.contents faults.old; faults' = F.contents faults.new; faults_broken = F.failed faults.new })) }
+    ensures { IfSome (I.remaining input.old) (λ rest. MayJudge sparse json (I.failed input.new) (session_value session.now) (lines_of rest) earlier result (record { output = O.contents output.old; output' = O.contents output.new; broken = O.failed output.new; faults = F.contents faults.old; faults' = F.contents faults.new; faults_broken = F.failed faults.new })) }
 {
-    match compare_lines(alloc, session.schedule, sparse, ahead, input, earlier) {
+    match compare_lines(alloc, session.schedule, sparse, input, earlier) {
         Ok(compared) => write_verdict(alloc, json, session, compared, output, faults),
         Err(stop) => {
             complain_of_line(alloc, stop_fault(stop), faults);
@@ -124,9 +122,8 @@ pub fn run_conform<I: Source, O: Sink, F: Sink>(
 ) -> u8
     ensures { IfSome (I.remaining input.old) (λ text. Compares sparse json (I.failed input.new) text result (record { output = O.contents output.old; output' = O.contents output.new; broken = O.failed output.new; faults = F.contents faults.old; faults' = F.contents faults.new; faults_broken = F.failed faults.new })) }
 {
-    let mut ahead = ReadAhead::new();
     let mut text = Vec::new(alloc);
-    match read_part(alloc, &mut ahead, input, &mut text) {
+    match read_part(alloc, input, &mut text) {
         Ok((schedule, taken)) => {
             let Ok(comments) = comments_of(alloc, text.as_slice()) else {
                 complain_of_memory(faults);
@@ -137,9 +134,7 @@ pub fn run_conform<I: Source, O: Sink, F: Sink>(
                 comments: &comments,
                 schedule: &schedule,
             };
-            judge(
-                alloc, sparse, json, &session, taken, &mut ahead, input, output, faults,
-            )
+            judge(alloc, sparse, json, &session, taken, input, output, faults)
         }
         Err(fault) => tell_fault(alloc, json, text.as_slice(), fault, output, faults),
     }

@@ -2,7 +2,6 @@
 
 ghost use Rattle.std.specs.Prelude.{◌≡◌, IfSome};
 ghost use Rattle.streams.specs.Lines.{lines_of};
-ghost use Rattle.streams.specs.Taken.{before};
 ghost use Rattle.ot_commands.specs.Debugged.{loop_status, Debugs, MayConverse, TellsStop};
 
 use crate::faults::complain_of_line;
@@ -11,7 +10,7 @@ use ot_console::{LoopStop, command_loop};
 use ot_debug::Stepper;
 use ot_isa::Schedule;
 use std::alloc::Global;
-use streams::{ReadAhead, Sink, Source, complain_of_memory};
+use streams::{Sink, Source, complain_of_memory};
 
 // Writes why the command loop broke off.
 fn complain_of_stop<F: Sink>(alloc: Global, stop: LoopStop, faults: &mut F)
@@ -50,18 +49,17 @@ fn answer_commands<I: Source, O: Sink, F: Sink>(
     alloc: Global,
     schedule: Schedule,
     earlier: u64,
-    ahead: &mut ReadAhead,
     input: &mut I,
     output: &mut O,
     faults: &mut F,
 ) -> u8
-    ensures { IfSome (before ahead.old (I.remaining input.old)) (λ rest. MayConverse (I.failed input.new) schedule (lines_of rest) earlier result (record { output = O.contents output.old; output' = O.contents output.new; broken = O.failed output.new; faults = F.contents faults.old; faults' = F.contents faults.new; faults_broken = F.failed faults.new })) }
+    ensures { IfSome (I.remaining input.old) (λ rest. MayConverse (I.failed input.new) schedule (lines_of rest) earlier result (record { output = O.contents output.old; output' = O.contents output.new; broken = O.failed output.new; faults = F.contents faults.old; faults' = F.contents faults.new; faults_broken = F.failed faults.new })) }
 {
     let Ok(mut debugger) = Stepper::new(alloc, schedule) else {
         complain_of_memory(faults);
         return 1;
     };
-    match command_loop(alloc, &mut debugger, ahead, input, output, earlier) {
+    match command_loop(alloc, &mut debugger, input, output, earlier) {
         Ok(faulted) => loop_status(faulted),
         Err(stop) => {
             complain_of_stop(alloc, stop, faults);
@@ -79,11 +77,8 @@ pub fn debug_text<I: Source, O: Sink, F: Sink>(
 ) -> u8
     ensures { IfSome (I.remaining input.old) (λ text. Debugs (I.failed input.new) text result (record { output = O.contents output.old; output' = O.contents output.new; broken = O.failed output.new; faults = F.contents faults.old; faults' = F.contents faults.new; faults_broken = F.failed faults.new })) }
 {
-    let mut ahead = ReadAhead::new();
-    match assemble_until_mark(alloc, &mut ahead, input) {
-        Ok((schedule, taken)) => {
-            answer_commands(alloc, schedule, taken, &mut ahead, input, output, faults)
-        }
+    match assemble_until_mark(alloc, input) {
+        Ok((schedule, taken)) => { answer_commands(alloc, schedule, taken, input, output, faults) }
         Err(fault) => {
             complain_of_line(alloc, fault, faults);
             1

@@ -23,7 +23,7 @@ use ot_conform::{
 };
 use ot_explain::places;
 use std::alloc::{AllocError, Global};
-use streams::{ReadAhead, Sink, Source, complain_of_memory, give};
+use streams::{Sink, Source, complain_of_memory, give};
 
 // The first session that does not conform, or so many that do.
 #[derive(Drop)]
@@ -82,14 +82,13 @@ fn find_first<I: Source>(alloc: Global, sparse: bool, input: &mut I) -> Result<F
     ensures ok { IfOk result (λ found. IfSome (I.remaining input.old) (λ text. FindsFirst sparse (lines_of text) found)) }
     ensures err { IfErr result (λ stop. IfSome (I.remaining input.old) (λ text. StopsFirst sparse (I.failed input.new) (lines_of text) stop)) }
 {
-    let mut ahead = ReadAhead::new();
     // For the proof: its bound.
-    let _most = ahead.may_take(input);
+    let _most = input.left();
     let mut sum = Sum::none(alloc);
     let mut sessions = 0u64;
     let mut first = 0u64;
     'taking: loop {
-        match next_session(alloc, sparse, &mut ahead, input, first) {
+        match next_session(alloc, sparse, input, first) {
             Ok(None) => return Ok(Found::All(sessions, sum)),
             Ok(Some((session, lines))) => {
                 match add_session(alloc, &mut sum, &session) {
@@ -292,14 +291,13 @@ fn write_each<I: Source, O: Sink>(
     ensures ok { IfOk result (λ status. IfSome (I.remaining input.old) (λ text. WritesEach sparse json (lines_of text) status (O.contents output.old) (O.contents output.new))) }
     ensures err { IfErr result (λ stop. IfSome (I.remaining input.old) (λ text. StopsEach sparse json (I.failed input.new) (lines_of text) stop (O.failed output.new) (O.contents output.old) (O.contents output.new))) }
 {
-    let mut ahead = ReadAhead::new();
     // For the proof: its bound.
-    let _most = ahead.may_take(input);
+    let _most = input.left();
     let mut sessions = 0u64;
     let mut first = 0u64;
     let mut conform = true;
     'taking: loop {
-        match next_session(alloc, sparse, &mut ahead, input, first) {
+        match next_session(alloc, sparse, input, first) {
             Ok(None) => return Ok(each_status(sessions, conform)),
             Ok(Some((session, lines))) => {
                 match write_session(alloc, json, sessions + 1, session, output) {

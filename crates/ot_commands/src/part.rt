@@ -2,7 +2,6 @@
 
 ghost use Rattle.std.specs.Prelude.{◌≡◌, ◌≤◌, ◌+◌, ◌++◌, ◌∷◌, [], ℕ, Bool, true, List, Ok, IfErr, IfOk, IfSome, OnErr, OnOk};
 ghost use Rattle.streams.specs.Lines.{lines_of};
-ghost use Rattle.streams.specs.Taken.{before, may_take};
 ghost use Rattle.ot_asm.specs.Canonical.{lines_text};
 ghost use Rattle.ot_asm.specs.Parts.{TakesPart, is_mark, lines_before};
 ghost use Rattle.ot_asm.specs.Stepping.{outcome_of_lines};
@@ -12,7 +11,7 @@ ghost use Rattle.ot_commands.specs.Part.{BreaksIn, HasFaultIn, has_mark};
 use ot_asm::{AsmFault, Kind, assemble_bytes, trimmed};
 use ot_isa::Schedule;
 use std::alloc::{AllocError, Global};
-use streams::{LineFault, ReadAhead, Source};
+use streams::{LineFault, Source};
 
 /// How many lines were taken, and whether the last of them is a mark.
 #[derive(Clone, Copy, Debug, PartialEq, Eq)]
@@ -41,25 +40,24 @@ fn keep_line(text: &mut Vec<u8>, line: &mut Vec<u8>) -> Result<(), AllocError>
 /// After a fault the text has the lines before that of the fault.
 pub(crate) fn keep_part<R: Source>(
     alloc: Global,
-    ahead: &mut ReadAhead,
     input: &mut R,
     text: &mut Vec<u8>,
 ) -> Result<TakenPart, AsmFault>
-    ensures ok { OnOk result (IfSome (before ahead.old (R.remaining input.old)) (λ all. lines_of text.new.items ≡ lines_before true (lines_of all))) }
-    ensures err { IfErr result (λ f. IfSome (before ahead.old (R.remaining input.old)) (λ all. BreaksIn (R.failed input.new) text.new.items (lines_before true (lines_of all)) f)) }
-    ensures ended { OnOk result (IfSome (before ahead.old (R.remaining input.old)) (λ all. text.new.items ≡ lines_text (lines_before true (lines_of all)))) }
-    ensures part { IfOk result (λ taken. TakesPart true (before ahead.old (R.remaining input.old)) (before ahead.new (R.remaining input.new)) taken.lines) }
-    ensures marked { IfOk result (λ taken. IfSome (before ahead.old (R.remaining input.old)) (λ all. taken.is_marked ≡ has_mark (lines_of all))) }
-    ensures few { IfOk result (λ taken. taken.lines ≤ may_take ahead.old (R.left input.old)) }
-    ensures spent { IfOk result (λ taken. taken.is_marked ≡ true → taken.lines + may_take ahead.new (R.left input.new) ≤ may_take ahead.old (R.left input.old)) }
+    ensures ok { OnOk result (IfSome (R.remaining input.old) (λ all. lines_of text.new.items ≡ lines_before true (lines_of all))) }
+    ensures err { IfErr result (λ f. IfSome (R.remaining input.old) (λ all. BreaksIn (R.failed input.new) text.new.items (lines_before true (lines_of all)) f)) }
+    ensures ended { OnOk result (IfSome (R.remaining input.old) (λ all. text.new.items ≡ lines_text (lines_before true (lines_of all)))) }
+    ensures part { IfOk result (λ taken. TakesPart true (R.remaining input.old) (R.remaining input.new) taken.lines) }
+    ensures marked { IfOk result (λ taken. IfSome (R.remaining input.old) (λ all. taken.is_marked ≡ has_mark (lines_of all))) }
+    ensures few { IfOk result (λ taken. taken.lines ≤ R.left input.old) }
+    ensures spent { IfOk result (λ taken. taken.is_marked ≡ true → taken.lines + R.left input.new ≤ R.left input.old) }
 {
     // For the proof: its bound.
-    let _most = ahead.may_take(input);
+    let _most = input.left();
     let mut line = Vec::new(alloc);
     let mut number = 1;
     text.clear();
     loop {
-        match ahead.next_line(input, &mut line) {
+        match input.next_line(&mut line) {
             Ok(true) => {}
             Ok(false) => {
                 return Ok(TakenPart {
@@ -111,17 +109,16 @@ fn first_fault(alloc: Global, text: &[u8], stop: AsmFault) -> AsmFault
 /// the first faulty line, which the text has, unless that line could not be kept or read.
 pub(crate) fn read_part<R: Source>(
     alloc: Global,
-    ahead: &mut ReadAhead,
     input: &mut R,
     text: &mut Vec<u8>,
 ) -> Result<(Schedule, u64), AsmFault>
-    ensures ok { IfOk result (λ p. IfSome (before ahead.old (R.remaining input.old)) (λ all. outcome_of_lines (lines_before true (lines_of all)) ≡ Ok p.0)) }
-    ensures text { OnOk result (IfSome (before ahead.old (R.remaining input.old)) (λ all. lines_of text.new.items ≡ lines_before true (lines_of all))) }
-    ensures part { IfOk result (λ p. TakesPart true (before ahead.old (R.remaining input.old)) (before ahead.new (R.remaining input.new)) p.1) }
-    ensures err { IfErr result (λ f. IfSome (before ahead.old (R.remaining input.old)) (λ all. IsLineFault (R.failed input.new) (lines_before true (lines_of all)) f)) }
-    ensures kept { IfErr result (λ f. IfSome (before ahead.old (R.remaining input.old)) (λ all. HasFaultIn (lines_of text.new.items) (lines_before true (lines_of all)) f)) }
+    ensures ok { IfOk result (λ p. IfSome (R.remaining input.old) (λ all. outcome_of_lines (lines_before true (lines_of all)) ≡ Ok p.0)) }
+    ensures text { OnOk result (IfSome (R.remaining input.old) (λ all. lines_of text.new.items ≡ lines_before true (lines_of all))) }
+    ensures part { IfOk result (λ p. TakesPart true (R.remaining input.old) (R.remaining input.new) p.1) }
+    ensures err { IfErr result (λ f. IfSome (R.remaining input.old) (λ all. IsLineFault (R.failed input.new) (lines_before true (lines_of all)) f)) }
+    ensures kept { IfErr result (λ f. IfSome (R.remaining input.old) (λ all. HasFaultIn (lines_of text.new.items) (lines_before true (lines_of all)) f)) }
 {
-    match keep_part(alloc, ahead, input, text) {
+    match keep_part(alloc, input, text) {
         Ok(taken) => {
             match assemble_bytes(alloc, text.as_slice()) {
                 Ok(schedule) => Ok((schedule, taken.lines)),

@@ -9,9 +9,9 @@ use ot_asm::{assemble_bytes, assemble_from};
 use ot_image::load;
 use ot_isa::Schedule;
 use ot_model::Refusal;
-use ot_report::{ReportFault, write_report};
+use ot_report::write_report;
 use std::alloc::Global;
-use streams::{Sink, Source, complain_of_input, complain_of_memory};
+use streams::{OutputFault, Sink, Source, complain_of_input, complain_of_memory};
 
 /// The status of a run that stopped in this way: 0 where all instructions were performed, else 1.
 pub fn status_of(stopped: Option<(usize, Refusal)>) -> u8
@@ -35,8 +35,8 @@ fn report<O: Sink, F: Sink>(
 {
     match write_report(alloc, schedule, json, output) {
         Ok(stopped) => status_of(stopped),
-        Err(ReportFault::WriteFault) => 1,
-        Err(ReportFault::Memory) => {
+        Err(OutputFault::WriteFault) => 1,
+        Err(OutputFault::Memory) => {
             complain_of_memory(faults);
             1
         }

@@ -13,7 +13,6 @@
 ghost use Rattle.std.specs.Prelude.{◌≡◌, ◌≤◌, ◌<◌, ◌+◌, ◌^◌, true, IfErr, IfOk, IfSome, string_bytes};
 ghost use Rattle.streams.specs.Lines.{lines_of};
 ghost use Rattle.streams.specs.Outcomes.{Complains};
-ghost use Rattle.streams.specs.Taken.{before, may_take};
 ghost use Rattle.ot_commands.specs.Sessions.{AnswersSession, IsCompareFault, IsComparedOf, IsNext, IsSessionFault, IsTakeFault, TakesMarked, TellsSession, fault_behind, fault_line, fault_name, session_fault, session_fault_json, session_read};
 
 use crate::faults::line_name;
@@ -22,7 +21,7 @@ use ot_asm::{AsmFault, Comments, Kind, assemble_bytes, comments_of};
 use ot_conform::{CompareStop, Compared, compare_lines};
 use ot_isa::Schedule;
 use std::alloc::{AllocError, Global};
-use streams::{Device, ReadAhead, Sink, Source, complain, complain_of_memory, give};
+use streams::{Device, Sink, Source, complain, complain_of_memory, give};
 
 /// Why a session is refused.
 #[derive(Clone, Copy, Debug, PartialEq, Eq)]
@@ -140,17 +139,16 @@ pub(crate) fn tell_session_fault<O: Sink, F: Sink>(
 // no line is left.
 fn take_marked<R: Source>(
     alloc: Global,
-    ahead: &mut ReadAhead,
     input: &mut R,
     earlier: u64,
     text: &mut Vec<u8>,
 ) -> Result<Option<u64>, SessionFault>
-    requires { earlier + may_take ahead.old (R.left input.old) ≤ 2 ^ 51 }
-    ensures ok { IfOk result (λ taken. IfSome (before ahead.old (R.remaining input.old)) (λ all. TakesMarked earlier (lines_of all) (before ahead.new (R.remaining input.new)) text.new.items taken)) }
-    ensures spent { IfOk result (λ taken. IfSome taken (λ lines. (earlier < lines) × (lines + may_take ahead.new (R.left input.new) ≤ earlier + may_take ahead.old (R.left input.old)))) }
-    ensures err { IfErr result (λ f. IfSome (before ahead.old (R.remaining input.old)) (λ all. IsTakeFault (R.failed input.new) earlier (lines_of all) f)) }
+    requires { earlier + R.left input.old ≤ 2 ^ 51 }
+    ensures ok { IfOk result (λ taken. IfSome (R.remaining input.old) (λ all. TakesMarked earlier (lines_of all) (R.remaining input.new) text.new.items taken)) }
+    ensures spent { IfOk result (λ taken. IfSome taken (λ lines. (earlier < lines) × (lines + R.left input.new ≤ earlier + R.left input.old))) }
+    ensures err { IfErr result (λ f. IfSome (R.remaining input.old) (λ all. IsTakeFault (R.failed input.new) earlier (lines_of all) f)) }
 {
-    match keep_part(alloc, ahead, input, text) {
+    match keep_part(alloc, input, text) {
         Ok(taken) => {
             if taken.lines == 0 {
                 return Ok(None);
@@ -190,9 +188,8 @@ fn compare_session(
             kind: Kind::Memory,
         }));
     };
-    let mut ahead = ReadAhead::new();
     let mut lines = Device::new(port);
-    match compare_lines(alloc, &schedule, sparse, &mut ahead, &mut lines, earlier) {
+    match compare_lines(alloc, &schedule, sparse, &mut lines, earlier) {
         Ok(compared) => Ok(ComparedSession {
             text,
             comments,
@@ -213,21 +210,20 @@ fn compare_session(
 pub(crate) fn next_session<R: Source>(
     alloc: Global,
     sparse: bool,
-    ahead: &mut ReadAhead,
     input: &mut R,
     first: u64,
 ) -> Result<Option<(ComparedSession, u64)>, SessionFault>
-    requires { first + may_take ahead.old (R.left input.old) ≤ 2 ^ 51 }
-    ensures ok { IfOk result (λ next. IfSome (before ahead.old (R.remaining input.old)) (λ all. IsNext sparse first (lines_of all) (before ahead.new (R.remaining input.new)) next)) }
-    ensures spent { IfOk result (λ next. IfSome next (λ p. (first < p.1) × (p.1 + may_take ahead.new (R.left input.new) ≤ first + may_take ahead.old (R.left input.old)))) }
-    ensures err { IfErr result (λ f. IfSome (before ahead.old (R.remaining input.old)) (λ all. IsSessionFault (R.failed input.new) first (lines_of all) f)) }
+    requires { first + R.left input.old ≤ 2 ^ 51 }
+    ensures ok { IfOk result (λ next. IfSome (R.remaining input.old) (λ all. IsNext sparse first (lines_of all) (R.remaining input.new) next)) }
+    ensures spent { IfOk result (λ next. IfSome next (λ p. (first < p.1) × (p.1 + R.left input.new ≤ first + R.left input.old))) }
+    ensures err { IfErr result (λ f. IfSome (R.remaining input.old) (λ all. IsSessionFault (R.failed input.new) first (lines_of all) f)) }
 {
     let mut text = Vec::new(alloc);
-    let Some(earlier) = take_marked(alloc, ahead, input, first, &mut text)? else {
+    let Some(earlier) = take_marked(alloc, input, first, &mut text)? else {
         return Ok(None);
     };
     let mut port = Vec::new(alloc);
-    let Some(lines) = take_marked(alloc, ahead, input, earlier, &mut port)? else {
+    let Some(lines) = take_marked(alloc, input, earlier, &mut port)? else {
         return Err(SessionFault::NoMark(earlier + 1));
     };
     match compare_session(alloc, sparse, first, earlier, text, port.as_slice()) {

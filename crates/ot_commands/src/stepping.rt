@@ -11,9 +11,9 @@ ghost use Rattle.ot_commands.specs.Stepped.{MayStep, Steps};
 use crate::faults::complain_of_line;
 use ot_asm::assemble_from;
 use ot_isa::Schedule;
-use ot_steps::{StepsFault, print_steps};
+use ot_steps::print_steps;
 use std::alloc::Global;
-use streams::{Sink, Source, complain_of_memory};
+use streams::{OutputFault, Sink, Source, complain_of_memory};
 
 // Writes the lines of the schedule's run.
 fn write_steps<O: Sink, F: Sink>(
@@ -28,8 +28,8 @@ fn write_steps<O: Sink, F: Sink>(
     match print_steps(alloc, schedule, documents, output) {
         Ok(true) => 1,
         Ok(false) => 0,
-        Err(StepsFault::WriteFault) => 1,
-        Err(StepsFault::Memory) => {
+        Err(OutputFault::WriteFault) => 1,
+        Err(OutputFault::Memory) => {
             complain_of_memory(faults);
             1
         }

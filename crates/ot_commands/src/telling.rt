@@ -26,9 +26,8 @@ use ot_explain::{explain, places};
 use ot_faults::{LineFault, fault_words, line_fault};
 use ot_image::{ImageFault, Kind, Refusal, first_refusal, load, refusal_text};
 use ot_isa::Schedule;
-use ot_steps::StepsFault;
 use std::alloc::Global;
-use streams::{Sink, Source, complain, complain_of_input, complain_of_memory};
+use streams::{OutputFault, Sink, Source, complain, complain_of_input, complain_of_memory};
 
 // Writes the schedule's run in words; its instructions stand at these lines, and the comments of its text tell this.
 fn write_words<O: Sink, F: Sink>(
@@ -44,8 +43,8 @@ fn write_words<O: Sink, F: Sink>(
     match explain(alloc, schedule, lines, comments, output) {
         Ok(true) => 1,
         Ok(false) => 0,
-        Err(StepsFault::WriteFault) => 1,
-        Err(StepsFault::Memory) => {
+        Err(OutputFault::WriteFault) => 1,
+        Err(OutputFault::Memory) => {
             complain_of_memory(faults);
             1
         }

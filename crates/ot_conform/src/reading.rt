@@ -2,7 +2,6 @@
 
 ghost use Rattle.std.specs.Prelude.{◌≡◌, ◌∷◌, [], ℕ, false, IfErr, IfOk, IfSome, List, None, OnOk};
 ghost use Rattle.streams.specs.Lines.{lines_of};
-ghost use Rattle.streams.specs.Taken.{before};
 ghost use Rattle.ot_conform.specs.Compared.{IsCaused, IsVerdictOf, Leads, NamesKeys, StopsBehind};
 ghost use Rattle.ot_asm.specs.Words.{trimmed};
 ghost use Rattle.ot_conform.specs.Ports.{Nothing, counted_lines, is_empty, port_line};
@@ -14,7 +13,7 @@ use crate::unknown::UnknownKey;
 use ot_asm::trimmed;
 use ot_isa::Schedule;
 use std::alloc::{AllocError, Global};
-use streams::{LineFault, ReadAhead, Source};
+use streams::{LineFault, Source};
 
 /// Why a comparison stopped before anything was decided.
 #[derive(Clone, Copy, Debug, PartialEq, Eq)]
@@ -71,33 +70,32 @@ fn finish(
     }
 }
 
-/// Compares the lines that `ahead` and the reader have left with the schedule's run, as they come, and says what comes of it: what stands
+/// Compares the lines that the reader has left with the schedule's run, as they come, and says what comes of it: what stands
 /// behind the first difference is not read. The keys of these lines that no line of `steps` has are named. Where it is `sparse`, instructions without a line are passed over. `earlier` lines stand before these; the number of a line where the comparison stops counts
 /// them too. `ReadFault` is said only where the reader has failed, as it says itself.
 pub fn compare_lines<R: Source>(
     alloc: Global,
     schedule: &Schedule,
     sparse: bool,
-    ahead: &mut ReadAhead,
     reader: &mut R,
     earlier: u64,
 ) -> Result<Compared, CompareStop>
-    ensures ok { IfOk result (λ c. IfSome (before ahead.old (R.remaining reader.old)) (λ text. IsVerdictOf sparse schedule.now (counted_lines (lines_of text)) c.verdict)) }
-    ensures unknown { IfOk result (λ c. IfSome (before ahead.old (R.remaining reader.old)) (λ text. NamesKeys sparse schedule.now earlier (lines_of text) c.verdict (all_named c.unknown.items))) }
-    ensures err { IfErr result (λ stop. IfSome (before ahead.old (R.remaining reader.old)) (λ text. StopsBehind sparse schedule.now stop earlier (lines_of text))) }
+    ensures ok { IfOk result (λ c. IfSome (R.remaining reader.old) (λ text. IsVerdictOf sparse schedule.now (counted_lines (lines_of text)) c.verdict)) }
+    ensures unknown { IfOk result (λ c. IfSome (R.remaining reader.old) (λ text. NamesKeys sparse schedule.now earlier (lines_of text) c.verdict (all_named c.unknown.items))) }
+    ensures err { IfErr result (λ stop. IfSome (R.remaining reader.old) (λ text. StopsBehind sparse schedule.now stop earlier (lines_of text))) }
     ensures cause { IfErr result (λ stop. IsCaused stop (R.failed reader.new)) }
 {
     let Ok(mut comparison) = Comparison::new(alloc, schedule, sparse) else {
         return Err(CompareStop::Memory(earlier.saturating_add(1)));
     };
     // For the proof: its bound.
-    let _most = ahead.may_take(reader);
+    let _most = reader.left();
     let mut line = Vec::new(alloc);
     let mut unknown = Vec::new(alloc);
     let mut taken = 0u64;
     'taking: loop {
         let number = earlier.saturating_add(taken + 1);
-        match ahead.next_line(reader, &mut line) {
+        match reader.next_line(&mut line) {
             Ok(true) => {}
             Ok(false) => {
                 let verdict = finish(alloc, schedule, &mut comparison, number)?;

@@ -76,11 +76,6 @@ IsCaused (stop.ReadFault number) unread broken = unread ≡ true
 IsCaused (stop.Memory number) unread broken = ⊤
 IsCaused stop.WriteFault unread broken = broken ≡ true
 
-abbrev pub IsReadFault : LoopStop → Type 0
-IsReadFault (stop.ReadFault number) = Unit {0}
-IsReadFault (stop.Memory number) = ⊥
-IsReadFault stop.WriteFault = ⊥
-
 -- the number of the line behind those that were taken, at most the greatest u64
 abbrev pub IsNumber : LoopStop → ℕ → Type 0
 IsNumber (stop.ReadFault number) taken = number ≡ min (taken + 1) (2 ^ 64 - 1)

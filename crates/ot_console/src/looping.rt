@@ -1,14 +1,13 @@
 //! The command loop of a debugger, line by line.
 
-ghost use Rattle.std.specs.Prelude.{◌≡◌, true, [], IfErr, IfOk, OnErr, OnOk};
+ghost use Rattle.std.specs.Prelude.{◌≡◌, true, IfErr, IfOk, OnErr, OnOk};
 ghost use Rattle.std.specs.Io.KnownBytes.{IsAtEnd};
-ghost use Rattle.streams.specs.Taken.{before};
-ghost use Rattle.ot_console.specs.Looping.{IsCaused, IsReadFault, LoopsToEnd, LoopsPart, WritesPartOfTurn, WritesTurn};
+ghost use Rattle.ot_console.specs.Looping.{IsCaused, LoopsToEnd, LoopsPart, WritesPartOfTurn, WritesTurn};
 
 use crate::turns::respond;
 use ot_debug::Stepper;
 use std::alloc::Global;
-use streams::{LineFault, ReadAhead, Sink, Source, WriteFault};
+use streams::{LineFault, Sink, Source, WriteFault};
 
 /// Why a command loop stopped before the end of its lines.
 #[derive(Clone, Copy, Debug, PartialEq, Eq)]
@@ -39,7 +38,7 @@ fn answer<W: Sink>(
     }
 }
 
-/// Answers each line that `ahead` and the reader have left, before the next one is read, and says whether a fault was
+/// Answers each line that the reader has left, before the next one is read, and says whether a fault was
 /// among the replies: `bad command`, a refused instruction or `no memory`.
 ///
 /// `earlier` lines stand before these; the number of a line where the loop stops counts them too, and is at most
@@ -49,24 +48,22 @@ fn answer<W: Sink>(
 pub fn command_loop<R: Source, W: Sink>(
     alloc: Global,
     debugger: &mut Stepper,
-    ahead: &mut ReadAhead,
     reader: &mut R,
     writer: &mut W,
     earlier: u64,
 ) -> Result<bool, LoopStop>
-    ensures ok { IfOk result (λ faulted. LoopsToEnd debugger.old debugger.new faulted (before ahead.old (R.remaining reader.old)) (W.contents writer.old) (W.contents writer.new)) }
-    ensures end { OnOk result (IsAtEnd (before ahead.new (R.remaining reader.new))) }
-    ensures err { IfErr result (λ stop. LoopsPart stop earlier debugger.old debugger.new (before ahead.old (R.remaining reader.old)) (before ahead.new (R.remaining reader.new)) (W.contents writer.old) (W.contents writer.new)) }
+    ensures ok { IfOk result (λ faulted. LoopsToEnd debugger.old debugger.new faulted (R.remaining reader.old) (W.contents writer.old) (W.contents writer.new)) }
+    ensures end { OnOk result (IsAtEnd (R.remaining reader.new)) }
+    ensures err { IfErr result (λ stop. LoopsPart stop earlier debugger.old debugger.new (R.remaining reader.old) (R.remaining reader.new) (W.contents writer.old) (W.contents writer.new)) }
     ensures cause { IfErr result (λ stop. IsCaused stop (R.failed reader.new) (W.failed writer.new)) }
-    ensures read_fault { IfErr result (λ stop. IsReadFault stop → ahead.new.held ≡ []) }
 {
     // For the proof: its bound.
-    let _most = ahead.may_take(reader);
+    let _most = reader.left();
     let mut line = Vec::new(alloc);
     let mut taken = 0u64;
     let mut faulted = false;
     loop {
-        match ahead.next_line(reader, &mut line) {
+        match reader.next_line(&mut line) {
             Ok(true) => taken += 1,
             Ok(false) => return Ok(faulted),
             Err(LineFault::ReadFault) => {

@@ -21,8 +21,8 @@ use Rattle.ot_machine.proofs.Stopping.{stopped_at, whole}
 use Rattle.ot_model.specs.Operation.{Operation}
 use Rattle.ot_steps.specs.Steps.{applies}
 use Rattle.ot_steps.proofs.Running.{reached_within}
-use Rattle.ot_steps.specs.declared.writing.StepsFault.{StepsFault}
-use Rattle.ot_steps.specs.declared.writing.StepsFault.TheVariants.{Memory, WriteFault}
+use Rattle.streams.specs.declared.OutputFault.{OutputFault}
+use Rattle.streams.specs.declared.OutputFault.TheVariants.{Memory, WriteFault}
 use Rattle.ot_asm.specs.Comments.{Said}
 use Rattle.ot_asm.specs.Named.{named}
 use Rattle.ot_explain.specs.Told.{after, before, heading, opening_words, paragraph}
@@ -153,7 +153,7 @@ pub opening_cut : (lines : List ℕ) (said : Said) (s : Program) (old new : Opti
 opening_cut lines said s old new bytes is written =
     record { text = first_text lines said s 0; is = inl (0, omega arith, refl); written = subst (WritesPart old new) (is ∙ sym (opening_text lines said s)) written }
 
-pub moves_cut : (f : StepsFault) (lines : List ℕ) (said : Said) (s : Program) (old mid new : Option (List ℕ)) (bytes : List ℕ) → bytes ≡ opening_words s → Appends old mid bytes → MovesUpTo f lines said s mid new → WritesUpTo f lines said s old new
+pub moves_cut : (f : OutputFault) (lines : List ℕ) (said : Said) (s : Program) (old mid new : Option (List ℕ)) (bytes : List ℕ) → bytes ≡ opening_words s → Appends old mid bytes → MovesUpTo f lines said s mid new → WritesUpTo f lines said s old new
 moves_cut Memory lines said s old mid new bytes is opened moves =
     inr (moves.0, moves.1, subst (λ (front : List ℕ). Appends old new (front ++ first_paragraphs lines said s moves.0)) is (Appends-trans old mid new bytes (first_paragraphs lines said s moves.0) opened moves.2))
 moves_cut WriteFault lines said s old mid new bytes is opened moves =

@@ -15,8 +15,8 @@ use Rattle.ot_asm.specs.Named.{named}
 use Rattle.ot_explain.specs.Told.{opening_words, paragraph}
 use Rattle.ot_explain.specs.Reasons.{refused_paragraph}
 use Rattle.ot_explain.specs.Agreeing.{verdict_words}
-use Rattle.ot_steps.specs.declared.writing.StepsFault.{StepsFault}
-use Rattle.ot_steps.specs.declared.writing.StepsFault.TheVariants.{Memory, WriteFault}
+use Rattle.streams.specs.declared.OutputFault.{OutputFault}
+use Rattle.streams.specs.declared.OutputFault.TheVariants.{Memory, WriteFault}
 
 -- ---- the text of a run; `lines` are the lines of the instructions, and `said` is what the comments tell
 
@@ -93,7 +93,7 @@ pub record WritesPartOfRun (lines : List ℕ) (said : Said) (s : Program) (old n
   pub written : WritesPart old new text
 
 -- what stands there after a fault: whole paragraphs if memory ran out, else a first part of the text
-abbrev pub WritesUpTo : StepsFault → List ℕ → Said → Program → Option (List ℕ) → Option (List ℕ) → Type 0
+abbrev pub WritesUpTo : OutputFault → List ℕ → Said → Program → Option (List ℕ) → Option (List ℕ) → Type 0
 WritesUpTo Memory lines said s old new = WritesFirst lines said s old new
 WritesUpTo WriteFault lines said s old new = WritesPartOfRun lines said s old new
 
@@ -114,6 +114,6 @@ pub record WritesMoves (lines : List ℕ) (said : Said) (s : Program) (stopped :
   pub written : Appends old new (first_paragraphs lines said s (reached s stopped))
 
 -- what stands there after a fault among them
-abbrev pub MovesUpTo : StepsFault → List ℕ → Said → Program → Option (List ℕ) → Option (List ℕ) → Type 0
+abbrev pub MovesUpTo : OutputFault → List ℕ → Said → Program → Option (List ℕ) → Option (List ℕ) → Type 0
 MovesUpTo Memory lines said s old new = (p : ℕ) × (p ≤ done s) × Appends old new (first_paragraphs lines said s p)
 MovesUpTo WriteFault lines said s old new = (p : ℕ) × (p ≤ done s) × WritesPart old new (first_paragraphs lines said s p)

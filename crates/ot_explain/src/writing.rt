@@ -1,8 +1,8 @@
 //! A whole run in words.
 
 ghost use Rattle.std.specs.Prelude.{◌≡◌, IfErr, IfOk};
+ghost use Rattle.streams.specs.Streams.{IsCaused};
 ghost use Rattle.ot_model.specs.Runs.{opening_of};
-ghost use Rattle.ot_steps.specs.Written.{IsCaused};
 ghost use Rattle.ot_explain.specs.Explained.{MovesUpTo, WritesMoves, WritesRun, WritesUpTo};
 
 use crate::ends::last_words;
@@ -10,9 +10,8 @@ use crate::paragraphs::{opening_words, perform};
 use ot_asm::{Comments, named};
 use ot_isa::Schedule;
 use ot_machine::{Machine, Refusal};
-use ot_steps::StepsFault;
 use std::alloc::Global;
-use streams::Sink;
+use streams::{OutputFault, Sink};
 
 // Performs the instructions up to the first that is not performed, and writes the paragraph of each.
 fn write_moves<W: Sink>(
@@ -22,7 +21,7 @@ fn write_moves<W: Sink>(
     comments: &Comments,
     schedule: &Schedule,
     output: &mut W,
-) -> Result<Option<(usize, Refusal)>, StepsFault>
+) -> Result<Option<(usize, Refusal)>, OutputFault>
     requires { machine.old ≡ opening_of schedule.now }
     ensures ok { IfOk result (λ stopped. WritesMoves lines.now comments.now schedule.now stopped machine.new (W.contents output.old) (W.contents output.new)) }
     ensures err { IfErr result (λ f. MovesUpTo f lines.now comments.now schedule.now (W.contents output.old) (W.contents output.new)) }
@@ -58,7 +57,7 @@ pub fn explain<W: Sink>(
     lines: &[u64],
     comments: &Comments,
     output: &mut W,
-) -> Result<bool, StepsFault>
+) -> Result<bool, OutputFault>
     ensures ok { IfOk result (λ refused. WritesRun lines.now comments.now schedule.now refused (W.contents output.old) (W.contents output.new)) }
     ensures err { IfErr result (λ f. WritesUpTo f lines.now comments.now schedule.now (W.contents output.old) (W.contents output.new)) }
     ensures cause { IfErr result (λ f. IsCaused f (W.failed output.new)) }

@@ -1,10 +1,10 @@
 -- Spans undone, and carried out on what is made of each item.
-use Rattle.std.proofs.Common.{◌≡◌, ℕ, zero, suc, ◌+◌, ◌-◌, min, ◌≤◌, List, [], ◌∷◌, ◌++◌, length, take, drop, map, inl, inr, refl, sym, ap, ◌∙◌, arith, append_assoc, length-append}
+use Rattle.std.proofs.Common.{◌≡◌, ℕ, zero, suc, ◌+◌, ◌-◌, min, ◌≤◌, List, [], ◌∷◌, ◌++◌, length, take, drop, map, inl, inr, refl, sym, ◌∙◌, arith, append_assoc, length-append}
 use Rattle.std.specs.Prelude.{All, ◌⊎◌}
-use Rattle.std.proofs.lemmas.List.{length-take-le, nil_from_length, length-drop, drop-drop, take_at, drop_at, take-append-drop, map-append, take-map, drop-map}
+use Rattle.std.proofs.lemmas.List.{length-take-le, length-drop, drop-drop, take_at, drop_at, take-append-drop, map-append, take-map, drop-map}
 use Rattle.ot_list.specs.declared.span.Span.{Span}
 use Rattle.ot_list.specs.Spans.{reach, all_gone, all_put, merged, taken, reversed, IsEven, Fit}
-use Rattle.ot_list.proofs.Merging.{fit_first, fit_rest, length-taken, length-merged-all, gone-within}
+use Rattle.ot_list.proofs.Merging.{fit_first, fit_rest, length-merged-all, gone-within}
 
 pub all_gone-reversed : (ss : List Span) → all_gone (map reversed ss) ≡ all_put ss
 all_gone-reversed [] = refl
@@ -54,28 +54,6 @@ merged-reversed {A} (s ∷ ss) old new f =
     let h = merged-reversed ss (drop (s.kept + s.gone) old) (drop s.put new) (fit_rest s ss old new f) in
     let back : drop (s.kept + s.gone) old ≡ drop s.gone (drop s.kept old) = sym (drop-drop s.gone s.kept old) in
     rw (p.front, p.go, p.rest, p.others, h, back, append_assoc, take-append-drop s.gone (drop s.kept old)) (take-append-drop s.kept old)
-
-pub taken-reversed : {A : Type 0} (ss : List Span) (old new : List A) → Fit ss old new → taken (map reversed ss) (merged ss old new) ≡ new
-taken-reversed [] old new f = let a = f.all in sym (nil_from_length new (sym a))
-taken-reversed {A} (s ∷ ss) old new f =
-    let p = parts s ss old new f in
-    let h = taken-reversed ss (drop (s.kept + s.gone) old) (drop s.put new) (fit_rest s ss old new f) in
-    rw (p.come, p.rest, h) (take-append-drop s.put new)
-
-pub fit-reversed : {A : Type 0} (ss : List Span) (old new : List A) → Fit ss old new → Fit (map reversed ss) (merged ss old new) (taken ss old)
-fit-reversed ss old new f =
-    let w = f.within in
-    let a = f.all in
-    let r = reach-reversed ss in
-    let m = length-merged-all ss old new f in
-    record {
-      within = omega arith;
-      all = all_put-reversed ss ∙ sym (length-taken ss old new f);
-    }
-
-pub reversed-reversed : (ss : List Span) → map reversed (map reversed ss) ≡ ss
-reversed-reversed [] = refl
-reversed-reversed (s ∷ ss) = ap (λ (t : List Span). s ∷ t) (reversed-reversed ss)
 
 pub even-reversed : (ss : List Span) → All IsEven ss → All IsEven (map reversed ss)
 even-reversed [] e k d h = absurd (omega arith)

@@ -70,21 +70,6 @@ impl<E: Item> Draft<E> {
         })
     }
 
-    /// Starts over, on any list: nothing is written. The room stays.
-    pub fn begin(&mut self)
-        ensures draft { (old : ListOf (ListOf E)) → IsDraft E.CAP E.total old self.new }
-        ensures empty { (old : ListOf (ListOf E)) → written old self.new ≡ [] }
-        ensures place { place_of self.new ≡ 0 }
-    {
-        self.pending.clear();
-        self.spans.clear();
-        self.leaves.clear();
-        self.sums.clear();
-        self.first = 0;
-        self.kept = 0;
-        self.place = 0;
-    }
-
     // The items of the last whole leaf: none, where there is none.
     fn last_items<'a>(&'a self, old: &'a List<E>) -> &'a [E]
         requires { IsDraft E.CAP E.total old.now self.now }
@@ -255,7 +240,7 @@ impl<E: Item> Draft<E> {
         Ok(())
     }
 
-    /// Writes items. After an error the draft is abandoned: `begin` makes it one in which nothing is written.
+    /// Writes items. After an error the draft is abandoned.
     pub fn extend(&mut self, old: &List<E>, items: &[E]) -> Result<(), AllocError>
         requires { IsDraft E.CAP E.total old.now self.old }
         ensures { OnOk result (Continues E.CAP E.total old.now self.old self.new items.now) }

@@ -18,14 +18,14 @@
 //! new ones come in their place: so spans need no other numbers when they are undone. Of a `Draft` it says what is `written` over the old leaves, and
 //! up to which `place_of` it they are done with.
 //!
-//! - `Draft::new` or `begin`, then `keep`, `extend`, and `finish`, which makes the patch; or `list`, where there is no old list. The old list is only
-//!   read. What is written is copied once where it becomes one leaf. After an error the draft is abandoned: `begin` makes it one in which nothing is written.
+//! - `Draft::new`, then `keep`, `extend`, and `finish`, which makes the patch; or `list`, where there is no old list. The old list is only
+//!   read. What is written is copied once where it becomes one leaf. After an error the draft is abandoned.
 //! - `List::find` walks over leaves by their sums; `List::copy` copies a list. `List::replace_in_leaf` changes one leaf where it lies, if the rule on leaves still
 //!   holds then; `List::leaf_with` copies the leaf so changed, and `List::exchange_leaf` exchanges it. A leaf that grows gets the room of a whole leaf at once.
 //! - `List::prepare` makes room in the patch; that may fail, and changes no value.
 //! - `List::swap` exchanges leaves: it takes no memory, cannot fail, and moves only the headers of leaves. Where as many go as come at each place, it touches
 //!   these alone; else it moves all headers once.
-//! - `taken_back` says that a patch carried out and undone is nothing; `leaves_are_few` bounds the number of leaves by that of items.
+//! - `leaves_are_few` bounds the number of leaves by that of items.
 #![tactic(auto)]
 
 mod blocks;
@@ -40,7 +40,7 @@ mod span;
 
 pub use draft::Draft;
 pub use item::Item;
-pub use laws::{leaves_are_few, taken_back};
+pub use laws::leaves_are_few;
 pub use list::List;
 pub use patch::Patch;
 pub use span::Span;

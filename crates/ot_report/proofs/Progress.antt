@@ -21,8 +21,8 @@ use Rattle.ot_report.specs.Authors.{author_of}
 use Rattle.ot_report.specs.declared.authors.Author.{Author}
 use Rattle.ot_report.specs.Printed.{read_lines, read_text}
 use Rattle.ot_report.specs.Written.{AreGathered, Flushes, Gathers, GathersReads, GathersUpTo, ReadsUpTo, WritesFirstReads, shown_line}
-use Rattle.ot_report.specs.declared.writing.ReportFault.{ReportFault}
-use Rattle.ot_report.specs.declared.writing.ReportFault.TheVariants as fault
+use Rattle.streams.specs.declared.OutputFault.{OutputFault}
+use Rattle.streams.specs.declared.OutputFault.TheVariants as fault
 
 -- ---- lines of reads
 
@@ -111,7 +111,7 @@ module _ (json : Bool) (s : Program) (p : ℕ) (i : Instr) (state t : State) (ga
   reads_missing new (between, inl kept) = record { performed = is.reads.first.performed; place = is.reads.first.place; at = is.reads.first.at; written = first_kept new kept.0 }
   reads_missing new (between, inr wrote) = record { performed = p; place = record { state = state; shown = is.shown }; at = is.at; written = all_written new wrote.0 }
 
-  pub reads_cut : (list : Option Shown) (f : ReportFault) (new : Option (List ℕ)) → step state i ≡ Performed t list → GathersUpTo f gathered mid new → ReadsUpTo f json s old new
+  pub reads_cut : (list : Option Shown) (f : OutputFault) (new : Option (List ℕ)) → step state i ≡ Performed t list → GathersUpTo f gathered mid new → ReadsUpTo f json s old new
   reads_cut list fault.Memory new performed missing = reads_missing new missing
   reads_cut list fault.WriteFault new performed wrote =
       let allowed : IsPerformed (step state i) = rw performed tt in (
@@ -141,6 +141,6 @@ is_whole json s p state gathered old new le ge is =
     record { place = record { state = state; shown = is.shown }; at = fact.0; state_is = refl; stop = fact.1; reads = is.reads }
 
 -- what holds of the fault that an answer is
-pub err_is : {T : Type 0} (r : Result T ReportFault) (f : ReportFault) (P : ReportFault → Type 0) → IsErrAnd r (λ e. e ≡ f) → P f → IfErr r P
+pub err_is : {T : Type 0} (r : Result T OutputFault) (f : OutputFault) (P : OutputFault → Type 0) → IsErrAnd r (λ e. e ≡ f) → P f → IfErr r P
 err_is (Ok x) f P is p = tt
 err_is (Err e) f P is p = subst P (sym is) p

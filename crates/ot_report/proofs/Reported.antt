@@ -21,8 +21,8 @@ use Rattle.ot_machine.specs.Ended.{reached, IsStop}
 use Rattle.ot_report.specs.Authors.{author_of}
 use Rattle.ot_report.specs.Printed.{end_text, read_lines, stop_text, IsEndText}
 use Rattle.ot_report.specs.Written.{GathersReads, IsReportOf, ReadsUpTo, WritesFirstReads, WritesPartOfReport, WritesReport, WritesReportUpTo}
-use Rattle.ot_report.specs.declared.writing.ReportFault.{ReportFault}
-use Rattle.ot_report.specs.declared.writing.ReportFault.TheVariants as fault
+use Rattle.streams.specs.declared.OutputFault.{OutputFault}
+use Rattle.streams.specs.declared.OutputFault.TheVariants as fault
 use Rattle.ot_report.proofs.Progress.{all_reads}
 use Rattle.ot_report.proofs.Quiet.{quiet_or_not}
 
@@ -96,7 +96,7 @@ cut_short json heap s limits old new (p, before, (place, at, written)) =
     part_reported json heap s limits (Some (p, Memory)) place at before end (quiet.0, quiet.1, refl) old new
     (part_of_front old new (read_lines json (author_of s.instrs) place.shown ++ stop_text json (Some (p, Memory))) end (part_of_front old new (read_lines json (author_of s.instrs) place.shown) (stop_text json (Some (p, Memory))) written))
 
-pub reads_cut_short : (f : ReportFault) (json : Bool) (heap : Global) (s : Program) → IsProgram s → (old new : Option (List ℕ)) → ReadsUpTo f json s old new → WritesReportUpTo f json s old new
+pub reads_cut_short : (f : OutputFault) (json : Bool) (heap : Global) (s : Program) → IsProgram s → (old new : Option (List ℕ)) → ReadsUpTo f json s old new → WritesReportUpTo f json s old new
 reads_cut_short fault.Memory json heap s limits old new reads = reads
 reads_cut_short fault.WriteFault json heap s limits old new reads = cut_short json heap s limits old new reads
 

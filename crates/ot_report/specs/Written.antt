@@ -1,5 +1,5 @@
 -- What is written of a run while it goes.
-use Rattle.std.specs.Prelude.{◌≡◌, ◌⊎◌, ℕ, ◌<◌, List, [], ◌++◌, Bool, true, Option, Some, None, ⊤}
+use Rattle.std.specs.Prelude.{◌≡◌, ◌⊎◌, ℕ, ◌<◌, List, [], ◌++◌, Bool, Option, Some, None}
 use Rattle.std.specs.Io.KnownBytes.{Appends, Keeps}
 use Rattle.streams.specs.Streams.{WritesPart}
 use Rattle.ot_isa.specs.Program.{Program}
@@ -13,8 +13,8 @@ use Rattle.ot_machine.specs.Ended.{reached, IsRun, IsStop}
 use Rattle.ot_report.specs.Authors.{author_of}
 use Rattle.ot_report.specs.Printed.{read_lines, read_text, IsReport}
 use Rattle.ot_report.specs.declared.authors.Author.{Author}
-use Rattle.ot_report.specs.declared.writing.ReportFault.{ReportFault}
-use Rattle.ot_report.specs.declared.writing.ReportFault.TheVariants.{Memory, WriteFault}
+use Rattle.streams.specs.declared.OutputFault.{OutputFault}
+use Rattle.streams.specs.declared.OutputFault.TheVariants.{Memory, WriteFault}
 
 -- the text is the report of a run of the schedule
 pub record IsReportOf (json : Bool) (s : Program) (run : Run) (text : List ℕ) : Type 0 where
@@ -44,14 +44,9 @@ pub record WritesFirstReads (json : Bool) (s : Program) (old new : Option (List 
   pub written : Appends old new (read_lines json (author_of s.instrs) place.shown)
 
 -- what stands there after a fault: whole lines of reads if memory ran out, else a first part of the report
-abbrev pub WritesReportUpTo : ReportFault → Bool → Program → Option (List ℕ) → Option (List ℕ) → Type 0
+abbrev pub WritesReportUpTo : OutputFault → Bool → Program → Option (List ℕ) → Option (List ℕ) → Type 0
 WritesReportUpTo Memory json s old new = WritesFirstReads json s old new
 WritesReportUpTo WriteFault json s old new = WritesPartOfReport json s old new
-
--- WriteFault is said only where a write has failed, as the output says itself
-abbrev pub IsCaused : ReportFault → Bool → Type 0
-IsCaused Memory failed = ⊤
-IsCaused WriteFault failed = failed ≡ true
 
 -- ---- for private clauses
 
@@ -69,7 +64,7 @@ abbrev pub Gathers : Bool → (Tag → Option Author) → Option Shown → List 
 Gathers json by shown before after old new = (between : List ℕ) × Flushes before between old new × (after ≡ between ++ shown_line json by shown)
 
 -- what stands there where it is not
-abbrev pub GathersUpTo : ReportFault → List ℕ → Option (List ℕ) → Option (List ℕ) → Type 0
+abbrev pub GathersUpTo : OutputFault → List ℕ → Option (List ℕ) → Option (List ℕ) → Type 0
 GathersUpTo Memory before old new = (between : List ℕ) × Flushes before between old new
 GathersUpTo WriteFault before old new = WritesPart old new before
 
@@ -89,6 +84,6 @@ pub record GathersReads (json : Bool) (s : Program) (stopped : Option (ℕ × Re
   pub reads : AreGathered json s place.shown gathered old new
 
 -- what stands there after a fault among them: it comes before an instruction that the table performs
-abbrev pub ReadsUpTo : ReportFault → Bool → Program → Option (List ℕ) → Option (List ℕ) → Type 0
+abbrev pub ReadsUpTo : OutputFault → Bool → Program → Option (List ℕ) → Option (List ℕ) → Type 0
 ReadsUpTo Memory json s old new = WritesFirstReads json s old new
 ReadsUpTo WriteFault json s old new = (p : ℕ) × (p < done s) × ((place : Place) × (place_at s p ≡ Some place) × WritesPart old new (read_lines json (author_of s.instrs) place.shown))

@@ -51,4 +51,4 @@ pub use spans::{Span, spans_spell};
 pub use unsettled::settling;
 pub use verdicts::{print_convergence, print_settling, print_verdict, tag_name, verdict_text};
 pub use words::print_words;
-pub use writing::{ReportFault, write_report};
+pub use writing::write_report;

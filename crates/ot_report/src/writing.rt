@@ -3,11 +3,11 @@
 ghost use Rattle.std.specs.Prelude.{◌≡◌, true, [], ◌++◌, IfErr, IfOk, IfSome, OnErr, OnOk, string_bytes};
 ghost use Rattle.std.specs.Bool.{OnTrue};
 ghost use Rattle.std.specs.Option.{option_map};
-ghost use Rattle.streams.specs.Streams.{WritesPart};
+ghost use Rattle.streams.specs.Streams.{WritesPart, IsCaused};
 ghost use Rattle.ot_model.specs.Runs.{opening_of};
 ghost use Rattle.ot_machine.specs.Effects.{shown_by, IsThere};
 ghost use Rattle.ot_report.specs.Authors.{author_in, AreInserters};
-ghost use Rattle.ot_report.specs.Written.{Flushes, Gathers, GathersReads, GathersUpTo, IsCaused, ReadsUpTo, WritesReport, WritesReportUpTo};
+ghost use Rattle.ot_report.specs.Written.{Flushes, Gathers, GathersReads, GathersUpTo, ReadsUpTo, WritesReport, WritesReportUpTo};
 
 use crate::authors::Authors;
 use crate::ending::end_text;
@@ -16,41 +16,10 @@ use ot_isa::Schedule;
 use ot_machine::Machine;
 use ot_model::{Reader, Refusal};
 use std::alloc::{AllocError, Global};
-use streams::Sink;
+use streams::{OutputFault, Sink};
 
 /// Lines are gathered until they have so many bytes, and then written in one go: 64 KiB.
 const GATHERED: usize = 1 << 16;
-
-/// Why a report is not all written.
-#[derive(Clone, Copy, Debug, PartialEq, Eq)]
-pub enum ReportFault {
-    /// No memory was found for the opening, for the authors, for the line of a read, or for the end.
-    Memory,
-    /// A write failed, or took no byte.
-    WriteFault,
-}
-
-impl From<AllocError> for ReportFault {
-    ghost use Rattle.std.specs.Prelude.{◌≡◌};
-    ghost use Rattle.ot_report.specs.declared.writing.ReportFault.TheVariants.{Memory};
-
-    ghost from_gives = { λ _ e. e ≡ Memory };
-
-    fn from(_e: AllocError) -> ReportFault {
-        ReportFault::Memory
-    }
-}
-
-impl From<streams::WriteFault> for ReportFault {
-    ghost use Rattle.std.specs.Prelude.{◌≡◌};
-    ghost use Rattle.ot_report.specs.declared.writing.ReportFault.TheVariants.{WriteFault};
-
-    ghost from_gives = { λ _ e. e ≡ WriteFault };
-
-    fn from(_e: streams::WriteFault) -> ReportFault {
-        ReportFault::WriteFault
-    }
-}
 
 // Writes what is gathered, where that is enough.
 fn flush_full<W: Sink>(text: &mut String, output: &mut W) -> Result<(), streams::WriteFault>
@@ -75,7 +44,7 @@ fn gather<W: Sink>(
     who: Option<Reader>,
     text: &mut String,
     output: &mut W,
-) -> Result<(), ReportFault>
+) -> Result<(), OutputFault>
     requires { IfSome who (IsThere machine.now) }
     ensures ok { OnOk result (Gathers json (author_in authors.now) (option_map (shown_by machine.now) who) (string_bytes text.old) (string_bytes text.new) (W.contents output.old) (W.contents output.new)) }
     ensures err { IfErr result (λ f. GathersUpTo f (string_bytes text.old) (W.contents output.old) (W.contents output.new)) }
@@ -96,7 +65,7 @@ fn write_reads<W: Sink>(
     schedule: &Schedule,
     text: &mut String,
     output: &mut W,
-) -> Result<Option<(usize, Refusal)>, ReportFault>
+) -> Result<Option<(usize, Refusal)>, OutputFault>
     requires opening { machine.old ≡ opening_of schedule.now }
     requires authors { OnTrue json (AreInserters schedule.now.instrs authors.now) }
     requires empty { string_bytes text.old ≡ [] }
@@ -139,7 +108,7 @@ pub fn write_report<W: Sink>(
     schedule: &Schedule,
     json: bool,
     output: &mut W,
-) -> Result<Option<(usize, Refusal)>, ReportFault>
+) -> Result<Option<(usize, Refusal)>, OutputFault>
     ensures ok { IfOk result (λ stopped. WritesReport json schedule.now stopped (W.contents output.old) (W.contents output.new)) }
     ensures err { IfErr result (λ f. WritesReportUpTo f json schedule.now (W.contents output.old) (W.contents output.new)) }
     ensures cause { IfErr result (λ f. IsCaused f (W.failed output.new)) }

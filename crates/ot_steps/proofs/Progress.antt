@@ -34,8 +34,8 @@ use Rattle.ot_steps.specs.Written.{AreRunLines, IsMove, WritesRun, WritesUpTo, m
 use Rattle.ot_steps.proofs.Gathering.{cut_after, flush_cut, flushed, gathers_none, gathers_then}
 use Rattle.ot_steps.proofs.Running.{reached_within}
 use Rattle.ot_steps.proofs.Quiet.{quiet_is}
-use Rattle.ot_steps.specs.declared.writing.StepsFault.{StepsFault}
-use Rattle.ot_steps.specs.declared.writing.StepsFault.TheVariants.{Memory, WriteFault}
+use Rattle.streams.specs.declared.OutputFault.{OutputFault}
+use Rattle.streams.specs.declared.OutputFault.TheVariants.{Memory, WriteFault}
 
 -- ---- a performed instruction is of a client that is there
 
@@ -170,7 +170,7 @@ module _ (documents : Bool) (s : Program) (p : ℕ) (i : Instr) (state t : State
       )
 
   -- either
-  pub not_next : (f : StepsFault) (new : Option (List ℕ)) (after : List ℕ) → GathersUpTo f mid new before after text → MovesUpTo f documents s old new held after
+  pub not_next : (f : OutputFault) (new : Option (List ℕ)) (after : List ℕ) → GathersUpTo f mid new before after text → MovesUpTo f documents s old new held after
   not_next Memory new after gathered = none_held new after gathered
   not_next WriteFault new after written = part_of_next new after written
 
@@ -209,7 +209,7 @@ opening_text documents s = sym (append-nil (line_text (opening_line s)))
 
 module _ (documents : Bool) (s : Program) (old mid : Option (List ℕ)) (held before opening : List ℕ) (is : opening ≡ line_text (opening_line s)) where
   -- the opening's line is not gathered
-  pub opening_cut : (f : StepsFault) → GathersUpTo f old mid held before opening → RunUpTo f documents s old mid held before
+  pub opening_cut : (f : OutputFault) → GathersUpTo f old mid held before opening → RunUpTo f documents s old mid held before
   opening_cut Memory gathered = inl gathered
   opening_cut WriteFault written =
       record { lines = first_lines documents s 0; are = inl (0, omega arith, refl); written = subst (λ (bytes : List ℕ). WritesPart old mid (held ++ bytes)) (is ∙ opening_text documents s) written }
@@ -220,7 +220,7 @@ module _ (documents : Bool) (s : Program) (old mid : Option (List ℕ)) (held be
     front p new after moves =
         subst (λ (bytes : List ℕ). Gathers old new held after (bytes ++ moves_text documents s p)) is (gathers_then old mid new held before after opening (moves_text documents s p) opened moves)
 
-    pub moves_cut : (f : StepsFault) (new : Option (List ℕ)) (after : List ℕ) → MovesUpTo f documents s mid new before after → RunUpTo f documents s old new held after
+    pub moves_cut : (f : OutputFault) (new : Option (List ℕ)) (after : List ℕ) → MovesUpTo f documents s mid new before after → RunUpTo f documents s old new held after
     moves_cut Memory new after moves = inr (moves.0, moves.1, front moves.0 new after moves.2)
     moves_cut WriteFault new after moves =
         record {
@@ -248,7 +248,7 @@ module _ (documents : Bool) (s : Program) (old mid : Option (List ℕ)) (held be
       pub last_missing : RunUpTo Memory documents s old later held after
       last_missing = inr (reached s stopped, (reaches s (reached s stopped) (reached_within s state stopped moves.stop)).1 (rw moves.at refl), first_gathered)
 
-      pub last_cut : (f : StepsFault) (new : Option (List ℕ)) (over last : List ℕ) → last ≡ lines_text (last_lines s state stopped) → GathersUpTo f later new after over last → RunUpTo f documents s old new held over
+      pub last_cut : (f : OutputFault) (new : Option (List ℕ)) (over last : List ℕ) → last ≡ lines_text (last_lines s state stopped) → GathersUpTo f later new after over last → RunUpTo f documents s old new held over
       last_cut Memory new over last ends gathered =
           inr (
             reached s stopped,
@@ -323,6 +323,6 @@ stop_and_end s state stopped place refusal i quiet first second text is at exact
     ∙ ap (λ (o : Option (ℕ × Refusal)). lines_text (last_lines s state o)) (sym is)
 
 -- what holds of the fault that an answer is
-pub err_is : {T : Type 0} (r : Result T StepsFault) (f : StepsFault) (P : StepsFault → Type 0) → IsErrAnd r (λ e. e ≡ f) → P f → IfErr r P
+pub err_is : {T : Type 0} (r : Result T OutputFault) (f : OutputFault) (P : OutputFault → Type 0) → IsErrAnd r (λ e. e ≡ f) → P f → IfErr r P
 err_is (Ok x) f P is p = tt
 err_is (Err e) f P is p = subst P (sym is) p

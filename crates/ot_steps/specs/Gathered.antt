@@ -11,8 +11,8 @@ use Rattle.ot_steps.specs.Lines.{Line}
 use Rattle.ot_steps.specs.Steps.{first_lines}
 use Rattle.ot_steps.specs.Text.{lines_text}
 use Rattle.ot_steps.specs.Written.{AreFirstLines, AreRunLines, moves_text}
-use Rattle.ot_steps.specs.declared.writing.StepsFault.{StepsFault}
-use Rattle.ot_steps.specs.declared.writing.StepsFault.TheVariants.{Memory, WriteFault}
+use Rattle.streams.specs.declared.OutputFault.{OutputFault}
+use Rattle.streams.specs.declared.OutputFault.TheVariants.{Memory, WriteFault}
 
 -- what was held and then a text: a front of it is written, and the rest is held
 pub record Gathers (old new : Option (List ℕ)) (held held' text : List ℕ) : Type 0 where
@@ -21,7 +21,7 @@ pub record Gathers (old new : Option (List ℕ)) (held held' text : List ℕ) : 
   pub is : held ++ text ≡ front ++ held'
 
 -- after a fault: if memory ran out the text is not added, else a first part of both is written
-abbrev pub GathersUpTo : StepsFault → Option (List ℕ) → Option (List ℕ) → List ℕ → List ℕ → List ℕ → Type 0
+abbrev pub GathersUpTo : OutputFault → Option (List ℕ) → Option (List ℕ) → List ℕ → List ℕ → List ℕ → Type 0
 GathersUpTo Memory old new held held' text = Gathers old new held held' []
 GathersUpTo WriteFault old new held held' text = WritesPart old new (held ++ text)
 
@@ -34,7 +34,7 @@ pub record GathersMoves (documents : Bool) (s : Program) (stopped : Option (ℕ 
   pub gathered : Gathers old new held held' (moves_text documents s (reached s stopped))
 
 -- after a fault among them
-abbrev pub MovesUpTo : StepsFault → Bool → Program → Option (List ℕ) → Option (List ℕ) → List ℕ → List ℕ → Type 0
+abbrev pub MovesUpTo : OutputFault → Bool → Program → Option (List ℕ) → Option (List ℕ) → List ℕ → List ℕ → Type 0
 MovesUpTo Memory documents s old new held held' = (p : ℕ) × (p ≤ done s) × Gathers old new held held' (moves_text documents s p)
 MovesUpTo WriteFault documents s old new held held' = (p : ℕ) × (p ≤ done s) × WritesPart old new (held ++ moves_text documents s p)
 
@@ -53,7 +53,7 @@ pub record CutsRun (documents : Bool) (s : Program) (old new : Option (List ℕ)
   pub written : WritesPart old new (held ++ lines_text lines)
 
 -- after a fault: if memory ran out nothing is added, or the first lines are; else a first part of them is written
-abbrev pub RunUpTo : StepsFault → Bool → Program → Option (List ℕ) → Option (List ℕ) → List ℕ → List ℕ → Type 0
+abbrev pub RunUpTo : OutputFault → Bool → Program → Option (List ℕ) → Option (List ℕ) → List ℕ → List ℕ → Type 0
 RunUpTo Memory documents s old new held held' =
     Gathers old new held held' [] ⊎ ((p : ℕ) × (p ≤ done s) × Gathers old new held held' (lines_text (first_lines documents s p)))
 RunUpTo WriteFault documents s old new held held' = CutsRun documents s old new held

@@ -1,5 +1,5 @@
 -- What is written of a run.
-use Rattle.std.specs.Prelude.{◌≡◌, ◌⊎◌, ℕ, ◌≤◌, List, Bool, true, Option, Some, is_some, take, ⊤}
+use Rattle.std.specs.Prelude.{◌≡◌, ◌⊎◌, ℕ, ◌≤◌, List, Bool, Option, Some, is_some, take}
 use Rattle.std.specs.Io.KnownBytes.{Appends, Keeps}
 use Rattle.streams.specs.Streams.{WritesPart}
 use Rattle.ot_isa.specs.Program.{Program}
@@ -12,8 +12,8 @@ use Rattle.ot_machine.specs.Ended.{reached, IsStop}
 use Rattle.ot_steps.specs.Lines.{Line}
 use Rattle.ot_steps.specs.Steps.{first_lines, lines_from, run_lines, step_line}
 use Rattle.ot_steps.specs.Text.{line_text, lines_text}
-use Rattle.ot_steps.specs.declared.writing.StepsFault.{StepsFault}
-use Rattle.ot_steps.specs.declared.writing.StepsFault.TheVariants.{Memory, WriteFault}
+use Rattle.streams.specs.declared.OutputFault.{OutputFault}
+use Rattle.streams.specs.declared.OutputFault.TheVariants.{Memory, WriteFault}
 
 -- the lines are those of the schedule's run, which ends in this way
 pub record AreRunLines (documents : Bool) (s : Program) (stopped : Option (ℕ × Refusal)) (lines : List Line) : Type 0 where
@@ -48,14 +48,9 @@ pub record WritesPartOfRun (documents : Bool) (s : Program) (old new : Option (L
   pub written : WritesPart old new (lines_text lines)
 
 -- what stands there after a fault: whole lines if memory ran out, else a first part of them
-abbrev pub WritesUpTo : StepsFault → Bool → Program → Option (List ℕ) → Option (List ℕ) → Type 0
+abbrev pub WritesUpTo : OutputFault → Bool → Program → Option (List ℕ) → Option (List ℕ) → Type 0
 WritesUpTo Memory documents s old new = WritesFirstLines documents s old new
 WritesUpTo WriteFault documents s old new = WritesPartOfRun documents s old new
-
--- WriteFault is said only where a write has failed, as the output says itself
-abbrev pub IsCaused : StepsFault → Bool → Type 0
-IsCaused Memory failed = ⊤
-IsCaused WriteFault failed = failed ≡ true
 
 -- ---- for private clauses
 

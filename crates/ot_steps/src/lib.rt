@@ -34,4 +34,4 @@ pub use line::{Line, Step, Stop, buffer, last_operation, outstanding, placed_cli
 pub use operations::push_decimal;
 pub use plain::plain_operation;
 pub use value::{Value, push_array, push_plain_array};
-pub use writing::{StepsFault, print_steps};
+pub use writing::print_steps;

@@ -1,53 +1,23 @@
 //! The lines of a whole run.
 
 ghost use Rattle.std.specs.Prelude.{◌≡◌, ◌<◌, IfErr, IfOk, OnErr, OnOk, length, string_bytes};
+ghost use Rattle.streams.specs.Streams.{IsCaused};
 ghost use Rattle.ot_model.specs.Runs.{opening_of};
 ghost use Rattle.ot_model.specs.Table as table;
 ghost use Rattle.ot_machine.specs.Answers.{IsRefusal};
 ghost use Rattle.ot_steps.specs.Steps.{last_lines};
 ghost use Rattle.ot_steps.specs.Text.{lines_text};
 ghost use Rattle.ot_steps.specs.Gathered.{Gathers, GathersMoves, GathersRun, GathersUpTo, MovesUpTo, RunUpTo};
-ghost use Rattle.ot_steps.specs.Written.{IsCaused, IsMove, WritesRun, WritesUpTo};
+ghost use Rattle.ot_steps.specs.Written.{IsMove, WritesRun, WritesUpTo};
 
 use crate::line::{Line, Stop};
 use ot_isa::{Instr, Schedule};
 use ot_machine::{Machine, Refusal};
 use std::alloc::{AllocError, Global};
-use streams::Sink;
+use streams::{OutputFault, Sink};
 
 /// As many bytes of lines are held before they are written: 64 KiB.
 const HELD: usize = 65_536;
-
-/// Why the lines of a run are not all written.
-#[derive(Clone, Copy, Debug, PartialEq, Eq)]
-pub enum StepsFault {
-    /// No memory was found for the opening, for a line, or to hold it.
-    Memory,
-    /// A write failed, or took no byte.
-    WriteFault,
-}
-
-impl From<AllocError> for StepsFault {
-    ghost use Rattle.std.specs.Prelude.{◌≡◌};
-    ghost use Rattle.ot_steps.specs.declared.writing.StepsFault.TheVariants.{Memory};
-
-    ghost from_gives = { λ _ e. e ≡ Memory };
-
-    fn from(_e: AllocError) -> StepsFault {
-        StepsFault::Memory
-    }
-}
-
-impl From<streams::WriteFault> for StepsFault {
-    ghost use Rattle.std.specs.Prelude.{◌≡◌};
-    ghost use Rattle.ot_steps.specs.declared.writing.StepsFault.TheVariants.{WriteFault};
-
-    ghost from_gives = { λ _ e. e ≡ WriteFault };
-
-    fn from(_e: streams::WriteFault) -> StepsFault {
-        StepsFault::WriteFault
-    }
-}
 
 // Performs the instruction and writes its line into the text, instead of what that held, or says why it was not performed.
 fn perform_and_write(
@@ -73,7 +43,7 @@ fn perform_and_write(
 }
 
 // Holds a text, and writes all that is held where it is much.
-fn gather<W: Sink>(held: &mut Vec<u8>, text: &str, output: &mut W) -> Result<(), StepsFault>
+fn gather<W: Sink>(held: &mut Vec<u8>, text: &str, output: &mut W) -> Result<(), OutputFault>
     ensures ok { OnOk result (Gathers (W.contents output.old) (W.contents output.new) held.old.items held.new.items text.now) }
     ensures few { OnOk result (length held.new.items < HELD) }
     ensures err { IfErr result (λ f. GathersUpTo f (W.contents output.old) (W.contents output.new) held.old.items held.new.items text.now) }
@@ -96,7 +66,7 @@ fn gather_moves<W: Sink>(
     documents: bool,
     held: &mut Vec<u8>,
     output: &mut W,
-) -> Result<Option<(usize, Refusal)>, StepsFault>
+) -> Result<Option<(usize, Refusal)>, OutputFault>
     requires { machine.old ≡ opening_of schedule.now }
     ensures ok { IfOk result (λ stopped. GathersMoves documents schedule.now stopped machine.new (W.contents output.old) (W.contents output.new) held.old.items held.new.items) }
     ensures err { IfErr result (λ f. MovesUpTo f documents schedule.now (W.contents output.old) (W.contents output.new) held.old.items held.new.items) }
@@ -150,7 +120,7 @@ fn gather_run<W: Sink>(
     documents: bool,
     held: &mut Vec<u8>,
     output: &mut W,
-) -> Result<bool, StepsFault>
+) -> Result<bool, OutputFault>
     ensures ok { IfOk result (λ refused. GathersRun documents schedule.now refused (W.contents output.old) (W.contents output.new) held.old.items held.new.items) }
     ensures err { IfErr result (λ f. RunUpTo f documents schedule.now (W.contents output.old) (W.contents output.new) held.old.items held.new.items) }
     ensures cause { IfErr result (λ f. IsCaused f (W.failed output.new)) }
@@ -176,7 +146,7 @@ pub fn print_steps<W: Sink>(
     schedule: &Schedule,
     documents: bool,
     output: &mut W,
-) -> Result<bool, StepsFault>
+) -> Result<bool, OutputFault>
     ensures ok { IfOk result (λ refused. WritesRun documents schedule.now refused (W.contents output.old) (W.contents output.new)) }
     ensures err { IfErr result (λ f. WritesUpTo f documents schedule.now (W.contents output.old) (W.contents output.new)) }
     ensures cause { IfErr result (λ f. IsCaused f (W.failed output.new)) }
@@ -187,10 +157,10 @@ pub fn print_steps<W: Sink>(
             output.put(held.as_slice())?;
             Ok(refused)
         }
-        Err(StepsFault::Memory) => {
+        Err(OutputFault::Memory) => {
             output.put(held.as_slice())?;
-            Err(StepsFault::Memory)
+            Err(OutputFault::Memory)
         }
-        Err(StepsFault::WriteFault) => Err(StepsFault::WriteFault),
+        Err(OutputFault::WriteFault) => Err(OutputFault::WriteFault),
     }
 }

@@ -10,7 +10,7 @@ use std::slice;
 
 // One element in the value itself, or a list.
 #[derive(Drop)]
-pub(crate) enum Held<T> {
+pub(crate) enum Elements<T> {
     One(T),
     Many(Vec<T>),
 }
@@ -18,7 +18,7 @@ pub(crate) enum Held<T> {
 /// Elements in order. A single one lies in the value itself and takes no memory beside it: where many people type at once, most operations insert
 /// one. A contract sees the list of them.
 pub(crate) struct Text<T> {
-    held: Held<T>,
+    held: Elements<T>,
 }
 
 impl<T> Model for Text<T> {
@@ -43,7 +43,7 @@ impl<T: Element> Text<T> {
         ensures { result ≡ [] }
     {
         Text {
-            held: Held::Many(Vec::new(alloc)),
+            held: Elements::Many(Vec::new(alloc)),
         }
     }
 
@@ -52,7 +52,7 @@ impl<T: Element> Text<T> {
         ensures { result ≡ list.items }
     {
         Text {
-            held: Held::Many(list),
+            held: Elements::Many(list),
         }
     }
 
@@ -61,8 +61,8 @@ impl<T: Element> Text<T> {
         ensures { IfOk result (λ text. text ≡ elements.now) }
     {
         let held = match elements {
-            [one] => Held::One(*one),
-            _ => Held::Many(Vec::from_slice(alloc, elements)?),
+            [one] => Elements::One(*one),
+            _ => Elements::Many(Vec::from_slice(alloc, elements)?),
         };
         Ok(Text { held })
     }
@@ -72,8 +72,8 @@ impl<T: Element> Text<T> {
         ensures { result.now ≡ self.now }
     {
         match &self.held {
-            Held::One(one) => slice::from_ref(one),
-            Held::Many(many) => many.as_slice(),
+            Elements::One(one) => slice::from_ref(one),
+            Elements::Many(many) => many.as_slice(),
         }
     }
 
@@ -83,16 +83,16 @@ impl<T: Element> Text<T> {
         ensures err { OnErr result (self.new ≡ self.old) }
     {
         match &mut self.held {
-            Held::One(one) => {
+            Elements::One(one) => {
                 let first = *one;
                 let mut many = Vec::with_capacity(alloc, more.len().saturating_add(1))?;
                 many.push(first)?;
                 many.extend_from_slice(more)?;
-                self.held = Held::Many(many);
+                self.held = Elements::Many(many);
             }
-            Held::Many(many) => {
+            Elements::Many(many) => {
                 if many.len() == 0 && more.len() == 1 {
-                    self.held = Held::One(more[0]);
+                    self.held = Elements::One(more[0]);
                 } else {
                     many.extend_from_slice(more)?;
                 }
@@ -107,12 +107,12 @@ impl<T: Element> Text<T> {
         ensures { self.new ≡ take count self.old }
     {
         match &mut self.held {
-            Held::One(_) => {
+            Elements::One(_) => {
                 if count == 0 {
-                    self.held = Held::Many(Vec::new(alloc));
+                    self.held = Elements::Many(Vec::new(alloc));
                 }
             }
-            Held::Many(many) => many.truncate(count),
+            Elements::Many(many) => many.truncate(count),
         }
     }
 }

@@ -1,6 +1,7 @@
 -- A text is cut at its first LF.
-use Rattle.std.proofs.Common.{◌≡◌, ◌<◌, ◌≤◌, ◌==◌, ℕ, zero, suc, List, [], ◌∷◌, ◌++◌, length, take, drop, true, false, Bool, not, ◌&&◌, get_or, refl, ap, arith}
+use Rattle.std.proofs.Common.{◌≡◌, ◌<◌, ◌≤◌, ◌+◌, ◌-◌, ◌==◌, ℕ, zero, suc, List, [], ◌∷◌, ◌++◌, length, take, drop, true, false, Bool, not, ◌&&◌, get_or, refl, ap, sym, ◌∙◌, drop-drop, arith}
 use Rattle.std.proofs.lemmas.Bool.{eqb-true}
+use Rattle.std.proofs.Math.Seq.{take-nil}
 use Rattle.streams.specs.Lines.{lacks}
 
 -- no LF stands at a place below `end`
@@ -26,3 +27,15 @@ pub cut : (text : List ℕ) (at : ℕ) → at < length text → (get_or text at 
 cut [] at h e = absurd (omega (arith, h))
 cut (b ∷ bs) zero h e = let is : b ≡ 10 = eqb-true b 10 e in ap (λ c. c ∷ bs) is
 cut (b ∷ bs) (suc at) h e = ap (λ t. b ∷ t) (cut bs at (omega (arith, h)) e)
+
+drop_front : (n m : ℕ) (xs : List ℕ) → drop n (take m xs) ≡ take (m - n) (drop n xs)
+drop_front zero m xs = let e : m ≡ m - 0 = omega arith in ap (λ k. take k xs) e
+drop_front (suc n) zero xs = let e : 0 ≡ 0 - suc n = omega arith in ap (λ k. take k (drop (suc n) xs)) e
+drop_front (suc n) (suc m) [] = sym (take-nil (suc m - suc n))
+drop_front (suc n) (suc m) (x ∷ xs) = let e : m - n ≡ suc m - suc n = omega arith in drop_front n m xs ∙ ap (λ k. take k (drop n xs)) e
+
+-- what stands between two places, without its first bytes
+pub middle_behind : (from to n : ℕ) (xs : List ℕ) → drop n (take (to - from) (drop from xs)) ≡ take (to - (from + n)) (drop (from + n) xs)
+middle_behind from to n xs =
+    let length : to - from - n ≡ to - (from + n) = omega arith in
+    drop_front n (to - from) (drop from xs) ∙ ap (λ k. take k (drop n (drop from xs))) length ∙ ap (take (to - (from + n))) (drop-drop n from xs)

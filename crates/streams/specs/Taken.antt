@@ -3,13 +3,14 @@ use Rattle.std.specs.Prelude.{◌≡◌, ℕ, ◌+◌, Bool, true, false, List, 
 use Rattle.std.specs.Io.KnownBytes.{prepend_known, Consumes}
 use Rattle.streams.specs.Lines.{lines_of, lacks}
 
--- bytes that were read and not yet taken
+-- bytes that were read and not yet taken, and how many more may be read
 pub record Ahead : Type 0 where
   pub held : List ℕ
+  pub left : ℕ
 
--- how many bytes may yet be taken: those that are held, and those that the reader may yet give
-abbrev pub may_take : Ahead → ℕ → ℕ
-may_take ahead left = left + length ahead.held
+-- how many bytes may yet be taken
+abbrev pub may_take : Ahead → ℕ
+may_take ahead = ahead.left + length ahead.held
 
 -- the bytes that are held, and then those that the reader has left
 abbrev pub before : Ahead → Option (List ℕ) → Option (List ℕ)

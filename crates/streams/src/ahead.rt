@@ -1,12 +1,14 @@
 //! Bytes that were read ahead, and the lines that they begin.
 
-ghost use Rattle.std.specs.Prelude.{◌≡◌, ◌<◌, ◌≤◌, ◌+◌, ◌^◌, [], true, false, length, IfOk, OnOk, OnErr, IsErrOf};
+ghost use Rattle.std.specs.Prelude.{◌≡◌, ◌↔◌, ◌<◌, ◌≤◌, ◌^◌, [], true, false, length, Some, IfOk, OnOk, OnErr, IsErrOf};
 ghost use Rattle.std.specs.Io.KnownBytes.{Keeps, IsAtEnd};
 ghost use Rattle.streams.specs.Taken.{may_take, before, TakesPiece, TakesLine, Spends, LosesPiece};
 
+use crate::MOST_BYTES;
 use crate::splitting::split_line;
-use crate::{ReadFault, Source};
 use std::alloc::AllocError;
+use std::io;
+use std::io::Read;
 use std::marker::Model;
 
 /// Why no line was taken.
@@ -29,78 +31,85 @@ impl From<AllocError> for LineFault {
     }
 }
 
-impl From<ReadFault> for LineFault {
-    ghost use Rattle.std.specs.Prelude.{◌≡◌};
-    ghost use Rattle.streams.specs.declared.ahead.LineFault.TheVariants.{ReadFault as IsReadFault};
-
-    ghost from_gives = { λ _ e. e ≡ IsReadFault };
-
-    fn from(_e: ReadFault) -> LineFault {
-        LineFault::ReadFault
-    }
-}
-
-/// Bytes that were read and not yet taken as lines. Contracts see them as a list.
-#[derive(Drop)]
-pub struct ReadAhead {
+/// Bytes that were read and not yet taken, and how many more are read. Contracts see the bytes as a list.
+#[derive(Debug, Drop)]
+pub(crate) struct Held {
     bytes: [u8; 4096],
     from: usize,
     to: usize,
+    left: u64,
 }
 
-impl Model for ReadAhead {
-    ghost use Rattle.std.specs.Prelude.{◌≤◌, ◌-◌, take, drop};
+impl Model for Held {
+    ghost use Rattle.std.specs.Prelude.{◌≤◌, ◌+◌, ◌-◌, ◌^◌, take, drop};
     ghost use Rattle.streams.specs.Taken.{Ahead};
 
     ghost Value = { Ahead };
 
-    ghost view = { λ a. record { held = take (a.to - a.from) (drop a.from a.bytes) } };
+    ghost view = { λ a. record { held = take (a.to - a.from) (drop a.from a.bytes); left = a.left } };
 
-    ghost invariant = { λ a. (a.from ≤ a.to) × (a.to ≤ 4096) };
+    ghost invariant = { λ a. (a.from ≤ a.to) × (a.to ≤ 4096) × (a.left + (a.to - a.from) ≤ 2 ^ 50) };
 }
 
-impl ReadAhead {
+impl Held {
     /// Nothing was read yet.
-    pub fn new() -> ReadAhead
-        ensures { result.held ≡ [] }
+    pub(crate) fn none() -> Held
+        ensures held { result.held ≡ [] }
+        ensures left { result.left ≡ 2 ^ 50 }
     {
-        ReadAhead {
+        Held {
             bytes: [0; 4096],
             from: 0,
             to: 0,
+            left: MOST_BYTES,
         }
     }
 
-    /// How many bytes may yet be taken: those that are held and those that the reader may yet give.
-    pub fn may_take<R: Source>(&self, reader: &R) -> u64
-        ensures value { result ≡ may_take self.now (R.left reader.now) }
-        ensures most { result ≤ 2 ^ 50 + 4096 }
+    pub(crate) fn is_empty(&self) -> bool
+        ensures { result ≡ true ↔ self.now.held ≡ [] }
     {
-        reader.left() + (self.to - self.from) as u64
+        self.from == self.to
+    }
+
+    /// How many bytes may yet be taken: those that are held and those that may yet be read.
+    pub(crate) fn may_take(&self) -> u64
+        ensures value { result ≡ may_take self.now }
+        ensures most { result ≤ 2 ^ 50 }
+    {
+        self.left + (self.to - self.from) as u64
     }
 
     /// Reads ahead where nothing is held, and says whether a byte is held. There is none at the end of the input.
-    fn has_more<R: Source>(&mut self, reader: &mut R) -> Result<bool, ReadFault>
+    fn has_more<R: Read>(&mut self, reader: &mut R) -> Result<bool, LineFault>
         ensures kept { Keeps (before self.old (R.remaining reader.old)) (before self.new (R.remaining reader.new)) }
         ensures some { IfOk result (λ more. more ≡ true → 0 < length self.new.held) }
-        ensures end { IfOk result (λ more. more ≡ false → IsAtEnd (before self.new (R.remaining reader.new)) × (0 < R.left reader.new)) }
-        ensures may_take { may_take self.new (R.left reader.new) ≡ may_take self.old (R.left reader.old) }
-        ensures err { OnErr result (self.new.held ≡ []) }
-        ensures cause { OnErr result (R.failed reader.new ≡ true) }
+        ensures end { IfOk result (λ more. more ≡ false → IsAtEnd (before self.new (R.remaining reader.new)) × (0 < self.new.left)) }
+        ensures may_take { may_take self.new ≡ may_take self.old }
     {
         if self.from < self.to {
             return Ok(true);
         }
         self.from = 0;
         self.to = 0;
-        let count = reader.read_some(&mut self.bytes)?;
-        self.to = count;
-        Ok(count > 0)
+        let most = (self.bytes.len() as u64).min(self.left) as usize;
+        if most == 0 {
+            return Err(LineFault::ReadFault);
+        }
+        let (front, _) = self.bytes.split_at_mut(most);
+        match reader.read(front) {
+            Ok(count) => {
+                self.to = count;
+                self.left -= count as u64;
+                Ok(count > 0)
+            }
+            Err(_) => Err(LineFault::ReadFault),
+        }
     }
 
     /// Moves what is held of a line to its end, and says whether the line is whole.
     fn take_piece(&mut self, line: &mut Vec<u8>) -> Result<bool, AllocError>
         ensures piece { IfOk result (λ whole. TakesPiece whole self.old.held self.new.held line.old.items line.new.items) }
+        ensures left { self.new.left ≡ self.old.left }
         ensures err { OnErr result (self.new ≡ self.old) }
     {
         let held = &self.bytes[self.from..self.to];
@@ -120,18 +129,17 @@ impl ReadAhead {
 
     /// Takes the next line, without its LF, and says whether there is one. An empty last piece is none.
     /// After a fault some bytes of the line are lost, and no byte behind it.
-    pub fn next_line<R: Source>(
+    pub(crate) fn next_line<R: Read>(
         &mut self,
         reader: &mut R,
         line: &mut Vec<u8>,
     ) -> Result<bool, LineFault>
         ensures ok { IfOk result (λ more. TakesLine (before self.old (R.remaining reader.old)) (before self.new (R.remaining reader.new)) more line.new.items) }
-        ensures less { IfOk result (λ more. more ≡ true → may_take self.new (R.left reader.new) < may_take self.old (R.left reader.old)) }
-        ensures spent { OnOk result (Spends (may_take self.old (R.left reader.old)) (may_take self.new (R.left reader.new)) (before self.old (R.remaining reader.old)) (before self.new (R.remaining reader.new))) }
-        ensures end { IfOk result (λ more. more ≡ false → IsAtEnd (before self.new (R.remaining reader.new)) × (0 < R.left reader.new)) }
+        ensures less { IfOk result (λ more. more ≡ true → may_take self.new < may_take self.old) }
+        ensures spent { OnOk result (Spends (may_take self.old) (may_take self.new) (before self.old (R.remaining reader.old)) (before self.new (R.remaining reader.new))) }
+        ensures end { IfOk result (λ more. more ≡ false → IsAtEnd (before self.new (R.remaining reader.new)) × (0 < may_take self.new)) }
+        ensures most { may_take self.old ≤ 2 ^ 50 }
         ensures err { OnErr result (LosesPiece (before self.old (R.remaining reader.old)) (before self.new (R.remaining reader.new))) }
-        ensures read_fault { IsErrOf result LineFault.ReadFault → self.new.held ≡ [] }
-        ensures cause { IsErrOf result LineFault.ReadFault → R.failed reader.new ≡ true }
     {
         // For the proof: the invariant of every reader.
         let _ = &self.bytes;
@@ -145,5 +153,17 @@ impl ReadAhead {
             return Ok(false);
         }
         Ok(true)
+    }
+}
+
+// What is held, as a reader.
+impl Read for Held {
+    ghost remaining = { λ a. Some a.held };
+
+    fn read(&mut self, buf: &mut [u8]) -> io::Result<usize> {
+        let mut held = &self.bytes[self.from..self.to];
+        let count = held.read(buf)?;
+        self.from += count;
+        Ok(count)
     }
 }

@@ -3,13 +3,13 @@
 //! std's `write_all` and `read_to_end` try an `Interrupted` call again, and say nothing of the bytes at an error. [`put`] and
 //! the calls of [`Source`] call `write` and `read` themselves: `Interrupted` is a fault, and so is a write that takes no byte; and after a
 //! fault the writer has got a first part of the bytes (`WritesPart`), a whole read has lost bytes at the reader's front (`Loses`).
-//! Both definitions stand in `specs/Streams.antt`. [`ReadAhead`] (`ahead.rt`) takes one line of a reader at a time, and `outcomes.rt` has what a
-//! subcommand leaves on its output, on the faults and as its status.
+//! Both definitions stand in `specs/Streams.antt`. Lines are taken one at a time; what was read behind a line is held until it is taken (`ahead.rt`).
+//! `outcomes.rt` has what a subcommand leaves on its output, on the faults and as its status.
 //!
 //! ```text
 //!    Device<D> ── Sink::put ──────────▶ failed: a write has failed
 //!              ── Source::read_whole ─▶ failed: a read has failed, or there are more than 2^30 bytes
-//!              ── Source::read_some ──▶ failed: a read has failed, or 2^50 bytes were read
+//!              ── Source::next_line ──▶ failed: a read has failed, or 2^50 bytes were read
 //! ```
 //!
 //! A [`Sink`] is a writer, and a [`Source`] a reader, that reports whether it has failed. Nobody but its own calls can make it say so, and so a
@@ -20,12 +20,14 @@ mod ahead;
 mod outcomes;
 mod splitting;
 
-ghost use Rattle.std.specs.Prelude.{◌≡◌, ◌≤◌, ◌<◌, ◌+◌, ◌-◌, ◌^◌, ℕ, List, length, take, Bool, true, false, IfSome, IfOk, IfErr, OnOk, OnErr, vec_len};
-ghost use Rattle.std.specs.Io.KnownBytes.{Appends, Consumes, IsAtEnd, Keeps};
+ghost use Rattle.std.specs.Prelude.{◌≡◌, ◌≤◌, ◌<◌, ◌+◌, ◌-◌, ◌^◌, ℕ, List, [], length, take, Bool, true, false, IfSome, IfOk, IfErr, OnOk, OnErr, IsErrOf, vec_len};
+ghost use Rattle.std.specs.Io.KnownBytes.{Appends, IsAtEnd};
 ghost use Rattle.streams.specs.Streams.{WritesPart, Loses};
+ghost use Rattle.streams.specs.Taken.{may_take, before, TakesLine, Spends, LosesPiece};
 ghost use Rattle.streams.specs.declared.InputFault.TheVariants.{Memory, Read as IsRead};
 
-pub use ahead::{LineFault, ReadAhead};
+use ahead::Held;
+pub use ahead::LineFault;
 pub use outcomes::{complain, complain_of_input, complain_of_memory, give};
 pub use splitting::split_line;
 use std::alloc::{AllocError, Global};
@@ -35,7 +37,7 @@ use std::io::{Read, Write};
 /// The most bytes that are read whole: 2^30.
 pub const MOST: usize = 1 << 30;
 
-/// The most bytes that are read piece by piece: 2^50.
+/// The most bytes that are read line by line: 2^50.
 pub const MOST_BYTES: u64 = 1 << 50;
 
 /// Why an input was not read.
@@ -59,9 +61,34 @@ impl From<AllocError> for InputFault {
 #[derive(Clone, Copy, Debug, PartialEq, Eq)]
 pub struct WriteFault;
 
-/// A read failed, or 2^50 bytes were read.
+/// Why not all of an output is written.
 #[derive(Clone, Copy, Debug, PartialEq, Eq)]
-pub struct ReadFault;
+pub enum OutputFault {
+    /// No memory was found for what was to be written.
+    Memory,
+    /// A write failed, or took no byte.
+    WriteFault,
+}
+
+impl From<AllocError> for OutputFault {
+    ghost use Rattle.streams.specs.declared.OutputFault.TheVariants.{Memory as IsMemory};
+
+    ghost from_gives = { λ _ e. e ≡ IsMemory };
+
+    fn from(_e: AllocError) -> OutputFault {
+        OutputFault::Memory
+    }
+}
+
+impl From<WriteFault> for OutputFault {
+    ghost use Rattle.streams.specs.declared.OutputFault.TheVariants.{WriteFault as IsWriteFault};
+
+    ghost from_gives = { λ _ e. e ≡ IsWriteFault };
+
+    fn from(_e: WriteFault) -> OutputFault {
+        OutputFault::WriteFault
+    }
+}
 
 /// Writes the bytes and nothing else. After a fault the writer has got a first part of them.
 pub fn put<W: Write>(writer: &mut W, bytes: &[u8]) -> Result<(), WriteFault>
@@ -113,10 +140,10 @@ pub trait Sink: Write {
 
 /// A reader that reports whether it has failed.
 pub trait Source: Read {
-    // Whether a read has failed by now, or there were more bytes than are read: 2^30 whole, 2^50 piece by piece.
+    // Whether a read has failed by now, or there were more bytes than are read: 2^30 whole, 2^50 line by line.
     ghost failed: { Self → Bool };
 
-    // How many bytes it may yet give piece by piece.
+    // How many bytes may yet be taken line by line.
     ghost left: { Self → ℕ };
 
     /// All bytes that the reader has left, at most 2^30. After a fault the bytes that were read are lost.
@@ -127,18 +154,18 @@ pub trait Source: Read {
         ensures err { OnErr result (Loses (Self.remaining self.old) (Self.remaining self.new)) }
         ensures cause { IfErr result (λ f. f ≡ IsRead → failed self.new ≡ true) };
 
-    /// The next bytes of the reader, as many as come at once; none only at the end. A fault loses no byte.
-    fn read_some(&mut self, buffer: &mut [u8]) -> Result<usize, ReadFault>
-        requires { 0 < length buffer.old }
-        ensures bytes { IfOk result (λ n. Consumes (Self.remaining self.old) (Self.remaining self.new) (take n buffer.new)) }
-        ensures most { IfOk result (λ n. n ≤ length buffer.new) }
-        ensures end { IfOk result (λ n. n ≡ 0 → IsAtEnd (Self.remaining self.new) × (0 < left self.new)) }
-        ensures left { IfOk result (λ n. left self.new + n ≡ left self.old) }
-        ensures err { OnErr result (Keeps (Self.remaining self.old) (Self.remaining self.new)) }
-        ensures err_left { OnErr result (left self.new ≡ left self.old) }
-        ensures cause { OnErr result (failed self.new ≡ true) };
+    /// Takes the next line, without its LF, and says whether there is one. An empty last piece is none.
+    /// After a fault some bytes of the line are lost, and no byte behind it.
+    fn next_line(&mut self, line: &mut Vec<u8>) -> Result<bool, LineFault>
+        ensures ok { IfOk result (λ more. TakesLine (Self.remaining self.old) (Self.remaining self.new) more line.new.items) }
+        ensures less { IfOk result (λ more. more ≡ true → left self.new < left self.old) }
+        ensures spent { OnOk result (Spends (left self.old) (left self.new) (Self.remaining self.old) (Self.remaining self.new)) }
+        ensures end { IfOk result (λ more. more ≡ false → IsAtEnd (Self.remaining self.new) × (0 < left self.new)) }
+        ensures most { left self.old ≤ 2 ^ 50 }
+        ensures err { OnErr result (LosesPiece (Self.remaining self.old) (Self.remaining self.new)) }
+        ensures cause { IsErrOf result LineFault.ReadFault → failed self.new ≡ true };
 
-    /// How many bytes [`read_some`](Source::read_some) may yet give.
+    /// How many bytes may yet be taken line by line: those that were read ahead and those that may yet be read.
     fn left(&self) -> u64
         ensures value { result ≡ left self.now }
         ensures most { result ≤ 2 ^ 50 };
@@ -149,8 +176,8 @@ pub trait Source: Read {
 pub struct Device<D> {
     inner: D,
     failed: bool,
-    // How many bytes it has given piece by piece.
-    given: u64,
+    // Bytes that the reader gave and that stand before those that it has left.
+    ahead: Held,
 }
 
 impl<D> Device<D> {
@@ -158,12 +185,13 @@ impl<D> Device<D> {
     pub fn new(inner: D) -> Device<D>
         ensures inner { result.inner ≡ inner }
         ensures failed { result.failed ≡ false }
-        ensures given { result.given ≡ 0 }
+        ensures held { result.ahead.held ≡ [] }
+        ensures left { result.ahead.left ≡ 2 ^ 50 }
     {
         Device {
             inner,
             failed: false,
-            given: 0,
+            ahead: Held::none(),
         }
     }
 
@@ -205,46 +233,39 @@ impl<W: Write> Sink for Device<W> {
 }
 
 impl<R: Read> Read for Device<R> {
-    ghost remaining = { λ d. R.remaining d.inner };
+    ghost remaining = { λ d. before d.ahead (R.remaining d.inner) };
 
     fn read(&mut self, buf: &mut [u8]) -> io::Result<usize> {
-        self.inner.read(buf)
+        if self.ahead.is_empty() {
+            self.inner.read(buf)
+        } else {
+            self.ahead.read(buf)
+        }
     }
 }
 
 impl<R: Read> Source for Device<R> {
     ghost failed = { λ d. d.failed };
 
-    ghost left = { λ d. 2 ^ 50 - d.given };
+    ghost left = { λ d. may_take d.ahead };
 
     fn read_whole(&mut self, alloc: Global) -> Result<Vec<u8>, InputFault> {
-        let bytes = read_whole(alloc, &mut self.inner);
+        let bytes = read_whole(alloc, self);
         if let Err(InputFault::Read) = bytes {
             self.failed = true;
         }
         bytes
     }
 
-    fn read_some(&mut self, buffer: &mut [u8]) -> Result<usize, ReadFault> {
-        let most = (buffer.len() as u64).min(self.left()) as usize;
-        if most == 0 {
+    fn next_line(&mut self, line: &mut Vec<u8>) -> Result<bool, LineFault> {
+        let more = self.ahead.next_line(&mut self.inner, line);
+        if let Err(LineFault::ReadFault) = more {
             self.failed = true;
-            return Err(ReadFault);
         }
-        let (front, _) = buffer.split_at_mut(most);
-        match self.inner.read(front) {
-            Ok(count) => {
-                self.given += count as u64;
-                Ok(count)
-            }
-            Err(_) => {
-                self.failed = true;
-                Err(ReadFault)
-            }
-        }
+        more
     }
 
     fn left(&self) -> u64 {
-        MOST_BYTES.saturating_sub(self.given)
+        self.ahead.may_take()
     }
 }

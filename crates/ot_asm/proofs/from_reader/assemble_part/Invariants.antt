@@ -1,5 +1,5 @@
 use Rattle.std.proofs.Common.{◌≤◌, ◌+◌}
-use Rattle.streams.specs.Taken.{may_take, before, Spends}
+use Rattle.streams.specs.Taken.{Spends}
 use Rattle.ot_asm.proofs.Known.{IsTakenKnown}
 use Rattle.ot_asm.proofs.from_reader.assemble_part.Given as goal
 
@@ -8,11 +8,11 @@ abbrev pub invariant-loop-body : goal.invariant-loop-body
 invariant-loop-body g l =
     let remaining = g.R.Read.remaining in
     record {
-      taken : IsTakenKnown l.fn.marked (before l.fn.ahead (remaining l.fn.reader)) (before l.ahead (remaining l.reader)) l.line l.body;
-      spent : Spends (may_take l.fn.ahead (g.R.Source.left l.fn.reader)) (may_take l.ahead (g.R.Source.left l.reader)) (before l.fn.ahead (remaining l.fn.reader)) (before l.ahead (remaining l.reader));
+      taken : IsTakenKnown l.fn.marked (remaining l.fn.reader) (remaining l.reader) l.line l.body;
+      spent : Spends (g.R.Source.left l.fn.reader) (g.R.Source.left l.reader) (remaining l.fn.reader) (remaining l.reader);
       low : 1 ≤ l.line;
-      few : l.line + may_take l.ahead (g.R.Source.left l.reader) ≤ 1 + may_take l.fn.ahead (g.R.Source.left l.fn.reader);
+      few : l.line + g.R.Source.left l.reader ≤ 1 + g.R.Source.left l.fn.reader;
     }
 
 abbrev pub decreases-loop-body : goal.decreases-loop-body
-decreases-loop-body g l = may_take l.ahead (g.R.Source.left l.reader)
+decreases-loop-body g l = g.R.Source.left l.reader

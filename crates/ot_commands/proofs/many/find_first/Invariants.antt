@@ -1,5 +1,4 @@
 use Rattle.std.proofs.Common.{◌≤◌, ◌+◌, ◌^◌}
-use Rattle.streams.specs.Taken.{before, may_take}
 use Rattle.ot_conform.specs.Summed.{sum_value}
 use Rattle.ot_commands.proofs.Walking.{Walked}
 use Rattle.ot_commands.proofs.many.find_first.Given as goal
@@ -9,10 +8,10 @@ abbrev pub invariant-taking : goal.invariant-taking
 invariant-taking g l =
     let remaining = g.I.Read.remaining in
     record {
-      walked : Walked l.sparse (remaining l.fn.input) (before l.ahead (remaining l.input)) l.sessions l.first (sum_value l.sum);
+      walked : Walked l.sparse (remaining l.fn.input) (remaining l.input) l.sessions l.first (sum_value l.sum);
       low : l.sessions ≤ l.first;
-      few : l.first + may_take l.ahead (g.I.Source.left l.input) ≤ 2 ^ 51;
+      few : l.first + g.I.Source.left l.input ≤ 2 ^ 51;
     }
 
 abbrev pub decreases-taking : goal.decreases-taking
-decreases-taking g l = may_take l.ahead (g.I.Source.left l.input)
+decreases-taking g l = g.I.Source.left l.input

@@ -1,5 +1,4 @@
 use Rattle.std.proofs.Common.{◌≤◌, ◌+◌}
-use Rattle.streams.specs.Taken.{before, may_take}
 use Rattle.ot_commands.proofs.Keeping.{IsKeptKnown}
 use Rattle.ot_commands.proofs.part.keep_part.Given as goal
 
@@ -8,10 +7,10 @@ abbrev pub invariant-loop-line : goal.invariant-loop-line
 invariant-loop-line g l =
     let remaining = g.R.Read.remaining in
     record {
-      kept : IsKeptKnown (before l.fn.ahead (remaining l.fn.input)) (before l.ahead (remaining l.input)) l.number l.text.items;
+      kept : IsKeptKnown (remaining l.fn.input) (remaining l.input) l.number l.text.items;
       low : 1 ≤ l.number;
-      few : l.number + may_take l.ahead (g.R.Source.left l.input) ≤ 1 + may_take l.fn.ahead (g.R.Source.left l.fn.input);
+      few : l.number + g.R.Source.left l.input ≤ 1 + g.R.Source.left l.fn.input;
     }
 
 abbrev pub decreases-loop-line : goal.decreases-loop-line
-decreases-loop-line g l = may_take l.ahead (g.R.Source.left l.input)
+decreases-loop-line g l = g.R.Source.left l.input

@@ -1,6 +1,7 @@
 use Rattle.std.proofs.Common.{subst}
-use Rattle.ot_report.specs.Written.{IsCaused, WritesReportUpTo}
-use Rattle.ot_report.specs.declared.writing.ReportFault.{ReportFault}
+use Rattle.streams.specs.Streams.{IsCaused}
+use Rattle.ot_report.specs.Written.{WritesReportUpTo}
+use Rattle.streams.specs.declared.OutputFault.{OutputFault}
 use Rattle.ot_commands.proofs.Ran.{broken_off, reported}
 use Rattle.ot_commands.proofs.running.report.Goals as goal
 
@@ -15,5 +16,5 @@ returns-in-Err-WriteFault g c =
     let new = g.O.Write.contents c.write_report.new.output in
     let failed = g.O.Sink.failed c.write_report.new.output in
     broken_off c.args.json c.args.schedule.now old new (g.F.Write.contents c.args.faults.now) failed (g.F.Sink.failed c.args.faults.now)
-    (subst (λ (f : ReportFault). IsCaused f failed) c.in-Err-WriteFault.field-0-is c.in-Err-WriteFault.ensures.cause)
-    (subst (λ (f : ReportFault). WritesReportUpTo f c.args.json c.args.schedule.now old new) c.in-Err-WriteFault.field-0-is c.in-Err-WriteFault.ensures.err)
+    (subst (λ (f : OutputFault). IsCaused f failed) c.in-Err-WriteFault.field-0-is c.in-Err-WriteFault.ensures.cause)
+    (subst (λ (f : OutputFault). WritesReportUpTo f c.args.json c.args.schedule.now old new) c.in-Err-WriteFault.field-0-is c.in-Err-WriteFault.ensures.err)

@@ -1,5 +1,4 @@
 use Rattle.std.proofs.Common.{◌≤◌, ◌+◌}
-use Rattle.streams.specs.Taken.{may_take, before}
 use Rattle.ot_conform.specs.Unknown.{all_named}
 use Rattle.ot_conform.proofs.Naming.{IsNaming}
 use Rattle.ot_conform.proofs.reading.compare_lines.Given as goal
@@ -9,9 +8,9 @@ abbrev pub invariant-taking : goal.invariant-taking
 invariant-taking g l =
     let remaining = g.R.Read.remaining in
     record {
-      naming : IsNaming l.sparse l.schedule l.comparison l.taken (before l.fn.ahead (remaining l.fn.reader)) (before l.ahead (remaining l.reader)) l.earlier (all_named l.unknown.items);
-      few : l.taken + may_take l.ahead (g.R.Source.left l.reader) ≤ may_take l.fn.ahead (g.R.Source.left l.fn.reader);
+      naming : IsNaming l.sparse l.schedule l.comparison l.taken (remaining l.fn.reader) (remaining l.reader) l.earlier (all_named l.unknown.items);
+      few : l.taken + g.R.Source.left l.reader ≤ g.R.Source.left l.fn.reader;
     }
 
 abbrev pub decreases-taking : goal.decreases-taking
-decreases-taking g l = may_take l.ahead (g.R.Source.left l.reader)
+decreases-taking g l = g.R.Source.left l.reader

@@ -1,5 +1,4 @@
 use Rattle.std.proofs.Common.{◌≤◌, ◌+◌}
-use Rattle.streams.specs.Taken.{may_take, before}
 use Rattle.ot_console.proofs.Loops.{IsLooped}
 use Rattle.ot_console.proofs.looping.command_loop.Given as goal
 
@@ -9,9 +8,9 @@ invariant-loop-taken g l =
     let remaining = g.R.Read.remaining in
     let contents = g.W.Write.contents in
     record {
-      looped : IsLooped l.fn.debugger l.debugger l.faulted l.taken (before l.fn.ahead (remaining l.fn.reader)) (before l.ahead (remaining l.reader)) (contents l.fn.writer) (contents l.writer);
-      few : l.taken + may_take l.ahead (g.R.Source.left l.reader) ≤ may_take l.fn.ahead (g.R.Source.left l.fn.reader);
+      looped : IsLooped l.fn.debugger l.debugger l.faulted l.taken (remaining l.fn.reader) (remaining l.reader) (contents l.fn.writer) (contents l.writer);
+      few : l.taken + g.R.Source.left l.reader ≤ g.R.Source.left l.fn.reader;
     }
 
 abbrev pub decreases-loop-taken : goal.decreases-loop-taken
-decreases-loop-taken g l = may_take l.ahead (g.R.Source.left l.reader)
+decreases-loop-taken g l = g.R.Source.left l.reader

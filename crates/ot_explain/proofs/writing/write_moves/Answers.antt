@@ -5,8 +5,8 @@ use Rattle.ot_model.specs.declared.shown.Refusal.{Refusal}
 use Rattle.ot_machine.specs.Answers.{IsRefusal}
 use Rattle.ot_asm.specs.Named.{named}
 use Rattle.ot_explain.specs.Explained.{IsMove, MovesUpTo, line_at}
-use Rattle.ot_steps.specs.declared.writing.StepsFault.{StepsFault}
-use Rattle.ot_steps.specs.declared.writing.StepsFault.TheVariants.{Memory, WriteFault}
+use Rattle.streams.specs.declared.OutputFault.{OutputFault}
+use Rattle.streams.specs.declared.OutputFault.TheVariants.{Memory, WriteFault}
 use Rattle.ot_steps.proofs.Progress.{err_is}
 use Rattle.ot_explain.proofs.Progress.{is_begun, is_next, is_stopped, is_whole, no_memory, part_of_next}
 use Rattle.ot_explain.proofs.writing.write_moves.Goals as goal
@@ -19,7 +19,7 @@ returns-in_err-perform-clause-err g c =
     let s = c.args.schedule.now in
     let old = g.W.Write.contents c.args.output.now in
     let new = g.W.Write.contents c.loop-number.output in
-    err_is c.from_residual.result Memory (λ (f : StepsFault). MovesUpTo f c.args.lines.now c.args.comments.now s old new) c.from_residual.ensures.1
+    err_is c.from_residual.result Memory (λ (f : OutputFault). MovesUpTo f c.args.lines.now c.args.comments.now s old new) c.from_residual.ensures.1
     (no_memory c.args.lines.now c.args.comments.now s c.loop-number.number c.in-Some.instr.now c.loop-number.machine old new c.loop-number.invariant c.in-Some.ensures.some)
 
 pub returns-in_err-words-in-Ok-clause-err : goal.returns-in_err-words-in-Ok-clause-err
@@ -27,7 +27,7 @@ returns-in_err-words-in-Ok-clause-err g c =
     let s = c.args.schedule.now in
     let old = g.W.Write.contents c.args.output.now in
     let new = g.W.Write.contents c.loop-number.output in
-    err_is c.from_residual-in_err-words-in-Ok.result Memory (λ (f : StepsFault). MovesUpTo f c.args.lines.now c.args.comments.now s old new) c.from_residual-in_err-words-in-Ok.ensures.1
+    err_is c.from_residual-in_err-words-in-Ok.result Memory (λ (f : OutputFault). MovesUpTo f c.args.lines.now c.args.comments.now s old new) c.from_residual-in_err-words-in-Ok.ensures.1
     (no_memory c.args.lines.now c.args.comments.now s c.loop-number.number c.in-Some.instr.now c.loop-number.machine old new c.loop-number.invariant c.in-Some.ensures.some)
 
 pub returns-in_err-put-in-Ok-clause-err : goal.returns-in_err-put-in-Ok-clause-err
@@ -42,7 +42,7 @@ returns-in_err-put-in-Ok-clause-err g c =
     let text = string_bytes c.perform.new.text in
     let move = subst (λ (r : Result (Unit {0}) Refusal). OnOk r (IsMove (line_at d c.loop-number.number) c.loop-number.number i c.loop-number.machine c.perform.new.machine text)) c.in-Ok.is c.in_ok-perform.ensures.paragraph in
     let with_names = c.as_slice.ensures.value ∙ c.in_ok-words-in-Ok.ensures ∙ ap (λ (b : List ℕ). named said.names b) c.as_bytes.ensures.value in
-    err_is c.from_residual-in_err-put-in-Ok.result WriteFault (λ (f : StepsFault). MovesUpTo f d said s old new) c.from_residual-in_err-put-in-Ok.ensures.1
+    err_is c.from_residual-in_err-put-in-Ok.result WriteFault (λ (f : OutputFault). MovesUpTo f d said s old new) c.from_residual-in_err-put-in-Ok.ensures.1
     (part_of_next d said s c.loop-number.number i c.loop-number.machine c.perform.new.machine old mid text c.as_slice.result.now c.loop-number.invariant c.in-Some.ensures.some move with_names new c.in_err-put-in-Ok.ensures.err)
 
 pub returns-in-Err-clause-ok : goal.returns-in-Err-clause-ok

@@ -4,7 +4,7 @@ use Rattle.ot_model.specs.declared.shown.Reader.{Reader}
 use Rattle.ot_model.specs.Table.{Performed}
 use Rattle.ot_machine.specs.Effects.{shown_by}
 use Rattle.ot_report.specs.Written.{ReadsUpTo}
-use Rattle.ot_report.specs.declared.writing.ReportFault.{ReportFault}
+use Rattle.streams.specs.declared.OutputFault.{OutputFault}
 use Rattle.ot_report.proofs.Authoring.{gathers_same}
 use Rattle.ot_report.proofs.Progress.{err_is, is_begun, is_next, is_stopped, is_whole, reads_cut}
 use Rattle.ot_report.proofs.writing.write_reads.Goals as goal
@@ -30,7 +30,7 @@ returns-in_err-gather-in-Ok-clause-err g c =
     let mid = g.W.Write.contents c.loop-place.output in
     let new = g.W.Write.contents c.gather.new.output in
     let f = c.in_err-gather-in-Ok.field-0.0 in
-    err_is c.from_residual.result f (λ (e : ReportFault). ReadsUpTo e c.args.json s old new) c.from_residual.ensures.1
+    err_is c.from_residual.result f (λ (e : OutputFault). ReadsUpTo e c.args.json s old new) c.from_residual.ensures.1
     (reads_cut c.args.json s c.loop-place.place c.in-Some.instr.now c.loop-place.machine c.perform.new.self (string_bytes c.loop-place.text) old mid c.loop-place.invariant c.in-Some.ensures.some
     (option_map (shown_by c.perform.new.self) c.in-Ok.effect.shown) f new (c.in-Ok.ensures.effect.led ∙ ap (λ (who : Option Reader). Performed c.perform.new.self (option_map (shown_by c.perform.new.self) who)) (sym c.in-Ok.ensures.effect.shown)) c.in_err-gather-in-Ok.ensures.err)
 

@@ -5,8 +5,8 @@ use Rattle.ot_model.specs.declared.shown.Refusal.{Refusal}
 use Rattle.ot_machine.specs.Answers.{IsRefusal}
 use Rattle.ot_steps.specs.Gathered.{Gathers, GathersUpTo, MovesUpTo}
 use Rattle.ot_steps.specs.Written.{IsMove}
-use Rattle.ot_steps.specs.declared.writing.StepsFault.{StepsFault}
-use Rattle.ot_steps.specs.declared.writing.StepsFault.TheVariants.{Memory}
+use Rattle.streams.specs.declared.OutputFault.{OutputFault}
+use Rattle.streams.specs.declared.OutputFault.TheVariants.{Memory}
 use Rattle.ot_steps.proofs.Progress.{err_is, is_begun, is_next, is_stopped, is_whole, no_memory, not_next}
 use Rattle.ot_steps.proofs.writing.gather_moves.Goals as goal
 
@@ -21,7 +21,7 @@ returns-in_err-perform_and_write-clause-err g c =
     let new = g.W.Write.contents c.loop-place.output in
     let held = c.args.held.now.items in
     let before = c.loop-place.held.items in
-    err_is c.from_residual.result Memory (λ (f : StepsFault). MovesUpTo f d s old new held before) c.from_residual.ensures.1
+    err_is c.from_residual.result Memory (λ (f : OutputFault). MovesUpTo f d s old new held before) c.from_residual.ensures.1
     (no_memory d s c.loop-place.place c.in-Some.instr.now c.loop-place.machine old new held before c.loop-place.invariant c.in-Some.ensures.some)
 
 pub returns-in_err-gather-in-Ok-clause-err : goal.returns-in_err-gather-in-Ok-clause-err
@@ -39,7 +39,7 @@ returns-in_err-gather-in-Ok-clause-err g c =
     let text = string_bytes c.perform_and_write.new.text in
     let move = subst (λ (r : Result (Unit {0}) Refusal). OnOk r (IsMove d (c.loop-place.place + 1) i c.loop-place.machine c.perform_and_write.new.machine text)) c.in-Ok.is c.in_ok-perform_and_write.ensures.line in
     let given = subst (λ (bytes : List ℕ). GathersUpTo f mid new before after bytes) c.as_str.ensures.value c.in_err-gather-in-Ok.ensures.err in
-    err_is c.from_residual-in_err-gather-in-Ok.result f (λ (e : StepsFault). MovesUpTo e d s old new held after) c.from_residual-in_err-gather-in-Ok.ensures.1
+    err_is c.from_residual-in_err-gather-in-Ok.result f (λ (e : OutputFault). MovesUpTo e d s old new held after) c.from_residual-in_err-gather-in-Ok.ensures.1
     (not_next d s c.loop-place.place i c.loop-place.machine c.perform_and_write.new.machine old mid held before text c.loop-place.invariant c.in-Some.ensures.some move f new after given)
 
 pub returns-in-Err-clause-ok : goal.returns-in-Err-clause-ok

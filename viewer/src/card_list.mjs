@@ -7,7 +7,7 @@ import { SERVER } from "../../common/fold.mjs";
 import { caretBox, putSelection, selectionNow } from "./selection.mjs";
 import { built, sameTrees, tree } from "./tree.mjs";
 
-export class Deck {
+export class CardList {
   #shown = new Map(); // each participant's card, and of what it is made
   #order = "";
   #scrolled = new Map(); // how far each document is scrolled: asked of all of them it would be slow

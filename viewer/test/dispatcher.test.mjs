@@ -3,7 +3,7 @@
 import assert from "node:assert/strict";
 import { test } from "node:test";
 import { faultOf } from "../src/bench.mjs";
-import { equalFront } from "../src/desk.mjs";
+import { equalFront } from "../src/dispatcher.mjs";
 import { fold } from "../../common/fold.mjs";
 import { followLines } from "../src/follow.mjs";
 import { DirectEngine, skip } from "./engines.mjs";

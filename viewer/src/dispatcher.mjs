@@ -28,7 +28,7 @@ function countLines(bytes, to) {
 }
 
 /** Answers jobs, one after the other. */
-export class Desk {
+export class Dispatcher {
   /** @param {Serve} serve */
   constructor(serve) {
     this.serve = serve;

@@ -18,7 +18,7 @@ const BURST = 1000;
 
 const spaced = (count) => String(count).replace(/\B(?=(\d{3})+$)/g, ",");
 
-export class Sheet {
+export class TextPane {
   #lines = [""];
   #of = ""; // the text that the lines are of
   #part = { from: 0, to: 1 }; // the lines that the field has

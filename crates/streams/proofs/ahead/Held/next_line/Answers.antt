@@ -1,6 +1,6 @@
 use Rattle.std.proofs.Common.{◌≡◌, ◌<◌, ◌++◌, ◌∷◌, length, length-append, rules, ap, sym, append-nil, arith}
 use Rattle.streams.proofs.Ends.{begun, kept, longer, full_line, last_line, no_line, spends_piece, spends_line, lost, handed_on}
-use Rattle.streams.proofs.ahead.ReadAhead.next_line.Goals as goal
+use Rattle.streams.proofs.ahead.Held.next_line.Goals as goal
 
 pub loop-self-init : goal.loop-self-init
 loop-self-init g c = rw c.clear.ensures.items (record { piece = begun _; count = omega arith })
@@ -21,12 +21,12 @@ pub returns-then-branch-2-clause-spent : goal.returns-then-branch-2-clause-spent
 returns-then-branch-2-clause-spent g c =
     let p = rw c.if-branch-2.true at c.in_ok-take_piece.ensures.piece in
     spends_line _ _ _ _ _ p.0 _ _ (kept _ _ _ _ c.loop-self.invariant.piece c.has_more.ensures.kept) p.3
-    (omega (arith, c.loop-self.invariant.count, c.has_more.ensures.may_take, ap length p.3, length-append p.0 (10 ∷ c.take_piece.new.self.held), length-append c.loop-self.line.items p.0))
+    (omega (arith, c.loop-self.invariant.count, c.has_more.ensures.may_take, c.take_piece.ensures.left, ap length p.3, length-append p.0 (10 ∷ c.take_piece.new.self.held), length-append c.loop-self.line.items p.0))
 
 pub returns-then-branch-2-clause-less : goal.returns-then-branch-2-clause-less
 returns-then-branch-2-clause-less g c more =
     let p = rw c.if-branch-2.true at c.in_ok-take_piece.ensures.piece in
-    omega (arith, c.loop-self.invariant.count, c.has_more.ensures.may_take, ap length p.3, length-append p.0 (10 ∷ c.take_piece.new.self.held))
+    omega (arith, c.loop-self.invariant.count, c.has_more.ensures.may_take, c.take_piece.ensures.left, ap length p.3, length-append p.0 (10 ∷ c.take_piece.new.self.held))
 
 pub loop-self-preserved : goal.loop-self-preserved
 loop-self-preserved g c =
@@ -35,7 +35,7 @@ loop-self-preserved g c =
     let all : held ≡ held ++ c.take_piece.new.self.held = rw p.2 (sym (append-nil held)) in
     rw p.1 (record {
       piece = longer _ _ _ _ _ _ (kept _ _ _ _ c.loop-self.invariant.piece c.has_more.ensures.kept) p.0 all;
-      count = omega (arith, c.loop-self.invariant.count, c.has_more.ensures.may_take, ap length p.2, length-append c.loop-self.line.items c.has_more.new.self.held);
+      count = omega (arith, c.loop-self.invariant.count, c.has_more.ensures.may_take, c.take_piece.ensures.left, ap length p.2, length-append c.loop-self.line.items c.has_more.new.self.held);
     })
 
 pub returns-then-is_empty-clause-ok : goal.returns-then-is_empty-clause-ok
