@@ -8,11 +8,14 @@
 
 import { setImmediate, setTimeout as pause } from "node:timers/promises";
 import { answersOf, partOf } from "./many.mjs";
+import { behind } from "./timer.mjs";
 import { UnderWay } from "./underway.mjs";
 import { verdictOf } from "./verdict.mjs";
 
 const TOGETHER = 20; // milliseconds that a session waits to be compared with others
 const MOST_MORE = 4; // times that a driver which gets no processor has as long again
+const LOOKS = 5; // how often it is looked at: one that would run may wait for something just then
+const LOOK = 50; // milliseconds between two looks
 
 const seconds = (milliseconds) => Number((milliseconds / 1000).toPrecision(3));
 
@@ -123,12 +126,14 @@ export class Judge {
     const end = new AbortController();
     let at = 0;
     const onInstruction = (its) => this.onInstruction((at = its));
-    let [timer, more] = [null, 0];
+    let [timer, more, looks] = [null, 0, 0];
     const onTime = () => {
-      if (more++ < MOST_MORE && driver.isStarved?.(limit)) timer = setTimeout(onTime, limit);
-      else end.abort(`took more than ${seconds(more * limit)} s`);
+      const mayHaveMore = more < MOST_MORE && driver.isStarved !== undefined;
+      if (mayHaveMore && driver.isStarved(limit)) [timer, more, looks] = [behind(limit, onTime), more + 1, 0];
+      else if (mayHaveMore && ++looks < LOOKS) timer = behind(LOOK, onTime);
+      else end.abort(`took more than ${seconds((more + 1) * limit)} s`);
     };
-    timer = setTimeout(onTime, limit);
+    timer = behind(limit, onTime);
     const drop = () => end.abort(new Dropped());
     for (const signal of [dropped, this.signal]) signal?.addEventListener("abort", drop);
     const ended = new Promise((_, reject) => end.signal.addEventListener("abort", () => reject(end.signal.reason)));
@@ -141,7 +146,7 @@ export class Judge {
       if (!end.signal.aborted) return { lines: [], thrown: { value }, isThrown: true };
       return end.signal.reason instanceof Dropped ? null : { lines: [], late: at };
     } finally {
-      clearTimeout(timer);
+      timer.stop();
       for (const signal of [dropped, this.signal]) signal?.removeEventListener("abort", drop);
       this.signal?.throwIfAborted();
     }

@@ -6,6 +6,7 @@
 import { spawn } from "node:child_process";
 import { processorOf, timeOf } from "./processor.mjs";
 import { telling } from "./telling.mjs";
+import { behind } from "./timer.mjs";
 
 const MARK = "%%\n"; // ends a session where a process is given several
 const MARKED = /(?:^|\n)%%\r?\n$/; // and ends what it prints of one
@@ -151,10 +152,10 @@ export function keptFor(command, mostBytes) {
     isStarved: (milliseconds) => run?.isStarved(milliseconds) === true,
     async close(seconds) {
       if (run === null || run.isOver) return null;
-      const timer = setTimeout(() => run.end(`took more than ${seconds} s`), 1000 * seconds);
+      const timer = behind(1000 * seconds, () => run.end(`took more than ${seconds} s`));
       run.child.stdin.end();
       const how = await run.over;
-      clearTimeout(timer);
+      timer.stop();
       return how && `the driver ${how} behind its last session`;
     },
   };

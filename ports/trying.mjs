@@ -11,6 +11,7 @@ import { caseOf, reducedMeanwhile } from "./reducing.mjs";
 import { failureError, hungCase, leftCase } from "./report.mjs";
 import { valuesOf } from "../common/schedule.mjs";
 import { untriedLines } from "./small.mjs";
+import { behind } from "./timer.mjs";
 import { kindOf } from "./verdict.mjs";
 
 /**
@@ -111,8 +112,8 @@ class Run {
     const { judge } = this;
     if (this.options.all || !judge.isProcess || judge.isKept || this.secondsToReduce() === 0) return;
     let timer = null;
-    const soon = new Promise((resolve) => (timer = setTimeout(resolve, judge.pace.suspect(sessions.at(-1).length), "hangs")));
-    const first = await Promise.race([under, soon]).finally(() => clearTimeout(timer));
+    const soon = new Promise((resolve) => (timer = behind(judge.pace.suspect(sessions.at(-1).length), () => resolve("hangs"))));
+    const first = await Promise.race([under, soon]).finally(() => timer.stop());
     if (first !== "hangs") return;
     const small = await reducedMeanwhile(judge, sessions, under, { seconds: this.secondsToReduce(), isLike: (it) => !this.isKnown(it) });
     if (small) this.smaller.set(sessions.at(-1), small);

@@ -11,6 +11,7 @@ import { Worker } from "node:worker_threads";
 import { OtbenchError } from "../npm/errors.mjs";
 import { hangOf, limitOf } from "./conforming.mjs";
 import { crowd } from "./pace.mjs";
+import { behind } from "./timer.mjs";
 
 const INSIDE = new URL("./watched.mjs", import.meta.url);
 const BEGIN = 30_000; // milliseconds in which the first session begins, and more on a busy machine
@@ -75,11 +76,11 @@ export async function triedInWorker(module, options, { begin = BEGIN } = {}) {
       let under = "its module"; // or the session under way
       const clock = (name, schedule) => {
         under = name;
-        clearTimeout(timer);
-        timer = setTimeout(() => reject(failed ?? hangOf(name, schedule, Atomics.load(at, 0), {}, options)), limitOf(schedule, options) + SLACK);
+        timer.stop();
+        timer = behind(limitOf(schedule, options) + SLACK, () => reject(failed ?? hangOf(name, schedule, Atomics.load(at, 0), {}, options)));
       };
       const most = begin * crowd();
-      timer = setTimeout(() => reject(unbegun(module, most)), most);
+      timer = behind(most, () => reject(unbegun(module, most)));
       stop = () => reject(signal.reason);
       signal?.addEventListener("abort", stop);
       worker.on("message", ({ session, done, line, failure, error, result }) => {
@@ -89,7 +90,7 @@ export async function triedInWorker(module, options, { begin = BEGIN } = {}) {
         else if (failure) failed = errorOf(failure);
         else if (error) {
           isTold = true;
-          clearTimeout(timer);
+          timer.stop();
           withAlone(module, errorOf(error), options).then(reject, reject);
         }
         else resolve(result);
@@ -98,7 +99,7 @@ export async function triedInWorker(module, options, { begin = BEGIN } = {}) {
       worker.on("exit", (status) => isTold || reject(failed ?? new Error(`the port has ended the worker, with status ${status} in ${under}`)));
     });
   } finally {
-    clearTimeout(timer);
+    timer?.stop();
     signal?.removeEventListener("abort", stop);
     await worker.terminate();
   }

@@ -6,6 +6,7 @@ import { setTimeout as pause } from "node:timers/promises";
 import { Judge } from "../../ports/judging.mjs";
 import { conform, conformMany, steps } from "../otbench.mjs";
 import { steadyPace } from "../../ports/pace.mjs";
+import { eachInOne } from "../../ports/processes.mjs";
 
 const schedule = (text) => `clients 1\nedit 0 [${JSON.stringify(text)}]\ntake 0\nack 0\nread 0\nread-server\n`;
 const right = (text) => steps(schedule(text), { documents: true });
@@ -78,6 +79,17 @@ test("a driver that gets no processor has more time, but not without end", async
     return new Judge({ newDriver: () => ({ isProcess: true, performed: [], perform, isStarved, close: async () => null }), jobs: 1, isKept: false, pace: steadyPace(0.1, () => 1), bench });
   };
   assert.equal((await judgeWith(() => true, 250).judge([schedule("a")])).fails, false);
+  let looks = 0;
+  assert.equal((await judgeWith(() => ++looks % 2 === 0, 450).judge([schedule("a")])).fails, false, "at every other look it waits for something");
   assert.equal((await judgeWith(() => true, 60_000).judge([schedule("a")])).trouble, "the driver was ended: it took more than 0.5 s");
   assert.equal((await judgeWith(() => false, 60_000).judge([schedule("a")])).trouble, "the driver was ended: it took more than 0.1 s");
+});
+
+test("a driver that answered while this process stood still has answered in time", async () => {
+  const said = steps(schedule("a"), { documents: true }).map((line) => JSON.stringify(line)).join("\n");
+  const newDriver = () => eachInOne(["sh", "-c", 'cat >/dev/null; echo "$1"', "sh", said], 1_000_000);
+  const judge = new Judge({ newDriver, jobs: 1, isKept: false, pace: steadyPace(0.5, () => 1), bench });
+  const verdict = judge.judge([schedule("a")]);
+  setTimeout(() => Atomics.wait(new Int32Array(new SharedArrayBuffer(4)), 0, 0, 3000));
+  assert.equal((await verdict).trouble, undefined);
 });

@@ -55,11 +55,12 @@ function story() {
 test("the commands of its README print what stands there", () => {
   const commands = story();
   assert.ok(commands.length >= 7);
-  const script = commands.map(({ command }) => `${command}\necho "[$?]"\n`).join("");
+  const whole = path.join(project, "whole.txt"); // what `grep` leaves out
+  const script = commands.map(({ command }) => `${command.replace(/\| grep /, `| tee '${whole}' $&`)}\necho "[$?]"\n`).join("");
   const { stdout, stderr } = run("sh", "-c", script);
   const expected = commands.map(({ command, printed }) => `${printed}[${/^npx otbench conform/.test(command) ? 1 : 0}]\n`).join("");
   const anyCorpus = (text) => text.replace(/^corpus: \d+/m, "corpus: N");
-  assert.equal(anyCorpus(stdout), anyCorpus(expected), stderr);
+  assert.equal(anyCorpus(stdout), anyCorpus(expected), stderr + fs.readFileSync(whole, "utf8"));
   assert.equal(stderr, "otbench: place 7 is behind line 11, instruction 6: deliver 0\notbench: what ot.js does there, in words: otbench explain session.ots\n");
   const page = fs.readFileSync(path.join(project, "session.html"), "utf8");
   assert.ok(page.startsWith("<!") && page.includes('"buffer":["a",-1,1]') && page.includes("AwaitingWithBuffer.applyServer"));

@@ -32,6 +32,15 @@ function again(report) {
 /* A driver in sh: `text` has the schedule, `says` prints the lines of ot.js. */
 const sh = (script) => ["sh", "-c", `says() { printf '%s' "$text" | '${process.execPath}' '${CLI}' steps --documents; }; text=$(cat; echo); ${script}`];
 
+/* Whether a process runs that has this number, where the system tells it. One that has ended has no words. */
+function runs(id) {
+  try {
+    return fs.readFileSync(`/proc/${id}/cmdline`, "utf8") !== "";
+  } catch {
+    return false;
+  }
+}
+
 /* A file with this text. */
 function file(name, text) {
   const made = path.join(folder, name);
@@ -63,7 +72,7 @@ test("the sessions are those of `conforms`: the corpus, and then at random", () 
 test("a port that differs is reduced, the schedule is saved, and the words that are given try it again", () => {
   const saved = path.join(folder, "smaller one.ots");
   const driver = [...SAMPLE, "--bug", "compose-insert-delete-longer"];
-  const { status, stdout } = port(["--utf16", "--reduce-seconds", "60", "--save-to", saved], driver);
+  const { status, stdout } = port(["--utf16", "--reduce-seconds", "600", "--save-to", saved], driver);
   assert.equal(status, 1);
   assert.match(stdout, /^fails: [a-z-]+: \d+ instructions, here reduced to 3\n\nclients 1\n/);
   assert.match(stdout, /\ndiffers at 3: edit 0: client 0 buffer\n[^]*\nplace 3 is behind line \d+, instruction 2: edit 0\n/);
@@ -94,16 +103,17 @@ test("how a driver ends, with the line of its standard error that says why", () 
 });
 
 test("a port that hangs is reduced while it does, and what it has started is ended with it", () => {
-  const mark = path.join(folder, "still there");
-  const driver = sh(`case $text in *join*) (sleep 100; echo yes >'${mark}') & sleep 300;; *) says;; esac`);
+  const started = path.join(folder, "started");
+  const driver = sh(`case $text in *join*) sh -c 'echo $$ >>"$0"; exec sleep 1000' '${started}' & sleep 1000;; *) says;; esac`);
   const began = performance.now();
-  const { status, stdout } = port([...own(READS, JOINS, TAKES), "--seconds", "4", "--reduce-seconds", "20"], driver);
-  assert.ok(performance.now() - began < 200_000);
+  const { status, stdout } = port([...own(READS, JOINS, TAKES), "--seconds", "4", "--reduce-seconds", "600"], driver);
+  assert.ok(performance.now() - began < 900_000);
   assert.equal(status, 1);
   assert.match(stdout, /^fails: .*joins\.ots: 3 instructions, here reduced to 1\n\nclients 1\npresent 0\njoin 0\n\nthe driver was ended: it took more than [\d.]+ s\n/);
   assert.match(stdout, /\nas it was found the driver was ended: it took more than [\d.]+ s; a smaller session has less time, and --seconds gives more\n/);
   assert.match(stdout, /\nlines that the driver had not flushed when it was ended are not seen: it may have come further\n/);
-  assert.ok(!fs.existsSync(mark));
+  const ids = fs.readFileSync(started, "utf8").trim().split("\n");
+  assert.deepEqual(ids.filter(runs), []);
 });
 
 test("a port that is slow once is told as one", () => {
@@ -187,7 +197,7 @@ test("a kept driver that reads to the end of its input is told what it has to do
 test("state that leaks from one session to the next, and the words that are given show it again", () => {
   const sessions = own(stored("join-an-empty-log"), stored("transform-tie"));
   const saved = path.join(folder, "leaks.ots");
-  const kept = port([...sessions, "--jobs", "1", "--reduce-seconds", "20", "--utf16", "--keep-driver", "--save-to", saved], [...SAMPLE, "--keep", "--bug", "log-shared"]);
+  const kept = port([...sessions, "--jobs", "1", "--reduce-seconds", "600", "--utf16", "--keep-driver", "--save-to", saved], [...SAMPLE, "--keep", "--bug", "log-shared"]);
   assert.equal(kept.status, 1, kept.stderr);
   assert.match(kept.stdout, /^fails: .*transform-tie\.ots: \d+ instructions, here reduced to \d+; the last of 2 in one process\n\nclients \d\n(.*\n)*take \d\n(.*\n)*%%\nclients \d\n(.*\n)*differs at /);
   const [, line, words] = /\nplace \d+ is (?:behind|before) line (\d+), instruction \d+: (.*)\n/.exec(kept.stdout);
@@ -220,7 +230,7 @@ const DRIVER = sh("case $text in *join*) echo wrong;; *take*) says; exit 7;; *) 
 
 test("--all: of each kind the shortest is reduced", () => {
   const longer = file("longer.ots", "clients 2\npresent 0\njoin 0\njoin 1\nread 0\nread-server\n");
-  const { status, stdout } = port([...own(longer, JOINS, READS, TAKES), "--all", "--reduce-seconds", "20"], DRIVER);
+  const { status, stdout } = port([...own(longer, JOINS, READS, TAKES), "--all", "--reduce-seconds", "600"], DRIVER);
   assert.equal(status, 1);
   assert.match(stdout, /^of one's own: 1 of 4 sessions conform\n\njoin: line: 2 sessions; the shortest\n.*joins\.ots: 3 instructions, here reduced to 1\n\nclients 1\npresent 0\njoin 0\n\ndiffers at 1: join 0: line\n/);
   assert.match(stdout, /\n\ndriver: ended with status 7: 1 session; the shortest\n.*takes\.ots: 3 instructions, here reduced to 2\n\nclients 1\nedit 0 \[\]\ntake 0\n\nthe driver ended with status 7\n/);
@@ -294,7 +304,7 @@ test("a port that counts units without the word is told of it", () => {
 
 test("names of a recording stand in what is said of it", () => {
   const named = file("named.ots", `; client 0 is ann\n; client 1 is ben\n${fs.readFileSync(`${TOP}examples/weak-order.ots`, "utf8")}`);
-  const { stdout } = port(["--utf16", ...own(named), "--reduce-seconds", "30"], [...SAMPLE, "--bug", "buffer-kept"]);
+  const { stdout } = port(["--utf16", ...own(named), "--reduce-seconds", "600"], [...SAMPLE, "--bug", "buffer-kept"]);
   assert.match(stdout, /\n; client 0 is ann\n(.*\n)*clients 2\n(.*\n)*differs at \d+: deliver 0: client 0 \(ann\) buffer\n/);
 });
 
