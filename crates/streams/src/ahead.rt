@@ -1,6 +1,6 @@
 //! Bytes that were read ahead, and the lines that they begin.
 
-ghost use Rattle.std.specs.Prelude.{◌≡◌, ◌↔◌, ◌<◌, ◌≤◌, ◌^◌, [], true, false, length, Some, IfOk, OnOk, OnErr, IsErrOf};
+ghost use Rattle.std.specs.Prelude.{◌≡◌, ◌↔◌, ◌<◌, ◌≤◌, ◌+◌, ◌^◌, [], true, false, length, Some, IfOk, OnOk, OnErr, IsErrOf};
 ghost use Rattle.std.specs.Io.KnownBytes.{Keeps, IsAtEnd};
 ghost use Rattle.streams.specs.Taken.{may_take, before, TakesPiece, TakesLine, Spends, LosesPiece};
 
@@ -31,7 +31,7 @@ impl From<AllocError> for LineFault {
     }
 }
 
-/// Bytes that were read and not yet taken, and how many more are read. Contracts see the bytes as a list.
+/// Bytes that were read and not yet taken, and how many more may be read, at most 2^50 with those. Contracts see the bytes as a list.
 #[derive(Debug, Drop)]
 pub(crate) struct Held {
     bytes: [u8; 4096],
@@ -65,6 +65,7 @@ impl Held {
         }
     }
 
+    /// Whether no byte is held.
     pub(crate) fn is_empty(&self) -> bool
         ensures { result ≡ true ↔ self.now.held ≡ [] }
     {
@@ -136,10 +137,12 @@ impl Held {
     ) -> Result<bool, LineFault>
         ensures ok { IfOk result (λ more. TakesLine (before self.old (R.remaining reader.old)) (before self.new (R.remaining reader.new)) more line.new.items) }
         ensures less { IfOk result (λ more. more ≡ true → may_take self.new < may_take self.old) }
+        ensures taken { OnOk result (may_take self.new + length line.new.items ≤ may_take self.old) }
         ensures spent { OnOk result (Spends (may_take self.old) (may_take self.new) (before self.old (R.remaining reader.old)) (before self.new (R.remaining reader.new))) }
         ensures end { IfOk result (λ more. more ≡ false → IsAtEnd (before self.new (R.remaining reader.new)) × (0 < may_take self.new)) }
         ensures most { may_take self.old ≤ 2 ^ 50 }
         ensures err { OnErr result (LosesPiece (before self.old (R.remaining reader.old)) (before self.new (R.remaining reader.new))) }
+        ensures err_left { OnErr result (may_take self.new ≤ may_take self.old) }
     {
         // For the proof: the invariant of every reader.
         let _ = &self.bytes;

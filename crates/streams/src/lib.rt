@@ -64,7 +64,7 @@ pub struct WriteFault;
 /// Why not all of an output is written.
 #[derive(Clone, Copy, Debug, PartialEq, Eq)]
 pub enum OutputFault {
-    /// No memory was found for what was to be written.
+    /// No memory was found for the run, or for what was to be written.
     Memory,
     /// A write failed, or took no byte.
     WriteFault,
@@ -140,7 +140,7 @@ pub trait Sink: Write {
 
 /// A reader that reports whether it has failed.
 pub trait Source: Read {
-    // Whether a read has failed by now, or there were more bytes than are read: 2^30 whole, 2^50 line by line.
+    // Whether a read by `read_whole` or `next_line` has failed by now, or there were more bytes than are read: 2^30 whole, 2^50 line by line.
     ghost failed: { Self → Bool };
 
     // How many bytes may yet be taken line by line.
@@ -154,15 +154,19 @@ pub trait Source: Read {
         ensures err { OnErr result (Loses (Self.remaining self.old) (Self.remaining self.new)) }
         ensures cause { IfErr result (λ f. f ≡ IsRead → failed self.new ≡ true) };
 
-    /// Takes the next line, without its LF, and says whether there is one. An empty last piece is none.
-    /// After a fault some bytes of the line are lost, and no byte behind it.
+    /// Takes the next line, without its LF, in place of what `line` holds, and says whether there is one. An empty last piece is none. Errors:
+    /// `ReadFault` where a read failed, or 2^50 bytes were read; `Memory` where no memory was found for the line. After one some bytes of the line are
+    /// lost, and no byte behind it; what `line` holds is not specified.
     fn next_line(&mut self, line: &mut Vec<u8>) -> Result<bool, LineFault>
         ensures ok { IfOk result (λ more. TakesLine (Self.remaining self.old) (Self.remaining self.new) more line.new.items) }
         ensures less { IfOk result (λ more. more ≡ true → left self.new < left self.old) }
+        ensures taken { OnOk result (left self.new + length line.new.items ≤ left self.old) }
         ensures spent { OnOk result (Spends (left self.old) (left self.new) (Self.remaining self.old) (Self.remaining self.new)) }
         ensures end { IfOk result (λ more. more ≡ false → IsAtEnd (Self.remaining self.new) × (0 < left self.new)) }
         ensures most { left self.old ≤ 2 ^ 50 }
         ensures err { OnErr result (LosesPiece (Self.remaining self.old) (Self.remaining self.new)) }
+        ensures err_left { OnErr result (left self.new ≤ left self.old) }
+        ensures same { OnOk result (failed self.new ≡ failed self.old) }
         ensures cause { IsErrOf result LineFault.ReadFault → failed self.new ≡ true };
 
     /// How many bytes may yet be taken line by line: those that were read ahead and those that may yet be read.
