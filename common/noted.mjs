@@ -33,14 +33,26 @@ function readNote(line) {
 
 const lineOf = ({ at, who, word, document }) => JSON.stringify(who === SERVER ? { at, do: word, document } : { at, client: who, document });
 
+const read = new WeakMap(); // a port's lines are looked at again with each place that is shown
+
+/* A port's lines as notes; null where one is none. */
+function readNotes(port) {
+  if (port === null || port.length === 0) return null;
+  if (!read.has(port)) {
+    const other = port.findIndex((line) => readNote(line) === null);
+    read.set(port, other < 0 ? port.map(readNote) : null);
+  }
+  return read.get(port);
+}
+
 /** Whether all lines of a port are notes. */
-export const areNotes = (port) => port !== null && port.length > 0 && port.every((line) => readNote(line) !== null);
+export const areNotes = (port) => readNotes(port) !== null;
 
 /** Whether something can be noted: a port's own lines are left as they are. */
 export const canNote = (port) => port === null || areNotes(port);
 
 /** The notes of a port's lines; none where they are others. @returns {Note[]} */
-export const notesIn = (port) => (areNotes(port) ? port.map(readNote) : []);
+export const notesIn = (port) => readNotes(port) ?? [];
 
 /** The place that a note of a participant stands at: that at which its document last changed, else that of a read; 0 where it has none. */
 export function notedPlace(session, who, place) {

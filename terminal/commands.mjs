@@ -7,10 +7,40 @@ const ANY = Infinity;
 /** A command that cannot be performed, and why. */
 export class Complaint extends Error {}
 
-const WORD = /"(?:[^"\\]|\\.)*"|\[(?:"(?:[^"\\]|\\.)*"|[^"\]\s])*\](?!\S)|\S+/g;
+/** The most characters of a line. */
+export const MOST = 1_000_000;
+
+const BLANK = /\s/;
+
+/** Where the JSON string ends that begins at a place of a line; that is the line's end where it is not closed. */
+function endOfString(line, from) {
+  for (let at = from + 1; at < line.length; at++) {
+    if (line[at] === "\\") at++;
+    else if (line[at] === '"') return at + 1;
+  }
+  return Infinity;
+}
+
+/** Where the word ends that begins at a place of a line. */
+function endOfWord(line, from) {
+  const end = line[from] === '"' ? endOfString(line, from) : Infinity;
+  if (end < Infinity) return end;
+  let at = from;
+  while (at < line.length && !BLANK.test(line[at])) at = line[from] === "[" && line[at] === '"' ? endOfString(line, at) : at + 1;
+  return Math.min(at, line.length);
+}
 
 /** The words of a line; a JSON string is one, and so is an operation without blanks between its components. @param {string} line @returns {string[]} */
-export const wordsIn = (line) => line.match(WORD) ?? [];
+export function wordsIn(line) {
+  if (line.length > MOST) throw new Complaint(`the line has more than ${MOST.toLocaleString("en")} characters`);
+  const words = [];
+  for (let at = 0; at < line.length; ) {
+    const end = BLANK.test(line[at]) ? at + 1 : endOfWord(line, at);
+    if (!BLANK.test(line[at])) words.push(line.slice(at, end));
+    at = end;
+  }
+  return words;
+}
 
 /** @type {Record<string, { takes: string, most: number, does: string }>} */
 export const COMMANDS = {

@@ -3,7 +3,7 @@
 import { SERVER } from "../common/fold.mjs";
 import { documentAt } from "../common/places.mjs";
 import { authorsOf, differenceOf, hasDocument, whoIs } from "./authors.mjs";
-import { COMMANDS, commandOf, Complaint, helpOf, takenBy, wordsIn } from "./commands.mjs";
+import { COMMANDS, commandOf, Complaint, helpOf, MOST, takenBy, wordsIn } from "./commands.mjs";
 import { MADE, makingOf } from "./making.mjs";
 import { INSTRUCTIONS, matching } from "./matching.mjs";
 import { named } from "./names.mjs";
@@ -132,7 +132,7 @@ export class Debugger {
       const { most } = COMMANDS[name];
       if (given.length > most) throw new Complaint(`${given[most]} is a word too many`);
       const answer = this[`_${name}`](given);
-      if (this.place !== before && name !== "undo") this.jumps.push(before);
+      if (this.place !== before && !["undo", "source"].includes(name)) this.jumps.push(before); // the moves of a file are its lines'
       const said = this.place === before ? answer : [...answer, ...this.stops.displayed(this.place)];
       return WHOLE.includes(name) ? said : said.map(shortLine);
     } catch (complaint) {
@@ -349,7 +349,7 @@ export class Debugger {
   }
 
   _info([word = "breaks", client]) {
-    const what = ["breaks", ...MADE].find((name) => name.startsWith(word));
+    const what = (client === undefined ? ["breaks", ...MADE] : [...MADE, "breaks"]).find((name) => name.startsWith(word));
     if (what === undefined) throw new Complaint(`${word} is not known`);
     if (what !== "breaks") return makingOf(this.recording, what, clientOf(client, this.recording.clients), this.place);
     if (client !== undefined) throw new Complaint(`${client} is a word too many`);
@@ -561,6 +561,8 @@ export class Debugger {
     if (file === undefined) throw new Complaint("a file is missing");
     if (this.isSourcing) throw new Complaint("a file of commands sources no other");
     const lines = this.#files().read(file).split("\n");
+    const long = lines.findIndex(({ length }) => length > MOST);
+    if (long >= 0) throw new Complaint(`${file}, line ${long + 1}: the line has more than ${MOST.toLocaleString("en")} characters`);
     this.isSourcing = true;
     try {
       return this.#performAll(file, lines);

@@ -1,15 +1,15 @@
 // The files of the debugger's commands, under node.
 
-import { readFileSync, writeFileSync } from "node:fs";
+import { writeFileSync } from "node:fs";
 import { dirname } from "node:path";
-import { reasonOf } from "../command/files.mjs";
+import { readFile, reasonOf, Unreadable } from "../command/files.mjs";
 import { Complaint } from "./commands.mjs";
 
 function read(file) {
   try {
-    return readFileSync(file, "utf8");
+    return readFile(file, ["commands"]).toString();
   } catch (fault) {
-    throw fault.code ? new Complaint(reasonOf(file, fault)) : fault;
+    throw fault instanceof Unreadable ? new Complaint(fault.message) : fault;
   }
 }
 

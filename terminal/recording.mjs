@@ -167,7 +167,7 @@ export class Recording {
     const line = this.port.valuesIn(place);
     const value = line?.[key];
     const said = OF_ALL.has(key) ? [] : this.ask(conformCall(true), besides(this.scheduleUpTo(place), `${JSON.stringify({ at: place, [key]: value })}\n`)).output.split("\n").slice(0, -1);
-    if (said[0]?.startsWith("differs at ")) return said;
+    if (said[0]?.startsWith(`differs at ${place}: `) && !said[0].endsWith(": line")) return said; // a line with half of a surrogate pair is no JSON to it
     return this.differingShort(place, key);
   }
 

@@ -1,12 +1,12 @@
 // The debugger's answers, over the native program that OTBENCH names, or the repository's. The values are worked by hand from examples/weak-order.ots.
 
 import assert from "node:assert/strict";
-import { mkdtempSync, readFileSync, rmSync, writeFileSync } from "node:fs";
+import { existsSync, mkdtempSync, readFileSync, rmSync, writeFileSync } from "node:fs";
 import { tmpdir } from "node:os";
 import path from "node:path";
 import test from "node:test";
 import { colouring } from "../colours.mjs";
-import { COMMANDS, commandOf } from "../commands.mjs";
+import { COMMANDS, commandOf, wordsIn } from "../commands.mjs";
 import { conditionOf, holdingOf } from "../conditions.mjs";
 import { named, seen } from "../names.mjs";
 import { Debugger } from "../debugger.mjs";
@@ -34,6 +34,18 @@ test("first letters name a command, and an unknown word is answered with the nea
   assert.deepEqual(["c", "co", "cont", "continue", "cl", "clear"].map((word) => commandOf(word).name), ["continue", "continue", "continue", "continue", "clear", "clear"]);
   for (const word of ["foo", "bar", "rat"]) assert.equal(commandOf(word).fault, `there is no ${word}; help lists all words`);
   assert.deepEqual(nearest("x"), []);
+});
+
+test("the words of a line: a JSON string and an operation are one each; of a line of any words they are found soon", () => {
+  const rows = { ' a\t"b c"d ': ["a", '"b c"', "d"], 'edit 0 [1,"a ] b",-2] x': ["edit", "0", '[1,"a ] b",-2]', "x"], '"a\\" b" c': ['"a\\" b"', "c"], '"a b': ['"a', "b"], '[1, 2]': ["[1,", "2]"], "[1]x": ["[1]x"], '["a b': ['["a b'], "": [] };
+  for (const [line, words] of Object.entries(rows)) assert.deepEqual(wordsIn(line), words, line);
+  const began = performance.now();
+  wordsIn(`find ${'["\\" '.repeat(40_000)}`);
+  assert.ok(performance.now() - began < 10_000);
+});
+
+test("a line of too many characters is complained of", options, () => {
+  assert.deepEqual(answers([`find "${"a".repeat(20_000_000)}"`, "where"]).map((it) => it.split("\n")[0]), ["the line has more than 1,000,000 characters", 'the opening: 2 of 2 clients joined, every document is "x"']);
 });
 
 test("step and back say where they led, and stop at the ends", options, () => {
@@ -572,6 +584,34 @@ test("next and until, backwards", options, () => {
   assert.equal(forth.split("\n")[0], "behind line 8, instruction 3: edit 1");
   assert.match(take, /^before line \d+, instruction [12]: edit 0/);
   assert.equal(none, "no earlier instruction begins with take 0");
+});
+
+test("of a file that never ends, or has too long a line, nothing is performed", options, () => {
+  const folder = mkdtempSync(path.join(tmpdir(), "otbench-"));
+  try {
+    const file = path.join(folder, "commands");
+    writeFileSync(file, `step\n${"a".repeat(1_000_001)}\n`);
+    const [said, place] = answers([`source ${file}`, "where"]);
+    assert.equal(said, `${file}, line 2: the line has more than 1,000,000 characters; source FILE`);
+    assert.match(place, /^the opening: /);
+    if (existsSync("/dev/zero")) assert.match(answers(["source /dev/zero"])[0], /^\/dev\/zero: it has more than [\d,]+ bytes, which is the most of commands; source FILE$/);
+  } finally {
+    rmSync(folder, { recursive: true });
+  }
+});
+
+test("undo takes the moves of a file of commands back one by one, the last one first", options, () => {
+  const folder = mkdtempSync(path.join(tmpdir(), "otbench-"));
+  try {
+    const file = path.join(folder, "commands");
+    writeFileSync(file, "step\nbreak 9\nclear\nstep\nstep\n");
+    const session = new Debugger(new Recording(ask, WEAK), { files });
+    const places = [`source ${file}`, "undo", "undo", "undo", "undo", "undo"].map((line) => (session.perform(line), session.place));
+    assert.deepEqual(places, [3, 2, 1, 1, 0, 0]);
+    assert.deepEqual(session.perform("info"), ["1 break 9  (at 1 place, 0 of them up to here)"]);
+  } finally {
+    rmSync(folder, { recursive: true });
+  }
 });
 
 test("what is saved is there again when it is sourced; a file is not written over", options, () => {

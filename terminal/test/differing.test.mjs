@@ -58,10 +58,33 @@ test("what differs in the same way as in the line before is no further differenc
   assert.deepEqual(places('{"at":1,"document":"xa","constructor":1,"__proto__":2}\n'), ["1 document"]);
 });
 
+test("a document with half of a surrogate pair, whose line is no JSON to conform, is told at its own place", options, () => {
+  const session = open('{"at":2,"document":"\\ud83d"}\n{"at":3,"document":"\\ude00"}\n', TYPED, true);
+  assert.deepEqual(session.perform("goto 2").slice(0, 1), ["behind line 3, instruction 1: edit 0"]);
+  assert.deepEqual(session.perform("print difference"), ["differs at 2: edit 0: client 0 document", 'found "\\ud83d"', 'ot.js "ab"']);
+  assert.deepEqual(session.perform("next difference").slice(-3), ["differs at 3: edit 0: client 0 document", 'found "\\ude00"', 'ot.js "abc"']);
+});
+
 test("behind the line in which a port stopped it has no difference", options, () => {
   const { recording } = open('{"at":1}\n{"at":1,"stopped":"no"}\n{"at":1,"end":"not quiet"}\n', TYPED);
   recording.differences.upTo(recording.end);
   assert.deepEqual(recording.differences.places, [0, 2]);
+});
+
+test("next difference goes to an instruction that ot.js refuses and the port performs", options, () => {
+  const session = open('{"at":1,"revision":0}\n{"at":2,"revision":1}\n{"at":3,"document":"x"}\n', 'clients 1\nedit 0 ["a"]\ntake 0\ntake 0\nread 0\n');
+  assert.ok(session.perform("next difference").includes("differs at 2: take 0: stopped"));
+  assert.equal(session.place, 2);
+  assert.deepEqual(session.perform("next difference"), ["the port has no further difference"]);
+});
+
+test("a line that is no JSON to conform alone is a difference, forth and back", options, () => {
+  const session = open('{"at":1,"revision":0}\n{"at":2,"note":"\\ud83d"}\n{"at":3}\n{"at":4}\n', TYPED);
+  assert.ok(session.perform("next difference").includes("differs at 2: edit 0: line"));
+  assert.equal(session.place, 2);
+  session.perform("goto end");
+  assert.ok(session.perform("rnext difference").includes("differs at 2: edit 0: line"));
+  assert.equal(session.place, 1);
 });
 
 test("print difference is of the place, or says that it is the first", options, () => {
@@ -123,7 +146,7 @@ test("show and why cut two long values around the component that differs, with i
 test("of two long texts and messages it is where they part, too; what is no operation stays as it is", options, () => {
   assert.equal(beside(JSON.stringify(`${"a".repeat(100)}b`), JSON.stringify("a".repeat(101))), `.."${"a".repeat(12)}"|"b" (101 characters), ot.js .."${"a".repeat(12)}"|"a" (101 characters); from character 100`);
   const message = (operation) => JSON.stringify({ revision: 3, operation });
-  assert.match(beside(message(OTHER), message(OPERATION)), /^\[\.\.,"ab","y",-4,7\] \(61 components\) of revision 3, ot\.js .*; from component 58, offset 184$/);
+  assert.match(beside(message(OTHER), message(OPERATION)), /^\[\.\.,"ab","y",-4,7\] \(61 components\) of revision 3, ot\.js .* of revision 3; from component 58, offset 184$/);
   assert.equal(beside("none", "[1]"), "none, ot.js [1]");
   const odd = JSON.stringify({ constructor: "x".repeat(200) });
   assert.equal(beside(odd, "[1]"), `${odd}, ot.js [1]`);
@@ -157,6 +180,12 @@ test("behind the last line of a port it is said that it has none, and what it pr
   assert.deepEqual(session.perform("print port state 0"), ["awaiting-with-buffer", "  of line 11, instruction 6: deliver 0", "  the port has no line here: its lines end at place 7"]);
   session.perform("goto 7");
   assert.deepEqual(session.perform("show 0").filter((line) => line.startsWith("  port: ")), ['  port: buffer ["a",-1,1], ot.js ["a",1,-1,1]']);
+});
+
+test("a line of the end is no line of an instruction", options, () => {
+  const session = open('{"at":1,"revision":0}\n{"at":1,"end":"quiet"}\n', TYPED);
+  session.perform("goto 2");
+  assert.ok(session.perform("show 0").includes("  port: no line here; its lines end at place 1"));
 });
 
 test("an instruction's value of an earlier instruction is marked with it", options, () => {

@@ -111,8 +111,9 @@ test("what is found by the operations is what both documents of each instruction
   let all = 0;
   for (let seed = 1; seed <= 8; seed++) {
     const generated = ask(["generate", "--seed", String(seed), "--clients", "3", "--present", "2", "--instructions", "60", "--open"], "").output;
-    const wide = seed % 2 ? generated : generated.replace(/\be/, "\u{1f600}").replace('"', '"\u{1f600}');
-    const session = open(null, ask(["check"], wide).status === 0 ? wide : generated);
+    const wide = seed % 2 ? generated : generated.replace(/"(?:[^"\\]|\\.)*"/g, (text) => text.replace(/\\u.{4}|\\.|e/g, (it) => (it === "e" ? "\u{1f600}" : it)));
+    assert.equal(ask(["steps"], wide).errors, "");
+    const session = open(null, wide);
     for (const text of ["e", "a", "\u{1f600}", "ab"]) {
       const wanted = changing(session, text);
       all += wanted.length;
@@ -137,6 +138,11 @@ test("a text of characters of more than 16 bits, and one that a client has since
   const session = open(null, 'clients 2\npresent 1\nstart "\u{1f600}a"\nedit 0 [1,"b",1]\ntake 0\njoin 1\nedit 1 [1,-1,1]\n');
   const titles = ["find b", "find b", "find b", "find b"].map((line) => gone(session, line));
   assert.deepEqual(titles, [['client 0 doc: "b" nowhere -> once', 1], ['the server\'s document: "b" nowhere -> once', 2], ['client 1 doc: "b" nowhere -> once', 3], ['client 1 doc: "b" once -> nowhere', 4]]);
+});
+
+test("a start text of such characters is not cut within one", options, () => {
+  const session = open(null, 'clients 1\nstart "\u{1f600}a"\nedit 0 [1,"b",1]\nedit 0 [-1,2]\n');
+  assert.deepEqual(gone(session, "find \u{1f600}"), ['client 0 doc: "\u{1f600}" once -> nowhere', 2]);
 });
 
 test("a search that a person ends leaves the place as it was", options, () => {

@@ -10,16 +10,20 @@ import { apart, nameOfMember, orderWords, placeWords } from "./words.mjs";
 /** Of how many clients it is said that no text is compared. */
 const MOST = 3;
 
+/** How many characters of a long text are shown in front of where it differs. */
+const AROUND = 30;
+
 const capital = (words) => words[0].toUpperCase() + words.slice(1);
 
 const plural = (count, one, more) => (count === 1 ? one : more);
 
 /** Whose last text is not noted: [{ client, upTo }], the last place with a note, 0 where there is none. Those that never join have no text. */
 export function notCompared(session, port) {
-  const notes = notesIn(port);
+  const last = new Map();
+  for (const { who, at } of notesIn(port)) last.set(who, Math.max(at, last.get(who) ?? 0));
   return [...session.members.keys()]
     .filter((client) => stateAt(session, client, session.length).state !== "not-joined")
-    .map((client) => ({ client, upTo: Math.max(0, ...notes.filter(({ who }) => who === client).map(({ at }) => at)) }))
+    .map((client) => ({ client, upTo: last.get(client) ?? 0 }))
     .filter(({ client, upTo }) => upTo === 0 || upTo < notedPlace(session, client, session.length));
 }
 
@@ -52,11 +56,20 @@ export function differsWords({ at, client }, names) {
   return `${whose} differs from ot.js, first at place ${at}`;
 }
 
+/* Two texts that differ, each in at most so many characters: of long ones what stands around the first character that differs. */
+function cutApart(texts, most) {
+  const [one, other] = texts.map((text) => [...text]);
+  let at = 0;
+  while (at < one.length && one[at] === other[at]) at++;
+  const from = at < most - AROUND ? 0 : at - AROUND;
+  return [one, other].map((all) => `${from > 0 ? "…" : ""}${brief(all.slice(from).join(""), most)}`);
+}
+
 /* The same in a whole sentence, with what ot.js has and what was noted. */
 function differsSentence(session, answer, names, line) {
   const { at, client } = answer;
   const who = client ?? SERVER;
-  const [shown, wanted] = apart(answer.found, answer.otjs).map((text) => brief(text, 300));
+  const [shown, wanted] = cutApart(apart(answer.found, answer.otjs), 300);
   const last = upTo(session, who, at);
   const where = placeWords(session, at, line).replace(`place ${at}`, "");
   const noted = client === null ? `${shown} was noted` : `the editor showed ${shown}`;

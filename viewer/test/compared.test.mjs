@@ -71,6 +71,14 @@ test("so of a client with a name, at its last place, and of the server", { skip 
   assert.ok(more.every((line) => !/nothing noted/.test(line)));
 });
 
+test("of two long texts the sentence has what stands around the first character that differs", { skip }, async () => {
+  const bench = await opened(`clients 1\nstart "${"a".repeat(600)}"\nedit 0 [500,"b",100]\n`, 1);
+  note(bench, 0, `${"a".repeat(500)}c${"a".repeat(100)}`);
+  const [first] = answerLines(await toldOf(bench));
+  const [front, behind] = ["a".repeat(30), "a".repeat(100)];
+  assert.ok(first.endsWith(`: ot.js has …${front}b${behind}", and the editor showed …${front}c${behind}".`), first);
+});
+
 test("what is compared is said, and of whom nothing is; green is what was compared alone", { skip }, async () => {
   const bench = await opened(TIE, 8);
   note(bench, 0, "ba");

@@ -5,7 +5,7 @@ import { test } from "node:test";
 import { Bench } from "../src/bench.mjs";
 import { cardOf } from "../src/cards.mjs";
 import { SERVER } from "../../common/fold.mjs";
-import { areNotes, canNote, carriedNotes, noteAt, withNote } from "../../common/noted.mjs";
+import { areNotes, canNote, carriedNotes, noteAt, notesIn, withNote } from "../../common/noted.mjs";
 import { reportOf } from "../src/report.mjs";
 import { outlineOf } from "../../common/outline.mjs";
 import { noteWords } from "../src/words.mjs";
@@ -194,4 +194,22 @@ test("the card of a client says what was noted of it", { skip }, async () => {
   const words = JSON.stringify(cardOf(bench.state.session, 1, view));
   assert.match(words, /my editor/);
   assert.match(words, /ot.js has /);
+});
+
+test("a port's lines are read once, however often they are asked for", () => {
+  const port = [1, 2, 3].map((at) => JSON.stringify({ at, client: 0, document: "a" }));
+  const { parse } = JSON;
+  let count = 0;
+  JSON.parse = (text) => (count++, parse(text));
+  try {
+    assert.equal(areNotes(port), true);
+    const once = count;
+    assert.ok(once >= 3);
+    for (let i = 0; i < 5; i++) assert.equal(notesIn(port).length, 3);
+    assert.equal(count, once);
+    assert.equal(areNotes([...port, '{"at":4}']), false);
+    assert.deepEqual([areNotes([]), areNotes(null), notesIn(null)], [false, false, []]);
+  } finally {
+    JSON.parse = parse;
+  }
 });
