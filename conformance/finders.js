@@ -2,7 +2,7 @@
 
 import { bugs, leaks } from "./faults.js";
 import { large } from "../ports/large.mjs";
-import { smallSessions, STAGES, toldOf } from "../ports/small.mjs";
+import { smallSessions, STAGES } from "../ports/small.mjs";
 import { storedSessions } from "../ports/stored.mjs";
 import { comparable, comparableUnits, faultyPort, firstDifference } from "./lines.js";
 
@@ -58,34 +58,43 @@ export function coverage(firstSmall) {
   return { corpus, finders };
 }
 
-/* The words of `otbench generate` that list a stage. */
+/* The options of `otbench generate --every` that list a stage. */
 function wordsOf({ clients, edits, start, letters, join }) {
   const given = [...(start ? [`--start ${start}`] : []), ...(letters ? [`--letters ${letters}`] : []), ...(join ? ["--join"] : [])];
-  return ["--every", `--clients ${clients}`, `--edits ${edits}`, ...given].join(" ");
+  return [`--clients ${clients}`, `--edits ${edits}`, ...given].join(" ");
 }
 
 export function page({ corpus, finders }) {
-  const placeOf = (small) => (small ? `${small.stage}: ${small.number}` : "");
-  const row = ({ fault, sessions, small }) => `| ${fault} | ${sessions.length} | ${sessions[0]?.name ?? "none"} | ${placeOf(small)} |`;
+  const nameOf = ([session]) => session?.name ?? "none";
+  const row = ({ fault, sessions, small }) => `| ${fault} | ${nameOf(sessions)} | ${small.stage}: ${small.number} |`;
   const shown = (at) => finders.filter(({ small }) => small?.stage === at + 1).length;
   const found = (it, at) => (TRIED.includes(it) ? shown(at) : "not tried");
-  const stage = (it, at) => `| ${at + 1} | ${toldOf(it)} | \`${wordsOf(it)}\` | ${it.count.toLocaleString("en")} | ${found(it, at)} |`;
-  const inStages = finders.filter(({ small }) => small).length;
+  const stage = (it, at) => `| ${at + 1} | \`${wordsOf(it)}\` | ${it.count.toLocaleString("en")} | ${found(it, at)} |`;
+  const inStages = finders.filter(({ small }) => small);
+  const others = new Map();
+  for (const { fault, sessions, small } of finders) if (!small) others.set(nameOf(sessions), [...(others.get(nameOf(sessions)) ?? []), fault]);
   return [
     "# Which sessions find which faults",
     "",
-    `Printed by \`conformance/coverage.js\`. The faults are those of \`conformance/faults.js\`, ${finders.length} in all; the corpus has ${corpus.length} sessions.`,
-    "A session finds a fault where a line of the faulty port differs from ot.js' own. Of each fault's sessions the one is named that finds the fewest faults.",
+    `Printed by \`conformance/coverage.js\`. The faults are those of \`conformance/faults.js\`, ${finders.length} in all. A session finds a fault where a line of the faulty port differs from ot.js' own.`,
     "",
-    `These are the stages of all small sessions; \`otbench port --every 3\` tries all. With the words \`otbench generate\` lists a stage. They find ${inStages} faults together. The last column of the second table has a fault's stage and the number of the session there that is the first to find it. Where it has none, the fault is about texts, sizes, messages or a state that several sessions share, and the corpus alone finds it.`,
+    `\`otbench port --every 3\` tries all stages of the small sessions. They find ${inStages.length} faults together:`,
     "",
-    "| Stage | What it is | Words of `generate` | Sessions | Faults found first |",
-    "|---|---|---|---|---|",
+    "| Stage | Options of `generate --every` | Sessions | Faults found first |",
+    "|---|---|---|---|",
     ...STAGES.map(stage),
     "",
-    "| Fault | Found by | One of them | Small session |",
-    "|---|---|---|---|",
-    ...finders.map(row),
+    `Of the ${corpus.length} sessions of the corpus that one is named which finds this fault and the fewest others; of the small sessions the first, by its stage and its number there.`,
+    "",
+    "| Fault | Session of the corpus | Small session |",
+    "|---|---|---|",
+    ...inStages.map(row),
+    "",
+    "The other faults are about texts, sizes, messages or a state that several sessions share. The corpus alone finds them:",
+    "",
+    "| Session of the corpus | Faults |",
+    "|---|---|",
+    ...[...others].map(([name, faults]) => `| ${name} | ${faults.join(", ")} |`),
     "",
   ].join("\n");
 }

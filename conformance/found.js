@@ -5,7 +5,7 @@
  *     node conformance/found.js [--seeds N] [--sessions N] [FAULT ..]
  *
  * For each fault and each of N seeds (3): the first of --sessions (100) sessions in which ot.js with the fault parts from ot.js, and the instructions that are left
- * of it after at most ten seconds. Printed are the medians and the most, and of how many seeds a fault was not found.
+ * of it after at most ten seconds. Printed are the medians over the seeds, and of how many seeds a fault was not found.
  */
 
 import { parseArgs } from "node:util";
@@ -49,26 +49,32 @@ const middle = (numbers) => {
   return (sorted[Math.floor((sorted.length - 1) / 2)] + sorted[Math.ceil((sorted.length - 1) / 2)]) / 2;
 };
 
-const cell = (numbers) => [...new Set([middle(numbers), Math.max(...numbers)])].join(", ");
+/* A row for the faults that as many sessions find. */
+function row(count, faults) {
+  const sizes = faults.map(({ size }) => size);
+  return `| ${count} | ${[...new Set([Math.min(...sizes), Math.max(...sizes)])].join(" to ")} | ${faults.map(({ fault }) => fault).join(", ")} |`;
+}
 
 async function page({ seeds, sessions: count }, faults) {
   const ofSeeds = Array.from({ length: seeds }, (_, i) =>
     [...randomBy({ seed: (i + 1) * count, sessions: count }, generate)].map(({ schedule }) => ({ schedule, ...comparable(schedule) })));
-  console.log(`# How soon each fault is found at random
-
-Printed by \`conformance/found.js --seeds ${seeds}\`: at most ${count} sessions for each of ${seeds} seeds. Found means that a line of the faulty port is another than
-ot.js' own.
-
-| Fault | Sessions to find it: median, and most if that is another | Instructions after reducing, likewise |
-|---|---|---|`);
-  const missed = new Map();
+  const [rows, missed] = [new Map(), new Map()];
   for (const fault of faults) {
     const found = [];
     for (const sessions of ofSeeds) found.push(await find(fault, sessions));
     const those = found.filter((it) => it !== null);
-    if (those.length > 0) console.log(`| ${fault} | ${cell(those.map((it) => it.count))} | ${cell(those.map((it) => it.size))} |`);
+    const median = middle(those.map((it) => it.count));
+    if (those.length > 0) rows.set(median, [...(rows.get(median) ?? []), { fault, size: middle(those.map((it) => it.size)) }]);
     if (those.length < seeds) missed.set(seeds - those.length, [...(missed.get(seeds - those.length) ?? []), fault]);
   }
+  console.log(`# How soon each fault is found at random
+
+Printed by \`conformance/found.js --seeds ${seeds}\`: at most ${count} sessions for each of ${seeds} seeds. Found means that a line of the faulty port is another than
+ot.js' own. The numbers are medians over the seeds.
+
+| Sessions to find it | Instructions after reducing | Faults |
+|---|---|---|`);
+  for (const [count, those] of [...rows].toSorted(([one], [other]) => one - other)) console.log(row(count, those));
   const lines = [...missed].toSorted(([one], [other]) => other - one).map(([count, names]) => `with ${count} of ${seeds} seeds: ${names.join(", ")}`);
   console.log(`\n${lines.length === 0 ? "Each is found" : `Not found ${lines.join("; ")}`}. Not tried, since one session cannot show it: ${Object.keys(leaks).join(", ")}. The corpus finds each fault ([COVERAGE](COVERAGE.md)).`);
 }
