@@ -145,14 +145,14 @@ export function isFile(word) {
   }
 }
 
-/** Whether a word names a file of JSON Lines, such as a port's: its first character that is not blank begins an object. @param {string} word */
+/** Whether a word names a file of JSON Lines, such as a port's: its first character that is not blank begins an object, or it has no byte. @param {string} word */
 export function hasLines(word) {
   if (!isFile(word)) return false;
   let stream;
   try {
     stream = fs.openSync(word, "r");
     const room = Buffer.alloc(PIECE);
-    return /^\s*\{/.test(room.toString("latin1", 0, readSome(stream, room)));
+    return /^\s*\{|^$/.test(room.toString("latin1", 0, readSome(stream, room)));
   } catch {
     return false; // why it cannot be read says who reads it
   } finally {

@@ -1,5 +1,6 @@
 /* Keys of a trace, of a plan or of a port's lines that are no keys there, and the key that each is nearest to. */
 
+import { valueIn } from "../common/json.mjs";
 import { nearest } from "../common/nearest.mjs";
 import { textOf } from "../common/text.mjs";
 import { visible } from "../common/visible.mjs";
@@ -30,13 +31,7 @@ function* objectsIn(value, kind, place) {
   }
 }
 
-function parsed(input) {
-  try {
-    return input.length > MOST ? null : JSON.parse(textOf(input));
-  } catch {
-    return null;
-  }
-}
+const parsed = (input) => (input.length > MOST ? null : valueIn(textOf(input)));
 
 /* The key that is meant, if there is one. */
 const meantBy = (key, keys) => (key.length > LONGEST ? undefined : nearest(key, keys)[0]);

@@ -8,6 +8,7 @@
 import { lastUpTo } from "./document.mjs";
 import { SERVER } from "./fold.mjs";
 import { trimmed } from "./input.mjs";
+import { valueIn } from "./json.mjs";
 import { versionsOf } from "./places.mjs";
 
 const OF_CLIENT = "at,client,document";
@@ -19,16 +20,12 @@ const isOfServer = (word) => word === "take" || word === "read-server";
 
 /* A line as a note; null where it is none. */
 function readNote(line) {
-  try {
-    const note = JSON.parse(line);
-    if (note === null || typeof note !== "object" || !Number.isInteger(note.at) || typeof note.document !== "string") return null;
-    const { at, client, do: word, document } = note;
-    const keys = Object.keys(note).join();
-    if (keys === OF_CLIENT && Number.isInteger(client)) return { at, who: client, document };
-    return keys === OF_SERVER && isOfServer(word) ? { at, who: SERVER, word, document } : null;
-  } catch {
-    return null;
-  }
+  const note = valueIn(line);
+  if (note === null || typeof note !== "object" || !Number.isInteger(note.at) || typeof note.document !== "string") return null;
+  const { at, client, do: word, document } = note;
+  const keys = Object.keys(note).join();
+  if (keys === OF_CLIENT && Number.isInteger(client)) return { at, who: client, document };
+  return keys === OF_SERVER && isOfServer(word) ? { at, who: SERVER, word, document } : null;
 }
 
 const lineOf = ({ at, who, word, document }) => JSON.stringify(who === SERVER ? { at, do: word, document } : { at, client: who, document });

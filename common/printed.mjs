@@ -2,35 +2,30 @@
 
 import { lastUpTo, textOf } from "./document.mjs";
 import { SERVER } from "./fold.mjs";
+import { valueIn } from "./json.mjs";
 import { areNotes, notedPlace } from "./noted.mjs";
 import { documentAt, logLengthAt, stateAt } from "./places.mjs";
 
 const KEYS = ["at", "do", "client", "message", "edit", "revision", "state", "outstanding", "buffer", "sent", "applied", "appended", "document"];
+
+/** Keys of values that a participant keeps; the others are of one instruction. */
+const LASTING = new Set(["revision", "state", "outstanding", "buffer", "document"]);
 
 /** No session has as many places. */
 const MOST = 200_000;
 
 const isOpening = (line) => line.at === 0 && !("do" in line) && !("stopped" in line) && !("end" in line);
 
-/* A line as an object; what is no object of JSON is kept as { text }. */
+/* A line as an object; what is no object of JSON, such as a stack trace, is kept as { text }: it stands for the instruction at which it was printed. */
 function readLine(text) {
-  try {
-    const line = JSON.parse(text);
-    if (line && typeof line === "object" && Number.isInteger(line.at)) return line;
-  } catch {
-    // a stack trace, for instance: it stands for the instruction at which it was printed
-  }
-  return { text };
+  const line = valueIn(text);
+  return line && typeof line === "object" && Number.isInteger(line.at) ? line : { text };
 }
 
 /* What the recorder's last line {"cut":".."} says of why its lines end before its logs do; null where there is none. */
 function cutIn(texts) {
-  try {
-    const { cut } = JSON.parse(texts[texts.length - 1] ?? "null") ?? {};
-    return typeof cut === "string" ? cut : null;
-  } catch {
-    return null;
-  }
+  const { cut } = valueIn(texts[texts.length - 1] ?? "null") ?? {};
+  return typeof cut === "string" ? cut : null;
 }
 
 /* What was taken from a client, or delivered to one; undefined where no operation came. */
@@ -154,6 +149,11 @@ export class Port {
   /* What the port printed last of a participant that is not what ot.js has. */
   differencesOf(who, place) {
     return this.differencesAt(this.placeOf(who, place));
+  }
+
+  /** Whether a value of the line of a place is told as an earlier one at another place: it does not last, or the port has no line there any more. */
+  isEarlier(key, at, place) {
+    return at < place && (place > this.last || !LASTING.has(key));
   }
 
   /** The last place up to this one that has a line of a participant; 0 where there is none. */

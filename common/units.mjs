@@ -8,6 +8,7 @@
  * its end, and half of a pair in a text, are none of a schedule: a string that says so stands there, which conform finds to differ.
  */
 
+import { valueIn } from "./json.mjs";
 import { valuesOf, written } from "./schedule.mjs";
 import { textOf } from "./text.mjs";
 
@@ -91,18 +92,10 @@ export function unitsOf(operation, text) {
 
 /* A line, a text or its value. One that is no object of JSON stays as it is, and conform says so. */
 function lineInScalars(line, overs) {
-  const value = valueOf(typeof line === "string" ? line : JSON.stringify(line));
+  const value = valueIn(typeof line === "string" ? line : JSON.stringify(line));
   if (value === null || typeof value !== "object") return line;
   const place = value.stopped === undefined ? value.at : value.at + 1; // a stop stands before its instruction's place
   return valueInScalars(value, overs[place] ?? {});
-}
-
-function valueOf(line) {
-  try {
-    return JSON.parse(line);
-  } catch {
-    return null;
-  }
 }
 
 /* The keys whose value may be a message, an operation and its revision. */

@@ -13,8 +13,8 @@ const MOST = 8; // transforms that are all shown
  * @typedef {ReturnType<typeof transform> & { words: string }} Transform what it makes, and its call in words
  */
 
-/** The values that a call was given by a name. @param {Call} call @param {string} wanted */
-const valuesOf = ({ given }, wanted) => given.filter(({ name }) => name === wanted).map(({ value }) => JSON.parse(value));
+/** The values that a call was given by a name. @param {Pick<Call, "given">} call @param {string} wanted */
+export const valuesOf = ({ given }, wanted) => given.filter(({ name }) => name === wanted).map(({ value }) => JSON.parse(value));
 
 /** @param {[string, import("./transform.mjs").Operation][]} named the two arguments */
 function transformOf(named) {

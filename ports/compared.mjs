@@ -1,5 +1,6 @@
 /* What was compared of the sessions that conform: how often each key, and whether a document of each client and of the server. */
 
+import { valueIn } from "../common/json.mjs";
 import { nearest } from "../common/nearest.mjs";
 import { valuesOf } from "../common/schedule.mjs";
 import { textOf } from "../common/text.mjs";
@@ -22,16 +23,8 @@ const moverOf = ({ word, client }) => (word === "take" || word === "read-server"
 function* valuesIn(lines) {
   const list = Array.isArray(lines) ? lines : (typeof lines === "string" ? lines : textOf(lines)).split("\n");
   for (const line of list) {
-    const value = typeof line === "string" ? valueOf(line) : line;
+    const value = typeof line === "string" ? valueIn(line) : line;
     if (value !== null && typeof value === "object") yield value;
-  }
-}
-
-function valueOf(line) {
-  try {
-    return JSON.parse(line);
-  } catch {
-    return null;
   }
 }
 

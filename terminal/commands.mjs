@@ -7,6 +7,9 @@ const ANY = Infinity;
 /** A command that cannot be performed, and why. */
 export class Complaint extends Error {}
 
+/** A command that a person has ended. */
+export class Interrupted extends Complaint {}
+
 /** The most characters of a line. */
 export const MOST = 1_000_000;
 

@@ -1,6 +1,6 @@
 // The conditions of breaks: `doc 0 contains "x"`, `not state 1 is synchronized`.
 
-import { Complaint } from "./commands.mjs";
+import { Complaint, Interrupted } from "./commands.mjs";
 import { subjectOf, textOf } from "./subjects.mjs";
 
 /** @typedef {{ isNot: boolean, subject: import("./subjects.mjs").Subject, verb: string, wanted: string }} Condition */
@@ -28,11 +28,14 @@ function holdsAt(recording, { isNot, subject, verb, wanted }, place) {
 }
 
 /**
- * Whether a condition holds, by place. It is looked at again only where its value may have changed, if the places are asked in their order.
+ * Whether a condition holds, by place. It is looked at again only where its value may have changed, if the places are asked in their order. A person may end that.
  * @param {import("./recording.mjs").Recording} recording @param {Condition} condition @returns {boolean[]}
  */
 export function holdingOf(recording, condition) {
   const holding = [holdsAt(recording, condition, 0)];
-  for (let p = 1; p <= recording.end; p++) holding.push(recording.mayChange(condition.subject, p) ? holdsAt(recording, condition, p) : holding[p - 1]);
+  for (let p = 1; p <= recording.end; p++) {
+    if (recording.isStopped()) throw new Interrupted("interrupted; no break is set");
+    holding.push(recording.mayChange(condition.subject, p) ? holdsAt(recording, condition, p) : holding[p - 1]);
+  }
   return holding;
 }

@@ -3,7 +3,7 @@
 import { SERVER } from "../common/fold.mjs";
 import { documentAt } from "../common/places.mjs";
 import { authorsOf, differenceOf, hasDocument, whoIs } from "./authors.mjs";
-import { COMMANDS, commandOf, Complaint, helpOf, MOST, takenBy, wordsIn } from "./commands.mjs";
+import { COMMANDS, commandOf, Complaint, helpOf, Interrupted, MOST, takenBy, wordsIn } from "./commands.mjs";
 import { MADE, makingOf } from "./making.mjs";
 import { INSTRUCTIONS, matching } from "./matching.mjs";
 import { named } from "./names.mjs";
@@ -69,9 +69,9 @@ export class Debugger {
 
   /** What stands above the first prompt. */
   greeting() {
-    const { opening, difference, conforms, showsNothing, linesEnd, schedule, unknown, cut } = this.recording;
+    const { opening, difference, conforms, hasNoLines, showsNothing, linesEnd, schedule, unknown, cut } = this.recording;
     const ends = cut === null ? [] : [`the schedule ends before its logs: ${cut}`];
-    const said = difference ? this.#tellDifference(difference) : [];
+    const said = [...(hasNoLines ? ["the port's lines are empty: the port printed nothing"] : []), ...(difference ? this.#tellDifference(difference) : [])];
     const early = linesEnd === null ? null : linesEndTold(linesEnd, schedule);
     if (conforms) said.push(`the port conforms${early === null ? "" : `; its ${early}`}`);
     else if (early !== null) said.push(`the port's ${early}`);
@@ -136,7 +136,7 @@ export class Debugger {
       const said = this.place === before ? answer : [...answer, ...this.stops.displayed(this.place)];
       return WHOLE.includes(name) ? said : said.map(shortLine);
     } catch (complaint) {
-      if (!(complaint instanceof Complaint)) throw complaint;
+      if (!(complaint instanceof Complaint) || complaint instanceof Interrupted) throw complaint;
       throw new Complaint(`${complaint.message}; ${takenBy(name)}`);
     }
   }
@@ -278,13 +278,19 @@ export class Debugger {
 
   _until(words) {
     const isWanted = this.#wanted(words);
-    for (let p = this.place + 1; p <= this.recording.end; p++) if (isWanted(p)) return this.#moveTo(p);
+    for (let p = this.place + 1; p <= this.recording.end; p++) {
+      if (this.recording.isStopped()) return this.#interrupted();
+      if (isWanted(p)) return this.#moveTo(p);
+    }
     return [`no further instruction begins with ${words.join(" ")}${this.#meant(words[0])}`];
   }
 
   _runtil(words) {
     const isWanted = this.#wanted(words);
-    for (let p = this.place; p > 0; p--) if (isWanted(p)) return this.#moveTo(p - 1);
+    for (let p = this.place; p > 0; p--) {
+      if (this.recording.isStopped()) return this.#interrupted();
+      if (isWanted(p)) return this.#moveTo(p - 1);
+    }
     return [`no earlier instruction begins with ${words.join(" ")}${this.#meant(words[0])}`];
   }
 
@@ -442,7 +448,7 @@ export class Debugger {
     return at ? { at, ...occurrences.at(at) } : at;
   }
 
-  /** A document of the port is what it printed last of a participant. */
+  /** A document of the port is what it printed last of a participant. Null where a person has ended the search. */
   #findPrinted(text, direction) {
     const { port } = this.recording;
     if (port === null) throw new Complaint("there are no lines of a port");
@@ -450,6 +456,7 @@ export class Debugger {
     if (documents.length === 0) throw new Complaint("the port's lines have no document");
     const ahead = direction > 0 ? documents.filter(({ at }) => at > this.place) : documents.filter(({ at }) => at <= this.place).reverse();
     for (const { at, who, before, after } of ahead) {
+      if (this.recording.isStopped()) return null;
       const counts = countsOf(text, before, after);
       if (counts !== null) return { at, who, counts };
     }

@@ -19,8 +19,8 @@ import { shownOn } from "../common/visible.mjs";
 
 export const USAGE = `usage: otbench debug FILE [[--port] PORT-LINES] [--sparse]
 Steps through the run of a schedule's text, forth and back. With the lines that a port printed, which may stand in FILE behind a line '%%', it stops where the
-port differs. --sparse: instructions without a line are not compared. Without --port the second file is PORT-LINES where it begins with a '{', else the program's
-commands.
+port differs. --sparse: instructions without a line are not compared. Without --port the second file is PORT-LINES where it begins with a '{' or is empty, else
+the program's commands.
 `;
 
 /** The usage, and the commands at the prompt. */
@@ -102,6 +102,9 @@ function dropLine(reader) {
 /** Words that are not understood, and why. */
 class Misunderstood extends Error {}
 
+/* That two files of a port's lines are named. */
+const twice = (one, other) => new Misunderstood(`the lines of a port are named twice: '${one}' and '${other}'`);
+
 const isHelp = (word) => word === "-h" || word === "--help";
 
 /** The words as { file, port, isSparse }. Behind `--` no word is an option. A second file is a port's lines where it has such. */
@@ -112,13 +115,15 @@ function wordsOf(words) {
     const word = words[i];
     if (isFile || !word.startsWith("-")) {
       if (asked.file === null) asked.file = word;
-      else if (asked.port === null && hasLines(word)) asked.port = word;
-      else throw new Misunderstood(`unexpected argument '${word}' found; the lines of a port stand behind '--port'`);
+      else if (!hasLines(word)) throw new Misunderstood(`unexpected argument '${word}' found; the lines of a port stand behind '--port'`);
+      else if (asked.port !== null) throw twice(asked.port, word);
+      else asked.port = word;
     } else if (word === "--") isFile = true;
     else if (word === "--sparse") asked.isSparse = true;
     else if (word === "--port") {
       if (i + 1 === words.length) throw new Misunderstood("a value is required for '--port' but none was supplied");
-      if (asked.port !== null) throw new Misunderstood("the argument '--port' cannot be used multiple times");
+      if (words.indexOf("--port") < i) throw new Misunderstood("the argument '--port' cannot be used multiple times");
+      if (asked.port !== null) throw twice(asked.port, words[i + 1]);
       asked.port = words[++i];
     } else {
       const [near] = nearest(word, ["--port", "--sparse"]);

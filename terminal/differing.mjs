@@ -4,6 +4,7 @@
 //     place 9   client 0 document  found "xabc", ot.js "abc"    the same one
 //     place 12  client 0 document  found "xabcd", ot.js "abdc"  another
 
+import { parting } from "../common/parting.mjs";
 import { Search } from "./seeking.mjs";
 
 const isNumber = (value) => typeof value === "number";
@@ -15,11 +16,7 @@ const apart = (found, ours) => (isNumber(found) && isNumber(ours) ? found - ours
 
 /* What stands between the common beginning and the common end of two texts or operations. */
 function partsOf(found, ours) {
-  const least = Math.min(found.length, ours.length);
-  let at = 0;
-  while (at < least && found[at] === ours[at]) at++;
-  let same = 0;
-  while (same < least - at && found[found.length - 1 - same] === ours[ours.length - 1 - same]) same++;
+  const { at, same } = parting(found, ours);
   return [found, ours].map((value) => value.slice(at, value.length - same));
 }
 

@@ -1,6 +1,6 @@
 // A run that can be looked at in every place. All that it knows comes from otbench: `steps` gives the values, `explain` the words, `conform` where a port differs; names stand in comments.
 
-import { conformCall, isConforming, isWordy, wordsOf } from "../common/conformance.mjs";
+import { conformCall, isConforming, isWordy, readAnswer, wordsOf } from "../common/conformance.mjs";
 import { fold, SERVER } from "../common/fold.mjs";
 import { lineNamed, linesEndIn } from "../common/numbering.mjs";
 import { documentAt, downAt, logLengthAt, quietAt, stateAt, upAt } from "../common/places.mjs";
@@ -25,9 +25,6 @@ export class RefusedText extends Error {}
 
 /** Keys that are of a line as a whole. */
 const OF_ALL = new Set(["at", "do", "client", "line", "stopped"]);
-
-/** Keys of values that a participant keeps; the others are of one instruction. */
-const LASTING = new Set(["revision", "state", "outstanding", "buffer", "document"]);
 
 const LINK = 4; // messages of a link that are all shown
 
@@ -100,7 +97,9 @@ export class Recording {
     this.written = outline.lines.length; // instructions of the schedule, those behind a refused one too
     this.instructions = instructionsOf(this.session, outline, instructions);
     Object.assign(this, conformOf(ask, schedule, { port, isSparse }, outline)); // difference, conforms, showsNothing, linesEnd, unknown
-    this.port = port === null ? null : new Port(this.session, linesIn(linesOfPort(port)), null, isSparse);
+    const lines = port === null ? null : linesIn(linesOfPort(port));
+    this.hasNoLines = lines?.length === 0; // the port printed nothing
+    this.port = lines && new Port(this.session, lines, null, isSparse);
     this.differences = this.port && new Differences(this.port, isStopped);
   }
 
@@ -164,11 +163,12 @@ export class Recording {
 
   /** What conform says of one value of the port's line of the instruction that leads to a place: its words. @param {number} place @param {string} key of a value that differs */
   differing(place, key) {
-    const line = this.port.valuesIn(place);
-    const value = line?.[key];
-    const said = OF_ALL.has(key) ? [] : this.ask(conformCall(true), besides(this.scheduleUpTo(place), `${JSON.stringify({ at: place, [key]: value })}\n`)).output.split("\n").slice(0, -1);
-    if (said[0]?.startsWith(`differs at ${place}: `) && !said[0].endsWith(": line")) return said; // a line with half of a surrogate pair is no JSON to it
-    return this.differingShort(place, key);
+    const short = this.differingShort(place, key);
+    if (OF_ALL.has(key)) return short;
+    const [call, input] = [conformCall(true), besides(this.scheduleUpTo(place), `${JSON.stringify({ at: place, [key]: this.port.valuesIn(place)?.[key] })}\n`)];
+    const answer = readAnswer(this.ask([...call, "--json"], input).output);
+    const isOfValue = answer?.verdict === "differs" && answer.at === place && answer.key !== "line"; // a line with half of a surrogate pair is no JSON to it
+    return isOfValue ? wordsOf(answer, this.ask(call, input).output) : short;
   }
 
   /** Its first three lines alone. @param {number} place @param {string} key of a value that differs */
@@ -277,7 +277,7 @@ export class Recording {
     if (this.port === null) return [];
     const { last } = this.port;
     const at = this.port.placeOf(who, place);
-    const of = (key) => (at < place && (place > last || !LASTING.has(key)) ? `  (of ${this.leading(at)})` : "");
+    const of = (key) => (this.port.isEarlier(key, at, place) ? `  (of ${this.leading(at)})` : "");
     const differences = this.#besides(at).map(({ key, said }) => `  port: ${said}${of(key)}`);
     return place > last ? [...differences, `  port: no line here; its lines end at place ${last}`] : differences;
   }
@@ -301,7 +301,7 @@ export class Recording {
     const ended = place > last ? [`  the port has no line here: its lines end at place ${last}`] : [];
     if (found === null) return ["the port has not printed it", ...ended];
     const { at, value } = found;
-    const isOther = at < place && (place > last || !LASTING.has(key));
+    const isOther = this.port.isEarlier(key, at, place);
     return [value === null ? "none" : key === "state" && typeof value === "string" ? value : JSON.stringify(value), ...(isOther ? [`  of ${this.leading(at)}`] : []), ...ended];
   }
 

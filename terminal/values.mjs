@@ -1,5 +1,8 @@
 // Values in few characters: what is long is cut, with its length, and of a change its place and what stands around it is shown.
 
+import { valueIn } from "../common/json.mjs";
+import { parting } from "../common/parting.mjs";
+
 const LONG = 72; // characters that a value may have and be shown whole
 const ENDS = 24; // characters that are shown of each end of a text that is cut
 const AROUND = 12; // characters that are shown before and behind a change
@@ -48,16 +51,6 @@ export function shortWords(line) {
 
 /** A line, in which long texts, operations and words are cut. @param {string} line */
 export const shortLine = (line) => (line.length <= LONG ? line : shortWords(line.replace(VALUES, shortJson)));
-
-/** Where two lists of characters part, and how many they have in common at the end behind that. */
-function parting(one, other) {
-  const least = Math.min(one.length, other.length);
-  let at = 0;
-  while (at < least && one[at] === other[at]) at++;
-  let same = 0;
-  while (same < least - at && one[one.length - 1 - same] === other[other.length - 1 - same]) same++;
-  return { at, same };
-}
 
 /** What stands in front of a place, and behind one; two dots where there is more. */
 const front = (all, at) => `${at > AROUND ? ".." : ""}${JSON.stringify(all.slice(Math.max(0, at - AROUND), at).join(""))}`;
@@ -114,21 +107,12 @@ function parted(found, ours) {
   return { found: `${both.found} of revision ${shortJson(JSON.stringify(found.revision) ?? "none")}`, ours: `${both.ours} of revision ${ours.revision}`, where };
 }
 
-/** A JSON text as a value; what is none, as null. */
-function valueOf(text) {
-  try {
-    return JSON.parse(text);
-  } catch {
-    return null;
-  }
-}
-
 /**
  * A value of a port and ot.js' own, both JSON texts or words: whole where they are short, else cut around the first component or character that differs.
  * @param {string} found @param {string} ours
  */
 export function beside(found, ours) {
-  const cut = found.length + ours.length > 2 * LONG ? parted(valueOf(found), valueOf(ours)) : null;
+  const cut = found.length + ours.length > 2 * LONG ? parted(valueIn(found), valueIn(ours)) : null;
   return cut === null ? `${found}, ot.js ${ours}` : `${cut.found}, ot.js ${cut.ours}; ${cut.where}`;
 }
 

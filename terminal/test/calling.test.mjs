@@ -35,7 +35,20 @@ test("a second file of commands is the program's, and a third, or one beside --p
   write("port.jsonl", '{"at":1}\n');
   assert.deepEqual(call(["s.ots", "commands"]), [0, "at 1: count\nat 1\n", ""]);
   assert.match(call(["s.ots", "commands", "--sparse"])[2], /^error: unexpected argument 'commands' found; the lines of a port stand behind '--port'\n/);
-  assert.match(call(["s.ots", "port.jsonl", "--port", "port.jsonl"])[2], /^error: the argument '--port' cannot be used multiple times\n/);
+  for (const words of [["s.ots", "port.jsonl", "--port", "other"], ["--port", "other", "s.ots", "port.jsonl"]]) {
+    assert.match(call(words)[2], /^error: the lines of a port are named twice: '(port\.jsonl' and 'other|other' and 'port\.jsonl)'\n/);
+  }
+  assert.match(call(["s.ots", "--port", "port.jsonl", "--port", "port.jsonl"])[2], /^error: the argument '--port' cannot be used multiple times\n/);
   assert.equal(call(["s.ots", "nosuch"])[2], "otbench: nosuch: there is no such file\n");
   assert.equal(call(["s.ots", "."])[2], "otbench: .: is a folder\n");
+});
+
+test("a second file that is empty is that of a port that printed nothing, which is said", options, () => {
+  write("s.ots", SCHEDULE);
+  write("empty.jsonl", "");
+  const told = call(["s.ots", "empty.jsonl"], "run\n");
+  assert.deepEqual(told, call(["s.ots", "--port", "empty.jsonl"], "run\n"));
+  assert.equal(told[0], 0);
+  assert.match(told[1], /\nthe port's lines are empty: the port printed nothing\nthe port's first difference is at place 1, line 2: run stops there\n/);
+  assert.match(call(["s.ots", "empty.jsonl", "--sparse"])[1], /\nthe port's lines are empty: the port printed nothing\n/);
 });

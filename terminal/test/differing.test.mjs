@@ -65,6 +65,18 @@ test("a document with half of a surrogate pair, whose line is no JSON to conform
   assert.deepEqual(session.perform("next difference").slice(-3), ["differs at 3: edit 0: client 0 document", 'found "\\ude00"', 'ot.js "abc"']);
 });
 
+test("whether conform tells of a value is taken from its data: its words are shown as they are", options, () => {
+  const other = (words, text) => {
+    const answer = ask(words, text);
+    return words.includes("--json") ? answer : { ...answer, output: answer.output.replace("differs at ", "another at ") };
+  };
+  const session = new Debugger(new Recording(other, WEAK, printed([BUFFER, CLIENT])));
+  session.perform("goto 12");
+  const [head, ...more] = session.perform("print difference");
+  assert.equal(head, "another at 12: deliver 1: client 1 document");
+  assert.ok(more.includes("place 0"), more.join("\n"));
+});
+
 test("behind the line in which a port stopped it has no difference", options, () => {
   const { recording } = open('{"at":1}\n{"at":1,"stopped":"no"}\n{"at":1,"end":"not quiet"}\n', TYPED);
   recording.differences.upTo(recording.end);

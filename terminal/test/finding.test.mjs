@@ -153,3 +153,15 @@ test("a search that a person ends leaves the place as it was", options, () => {
   isStopped = false;
   assert.deepEqual(gone(session, "find cx"), ['client 1 doc: "cx" nowhere -> once', 4]);
 });
+
+test("Ctrl-C ends find in what the port printed, until, and the search of the places of a break", options, () => {
+  let isStopped = true;
+  const session = new Debugger(new Recording(ask, WEAK, FAULTY, false, () => isStopped));
+  session.perform("goto 3");
+  for (const line of ["find port ca", "rfind port c", "until read", "runtil edit"]) assert.deepEqual(gone(session, line), ["interrupted; the place is as it was", 3], line);
+  assert.deepEqual(session.perform("break if doc 0 contains c"), ["interrupted; no break is set"]);
+  assert.deepEqual(session.perform("info breaks"), ["no breaks, no watches"]);
+  isStopped = false;
+  assert.deepEqual(gone(session, "find port ca"), ['client 1 doc of the port: "ca" nowhere -> once', 12]);
+  assert.match(session.perform("break if doc 0 contains c")[0], /^break if doc 0 contains c: at /);
+});

@@ -293,7 +293,6 @@ export function testIn(name, openBrowser) {
       await user.page.size(390, 800);
       await user.page.drawn();
       assert.ok(await user.run("document.documentElement.scrollWidth <= document.documentElement.clientWidth"), "nothing is wider than a narrow window");
-      await user.page.size(1440, 900);
     });
 
     test("on a phone all controls are in sight and high enough for a finger, no text is cut, and lanes are seen whole", async () => {
@@ -338,7 +337,6 @@ export function testIn(name, openBrowser) {
       assert.ok(await user.run('document.getElementById("keys").scrollHeight > document.getElementById("keys").clientHeight'));
       await user.press("Escape");
       assert.equal(await user.run("scrollY"), 0, "stepping does not scroll the page");
-      await user.page.size(1440, 900);
     });
 
     for (const [width, height] of [[1280, 720], [390, 844]])
@@ -356,7 +354,6 @@ export function testIn(name, openBrowser) {
           return [lanes.length, cards.map((card) => card.dataset.card), hidden("time", "Width"), hidden("notice", "Height")];
         })()`);
         assert.deepEqual(cut, [0, [], 0, 0]);
-        await user.page.size(1440, 900);
       });
 
     test("names and titles of 3,000 characters leave the controls in sight", async () => {
@@ -414,7 +411,6 @@ export function testIn(name, openBrowser) {
       assert.deepEqual(await user.run(places), before);
       const right = await user.run('Math.max(...[...document.querySelectorAll(".verdict")].map((verdict) => verdict.getBoundingClientRect().right))');
       assert.ok(right < Number(before[0].split(",")[0]), "nothing stands over another");
-      await user.page.size(1440, 900);
     });
 
     test("where the recorder's log is cut is shown, and so are characters that look the same", async () => {
@@ -470,7 +466,7 @@ export function testIn(name, openBrowser) {
       const write = (line) => `((field) => { field.value += ${quoted(`${line}\n`)}; field.dispatchEvent(new Event("input", { bubbles: true })); })(document.getElementById("text"))`;
       await user.open();
       await user.run(`(() => { window.isOld = true; ${write("read 1")}; setTimeout(() => location.reload()); })()`);
-      await user.until("window.isOld === undefined", "the page anew");
+      await user.left();
       await user.started();
       await user.until(noticed, "the notice");
       assert.match(await user.schedule(), /\nread 1\n$/);

@@ -75,6 +75,16 @@ export function testLooks(name, openBrowser) {
       await showFaultyPort(user);
     }
 
+    /* Two users at one place, at the end. */
+    async function openTie() {
+      const text = 'clients 2\nedit 0 ["a"]\nedit 1 ["b"]\ntake 0\ntake 1\ndeliver 1\nack 1\nack 0\ndeliver 0\n';
+      await user.open();
+      await user.paste("body", text);
+      await user.until(`document.getElementById("text").value === ${JSON.stringify(text)} && document.getElementById("length").textContent === "of 8"`, "the session");
+      await user.press("End");
+      await user.settled(8);
+    }
+
     for (const theme of ["light", "dark"])
       test(`${theme}: each text is seen, and no control is cut, in windows of 1440, 1280 and 390, and at 200 %`, async () => {
         for (const [width, height] of [[1440, 900], [1280, 720], [390, 844], [720, 450]]) {
@@ -98,7 +108,6 @@ export function testLooks(name, openBrowser) {
             await user.press("Escape");
           }
         }
-        await user.page.size(1440, 900);
       });
 
     /* The sizes of windows: 720 x 450 is one of 1440 x 900 at 200 %. */
@@ -148,18 +157,12 @@ export function testLooks(name, openBrowser) {
           await told("list-verdict");
           await told("outlook");
         });
-        await user.page.size(1440, 900);
       });
 
     for (const [width, height] of [[1440, 900], [1280, 720], [640, 360]])
       test(`a notice, a reason, a name and a note move no button that is used next, at ${width} x ${height}`, async () => {
         await user.page.size(width, height);
-        await user.open();
-        const text = 'clients 2\nedit 0 ["a"]\nedit 1 ["b"]\ntake 0\ntake 1\ndeliver 1\nack 1\nack 0\ndeliver 0\n';
-        await user.paste("body", text);
-        await user.until(`document.getElementById("text").value === ${JSON.stringify(text)} && document.getElementById("length").textContent === "of 8"`, "the session");
-        await user.press("End");
-        await user.settled(8);
+        await openTie();
         await user.until('document.getElementById("outlook").textContent !== ""', "the verdict");
         const stood = () =>
           user.run(`(() => {
@@ -188,18 +191,12 @@ export function testLooks(name, openBrowser) {
         await user.until('document.getElementById("noted-answer").textContent !== ""', "the answer");
         await user.click('#noting [value="note"]');
         await stays("a note", 'document.getElementById("conformance").dataset.verdict === "differs"');
-        await user.page.size(1440, 900);
       });
 
     for (const [width, height] of [[1440, 900], [1280, 720], [390, 844]])
       test(`the whole answer and each verdict can be read, and steps move neither, at ${width} x ${height}`, async () => {
         await user.page.size(width, height);
-        await user.open();
-        const text = 'clients 2\nedit 0 ["a"]\nedit 1 ["b"]\ntake 0\ntake 1\ndeliver 1\nack 1\nack 0\ndeliver 0\n';
-        await user.paste("body", text);
-        await user.until(`document.getElementById("text").value === ${JSON.stringify(text)} && document.getElementById("length").textContent === "of 8"`, "the session");
-        await user.press("End");
-        await user.settled(8);
+        await openTie();
         await user.click('[data-note="1"]');
         await user.page.type("ab");
         await user.until('document.getElementById("noted-answer").textContent !== ""', "the answer");
@@ -214,14 +211,29 @@ export function testLooks(name, openBrowser) {
         })(document.getElementById("answered"))`);
         assert.ok(first, "the first sentence is seen");
         if (width === 1440) assert.ok(whole, "so is the whole answer");
-        const more = 'document.querySelector(\'[data-room="answered"]\')';
-        for (let k = 0; k < 8 && !(await user.run(`${more}.hidden`)); k++) {
-          const before = await user.run('document.getElementById("answered").scrollTop');
-          await user.click('[data-room="answered"]');
-          await user.until(`document.getElementById("answered").scrollTop > ${before}`, "more of the answer");
-          await user.until(`((room) => (room.scrollHeight - room.scrollTop - room.clientHeight <= 2) === ${more}.hidden)(document.getElementById("answered"))`, "the mark");
-        }
-        assert.ok(await user.run('((room) => room.scrollHeight - room.scrollTop - room.clientHeight <= 2)(document.getElementById("answered"))'), "its end is reached");
+        /* Reads a box on to its end, by its button. */
+        const readOn = async (id) => {
+          const room = `document.getElementById("${id}")`;
+          const more = `document.querySelector('[data-room="${id}"]')`;
+          const isEnd = `((room) => room.scrollHeight - room.scrollTop - room.clientHeight <= 2)(${room})`;
+          for (let k = 0; k < 8 && !(await user.run(`${more}.hidden`)); k++) {
+            const before = await user.run(`${room}.scrollTop`);
+            await user.click(`[data-room="${id}"]`);
+            await user.until(`${room}.scrollTop > ${before}`, `more of ${id}`);
+            await user.until(`${isEnd} === ${more}.hidden`, `the mark of ${id}`);
+          }
+          assert.ok(await user.run(isEnd), `the end of ${id} is reached`);
+        };
+        await readOn("answered");
+        await user.until('document.getElementById("list-verdict").textContent !== ""', "the verdicts");
+        await isMarked("told");
+        await readOn("told");
+        /* The lines of a sentence that its button stands over; in a wide window it is lower than a line, which is scrolled above it. */
+        const covered = () => user.run(`((text, mark) => {
+          text.selectNodeContents(document.getElementById("sentence"));
+          const { left, top, bottom } = mark.getBoundingClientRect();
+          return mark.hidden ? 0 : [...text.getClientRects()].filter((line) => line.right > left && line.top < bottom && line.bottom > top).length;
+        })(document.createRange(), document.querySelector('[data-room="sentence"]'))`);
         const stood = () => user.run('["time", "answered", "aside"].map((id) => document.getElementById(id).getBoundingClientRect()).map(({ top, height }) => [Math.round(top), Math.round(height)].join()).join("; ")');
         const before = await stood();
         for (let place = 7; place >= 0; place--) {
@@ -229,10 +241,11 @@ export function testLooks(name, openBrowser) {
           await user.settled(place);
           await user.until('document.getElementById("outlook").textContent !== ""', "the verdict");
           await isMarked("outlook");
+          await isMarked("sentence");
+          if (width < 800) assert.equal(await covered(), 0, `the sentence of place ${place}`);
           if (width >= 1280) assert.ok(await user.run('document.querySelector(\'[data-room="outlook"]\').hidden'), `the verdict of place ${place} is seen whole`);
           assert.equal(await stood(), before, `place ${place}`);
         }
-        await user.page.size(1440, 900);
       });
 
     test("the server's card stays in sight beside those of clients, and never over one in low windows", async () => {
@@ -246,7 +259,6 @@ export function testLooks(name, openBrowser) {
         assert.equal(await position(), "static", `${width} x ${height}`);
         await user.press("Escape");
       }
-      await user.page.size(1440, 900);
     });
 
     test("in a low window the lanes fit their room as soon as the menu opens or closes", async () => {
@@ -256,7 +268,6 @@ export function testLooks(name, openBrowser) {
       const fits = '((time) => time.scrollWidth <= time.clientWidth)(document.getElementById("time"))';
       const turned = await user.run(`[0, 1, 2].map(() => (document.getElementById("menu").click(), [document.body.classList.contains("with-menu"), ${fits}]))`);
       assert.deepEqual(turned, [[true, true], [false, true], [true, true]]);
-      await user.page.size(1440, 900);
     });
 
     test("at 640 x 360 the page is scrolled as a whole, and each control can be reached", async () => {
@@ -276,7 +287,6 @@ export function testLooks(name, openBrowser) {
         return [...low, ...controls.filter(isCut).map((control) => control.dataset.play ?? control.textContent)];
       })()`);
       assert.deepEqual(faulty, []);
-      await user.page.size(1440, 900);
     });
 
     for (const [width, height] of [[1280, 720], [390, 844], [720, 450]])
@@ -299,7 +309,6 @@ export function testLooks(name, openBrowser) {
         })()`);
         if (width > 1100) assert.equal(await user.text("#numbers .now"), "11");
         assert.deepEqual([scrolled, room >= 120, row], [0, true, true], `${room} pixels of the diagram`);
-        await user.page.size(1440, 900);
       });
 
     for (const [width, height] of [[1440, 900], [390, 844]])
@@ -333,7 +342,6 @@ export function testLooks(name, openBrowser) {
           await user.click("#list-verdict");
           assert.match(await said(), /^This is the weak list property: .*\.$/);
         }
-        await user.page.size(1440, 900);
       });
 
     test("on paper of any width all that is told is there", async () => {
@@ -349,7 +357,6 @@ export function testLooks(name, openBrowser) {
       })()`);
       assert.deepEqual(faulty, [9]);
       assert.equal(await user.text("#list-verdict"), "all documents order letters alike");
-      await user.page.size(1440, 900);
     });
 
     test("what is open has the focus within, and leaves by Escape to where it was", async () => {

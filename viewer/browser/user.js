@@ -76,6 +76,15 @@ export class User {
     await this.started();
   }
 
+  /* Waits until the page that `window.isOld` marks has been left for another one; one that is asked while it is left gives no answer. */
+  async left() {
+    for (let turn = 0; turn < 300; turn++) {
+      if (await this.run("window.isOld === undefined").catch(() => false)) return;
+      await wait(30);
+    }
+    throw new Error("waited for the page anew");
+  }
+
   async started() {
     await this.until('document.body.classList.contains("with-engine") && !document.getElementById("header").hidden', "the engine");
   }

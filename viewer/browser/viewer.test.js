@@ -2,7 +2,7 @@
 
 import assert from "node:assert/strict";
 import fs from "node:fs";
-import { after, before, test } from "node:test";
+import { after, before, beforeEach, test } from "node:test";
 import { example } from "../test/sessions.mjs";
 import { openChromium } from "./chromium.js";
 import { difference, portLines, weakOrder } from "./faulty_port.js";
@@ -12,6 +12,7 @@ import { isAnswer, keepSaved } from "./user.js";
 
 let page;
 before(async () => (page = await openChromium()));
+beforeEach(() => page.size(1440, 900));
 after(async () => {
   const { exceptions } = page;
   await page.close();
@@ -167,7 +168,7 @@ test("a click on a character marks the same insertion in all documents", async (
   await page.goto(`${pageOf("pick", weakOrder)}#at=7`);
   await page.click(...(await middle(".card .document .inserted")));
   assert.equal(await page.run('document.querySelectorAll(".picked").length'), 3);
-  assert.match(await text("#sentence"), /“c” inserted by client 1 at 4$/);
+  assert.match(await text("#sentence"), /“c” inserted by client 1 at place 4$/);
   await page.key("Home");
   assert.equal(await page.run('document.querySelectorAll(".picked").length'), 0);
 });
@@ -179,7 +180,7 @@ test("a click within a run of one author finds the character", async () => {
     return [left + (width / 5) * 3.5, top + height / 2];
   })()`);
   await page.click(x, y);
-  assert.match(await text("#sentence"), /“d” inserted by client 0 at 1$/);
+  assert.match(await text("#sentence"), /“d” inserted by client 0 at place 1$/);
   assert.equal(await text(".card .document .picked"), "d");
 });
 
@@ -254,7 +255,6 @@ test("light, dark, narrow", async () => {
   await page.drawn();
   assert.equal(await page.run("document.documentElement.scrollWidth"), 400, "nothing is wider than a narrow window");
   assert.ok((await middle(".card.server"))[1] > (await middle("#time"))[1], "the state stands below the diagram");
-  await page.size(1440, 900);
 });
 
 test("the diagram is saved as an SVG file", async () => {

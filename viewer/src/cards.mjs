@@ -8,7 +8,7 @@ import { SERVER } from "../../common/fold.mjs";
 import { documentAt, downAt, headsAt, logLengthAt, receiptsIn, stateAt, upAt, versionsOf } from "../../common/places.mjs";
 import { colourOf } from "./theme.mjs";
 import { tree } from "./tree.mjs";
-import { apart, nameOfMember, orderWords, shortName, shownOperation, shownValue } from "./words.mjs";
+import { nameOfMember, orderWords, placeWords, shortName, shownApart, shownOperation, shownValue } from "./words.mjs";
 
 export const authorOf = ({ maker }, names) => (maker === START ? "the start" : nameOfMember(maker, names));
 
@@ -120,7 +120,7 @@ const table = (rows) => rows.length > 0 && tree("dl", {}, rows.map(([name, value
 function noteRow(who, { document, differences: [difference], order }, names) {
   const seen = who === SERVER ? "seen" : "my editor";
   if (!difference) return [seen, [shownValue(JSON.stringify(document)), " as ot.js has it"]];
-  const [theirs, wanted] = apart(difference.found, difference.ours).map(shownValue);
+  const [theirs, wanted] = shownApart(difference.found, difference.ours);
   const ours = ["ot.js has ", wanted, " here", order && [", and would have ", theirs, ` if the server had taken ${orderWords(order, names).other} first`]];
   return [tree("span", { class: "differs" }, seen), [theirs, " ", tree("span", { class: "against" }, ours)]];
 }
@@ -128,9 +128,11 @@ function noteRow(who, { document, differences: [difference], order }, names) {
 function portRows(port, who, { place, names }) {
   if (!port) return [];
   if (port.areNotes) return [port.noteOf(who, place)].filter(Boolean).map((note) => noteRow(who, note, names));
+  const at = port.placeOf(who, place);
   return port.differencesOf(who, place).map(({ key, found, ours }) => {
-    const [theirs, wanted] = apart(found, ours).map(shownValue);
-    return [tree("span", { class: "differs" }, `port: ${key}`), [theirs, " ", tree("span", { class: "against" }, "ot.js: ", wanted)]];
+    const [theirs, wanted] = shownApart(found, ours);
+    const when = port.isEarlier(key, at, place) && ` (of ${placeWords(port.session, at)})`;
+    return [tree("span", { class: "differs" }, `port: ${key}`), [theirs, " ", tree("span", { class: "against" }, "ot.js: ", wanted), when]];
   });
 }
 

@@ -1,17 +1,13 @@
 // What the page says of conform's answer: where users' texts are noted, whose text differs first, and of whom none is compared yet.
 
-import { brief } from "../../common/characters.mjs";
 import { lastUpTo } from "../../common/document.mjs";
 import { SERVER } from "../../common/fold.mjs";
 import { notedPlace, notesIn } from "../../common/noted.mjs";
 import { stateAt, versionsOf } from "../../common/places.mjs";
-import { apart, nameOfMember, orderWords, placeWords } from "./words.mjs";
+import { apart, briefApart, nameOfMember, orderWords, placeWords } from "./words.mjs";
 
 /** Of how many clients it is said that no text is compared. */
 const MOST = 3;
-
-/** How many characters of a long text are shown in front of where it differs. */
-const AROUND = 30;
 
 const capital = (words) => words[0].toUpperCase() + words.slice(1);
 
@@ -56,20 +52,11 @@ export function differsWords({ at, client }, names) {
   return `${whose} differs from ot.js, first at place ${at}`;
 }
 
-/* Two texts that differ, each in at most so many characters: of long ones what stands around the first character that differs. */
-function cutApart(texts, most) {
-  const [one, other] = texts.map((text) => [...text]);
-  let at = 0;
-  while (at < one.length && one[at] === other[at]) at++;
-  const from = at < most - AROUND ? 0 : at - AROUND;
-  return [one, other].map((all) => `${from > 0 ? "…" : ""}${brief(all.slice(from).join(""), most)}`);
-}
-
 /* The same in a whole sentence, with what ot.js has and what was noted. */
 function differsSentence(session, answer, names, line) {
   const { at, client } = answer;
   const who = client ?? SERVER;
-  const [shown, wanted] = cutApart(apart(answer.found, answer.otjs), 300);
+  const [shown, wanted] = briefApart(apart(answer.found, answer.otjs), 300);
   const last = upTo(session, who, at);
   const where = placeWords(session, at, line).replace(`place ${at}`, "");
   const noted = client === null ? `${shown} was noted` : `the editor showed ${shown}`;

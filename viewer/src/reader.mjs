@@ -1,17 +1,10 @@
 // What a file or a paste is: a schedule, its image, lines of `otbench steps` or of a port, a log of the recorder, a trace, or a plan.
 
 import { splitInput, trimmed } from "../../common/input.mjs";
+import { valueIn } from "../../common/json.mjs";
 import { outlineOf } from "../../common/outline.mjs";
 
 const isObject = (value) => Boolean(value) && typeof value === "object" && !Array.isArray(value);
-
-function asJson(text) {
-  try {
-    return JSON.parse(text);
-  } catch {
-    return null;
-  }
-}
 
 /**
  * @param {Uint8Array} bytes
@@ -29,10 +22,10 @@ export function kindOf(bytes) {
   const first = text.trimStart()[0];
   if (first === undefined) return { kind: "bad", reason: "it is empty" };
   if (first !== "{") return outlineOf(text.replace(/^\ufeff/, "")).opening ? { kind: "schedule", text } : { kind: "other", text };
-  const whole = asJson(text);
+  const whole = valueIn(text);
   if (isObject(whole) && "events" in whole) return { kind: "trace", text };
   if (isObject(whole) && "typing" in whole) return { kind: "plan", text };
-  const line = asJson(splitInput(text).steps[0] ?? "");
+  const line = valueIn(splitInput(text).steps[0] ?? "");
   if (isObject(line) && Number.isInteger(line.at)) return { kind: "lines", text };
   if (isObject(line) && typeof line.who === "string" && Number.isInteger(line.n)) return { kind: "log", text };
   return { kind: "bad", reason: "it begins as JSON does, and is no trace, no plan, no log of the recorder, and no lines of otbench steps or of a port" };
@@ -58,7 +51,7 @@ function instructionOf({ do: word, client, edit }) {
  * @param {string[]} lines
  */
 export function scheduleOf(lines) {
-  const [opening, ...others] = lines.map(asJson);
+  const [opening, ...others] = lines.map(valueIn);
   if (!isObject(opening) || !Number.isInteger(opening.clients) || typeof opening.start !== "string") return null;
   const { clients, present = clients, start } = opening;
   if (!Number.isInteger(present)) return null;

@@ -2,7 +2,7 @@
 // against one another in it, and which text went first where both insert at one place. What was transformed, and by which method, is what
 // `conform` says of a port that has another value there.
 
-import { transformsOf } from "../../common/why.mjs";
+import { transformsOf, valuesOf } from "../../common/why.mjs";
 import { brief, quoted } from "../../common/characters.mjs";
 import { logLengthAt, stateAt } from "../../common/places.mjs";
 import { instructionOf, nameOfMember } from "./words.mjs";
@@ -31,18 +31,18 @@ export function lastTransform(session, place) {
 export const otherLine = (session, place) => JSON.stringify({ at: place, [session.steps[place].line.do === "take" ? "appended" : "applied"]: 0 });
 
 /* What each transform of a place is given: the first argument, which has the first text of a tie, and the second one, each { name, operation, maker }. */
-function argumentsOf({ steps, log }, { place, given }, transforms) {
-  const { line, received } = steps[place];
-  const valuesOf = (wanted) => given.filter(({ name }) => name === wanted).map(({ value }) => JSON.parse(value));
-  const [operation] = valuesOf("operation");
+function argumentsOf({ steps, log }, call, transforms) {
+  const { line, received } = steps[call.place];
+  const given = (wanted) => valuesOf(call, wanted);
+  const [operation] = given("operation");
   const before = (i, which) => (i === 0 ? operation : transforms[i - 1][which]);
   if (line.do === "take") {
     const { revision } = received;
     const entry = (other, i) => ({ name: `log entry ${revision + i}`, operation: other, maker: log[revision + i].maker });
-    return valuesOf("concurrent").map((other, i) => [{ name: "its message", operation: before(i, "first"), maker: line.client }, entry(other, i)]);
+    return given("concurrent").map((other, i) => [{ name: "its message", operation: before(i, "first"), maker: line.client }, entry(other, i)]);
   }
   const entry = (i) => ({ name: `log entry ${received.number}`, operation: before(i, "second"), maker: received.maker });
-  const pending = ["outstanding", "buffer"].flatMap((name) => valuesOf(name).map((value) => ({ name, operation: value, maker: line.client })));
+  const pending = ["outstanding", "buffer"].flatMap((name) => given(name).map((value) => ({ name, operation: value, maker: line.client })));
   return pending.map((own, i) => [own, entry(i)]);
 }
 

@@ -24,7 +24,7 @@ export function watchRooms() {
   };
   for (const mark of document.querySelectorAll("[data-room]")) {
     const room = element(mark.dataset.room);
-    mark.onclick = () => room.scrollBy(0, Math.max(20, room.clientHeight - 24));
+    mark.onclick = () => room.scrollBy(0, Math.max(20, room.clientHeight - mark.offsetHeight)); // what it stands over comes above it
     room.addEventListener("scroll", soon);
     new ResizeObserver(soon).observe(room);
     new MutationObserver(soon).observe(room, { childList: true, subtree: true, characterData: true, attributes: true, attributeFilter: ["hidden"] });

@@ -14,7 +14,7 @@ import { isAnswered, outlookNow, reasonNow, shownPlace } from "./state.mjs";
 import { variablesOf } from "./theme.mjs";
 import { Timeline } from "./timeline.mjs";
 import { tree } from "./tree.mjs";
-import { answerData, apart, arrivedWords, instructionOf, nameOfMember, sentence, shownOperation, shownValue, verdictOn } from "./words.mjs";
+import { answerData, arrivedWords, instructionOf, nameOfMember, sentence, shownApart, shownOperation, verdictOn } from "./words.mjs";
 
 /** Of a session of so many instructions, above how many milliseconds of the engine's the page says that the picture comes later. */
 const LONG = 1000;
@@ -197,7 +197,7 @@ function wordsAt(state, { session, place, picked, port, followed, names, canPlay
   const isToldBelow = canPlay && / messages have arrived/.test(now); // by the verdict
   const parts = [sentence(session, place, names), tree("span", { class: isToldBelow ? "now waits" : "now" }, now)];
   for (const { key, found, ours } of port ? port.differencesAt(place) : []) {
-    const [theirs, wanted] = apart(found, ours).map(shownValue);
+    const [theirs, wanted] = shownApart(found, ours);
     const whose = !port.areNotes ? `The port: ${key} ` : session.steps[place].moved === SERVER ? "The server had " : "The editor showed ";
     parts.push(tree("span", { class: "differs" }, whose, theirs, ", ot.js: ", wanted, "."));
   }

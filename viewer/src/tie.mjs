@@ -4,6 +4,7 @@ import { transform } from "../../common/transform.mjs";
 import { insertedText, lastUpTo, makeElements, patched, textOf } from "../../common/document.mjs";
 import { SERVER } from "../../common/fold.mjs";
 import { documentAt, versionsOf } from "../../common/places.mjs";
+import { valuesOf } from "../../common/why.mjs";
 import { isTransform } from "./reason.mjs";
 import { instructionOf } from "./words.mjs";
 
@@ -22,12 +23,11 @@ export function decidedAt(session, { at, who }) {
 }
 
 /* What a method would make if transform had its arguments the other way round. @param {import("./reason.mjs").Reason} call */
-function exchanged({ given }) {
-  const valuesOf = (wanted) => given.filter(({ name }) => name === wanted).map(({ value }) => JSON.parse(value));
-  const [operation] = valuesOf("operation");
-  const pending = [...valuesOf("outstanding"), ...valuesOf("buffer")];
+function exchanged(call) {
+  const [operation] = valuesOf(call, "operation");
+  const pending = ["outstanding", "buffer"].flatMap((name) => valuesOf(call, name));
   if (pending.length > 0) return pending.reduce((received, own) => transform(received, own).first, operation);
-  return valuesOf("concurrent").reduce((message, other) => transform(other, message).second, operation);
+  return valuesOf(call, "concurrent").reduce((message, other) => transform(other, message).second, operation);
 }
 
 /**

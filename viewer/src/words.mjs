@@ -3,6 +3,7 @@
 import { brief, isUnseen, quoted, seen } from "../../common/characters.mjs";
 import { colourOf } from "./theme.mjs";
 import { SERVER } from "../../common/fold.mjs";
+import { parting } from "../../common/parting.mjs";
 import { logLengthAt, openAt, stateAt } from "../../common/places.mjs";
 import { tree } from "./tree.mjs";
 
@@ -22,12 +23,19 @@ const looks = (text) => text.normalize("NFKC").replace(/[\p{Cc}\p{Cf}\p{Zl}\p{Zp
 export function apart(found, ours) {
   if (looks(found) !== looks(ours)) return [found, ours].map((text) => coded(text, 0, 0));
   const [a, b] = [[...found], [...ours]];
-  const least = Math.min(a.length, b.length);
-  let front = 0;
-  while (front < least && a[front] === b[front]) front++;
-  let back = 0;
-  while (back < least - front && a[a.length - 1 - back] === b[b.length - 1 - back]) back++;
-  return [coded(found, front, a.length - back), coded(ours, front, b.length - back)];
+  const { at, same } = parting(a, b);
+  return [coded(found, at, a.length - same), coded(ours, at, b.length - same)];
+}
+
+/** How many characters of a long text are shown in front of where it differs. */
+const AROUND = 30;
+
+/** Two texts that differ, each in at most so many characters: of long ones what stands around the first character that differs. @param {[string, string]} texts */
+export function briefApart(texts, most) {
+  const [one, other] = texts.map((text) => [...text]);
+  const { at } = parting(one, other);
+  const from = at < most - AROUND ? 0 : at - AROUND;
+  return [one, other].map((all) => (from > 0 ? `…${brief(all.slice(from).join(""), most - 1)}` : brief(all.join(""), most)));
 }
 
 /* An operation in at most n characters: its insertions are shortened first. */
@@ -71,8 +79,13 @@ export function arrivedWords(session, place) {
   return `Not all messages have arrived: ${what}${more.length ? `; ${more.length} more client${more.length > 1 ? "s wait" : " waits"}` : ""}`;
 }
 
+const MOST_OF_VALUE = 200; // characters that are shown
+
 /** A value as it is printed. */
-export const shownValue = (value) => tree("code", {}, brief(value, 200));
+export const shownValue = (value) => tree("code", {}, brief(value, MOST_OF_VALUE));
+
+/** Two values that differ, as they are printed: of long ones what stands around the first character that differs. */
+export const shownApart = (found, ours) => briefApart(apart(found, ours), MOST_OF_VALUE).map(shownValue);
 
 const shownText = (text) => tree("code", {}, quoted(brief(text, 80)));
 
@@ -162,10 +175,10 @@ export function noteWords(told, names = new Map()) {
   const { verdict, client, found, otjs, note, order } = told.answer;
   if (verdict === "conforms") return "ot.js has the same text here.";
   if (verdict !== "differs") return told.words[0];
-  const [shown, wanted] = apart(found, otjs);
+  const [shown, wanted] = briefApart(apart(found, otjs), 300);
   const seen = client === null ? "the server" : "the editor";
-  const both = shown === found && wanted === otjs ? "" : `, and ${seen} ${brief(shown, 300)}`;
+  const both = shown === found && wanted === otjs ? "" : `, and ${seen} ${shown}`;
   const other = order && orderWords(order, names);
-  const ordered = other ? ` here, since the server took ${other.now} first${both}. With the other order, ${other.other} first, it would have ${brief(shown, 300)}.` : ` here${both}.`;
-  return `ot.js has ${brief(wanted, 300)}${ordered}${note ? ` Of ${seen}’s text: ${note}.` : ""}`;
+  const ordered = other ? ` here, since the server took ${other.now} first${both}. With the other order, ${other.other} first, it would have ${shown}.` : ` here${both}.`;
+  return `ot.js has ${wanted}${ordered}${note ? ` Of ${seen}’s text: ${note}.` : ""}`;
 }

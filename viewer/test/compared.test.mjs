@@ -2,27 +2,17 @@
 
 import assert from "node:assert/strict";
 import { test } from "node:test";
-import { Bench } from "../src/bench.mjs";
 import { answerLines, answerParts, missingWords, notCompared } from "../src/compared.mjs";
 import { SERVER, fold } from "../../common/fold.mjs";
 import { outlineOf } from "../../common/outline.mjs";
 import { Port } from "../../common/printed.mjs";
 import { placeWords } from "../src/words.mjs";
-import { DirectEngine, skip } from "./engines.mjs";
+import { opened, skip } from "./engines.mjs";
 import { HOSTILE } from "./hostile.mjs";
 import { example, linesOf, portLinesOf } from "./sessions.mjs";
 
 /* Client 1's document is that of place 7 at place 8 too. */
 const TIE = 'clients 2\nedit 0 ["a"]\nedit 1 ["b"]\ntake 0\ntake 1\nack 0\ndeliver 0\ndeliver 1\nack 1\n';
-
-const opened = async (text, place) => {
-  const bench = new Bench(() => {}, async () => {});
-  bench.use(new DirectEngine());
-  bench.dispatch({ do: "open", text, place });
-  await bench.settled();
-  bench.dispatch({ do: "go", place });
-  return bench;
-};
 
 /* What is shown of conform's answer when it is there. */
 async function toldOf(bench) {

@@ -4,6 +4,7 @@
 import { spawnSync } from "node:child_process";
 import fs from "node:fs";
 import { fileURLToPath, pathToFileURL } from "node:url";
+import { Bench } from "../src/bench.mjs";
 import { Dispatcher } from "../src/dispatcher.mjs";
 
 export const program = process.env.OTBENCH || fileURLToPath(new URL("../../crates/otbench/out/otbench", import.meta.url));
@@ -62,4 +63,14 @@ export class DirectEngine {
   async complete(shown, line) {
     return this.dispatcher.complete(shown, line);
   }
+}
+
+/* A bench with a session, at a place of it. */
+export async function opened(text, place) {
+  const bench = new Bench(() => {}, async () => {});
+  bench.use(new DirectEngine());
+  bench.dispatch({ do: "open", text, place });
+  await bench.settled();
+  bench.dispatch({ do: "go", place });
+  return bench;
 }

@@ -2,14 +2,14 @@
 
 import assert from "node:assert/strict";
 import { test } from "node:test";
-import { Bench } from "../src/bench.mjs";
 import { cardOf } from "../src/cards.mjs";
 import { SERVER } from "../../common/fold.mjs";
 import { areNotes, canNote, carriedNotes, noteAt, notesIn, withNote } from "../../common/noted.mjs";
 import { reportOf } from "../src/report.mjs";
 import { outlineOf } from "../../common/outline.mjs";
+import { Port } from "../../common/printed.mjs";
 import { noteWords } from "../src/words.mjs";
-import { DirectEngine, skip } from "./engines.mjs";
+import { opened, skip } from "./engines.mjs";
 
 const TIE = 'clients 2\nedit 0 ["a"]\nedit 1 ["b"]\ntake 0\ntake 1\ndeliver 1\n';
 const given = (text) => ({ text, outline: outlineOf(text) });
@@ -71,14 +71,17 @@ test("what conform answers is said in words", () => {
   for (const told of [null, { answer: null, words: [] }]) assert.match(noteWords(told), /fault/);
 });
 
-const opened = async (text, place) => {
-  const bench = new Bench(() => {}, async () => {});
-  bench.use(new DirectEngine());
-  bench.dispatch({ do: "open", text, place });
-  await bench.settled();
-  bench.dispatch({ do: "go", place });
-  return bench;
-};
+test("of two long texts that differ far behind their beginning the words have what stands around that", () => {
+  const [front, behind] = ["a".repeat(500), "b".repeat(500)];
+  const [found, otjs] = ["x", "y"].map((character) => JSON.stringify(front + character + behind));
+  const said = noteWords({ answer: { verdict: "differs", client: 0, found, otjs, order: { first: 1, then: 0 } }, words: [] });
+  const shown = (character) => `…${"a".repeat(30)}${character}${"b".repeat(267)}…`;
+  assert.ok(said.startsWith(`ot.js has ${shown("y")} here, since `), said);
+  assert.ok(said.includes(` first, and the editor ${shown("x")}. With the other order, `), said);
+  assert.ok(said.endsWith(` it would have ${shown("x")}.`), said);
+  const most = JSON.stringify("x".repeat(100000));
+  assert.ok(noteWords({ answer: { verdict: "differs", client: null, found: most, otjs: `${most.slice(0, -1)}y"` }, words: [] }).endsWith(`${"x".repeat(30)}".`));
+});
 
 const judged = async (bench) => {
   await bench.settled();
@@ -194,6 +197,30 @@ test("the card of a client says what was noted of it", { skip }, async () => {
   const words = JSON.stringify(cardOf(bench.state.session, 1, view));
   assert.match(words, /my editor/);
   assert.match(words, /ot.js has /);
+});
+
+test("the card shows of two long texts what stands around where they differ, of a note and of a port's line", { skip }, async () => {
+  const start = "a".repeat(600);
+  const seen = `${start.slice(0, 500)}c${start.slice(0, 100)}`;
+  const bench = await opened(`clients 1\nstart "${start}"\nedit 0 [500,"b",100]\n`, 1);
+  bench.dispatch({ do: "note", who: 0, document: seen });
+  const { session } = bench.state;
+  const lines = [JSON.stringify({ at: 0 }), JSON.stringify({ at: 1, client: 0, document: seen, revision: 0 })];
+  for (const port of [await judged(bench), new Port(session, lines, null)]) {
+    const view = { session, port, place: 1, picked: null, canPlay: true, canNote: true, names: new Map(), caret: null, writing: null, asked: [] };
+    const words = JSON.stringify(cardOf(session, 0, view));
+    for (const character of ["b", "c"]) assert.ok(words.includes(`…${"a".repeat(30)}${character}${"a".repeat(100)}`), words);
+  }
+});
+
+test("the card marks a port's value of an earlier instruction with its place, but one that lasts only behind the port's last line", { skip }, async () => {
+  const { session } = (await opened(TIE, 5)).state;
+  const lines = [{ at: 0 }, { at: 1, revision: 7, sent: null }, { at: 2 }, { at: 3 }].map((line) => JSON.stringify(line));
+  const port = new Port(session, lines, null);
+  const shown = (place) => JSON.stringify(cardOf(session, 0, { session, port, place, picked: null, canPlay: true, canNote: false, names: new Map(), caret: null, writing: null, asked: [] }));
+  const count = (place) => shown(place).split(" (of place 1, after edit 0)").length - 1;
+  for (const place of [1, 2, 3, 4]) assert.match(shown(place), /port: revision.*port: sent/);
+  assert.deepEqual([1, 2, 3, 4].map(count), [0, 1, 1, 2]);
 });
 
 test("a port's lines are read once, however often they are asked for", () => {
