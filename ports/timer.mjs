@@ -3,6 +3,8 @@
  * in meanwhile is taken before the time is over.
  */
 
+import { setImmediate } from "node:timers";
+
 const TICK = 100; // milliseconds
 
 /**
