@@ -10,7 +10,7 @@ const MOST = 8; // transforms that are all shown
 
 /**
  * @typedef {{ rule: string, given: { name: string, value: string }[] }} Call a method of ot.js and what it was given
- * @typedef {ReturnType<typeof transform> & { words: string }} Transform what it makes, and its call in words
+ * @typedef {ReturnType<typeof transform> & { named: [string, import("./transform.mjs").Operation][], words: string }} Transform what it makes, its arguments with their names, and its call in words
  */
 
 /** The values that a call was given by a name. @param {Pick<Call, "given">} call @param {string} wanted */
@@ -19,7 +19,7 @@ export const valuesOf = ({ given }, wanted) => given.filter(({ name }) => name =
 /** @param {[string, import("./transform.mjs").Operation][]} named the two arguments */
 function transformOf(named) {
   const words = named.map(([name, operation]) => `${name} ${JSON.stringify(operation)}`).join(", ");
-  return { ...transform(...named.map(([, operation]) => operation)), words: `transform(${words})` };
+  return { ...transform(...named.map(([, operation]) => operation)), named, words: `transform(${words})` };
 }
 
 /** The server's transforms: the message against each operation of the log that its client did not know. */
@@ -56,9 +56,12 @@ function linesOf({ words, first, second, ties }) {
   return [`    ${words} makes ${JSON.stringify(first)} and ${JSON.stringify(second)}`, ...tied];
 }
 
+/** Whether a call composes. @param {Call} call */
+export const isComposing = ({ rule }) => rule === "AwaitingWithBuffer.applyClient";
+
 /** The lines for a call: the method, and its transforms; of many those that have a tie. @param {Call} call @param {{ maker: number }[]} log the server's */
 export function reasonsOf(call, log) {
-  if (call.rule === "AwaitingWithBuffer.applyClient") return [`  ${call.rule}: compose(buffer, operation)`];
+  if (isComposing(call)) return [`  ${call.rule}: compose(buffer, operation)`];
   const all = transformsOf(call, log);
   if (all.length === 0) return [`  ${call.rule}: nothing is transformed`];
   const tied = all.filter(({ ties }) => ties.length > 0);

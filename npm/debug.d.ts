@@ -52,6 +52,8 @@ export interface Session {
   print(...words: Word[]): string[];
   explain(instruction?: number): string[];
   why(instruction?: number): string[];
+  why(walk: "walk", transform?: number): string[];
+  why(instruction: number, walk: "walk", transform?: number): string[];
   source(file: string): string[];
   save(file: string): string[];
   export(file: string, complete?: "complete"): string[];

@@ -77,7 +77,7 @@ export const COMMANDS = {
   show: { takes: "[C|server]", most: 1, does: "shows documents, states, outstanding operations, buffers and links; what is long is cut" },
   print: { takes: "doc|state|outstanding|buffer|message|link C, print doc server, print server, print instruction [N], print difference, print port doc|state|outstanding|buffer|revision|message|sent|edit|applied|appended C|server", most: 3, does: "shows the whole of one value of ot.js, of one that the port printed last, or of what conform answers of the port's line at the place, or else of the first one that differs; info says what made an operation" },
   explain: { takes: "[N]", most: 1, does: "describes the instruction that was performed or undone last, or instruction N, in words" },
-  why: { takes: "[N]", most: 1, does: "says by which method of ot.js the last instruction, or instruction N, led where it did, what each transform made, and its ties" },
+  why: { takes: "[N] [walk [K]]", most: 3, does: "says by which method of ot.js the last instruction, or instruction N, led where it did, what each transform made, and its ties; why walk shows how ot.js goes through the components of its first transform, or of its compose, why walk K of its K-th transform" },
   source: { takes: "FILE", most: 1, does: "performs the commands of a file, line by line" },
   save: { takes: "FILE", most: 1, does: "writes breaks, watches and displays as commands to a file, which must not be there yet" },
   export: { takes: "FILE [complete]", most: 2, does: "writes the schedule up to the place to a file, which must not be there yet; with complete also what is under way there" },

@@ -13,6 +13,7 @@ import { RefusedText } from "./recording.mjs";
 import { Stops } from "./stops.mjs";
 import { clientOf, memberOf, subjectOf, textOf, titleOf, WATCHED } from "./subjects.mjs";
 import { shortLine, shortOperation, shortVerdict, shortWords } from "./values.mjs";
+import { walkLines, walksOf } from "../common/walk.mjs";
 import { reasonsOf } from "../common/why.mjs";
 
 const AROUND = 4; // how many instructions `list` shows before and behind the place
@@ -153,6 +154,7 @@ export class Debugger {
   #wordsBehind(command, count) {
     const clients = Array.from({ length: this.recording.clients }, (_, client) => String(client));
     if (command === "watch" || command === "display") return count === 1 ? [...WATCHED, "server"] : [...clients, "server"];
+    if (command === "why") return count < 3 ? ["walk"] : [];
     if (command === "next" || command === "rnext") return this.recording.port ? ["difference"] : [];
     if (command === "print") return this.#printable(count, clients);
     if (["show", "who", "blame"].includes(command)) return [...clients, "server"];
@@ -546,14 +548,31 @@ export class Debugger {
     return this.#told(word);
   }
 
-  /** What an instruction did, and the method of ot.js with its transforms and ties; of a refused one its reason. */
-  _why([word]) {
+  /** What an instruction did, and the method of ot.js with its transforms and ties, or how it goes through one of them; of a refused one its reason. */
+  _why(words) {
+    const at = words.findIndex((word) => isBegun(word, "walk"));
+    const [[word, ...more], [which, ...others]] = at < 0 ? [words, []] : [words.slice(0, at), words.slice(at + 1)];
+    const extra = [...more, ...others][0];
+    if (extra !== undefined) throw new Complaint(`${extra} is a word too many`);
+    const wanted = this.#count(which, 1);
     const told = this.#told(word);
     const number = word === undefined ? this.last : Number(word);
     if (number === null || number >= this.recording.end) return told;
     const call = this.recording.call(number);
-    const said = call === null ? [...told, "  nothing is transformed"] : [...told.slice(0, -1), ...reasonsOf(call, this.recording.session.log)];
+    const said = at < 0 ? this.#reasons(call, told) : this.#walked(call, told, wanted);
     return [...said, ...this.recording.portAt(number + 1)];
+  }
+
+  #reasons(call, told) {
+    return call === null ? [...told, "  nothing is transformed"] : [...told.slice(0, -1), ...reasonsOf(call, this.recording.session.log)];
+  }
+
+  /** How ot.js goes through the operations of one of a call's transforms, counted from 1, or of its compose. */
+  #walked(call, told, wanted) {
+    const walks = call === null ? [] : walksOf(call, this.recording.session.log);
+    if (walks.length === 0) return [...told, "  nothing is transformed or composed"];
+    if (wanted > walks.length) throw new Complaint(`${wanted} is no transform or compose there: they are 1 to ${walks.length}`);
+    return [told[0], `  ${call.rule}`, ...walkLines(walks, wanted - 1)];
   }
 
   /** An instruction in words: by its number, or that which was performed or undone last. */

@@ -29,6 +29,7 @@ test("each method has a type", () => {
 test("why says which transform decided", () => {
   const said = openDebugger(TIE).why(3);
   assert.deepEqual(said.slice(2), ["  AwaitingConfirm.applyServer", '    transform(outstanding ["b"], operation ["a b"]) makes ["b",3] and [1,"a b"]', '      tie at 0: "b", of the first argument, goes before "a b"']);
+  assert.equal(openDebugger(TIE).why(3, "walk")[4], '      0   "b"  -      "b"  1      tie: A goes first');
 });
 
 test("a port's lines stand beside it", () => {

@@ -53,7 +53,7 @@ test("why is of the last instruction, performed or undone; at the opening it say
   assert.match(opening, /^the opening: /);
   assert.match(last, /^line 8, instruction 5: take 1\n/);
   assert.equal(undone, last);
-  assert.match(none, /^99 is no instruction: they are 0 to 10; why \[N\]$/);
+  assert.match(none, /^99 is no instruction: they are 0 to 10; why \[N\] \[walk \[K\]\]$/);
   assert.match(more, /^2 is a word too many; why /);
 });
 
