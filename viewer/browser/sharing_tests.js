@@ -30,7 +30,7 @@ export function testSharing(name, openBrowser) {
       await user.press("i");
       await user.until("window.copied", "what is copied");
       const report = await user.run("window.copied");
-      assert.match(report, /^\*\*otbench\*\* `report\.ots`: `all messages arrive`; (`[^`]*`; )?`[^`]* \(line 11\)`\n/);
+      assert.match(report, /^\*\*otbench\*\* `report\.ots`: `[^`]* \(line 11\)`; in ot\.js `all messages arrive`(; `[^`]*`)?\n/);
       assert.ok(report.includes(`\n\`\`\`\n${weakOrder}\`\`\`\n`), "the schedule");
       assert.match(report, /\n\nAt place 7 of 16 \(`not quiet: client 0 is awaiting-with-buffer; 1 more client is not quiet`\):\n\n`They may still differ: .* all will be "acz"\.`\n\n```\n[^]*\n```\n\n`deliver 0, place 7: AwaitingWithBuffer\.applyServer transforms .*`\\\n`Then it transforms .*`\\\n`Both insert at the start: .*`\n\nWhat ot\.js has at place 7:\n\n- server: `"cxz"`\n- `client 0`: `"acz"`\n/);
       assert.match(report, /\nfound \[1,"a",-1,1\]\not\.js \["a",1,-1,1\]\n/);

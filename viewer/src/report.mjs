@@ -53,6 +53,13 @@ function verdictAt({ session, beside, outline, ...state }, outlook) {
   return `At place ${place} of ${session.length} (${inline(quietAt(session, place))})${lines.length ? `:\n\n${lines.join("\n\n")}` : ""}`;
 }
 
+/* The verdicts in a line. Those of ot.js' own run say so behind an answer of conform. */
+function verdictWords(verdicts, isAnswered) {
+  const told = verdicts.map((words) => inline(brief(words, 300)));
+  const [first, ...more] = told;
+  return isAnswered && more.length > 0 ? `${first}; in ot.js ${more.join("; ")}` : told.join("; ");
+}
+
 /* Which transform led to the documents, in lines. */
 function reasonAt({ session, outline }, reason) {
   if (!reason || reason.place === 0) return "";
@@ -64,7 +71,7 @@ function reasonAt({ session, outline }, reason) {
 /**
  * @param {import("./state.mjs").State} state one with a session
  * @param {object} said
- * @param {string[]} said.verdicts what the page says of the session, in its words
+ * @param {string[]} said.verdicts what the page says in its words: what conform answered, if it was asked, and then of ot.js' own run
  * @param {string[]} [said.outlook] the verdict of the place
  * @param {import("./reason.mjs").Reason | null} [said.reason] of the texts there
  * @param {string} said.link
@@ -74,7 +81,7 @@ export function reportOf(state, { verdicts, outlook = [], reason = null, link, i
   const { session, text, title, beside, outline } = state;
   const place = shownPlace(state);
   const parts = [
-    `**otbench**${title ? ` ${inline(brief(title, 80))}` : ""}: ${verdicts.map((words) => inline(brief(words, 300))).join("; ")}`,
+    `**otbench**${title ? ` ${inline(brief(title, 80))}` : ""}: ${verdictWords(verdicts, Boolean(beside?.answer))}`,
     verdictAt(state, outlook),
     block(shortened(text)),
     `${reasonAt(state, reason)}What ot.js has at place ${place}:\n\n${documentsAt(session, place, outline.names).join("\n")}`,

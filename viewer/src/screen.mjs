@@ -175,7 +175,7 @@ function showAnswer(state) {
 
 /** What the page says of the session, in its words. */
 export const shownVerdicts = () =>
-  ["verdict", "list-verdict", "conformance", "cut"].map(element).filter(({ hidden }) => !hidden).map(({ textContent }) => textContent);
+  ["conformance", "verdict", "list-verdict", "cut"].map(element).filter(({ hidden }) => !hidden).map(({ textContent }) => textContent);
 
 /* A line of the text, from 1; 0 where there is none, or the text is another one by now. */
 const shownLine = (state, line) => (line && isAnswered(state) ? line : 0);

@@ -41,7 +41,8 @@ What ot.js has at place 3:
 test("what a port has otherwise is in it, and a link of a file says where it opens", () => {
   const state = stateOf(example("two-clients"), { port: ["q"] });
   const beside = new Port(state.session, ["q"], { answer: { verdict: "differs", at: 1 }, words: ["differs at 1: edit 0: line", "found q", "ot.js {}"] });
-  const report = reportOf({ ...state, beside }, { verdicts: ["ends quiet"], link: "file:///a b#at=0", isOfFile: true });
+  const report = reportOf({ ...state, beside }, { verdicts: ["differs", "ends quiet", "holds"], link: "file:///a b#at=0", isOfFile: true });
+  assert.match(report, /^\*\*otbench\*\*: `differs`; in ot\.js `ends quiet`; `holds`\n/);
   assert.match(report, /\n\nWhat the port printed, beside ot\.js:\n\n```\ndiffers at 1: edit 0: line\nfound q\not\.js \{\}\n```\n\n/);
   assert.match(report, /\n\nThe session opens only where the page's file is: `file:\/\/\/a b#at=0`\n$/);
 });
