@@ -1,10 +1,9 @@
 -- A text with names, number by number; and without names.
-use Rattle.std.proofs.Common.{◌≡◌, ◌==◌, not, ℕ, Bool, true, false, List, [], ◌∷◌, ◌++◌, length, refl, sym, ap, ◌∙◌, append_assoc}
+use Rattle.std.proofs.Common.{◌≡◌, ◌==◌, not, ℕ, Bool, true, false, List, [], ◌∷◌, ◌++◌, length, refl, sym, ap, ◌∙◌}
 use Rattle.std.proofs.lemmas.Bool.{eqb-true}
 use Rattle.std.proofs.lemmas.List.{nil_from_length}
-use Rattle.std.specs.Prelude.{get_or, if◌then◌else◌}
-use Rattle.ot_asm.specs.Named.{before_byte, in_brackets, is_of_word, name_at, named, named_from, next}
-use Rattle.ot_asm.specs.Passed.{SplitsAtNumber}
+use Rattle.std.specs.Prelude.{if◌then◌else◌}
+use Rattle.ot_asm.specs.Named.{before_byte, is_of_word, name_at, named, named_from, next}
 use Rattle.ot_asm.specs.declared.place.Place.{Place}
 use Rattle.ot_asm.specs.declared.place.Place.TheVariants.{Apart, Word, Client, Behind, Number, Inside, Escaped}
 
@@ -14,19 +13,6 @@ pub record IsNamed (names : List (List ℕ)) (text shown rest : List ℕ) : Type
 
 pub begun_naming : (names : List (List ℕ)) (text shown : List ℕ) → shown ≡ [] → IsNamed names text shown text
 begun_naming names text shown is = record { all = ap (λ (t : List ℕ). t ++ named names text) is }
-
-pub one_number : (names : List (List ℕ)) (text shown mid more rest front behind : List ℕ) (client : ℕ) → IsNamed names text shown rest → SplitsAtNumber rest front client behind
-    → mid ≡ shown ++ front → more ≡ mid ++ in_brackets (get_or names client []) → IsNamed names text more behind
-one_number names text shown mid more rest front behind client so_far split is_mid is_more =
-    let name = in_brackets (get_or names client []) in
-    record {
-      all =
-          ap (λ (t : List ℕ). t ++ named names behind) (is_more ∙ ap (λ (t : List ℕ). t ++ name) is_mid)
-          ∙ append_assoc (shown ++ front) name (named names behind)
-          ∙ append_assoc shown front (name ++ named names behind)
-          ∙ ap (λ (t : List ℕ). shown ++ t) (sym (split.same names))
-          ∙ so_far.all;
-    }
 
 pub all_named : (names : List (List ℕ)) (text shown more rest : List ℕ) → IsNamed names text shown rest → ((others : List (List ℕ)) → named others rest ≡ rest) → more ≡ shown ++ rest → more ≡ named names text
 all_named names text shown more rest so_far plain is_more = is_more ∙ ap (λ (t : List ℕ). shown ++ t) (sym (plain names)) ∙ so_far.all

@@ -1,16 +1,16 @@
 -- Running over the lines of a reader whose bytes may be known.
-use Rattle.std.proofs.Common.{◌≡◌, ◌≢◌, ◌⊎◌, inl, inr, ◌+◌, ◌-◌, ◌<◌, ◌&&◌, ℕ, List, [], length, Bool, true, false, Option, Some, None, Result, Ok, Err, refl, ap, ◌∙◌, arith}
+use Rattle.std.proofs.Common.{◌≡◌, ◌≢◌, ◌⊎◌, inl, inr, ◌+◌, ◌-◌, ◌&&◌, ℕ, List, [], length, Bool, true, false, Option, Some, None, Result, Ok, Err, refl, ap, ◌∙◌, arith}
 use Rattle.std.specs.Prelude.{IfSome, OnOk, ⊤}
 use Rattle.streams.specs.Lines.{lines_of}
-use Rattle.streams.specs.Taken.{TakesLine, Spends, LosesPiece}
+use Rattle.streams.specs.Taken.{TakesLine, Spends}
 use Rattle.ot_isa.specs.Program.{Program}
-use Rattle.ot_asm.specs.Stepping.{BodyView, line_step, ended, outcome_of_lines, IsFaultlessBefore, HidesOnlyJson, OutOfMemoryIn}
+use Rattle.ot_asm.specs.Stepping.{BodyView, line_step, ended, outcome_of_lines, HidesOnlyJson, OutOfMemoryIn}
 use Rattle.ot_asm.specs.Words.{trimmed, first_word, keyword_of}
-use Rattle.ot_asm.specs.Parts.{is_mark, lines_before, TakesPart, StopsIn}
+use Rattle.ot_asm.specs.Parts.{is_mark, lines_before, TakesPart}
 use Rattle.ot_asm.specs.declared.fault.Kind.{Kind}
 use Rattle.ot_asm.specs.declared.fault.Kind.TheVariants.{Memory}
 use Rattle.ot_asm.specs.declared.fault.AsmFault.{AsmFault}
-use Rattle.ot_asm.proofs.Running.{IsTaken, taken_start, taken_step, taken_fault, taken_want, taken_mark, mark_behind, taken_end, end_behind, rest_is, faultless, fault_is, no_lines}
+use Rattle.ot_asm.proofs.Running.{IsTaken, taken_start, taken_step, taken_fault, taken_want, taken_mark, mark_behind, taken_end, end_behind, fault_is, no_lines}
 
 -- the lines before line number `line` made the draft, where the bytes are known
 abbrev pub IsTakenKnown : Bool → Option (List ℕ) → Option (List ℕ) → ℕ → Option BodyView → Type 0
@@ -39,11 +39,6 @@ wanting_known marked None now next l line draft h t other hides = tt
 wanting_known marked (Some text) None next l line draft h t other hides = absurd h
 wanting_known marked (Some text) (Some now) None l line draft h t other hides = absurd t
 wanting_known marked (Some text) (Some now) (Some next) l line draft h t other hides = let taken = rw t at h in taken_want l (lines_of next) taken other hides
-
-pub faultless_known : (marked : Bool) (text now : Option (List ℕ)) (line : ℕ) (draft : Option BodyView) → IsTakenKnown marked text now line draft → IfSome text (λ t. IsFaultlessBefore (lines_before marked (lines_of t)) line)
-faultless_known marked None now line draft h = tt
-faultless_known marked (Some text) None line draft h = absurd h
-faultless_known marked (Some text) (Some now) line draft h = faultless h.read
 
 pub marked_known : (marked : Bool) (text now next : Option (List ℕ)) (l : List ℕ) (line : ℕ) (draft : Option BodyView) (result : Result Program AsmFault) → IsTakenKnown marked text now line draft → TakesLine now next true l → (marked && is_mark l) ≡ true → ((count : ℕ) → count + 1 ≡ line → ended count (Ok draft) ≡ result) → IfSome text (λ t. outcome_of_lines (lines_before marked (lines_of t)) ≡ result)
 marked_known marked None now next l line draft result h t mark e = tt
@@ -76,12 +71,6 @@ ended_part marked (Some text) (Some now) (Some next) l line draft h t =
     let taken = rw none at h in
     rw left (end_behind taken)
 
-pub stopped_known : (marked : Bool) (text now next : Option (List ℕ)) (line : ℕ) (draft : Option BodyView) → IsTakenKnown marked text now line draft → LosesPiece now next → StopsIn text next line
-stopped_known marked None now next line draft h p = tt
-stopped_known marked (Some text) None next line draft h p = absurd h
-stopped_known marked (Some text) (Some now) None line draft h p = absurd p.2
-stopped_known marked (Some text) (Some now) (Some next) line draft h p = (p.0, p.1, rest_is h ∙ ap lines_of p.2)
-
 pub spends_none : (most : ℕ) (text : Option (List ℕ)) → Spends most most text text
 spends_none most None = tt
 spends_none most (Some text) = refl
@@ -91,13 +80,6 @@ spends_more most now left None rest next p q = tt
 spends_more most now left (Some text) None next p q = absurd p
 spends_more most now left (Some text) (Some rest) None p q = absurd q
 spends_more most now left (Some text) (Some rest) (Some next) p q = omega (arith, p, q)
-
--- all known bytes were taken, and one more could be
-pub all_spent : (most now left : ℕ) (text rest next : Option (List ℕ)) (l : List ℕ) → Spends most now text rest → Spends now left rest next → TakesLine rest next false l → 0 < left → IfSome text (λ t. length t < most)
-all_spent most now left None rest next l p q t some = tt
-all_spent most now left (Some text) None next l p q t some = absurd p
-all_spent most now left (Some text) (Some rest) None l p q t some = absurd q
-all_spent most now left (Some text) (Some rest) (Some next) l p q t some = omega (arith, p, q, ap length t.1, some)
 
 pub other_fault : {kind : Kind} {P : Type 0} → kind ≢ Memory → (kind ≡ Memory) ⊎ P → P
 other_fault n (inl e) = absurd (n e)

@@ -20,9 +20,6 @@ put_there (x ∷ names) (suc n) name lt = ap (λ (t : List (List ℕ)). x ∷ t)
 pub record Pads (old now : List (List ℕ)) (n : ℕ) : Type 0 where
   pub same : (name : List ℕ) → with_name now n name ≡ with_name old n name
 
-pub padded_none : (old : List (List ℕ)) (n : ℕ) → Pads old old n
-padded_none old n = record { same = λ name. refl }
-
 pub padded_more : {V : Type 0} (f : V → List ℕ) (old : List (List ℕ)) (xs ys : List V) (v : V) (n : ℕ) → Pads old (map f xs) n → length xs ≤ n → ys ≡ xs ++ v ∷ [] → f v ≡ [] → Pads old (map f ys) n
 padded_more f old xs ys v n h le is empty =
     record {

@@ -77,9 +77,6 @@ all_instrs (l ∷ ls) (i ∷ is) draft h c few =
     let rest : Gives next ls (extended next.program is) = all_instrs ls is next h.1 c.1 (omega (arith, few, length-append draft.program.instrs (i ∷ []))) in
     (rest.0, rw (one_instr draft l i h.0 c.0 (omega (arith, few))) rest.1, rest.2 ∙ ap (λ x. record draft.program { instrs = x }) (append_assoc draft.program.instrs (i ∷ []) is))
 
-extended_opening : (n m : ℕ) (start : List ℕ) (is : List Instr) → extended (opening n m start) is ≡ record { clients = n; present = m; start = start; instrs = is }
-extended_opening n m start is = refl
-
 start_ok : (p : Program) (rest start : List ℕ) → string_of_text rest ≡ Some start → length start ≤ 40000 → start_line p rest ≡ Ok (record { section = InBody; program = opening p.clients p.present start })
 start_ok p rest start e few = let test : nat_lt 40000 (length start) ≡ false = le-ltb 40000 (length start) few in rw (e, test) refl
 

@@ -1,5 +1,5 @@
 -- All lines of a reader, where marks do not count.
-use Rattle.std.proofs.Common.{◌≡◌, ◌<◌, ◌≤◌, ℕ, List, length, false, Option, None, Some, Result, Ok, arith}
+use Rattle.std.proofs.Common.{◌≡◌, ℕ, List, false, Option, None, Some, Result, Ok}
 use Rattle.std.specs.Prelude.{IfSome}
 use Rattle.streams.specs.Lines.{lines_of}
 use Rattle.ot_isa.specs.Program.{Program, IsProgram}
@@ -21,7 +21,3 @@ whole_spells (Some text) s h limits = spells text s h limits
 pub whole_faultless : (known : Option (List ℕ)) (line : ℕ) → IfSome known (λ t. IsFaultlessBefore (lines_before false (lines_of t)) line) → IfSome known (λ t. IsFaultlessBefore (lines_of t) line)
 whole_faultless None line h = tt
 whole_faultless (Some text) line h = let e = rw (all_before (lines_of text)) at h in e
-
-pub whole_short : (known : Option (List ℕ)) (left most : ℕ) → left ≤ most → IfSome known (λ t. length t < left) → IfSome known (λ t. length t < most)
-whole_short None left most fits h = tt
-whole_short (Some text) left most fits h = omega (arith, fits, h)

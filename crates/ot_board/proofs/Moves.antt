@@ -23,7 +23,7 @@ use Rattle.ot_model.specs.Part.{Part, PartPerformed, part_row, part_acknowledge,
 use Rattle.ot_model.specs.Session.{Session, IsAllowed, installed, or_else}
 use Rattle.ot_model.proofs.Fitting.{deliverable}
 use Rattle.ot_model.proofs.Algebra.{laws}
-use Rattle.ot_model.proofs.Sessions.{present_sound, goes_on, part_unsent}
+use Rattle.ot_model.proofs.Sessions.{present_sound, goes_on}
 use Rattle.std.proofs.lemmas.Option.{slice_get_within}
 use Rattle.ot_machine.specs.declared.part.Part.{Part as ProgramPart}
 use Rattle.ot_machine.specs.declared.part.Message.{Message as ProgramMessage}
@@ -261,10 +261,6 @@ moved_acknowledged x start steps steps' st st' list count incoming incoming' sen
     (moved v y i (with_part v.now y.now.client next.rest) None allowed next.room tt row
     (same_after (part_in start) start.number _ _ _ _ _ _ (sym one) refl
     (sym (rest_of incoming Ack next.rest next.incoming_is) ∙ ap (map head_in) (sym left))))
-
--- a session that was lent has sent nothing before
-pub start_unsent : (x : Session) → IsAllowed x → x.start.client.message ≡ None
-start_unsent x allowed = part_unsent allowed.start.state x.start allowed.start.part_in
 
 pub none_sent : (sent : Option (Sent Tagged)) → option_map message_of sent ≡ None → sent ≡ None
 none_sent None e = refl

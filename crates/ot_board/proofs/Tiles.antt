@@ -92,14 +92,6 @@ behind_at xs zero i = ap (slice_get xs) (let e : i ≡ 0 + i = omega arith in e)
 behind_at [] (suc first) i = refl
 behind_at (x ∷ xs) (suc first) i = behind_at xs first i ∙ (let e : suc first + i ≡ suc (first + i) = omega arith in ap (slice_get (x ∷ xs)) (sym e))
 
--- an item of a block
-pub block_at : {X : Type 0} (xs ys : List X) (n i : ℕ) → take n xs ≡ ys → i < n → slice_get xs i ≡ slice_get ys i
-block_at xs ys zero i same below = absurd (omega arith)
-block_at [] ys (suc n) i same below = ap (λ zs. slice_get zs i) same
-block_at (x ∷ xs) ys (suc n) zero same below = ap (λ zs. slice_get zs 0) same
-block_at (x ∷ xs) [] (suc n) (suc i) same below = absurd (cc)
-block_at (x ∷ xs) (y ∷ ys) (suc n) (suc i) same below = block_at xs ys n i (cc) (omega arith)
-
 -- what holds of all holds of each
 at_in : {X : Type 0} (P : X → Type 0) (xs : List X) (i : ℕ) (x : X) → All P xs → slice_get xs i ≡ Some x → P x
 at_in P xs i x all is = subst P (get_or_from_slice_get xs i x x is) (all i x (slice_get_within xs i x is))

@@ -1,5 +1,5 @@
 -- Insertions component by component.
-use Rattle.std.proofs.Common.{◌≡◌, ℕ, zero, suc, ◌+◌, ◌≤◌, List, [], ◌∷◌, ◌++◌, map, length, refl, sym, ap, ◌∙◌, arith, length-append, append_assoc, append-nil}
+use Rattle.std.proofs.Common.{◌≡◌, ℕ, zero, suc, ◌+◌, ◌≤◌, List, [], ◌∷◌, ◌++◌, map, length, sym, ap, ◌∙◌, arith, length-append, append_assoc}
 use Rattle.std.proofs.lemmas.List.{length-map}
 use Rattle.ot_operation.specs.Operation.{Item, New, olds, news}
 use Rattle.ot_operation.specs.Run.{Run, Keep, Add, Skip, image_from}
@@ -66,13 +66,6 @@ pub record IsPlacedTo (all left : List (Run ℕ)) (origin first serial place : �
   pub made_is : made ++ insertions_from place (tagged_items origin serial (image_from from left)) ≡ insertions_from 0 (tagged_items origin first (image_from 0 all))
   pub serial_is : serial + length (news (image_from from left)) ≡ first + length (news (image_from 0 all))
   pub place_is : place + length (image_from from left) ≡ length (image_from 0 all)
-
-pub placed_none : (all : List (Run ℕ)) (origin first : ℕ) → IsPlacedTo all all origin first first 0 []
-placed_none all origin first = record { from = 0; made_is = refl; serial_is = refl; place_is = omega arith }
-
-pub placed_all : {all left : List (Run ℕ)} {origin first serial place : ℕ} {made : List Placed} → left ≡ [] → IsPlacedTo all left origin first serial place made
-    → made ≡ insertions_from 0 (tagged_items origin first (image_from 0 all))
-placed_all {made = made} past so_far = sym (append-nil made) ∙ (rw past at so_far.made_is)
 
 module _ {all left next : List (Run ℕ)} {origin first serial place : ℕ} {made : List Placed} (so_far : IsPlacedTo all left origin first serial place made) where
   pub placed_retain : (n : ℕ) → left ≡ Keep n ∷ next → IsPlacedTo all next origin first serial (place + n) made

@@ -1,17 +1,15 @@
 -- Lines that are kept as a text.
-use Rattle.std.proofs.Common.{◌≡◌, ◌⊎◌, ◌+◌, ◌-◌, ◌==◌, ℕ, Bool, true, false, List, [], ◌∷◌, ◌++◌, length, Option, Some, None, refl, sym, ap, ◌∙◌, append_assoc, append-nil, length-append, arith}
+use Rattle.std.proofs.Common.{◌≡◌, ◌+◌, ◌-◌, ◌==◌, ℕ, Bool, true, false, List, [], ◌∷◌, ◌++◌, length, Option, Some, None, refl, sym, ap, ◌∙◌, append_assoc, append-nil, length-append, arith}
 use Rattle.std.specs.Prelude.{◌||◌, IfSome, Result, Ok, Err, ⊤, if◌then◌else◌}
 use Rattle.std.specs.Result.{is_err, OnOk}
 use Rattle.streams.specs.Lines.{lacks, lines_of, onto_first}
 use Rattle.streams.specs.Taken.{TakesLine}
 use Rattle.streams.proofs.Ends.{lines_piece}
 use Rattle.ot_asm.specs.Parts.{TakesPart, is_mark, lines_before, lines_behind}
-use Rattle.ot_asm.specs.declared.fault.AsmFault.{AsmFault}
-use Rattle.ot_asm.specs.declared.fault.Kind.TheVariants.{Memory, ReadFault}
 use Rattle.ot_asm.specs.Canonical.{lines_text}
 use Rattle.ot_asm.proofs.Listed.{lines_push}
 use Rattle.ot_asm.proofs.Running.{no_lines}
-use Rattle.ot_commands.specs.Part.{BreaksIn, has_mark}
+use Rattle.ot_commands.specs.Part.{has_mark}
 
 -- ---- lines of a text
 
@@ -205,13 +203,6 @@ pub taken_marked : (all next : Option (List ℕ)) (text : List ℕ) (is_marked :
 taken_marked None next text is_marked number h = tt
 taken_marked (Some all) None text is_marked number h = absurd h
 taken_marked (Some all) (Some rest) text is_marked number h = h.marked
-
--- a fault of this line
-pub kept_broken : (unread : Bool) (all now : Option (List ℕ)) (number : ℕ) (text same : List ℕ) (fault : AsmFault) → IsKeptKnown all now number text → same ≡ text → fault.line ≡ number → (fault.kind ≡ Memory) ⊎ ((fault.kind ≡ ReadFault) × (unread ≡ true))
-    → IfSome all (λ bytes. BreaksIn unread same (lines_before true (lines_of bytes)) fault)
-kept_broken unread None now number text same fault h is here cause = tt
-kept_broken unread (Some all) None number text same fault h is here cause = absurd h
-kept_broken unread (Some all) (Some now) number text same fault h is here cause = rw is (record { rest = lines_before true (lines_of now); all = h.ahead; number = here ∙ h.at; cause = cause })
 
 -- what holds of a result that is no error
 pub on_ok : {T E P : Type 0} (r : Result T E) → is_err r ≡ false → OnOk r P → P

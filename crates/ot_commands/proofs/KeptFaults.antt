@@ -66,12 +66,6 @@ module _ (unread : Bool) (text : List ℕ) (lines : List (List ℕ)) (stop : Asm
       let named : outcome_of_lines (lines_of text) ≡ Err fault = elim is [ inl e ↦ absurd (memory_not fault.kind e of_text) | inr e ↦ e ] in
       (breaks.rest, breaks.all, inr (in_a_line (lines_of text) fault named (omega (arith, ahead, breaks.number))))
 
--- all lines were kept
-pub has_all : (known : Option (List ℕ)) (kept : List ℕ) (fault : AsmFault) → IfSome known (λ text. lines_of kept ≡ lines_before true (lines_of text))
-    → IfSome known (λ text. HasFaultIn (lines_of kept) (lines_before true (lines_of text)) fault)
-has_all None kept fault same = tt
-has_all (Some text) kept fault same = λ of_text. ([], sym same ∙ sym (append-nil (lines_of kept)), inl refl)
-
 pub has_first : (known : Option (List ℕ)) (unread : Bool) (kept : List ℕ) (stop fault : AsmFault) → IfSome known (λ text. BreaksIn unread kept (lines_before true (lines_of text)) stop)
     → ((broken : Bool) → (lines : List (List ℕ)) → BreaksIn broken kept lines stop → HasFaultIn (lines_of kept) lines fault)
     → IfSome known (λ text. HasFaultIn (lines_of kept) (lines_before true (lines_of text)) fault)

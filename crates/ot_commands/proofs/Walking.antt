@@ -1,24 +1,19 @@
 -- Sessions one after the other, up to the first that does not conform, or each.
-use Rattle.std.proofs.Common.{◌≡◌, ◌⊎◌, ◌≤◌, ◌+◌, ◌-◌, ◌==◌, ℕ, suc, Bool, true, false, List, [], ◌∷◌, ◌++◌, length, Option, Some, None, refl, sym, ap, subst, ◌∙◌, inl, inr, arith}
-use Rattle.std.specs.Prelude.{◌&&◌, IfSome, ⊤, is_some, if◌then◌else◌}
+use Rattle.std.proofs.Common.{◌≡◌, ◌+◌, ◌-◌, ◌==◌, ℕ, Bool, true, List, [], ◌++◌, length, Option, Some, None, refl, sym, ap, subst, ◌∙◌, inl, inr, arith}
+use Rattle.std.specs.Prelude.{◌&&◌, IfSome, ⊤}
 use Rattle.std.specs.Io.KnownBytes.{Appends, Keeps}
-use Rattle.std.proofs.KnownBytes.{Appends-kept, Appends-nil, Appends-trans}
+use Rattle.std.proofs.KnownBytes.{Appends-kept, Appends-trans}
 use Rattle.std.proofs.Math.Numerals.{add-one}
 use Rattle.streams.specs.Lines.{lines_of}
 use Rattle.streams.specs.Outcomes.{OutOfMemory, Says, Streams, memory_fault}
-use Rattle.streams.specs.Streams.{WritesPart}
 use Rattle.streams.proofs.Parts.{part_after}
 use Rattle.ot_asm.specs.Canonical.{lines_text}
-use Rattle.ot_asm.specs.Comments.{Said}
-use Rattle.ot_conform.specs.Compared.{verdict_status}
-use Rattle.ot_conform.specs.Counted.{is_nothing}
-use Rattle.ot_conform.specs.Summed.{Sum, no_sessions, sum_value}
+use Rattle.ot_conform.specs.Summed.{Sum, sum_value}
 use Rattle.ot_conform.specs.declared.summed.Sum as program
-use Rattle.ot_conform.specs.declared.comparison.Verdict.{Verdict}
 use Rattle.ot_conform.specs.declared.comparison.Verdict.TheVariants as verdict
 use Rattle.ot_commands.specs.Conformed.{answer_status}
-use Rattle.ot_commands.specs.Many.{Adds, AreAnswered, ComparesEach, ComparesFirst, Conform, Conforms, FindsFirst, IsToldOf, StopsEach, StopsFirst, StopsWriting, Writes, WritesEach, WritesSession, each_status}
-use Rattle.ot_commands.specs.Sessions.{IsCompared, IsNext, IsSessionFault, Leaves, TellsSession, next_lines, schedule_lines, session_read}
+use Rattle.ot_commands.specs.Many.{Adds, AreAnswered, ComparesEach, ComparesFirst, Conform, Conforms, FindsFirst, IsToldOf, StopsEach, StopsFirst, StopsWriting, Writes, WritesEach, WritesSession}
+use Rattle.ot_commands.specs.Sessions.{IsCompared, IsNext, IsSessionFault, TellsSession, session_read}
 use Rattle.ot_commands.specs.declared.many.EachStop.{EachStop}
 use Rattle.ot_commands.specs.declared.many.EachStop.TheVariants as each
 use Rattle.ot_commands.specs.declared.many.Found.{Found}
@@ -29,29 +24,6 @@ use Rattle.ot_commands.specs.declared.sessions.SessionFault.{SessionFault}
 
 -- ---- statuses
 
-pub status_cases : (said : Said) (v : Verdict) → (answer_status said v ≡ 0) ⊎ (answer_status said v ≡ 1)
-status_cases said v = by (is_some said.cut) v
-  where
-    one_if : Bool → ℕ → ℕ
-    one_if b n = if b then 1 else n
-
-    either : (b : Bool) → (one_if b 0 ≡ 0) ⊎ (one_if b 0 ≡ 1)
-    either true = inr refl
-    either false = inl refl
-
-    by : (b : Bool) (v : Verdict) → (one_if b (verdict_status v) ≡ 0) ⊎ (one_if b (verdict_status v) ≡ 1)
-    by true v = inr refl
-    by false (verdict.Conforms counts) = either (is_nothing counts)
-    by false (verdict.Differs difference) = inr refl
-    by false (verdict.Stopped place refusal) = inr refl
-
-pub status_one : (said : Said) (v : Verdict) → (answer_status said v ≡ 0 → ⊥) → answer_status said v ≡ 1
-status_one said v not = by (status_cases said v)
-  where
-    by : (answer_status said v ≡ 0) ⊎ (answer_status said v ≡ 1) → answer_status said v ≡ 1
-    by (inl zero) = absurd (not zero)
-    by (inr one) = one
-
 -- ---- up to the first that does not conform
 
 -- so many sessions conform, and so many lines were taken
@@ -59,10 +31,6 @@ abbrev pub Walked : Bool → Option (List ℕ) → Option (List ℕ) → ℕ →
 Walked sparse None now n first s = ⊤
 Walked sparse (Some all) None n first s = ⊥
 Walked sparse (Some all) (Some rest) n first s = Conform sparse (lines_of all) n s (lines_of rest) × (first + length (lines_of rest) ≡ length (lines_of all))
-
-pub walk_begun : (sparse : Bool) (all now : Option (List ℕ)) (s : Sum) → now ≡ all → s ≡ no_sessions → Walked sparse all now 0 0 s
-walk_begun sparse None now s is none = tt
-walk_begun sparse (Some all) now s is none = rw is ((none, refl), omega arith)
 
 pub walk_on : (sparse : Bool) (all now next : Option (List ℕ)) (n first count : ℕ) (s s' : Sum) (c : ComparedSession) → Walked sparse all now n first s
     → IfSome now (λ a. IsNext sparse first (lines_of a) next (Some (c, count)))
@@ -86,17 +54,6 @@ found_all sparse None now next n first sum walked none = tt
 found_all sparse (Some all) None next n first sum walked none = absurd walked
 found_all sparse (Some all) (Some now) next n first sum walked none = subst (λ (ls : List (List ℕ)). Conform sparse (lines_of all) n (sum_value sum) ls) none walked.0
 
-pub found_one : (sparse : Bool) (all now next : Option (List ℕ)) (n first count number : ℕ) (s s' : Sum) (c : ComparedSession) → Walked sparse all now n first s
-    → IfSome now (λ a. IsNext sparse first (lines_of a) next (Some (c, count)))
-    → Adds (session_read c) c.compared s s' false
-    → number ≡ n + 1
-    → IfSome all (λ text. FindsFirst sparse (lines_of text) (found.Fails number c))
-found_one sparse None now next n first count number s s' c walked is fails at = tt
-found_one sparse (Some all) None next n first count number s s' c walked is fails at = absurd walked
-found_one sparse (Some all) (Some now) next n first count number s s' c walked (is, text, left, taken) fails at =
-    let here : first ≡ length (lines_of all) - length (lines_of now) = omega (arith, walked.1) in
-    (n, s, lines_of now, walked.0, at, subst (λ (k : ℕ). IsCompared sparse k (lines_of now) (session_read c) c.compared) here is, text, fails)
-
 pub refused_one : (sparse unread : Bool) (all now : Option (List ℕ)) (n first number : ℕ) (s : Sum) (fault : SessionFault) → Walked sparse all now n first s → IfSome now (λ a. IsSessionFault unread first (lines_of a) fault) → number ≡ n + 1
     → IfSome all (λ text. StopsFirst sparse unread (lines_of text) (stop.Refused number fault))
 refused_one sparse unread None now n first number s fault walked is at = tt
@@ -104,11 +61,6 @@ refused_one sparse unread (Some all) None n first number s fault walked is at = 
 refused_one sparse unread (Some all) (Some now) n first number s fault walked is at =
     let here : first ≡ length (lines_of all) - length (lines_of now) = omega (arith, walked.1) in
     (n, s, lines_of now, walked.0, at, subst (λ (k : ℕ). IsSessionFault unread k (lines_of now) fault) here is)
-
--- memory ran out on the way
-pub wants_one : (sparse unread : Bool) (all : Option (List ℕ)) → IfSome all (λ text. StopsFirst sparse unread (lines_of text) stop.Memory)
-wants_one sparse unread None = tt
-wants_one sparse unread (Some all) = tt
 
 -- ---- and it is written
 
@@ -144,10 +96,6 @@ Told sparse json None now n first conform old new = ⊤
 Told sparse json (Some all) None n first conform old new = ⊥
 Told sparse json (Some all) (Some rest) n first conform old new =
     (bytes : List ℕ) × AreAnswered sparse json (lines_of all) n bytes conform (lines_of rest) × (first + length (lines_of rest) ≡ length (lines_of all)) × Appends old new bytes
-
-pub told_begun : (sparse json : Bool) (all now old : Option (List ℕ)) → now ≡ all → Told sparse json all now 0 0 true old old
-told_begun sparse json None now old is = tt
-told_begun sparse json (Some all) now old is = rw is ([], (refl, refl, refl), omega arith, Appends-nil old)
 
 -- one more is written, whole or in part
 abbrev IsMore : Bool → Bool → List ℕ → ℕ → Bool → ComparedSession → List ℕ → List ℕ → List ℕ → Type 0
@@ -193,23 +141,6 @@ told_on sparse json (Some all) (Some now) (Some next) old mid new n first count 
   omega (arith, lines, is.3, ap length is.2),
   Appends-trans old mid new front own appends wrote,
 )
-
-pub told_all : (sparse json : Bool) (all now next old new : Option (List ℕ)) (n first status : ℕ) (conform : Bool) → Told sparse json all now n first conform old new → IfSome now (λ a. IsNext sparse first (lines_of a) next None)
-    → status ≡ each_status n conform
-    → IfSome all (λ text. WritesEach sparse json (lines_of text) status old new)
-told_all sparse json None now next old new n first status conform told none is = tt
-told_all sparse json (Some all) None next old new n first status conform told none is = absurd told
-told_all sparse json (Some all) (Some now) next old new n first status conform (bytes, are, lines, appends) none is =
-    (n, bytes, conform, subst (λ (ls : List (List ℕ)). AreAnswered sparse json (lines_of all) n bytes conform ls) none are, is, appends)
-
-pub told_refused : (sparse json unread : Bool) (all now old new : Option (List ℕ)) (n first number : ℕ) (conform broken : Bool) (fault : SessionFault) → Told sparse json all now n first conform old new → IfSome now (λ a. IsSessionFault unread first (lines_of a) fault)
-    → number ≡ n + 1
-    → IfSome all (λ text. StopsEach sparse json unread (lines_of text) (each.Refused number fault) broken old new)
-told_refused sparse json unread None now old new n first number conform broken fault told is at = tt
-told_refused sparse json unread (Some all) None old new n first number conform broken fault told is at = absurd told
-told_refused sparse json unread (Some all) (Some now) old new n first number conform broken fault (bytes, are, lines, appends) is at =
-    let here : first ≡ length (lines_of all) - length (lines_of now) = omega (arith, lines) in
-    (n, bytes, conform, lines_of now, are, appends, at, subst (λ (k : ℕ). IsSessionFault unread k (lines_of now) fault) here is)
 
 -- a session that is not written whole
 pub told_stopped : (sparse json unread : Bool) (all now next old mid new : Option (List ℕ)) (n first count number : ℕ) (conform broken : Bool) (c : ComparedSession) (stop : EachStop) → Told sparse json all now n first conform old mid

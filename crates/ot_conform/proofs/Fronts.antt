@@ -1,7 +1,6 @@
 -- How many items at the front of two lists are equal.
-use Rattle.std.proofs.Common.{◌≡◌, ℕ, suc, ◌+◌, ◌<◌, ◌≤◌, List, [], ◌∷◌, length, drop, get_or, true, false, refl, ap, ◌∙◌, arith, add-one, drop-cons}
+use Rattle.std.proofs.Common.{◌≡◌, ℕ, suc, ◌+◌, ◌<◌, List, [], ◌∷◌, length, drop, get_or, true, false, refl, ap, ◌∙◌, arith, drop-cons}
 use Rattle.std.specs.Prelude.{◌==◌}
-use Rattle.std.proofs.lemmas.List.{drop_all}
 use Rattle.ot_conform.specs.Answers.{same_front}
 
 equal : (x y : ℕ) (xs ys : List ℕ) → (x == y) ≡ true → same_front (x ∷ xs) (y ∷ ys) ≡ suc (same_front xs ys)
@@ -18,25 +17,7 @@ cut : (xs ys : List ℕ) (i d : ℕ) → i < length xs → i < length ys
     → same_front (drop i xs) (drop i ys) ≡ same_front (get_or xs i d ∷ drop (suc i) xs) (get_or ys i d ∷ drop (suc i) ys)
 cut xs ys i d in_xs in_ys = ap (λ (zs : List ℕ). same_front zs (drop i ys)) (drop-cons xs i d in_xs) ∙ ap (same_front (get_or xs i d ∷ drop (suc i) xs)) (drop-cons ys i d in_ys)
 
--- one more is equal
-pub front_next : (xs ys : List ℕ) (i d : ℕ) → i < length xs → i < length ys → (get_or xs i d == get_or ys i d) ≡ true
-    → i + same_front (drop i xs) (drop i ys) ≡ (i + 1) + same_front (drop (i + 1) xs) (drop (i + 1) ys)
-front_next xs ys i d in_xs in_ys e =
-    let here : same_front (drop i xs) (drop i ys) ≡ suc (same_front (drop (suc i) xs) (drop (suc i) ys)) = cut xs ys i d in_xs in_ys ∙ equal _ _ (drop (suc i) xs) (drop (suc i) ys) e in
-    let next : same_front (drop (i + 1) xs) (drop (i + 1) ys) ≡ same_front (drop (suc i) xs) (drop (suc i) ys) = ap (λ (n : ℕ). same_front (drop n xs) (drop n ys)) (add-one i) in
-    omega arith
-
 pub front_differs : (xs ys : List ℕ) (i d : ℕ) → i < length xs → i < length ys → (get_or xs i d == get_or ys i d) ≡ false → i + same_front (drop i xs) (drop i ys) ≡ i
 front_differs xs ys i d in_xs in_ys e =
     let here : same_front (drop i xs) (drop i ys) ≡ 0 = cut xs ys i d in_xs in_ys ∙ other _ _ (drop (suc i) xs) (drop (suc i) ys) e in
-    omega arith
-
-pub front_past : (xs ys : List ℕ) (i : ℕ) → length ys ≤ i → i + same_front (drop i xs) (drop i ys) ≡ i
-front_past xs ys i past =
-    let here : same_front (drop i xs) (drop i ys) ≡ 0 = ap (same_front (drop i xs)) (drop_all i ys past) ∙ none (drop i xs) in
-    omega arith
-
-pub front_whole : (xs ys : List ℕ) (i : ℕ) → length xs ≤ i → i + same_front (drop i xs) (drop i ys) ≡ i
-front_whole xs ys i past =
-    let here : same_front (drop i xs) (drop i ys) ≡ 0 = ap (λ (zs : List ℕ). same_front zs (drop i ys)) (drop_all i xs past) in
     omega arith

@@ -1,5 +1,5 @@
 -- A line that agrees leads to the rest of the lines.
-use Rattle.std.proofs.Common.{◌≡◌, ℕ, suc, ◌+◌, ◌≤◌, List, [], ◌∷◌, length, drop, Bool, true, false, Option, Some, None, refl, sym, ap, ◌∙◌, subst, add-one, arith, inl, inr}
+use Rattle.std.proofs.Common.{◌≡◌, ℕ, suc, ◌+◌, ◌≤◌, List, [], ◌∷◌, drop, Bool, true, false, Option, Some, None, refl, sym, ap, ◌∙◌, subst, add-one, arith, inl, inr}
 use Rattle.std.specs.Prelude.{slice_get, ◌&&◌}
 use Rattle.ot_isa.specs.Program.{Program}
 use Rattle.ot_isa.specs.declared.instruction.Instr.{Instr}
@@ -19,7 +19,7 @@ use Rattle.ot_conform.specs.Passed.{passes, passes_step}
 use Rattle.ot_conform.specs.Ports.{PortLine, Told, OtherForm, NoText, Nothing, front, is_opening_line}
 use Rattle.ot_conform.specs.Received.{Received, receives}
 use Rattle.ot_conform.specs.Standing.{AgreesAt, EndsAt, Goes, IsAtOpening, IsPassed, IsStanding, IsVerdict, Passes, rest, rest_at}
-use Rattle.ot_conform.proofs.Outcomes.{IsThere, ahead_past, ahead_performed, ahead_refused, goes_on, never, nothing_left, over_agrees, over_passes}
+use Rattle.ot_conform.proofs.Outcomes.{IsThere, ahead_performed, ahead_refused, goes_on, never, nothing_left, over_agrees, over_passes}
 use Rattle.ot_conform.specs.declared.comparison.Comparison.{Comparison}
 use Rattle.ot_conform.specs.declared.comparison.Stage.{Stage}
 use Rattle.ot_conform.specs.declared.comparison.Verdict.{Verdict}
@@ -34,23 +34,6 @@ abbrev pub ahead_of : Program → Comparison → List Ahead
 ahead_of s c = ahead_from c.place c.machine (drop c.place s.instrs)
 
 -- ---- the opening's line
-
--- where the opening's line is not there, the comparison is one that runs
-pub rest_unopened : (s : Program) (c : Comparison) (lines : List PortLine) (st : Stage) → c.stage ≡ st → st ≡ Opening → c.place ≡ 0
-    → from_opening c.sparse (opening_due s) (ahead_of s c) lines ≡ over c.sparse 0 (ahead_of s c) lines → rest s c lines ≡ rest s (running c) lines
-rest_unopened s c lines st is opening zero e =
-    ap (λ (x : Stage). rest_at s c x lines) (is ∙ opening) ∙ e ∙ ap (λ (n : ℕ). over c.sparse n (ahead_of s c) lines) (sym zero)
-
-pub not_opening : (sparse : Bool) (opening : DueLine) (ahead : List Ahead) (line : PortLine) (lines : List PortLine) → is_opening_line line ≡ false
-    → from_opening sparse opening ahead (front line lines) ≡ over sparse 0 ahead (front line lines)
-not_opening sparse opening ahead (Told d) lines off = rw off refl
-not_opening sparse opening ahead (OtherForm bytes) lines off = refl
-not_opening sparse opening ahead NoText lines off = refl
-not_opening sparse opening ahead Nothing lines off = refl
-
-pub not_opening_cons : (sparse : Bool) (opening : DueLine) (ahead : List Ahead) (line : PortLine) (lines : List PortLine) → is_opening_line line ≡ false
-    → from_opening sparse opening ahead (line ∷ lines) ≡ over sparse 0 ahead (line ∷ lines)
-not_opening_cons sparse opening ahead line lines off = rw off refl
 
 pub is_opening_there : (line : PortLine) → is_opening_line line ≡ true → IsThere line
 is_opening_there (Told d) on = tt
@@ -100,33 +83,6 @@ goes_opening s c c' line standing is on a =
     subst (λ (x : Comparison). Goes s c line x) (sym a.is) goes
 
 -- ---- the end's line
-
-pub goes_end : (s : Program) (c c' : Comparison) (line : PortLine) → IsStanding s (running c) → length s.instrs ≤ c.place → AgreesAt (end_due c.place (is_quiet c.machine)) Over c line c' → Goes s (running c) line c'
-goes_end s c c' line standing past a =
-    let to : Comparison = record c { stage = Over; counts = with_port_line c.counts line } in
-    let goes : Goes s (running c) line to = record {
-      standing = record { shown = standing.shown; at = standing.at; opening = tt };
-      rest_is = λ (lines : List PortLine).
-          ap (λ (ahead : List Ahead). over c.sparse c.place ahead (line ∷ lines)) (ahead_past c.place c.machine s.instrs past)
-          ∙ over_agrees c.sparse c.place (end_due c.place (is_quiet c.machine)) [] line lines (never c.sparse) a.agrees;
-      counts_are = refl;
-      sparse_is = refl;
-    } in
-    subst (λ (x : Comparison). Goes s (running c) line x) (sym a.is) goes
-
--- behind a stop
-pub goes_ending : (s : Program) (c c' : Comparison) (line : PortLine) → IsStanding s c → c.stage ≡ Ending → AgreesAt (end_due c.place (is_quiet c.machine)) Over c line c' → Goes s c line c'
-goes_ending s c c' line standing is a =
-    let to : Comparison = record c { stage = Over; counts = with_port_line c.counts line } in
-    let goes : Goes s c line to = record {
-      standing = record { shown = standing.shown; at = standing.at; opening = tt };
-      rest_is = λ (lines : List PortLine).
-          ap (λ (x : Stage). rest_at s c x (line ∷ lines)) is
-          ∙ over_agrees c.sparse c.place (end_due c.place (is_quiet c.machine)) [] line lines (never c.sparse) a.agrees;
-      counts_are = refl;
-      sparse_is = refl;
-    } in
-    subst (λ (x : Comparison). Goes s c line x) (sym a.is) goes
 
 -- ---- the line of an instruction that is refused
 
@@ -226,10 +182,6 @@ passes_there at Nothing passed = absurd (cc)
 both : (a b : Bool) → (a && b) ≡ true → (a ≡ true) × (b ≡ true)
 both true b e = (refl, e)
 both false b e = absurd (cc)
-
-pub passes_none : (s : Program) (c : Comparison) (line : PortLine) → IsStanding s c → Passes s c line c
-passes_none s c line standing =
-    record { standing = standing; rest_is = λ lines. refl; front_is = λ lines. refl; place_is = inl refl; counts_are = refl; sparse_is = refl }
 
 passes_one : (s : Program) (c : Comparison) (line : PortLine) (i : Instr) (t : State) (shown : Option Shown) → IsStanding s (running c) → slice_get s.instrs c.place ≡ Some i → step c.machine i ≡ Performed t shown
     → (c.sparse && passes_step (c.place + 1) line) ≡ true → Passes s (running c) line (record c { machine = t; place = c.place + 1; stage = Running })

@@ -3,8 +3,8 @@ use Rattle.std.proofs.Common.{◌≡◌, ℕ, List, [], ◌∷◌, ◌++◌, tru
 use Rattle.std.specs.Prelude.{codes}
 use Rattle.std.specs.Ordering.{match_ordering}
 use Rattle.std.specs.Cmp.Lexicographic.{slice_cmp}
-use Rattle.serde_json.specs.Data.{Data, null, boolean, number, string, array, object, Members, no_members, member, put, unsigned}
-use Rattle.serde_json.specs.Find.{as_object, get}
+use Rattle.serde_json.specs.Data.{Data, number, Members, no_members, member, put, unsigned}
+use Rattle.serde_json.specs.Find.{get}
 use Rattle.ot_steps.specs.Lines.{Line, Message}
 use Rattle.ot_steps.specs.Text.{Field, Value, Sent, field, fields, fields_of, key_text, keys, value_at}
 use Rattle.ot_steps.specs.declared.key.Key.{Key}
@@ -12,28 +12,11 @@ use Rattle.ot_steps.specs.declared.key.Key.TheVariants as key
 use Rattle.ot_conform.specs.Laws.{data_of}
 use Rattle.ot_conform.specs.Ports.{Told}
 use Rattle.ot_conform.specs.Unknown.{Named, is_known, with_members, with_object, with_unknown}
-use Rattle.ot_conform.specs.declared.unknown.Part.{Part}
 use Rattle.ot_conform.specs.declared.unknown.Part.TheVariants as part
 use Rattle.ot_conform.proofs.LineSays.{says}
 use Rattle.ot_conform.proofs.LineTrees.{line_data, with_fields}
 
 -- ---- an object, or none
-
-pub members_noted : (line : ℕ) (p : Part) (d : Data) (ms : Members) (ns : List Named) → as_object d ≡ Some ms → with_object line p (Some d) ns ≡ with_members line p ms ns
-members_noted line p null ms ns e = absurd (cc)
-members_noted line p (boolean b) ms ns e = absurd (cc)
-members_noted line p (number n) ms ns e = absurd (cc)
-members_noted line p (string s) ms ns e = absurd (cc)
-members_noted line p (array ds) ms ns e = absurd (cc)
-members_noted line p (object os) ms ns e = let same : os ≡ ms = cc in ap (λ (m : Members). with_members line p m ns) same
-
-pub none_noted : (line : ℕ) (p : Part) (d : Data) (ns : List Named) → as_object d ≡ None → with_object line p (Some d) ns ≡ ns
-none_noted line p null ns e = refl
-none_noted line p (boolean b) ns e = refl
-none_noted line p (number n) ns e = refl
-none_noted line p (string s) ns e = refl
-none_noted line p (array ds) ns e = refl
-none_noted line p (object os) ns e = absurd (cc)
 
 -- ---- the members of a line of `steps`
 

@@ -98,11 +98,6 @@ bytes_lead s c c' line text read is some was goes =
     let same : read ≡ port_line (trimmed line) = was ∙ ap port_line is in
     subst (λ (ls : List PortLine). Leads s c ls c') (ap (λ (l : PortLine). l ∷ []) same ∙ sym (counted_first line [] none)) (one_leads s c c' read goes)
 
-pub blank_leads : (s : Program) (c : Comparison) (line text : List ℕ) → text ≡ trimmed line → (length text == 0) ≡ true → IsStanding s c → Leads s c (counted_lines (line ∷ [])) c
-blank_leads s c line text is none standing =
-    let empty : is_empty (trimmed line) ≡ true = subst (λ (t : List ℕ). is_empty t ≡ true) is (empty_is text true none) in
-    subst (λ (ls : List PortLine). Leads s c ls c) (sym (passed_over line [] empty)) (stays s c standing)
-
 pub bytes_decide : (s : Program) (c : Comparison) (line text : List ℕ) (read : PortLine) (v : Verdict) → text ≡ trimmed line → (length text == 0) ≡ false → read ≡ port_line text
     → ((lines : List PortLine) → IsVerdict c read (rest s c (front read lines)) v)
     → (is_empty (trimmed line) ≡ false) × ((lines : List (List ℕ)) → IsVerdict c (port_line (trimmed line)) (rest s c (counted_lines (line ∷ lines))) v)

@@ -149,10 +149,3 @@ stops_all last at s i r (line ∷ lines) limit = rw limit refl
 
 pub goes_on : (at : ℕ) (s : State) (i : Instr) (r : Refusal) → is_limit r ≡ false → stopping at s i r ≡ Wanted (stop_due at i r) ∷ ending at s
 goes_on at s i r none = rw none refl
-
--- a verdict where the table has another outcome, and memory ran out
-pub for_memory : (c : Comparison) (line : PortLine) (o : Outcome) (v : Verdict) → IsVerdict c line (differences.Stopped c.place Memory) v → IsVerdict c line o v
-for_memory c line o (Conforms counts) is = absurd (let e : differences.Stopped c.place Memory ≡ differences.Conforms = is.0 in cc)
-for_memory c line o (Differs d) is = absurd is
-for_memory c line o (Stopped place refusal) (inl e) = inr (inl (cc), cc)
-for_memory c line o (Stopped place refusal) (inr e) = inr e

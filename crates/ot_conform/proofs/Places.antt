@@ -47,9 +47,6 @@ count_next told ks ns i k d in_ks = go (cases_lt i (length ns))
     go (inl within) = count_within told ks ns i k d in_ks within
     go (inr past) = count_past told ks ns i past ∙ sym (ap (λ (xs : List ℕ). counted_to told ks xs (i + 1)) (set_past ns i v past) ∙ count_past told ks ns (i + 1) (omega (arith, past)))
 
-pub counted_all : (told : Key → Bool) (ks : List Key) (ns : List ℕ) (i : ℕ) → length ks ≤ i → counted_to told ks ns i ≡ ns
-counted_all told ks ns i past = ap (λ (xs : List Key). take i ns ++ count_each told xs (drop i ns)) (drop_all i ks past) ∙ take-append-drop i ns
-
 -- the text of the next count
 pub text_next : (ks : List Key) (ns : List ℕ) (i : ℕ) (k : Key) (d : ℕ) → i < length ks → i < length ns
     → counts_text (drop i ks) (drop i ns) ≡ count_text (count_name (get_or ks i k)) (get_or ns i d) ++ counts_text (drop (i + 1) ks) (drop (i + 1) ns)

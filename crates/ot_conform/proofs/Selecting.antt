@@ -57,10 +57,6 @@ first_holds : (P : Line → Type 0) (R : PortLine → Type 0) → ((line : Line)
 first_holds P R holds [] port ports all say = absurd say
 first_holds P R holds (line ∷ lines) port ports all say = holds line port all.0 say.0
 
-none_said : (lines : List Line) → Say lines [] → lines ≡ []
-none_said [] say = refl
-none_said (line ∷ lines) say = absurd say
-
 -- ---- what a line says
 
 told_at : (line : Line) (d : Data) → Says line d → number_at (codes "at") d ≡ Some line.at

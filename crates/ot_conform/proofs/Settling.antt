@@ -50,11 +50,6 @@ is_there port.Nothing other = absurd (other refl)
 pub there_not : (line : PortLine) → IsThere line → {A : Type 0} → line ≡ Nothing → A
 there_not line there none = absurd (subst IsThere none there)
 
--- where no line may be left out, or a line is there
-pub dense_or_there : (sparse : Bool) (line : PortLine) → (sparse && is_nothing line) ≡ false → line ≡ Nothing → sparse ≡ false
-dense_or_there true line e none = absurd (let there : is_nothing line ≡ true = ap is_nothing none in cc)
-dense_or_there false line e none = refl
-
 -- no line is left of lines for some instructions alone
 pub passed_all : (s : Program) (c : Comparison) (line : PortLine) → (c.sparse && is_nothing line) ≡ true → (lines : List PortLine) → IsVerdict c line (rest s c (front line lines)) (Conforms c.counts)
 passed_all s c line e lines = go c.sparse refl line e
@@ -98,9 +93,6 @@ opening_decides s c counts line result is on judged =
 pub end_judged : (c : Comparison) (counts : Counts) (line : PortLine) (quiet : Bool) (result : Option Verdict) → quiet ≡ is_quiet c.machine → IsJudged c.counts counts (end_due c.place quiet) line result
     → IsJudged c.counts counts (end_due c.place (is_quiet c.machine)) line result
 end_judged c counts line quiet result is judged = subst (λ (q : Bool). IsJudged c.counts counts (end_due c.place q) line result) is judged
-
-pub not_nothing : (line : PortLine) (result : Option Verdict) → IsThere line → line ≡ Nothing → IsSome result
-not_nothing line result there none = absurd (subst IsThere none there)
 
 -- ---- the line of an instruction that is refused
 

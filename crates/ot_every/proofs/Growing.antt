@@ -1,6 +1,6 @@
 -- The edits that the program makes are the forms, in order.
 use Rattle.std.proofs.Common.{◌≡◌, ℕ, zero, suc, ◌+◌, ◌-◌, ◌*◌, ◌≤◌, List, [], ◌∷◌, ◌++◌, length, map, refl, sym, ap, ap₂, ◌∙◌, subst, arith, append_assoc}
-use Rattle.std.proofs.lemmas.List.{append-nil, length-append, length-map, map-append}
+use Rattle.std.proofs.lemmas.List.{length-append, length-map, map-append}
 use Rattle.ot_operation.specs.Operation.{Item, Old, New, Operation, IsTooLong, empty, olds, with_retain, with_insert, with_delete}
 use Rattle.ot_isa.specs.declared.instruction.Instr.{Instr}
 use Rattle.ot_isa.specs.declared.instruction.Instr.TheVariants.{Edit}
@@ -9,10 +9,6 @@ use Rattle.ot_every.specs.Walking.{ends, longer}
 
 made : (base base' : ℕ) (image image' : List (Item ℕ)) → base ≡ base' → image ≡ image' → ◌≡◌ {A = Operation ℕ} (record { base = base; image = image }) (record { base = base'; image = image' })
 made base base' image image' b i = ap (λ (n : ℕ). record { base = n; image = image }) b ∙ ap (λ (is : List (Item ℕ)). record { base = base'; image = is }) i
-
--- nothing more
-longer_none : (op : Operation ℕ) → longer op 0 [] ≡ op
-longer_none op = made (op.base + 0) op.base (op.image ++ []) op.image (omega arith) (append-nil op.image)
 
 -- a character is kept, or a text inserted, or a character deleted
 longer_kept : (op : Operation ℕ) (left : ℕ) (image : List (Item ℕ)) → longer op (suc left) (Old op.base ∷ image) ≡ longer (with_retain op 1) left image
@@ -38,10 +34,6 @@ each_gone op left (image ∷ all) = ap₂ (λ (x : Operation ℕ) (xs : List (Op
 
 at_base : (text : List ℕ) (op : Operation ℕ) (left inserts base base' : ℕ) → base ≡ base' → map (longer op left) (images text base left inserts) ≡ map (longer op left) (images text base' left inserts)
 at_base text op left inserts base base' e = ap (λ (n : ℕ). map (longer op left) (images text n left inserts)) e
-
--- at an operation's end
-pub ends_zero : (text : List ℕ) (op : Operation ℕ) (left inserts : ℕ) → left ≡ 0 → ends text op left inserts ≡ op ∷ []
-ends_zero text op left inserts e = ap (λ (n : ℕ). ends text op n inserts) e ∙ ap (λ (x : Operation ℕ). x ∷ []) (longer_none op)
 
 -- without an insertion behind the first character
 pub ends_kept : (text : List ℕ) (op : Operation ℕ) (left : ℕ) → ends text op (suc left) 0 ≡ ends text (with_retain op 1) left 0 ++ ends text (with_delete op 1) left 0
@@ -72,9 +64,6 @@ ends_text text op left inserts =
 longer_empty : (count : ℕ) (all : List (List (Item ℕ))) → map (longer empty count) all ≡ map (λ image. record { base = count; image = image }) all
 longer_empty count [] = refl
 longer_empty count (image ∷ all) = ap₂ (λ (x : Operation ℕ) (xs : List (Operation ℕ)). x ∷ xs) (made (0 + count) count image image (omega arith) refl) (longer_empty count all)
-
-pub forms_kept : (text : List ℕ) (count : ℕ) → ends text empty count 0 ≡ forms text 0 count
-forms_kept text count = longer_empty count (images text 0 count 0)
 
 pub forms_text : (text : List ℕ) (count inserts : ℕ) → ends text empty count (suc inserts) ++ ends text (with_insert empty text) count inserts ≡ forms text (suc inserts) count
 forms_text text count inserts =

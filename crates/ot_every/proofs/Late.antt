@@ -1,6 +1,6 @@
 -- What comes late, by the marks of a path, and what is left of the candidates.
 use Rattle.std.proofs.Common.{◌≡◌, ℕ, zero, suc, ◌+◌, ◌<◌, ◌≤◌, List, [], ◌∷◌, ◌++◌, length, take, drop, map, refl, sym, ap, ap₂, ◌∙◌, subst, arith, Option, Some, None, Bool, true, false, append_assoc}
-use Rattle.std.specs.Prelude.{◌&&◌, ◌||◌, ◌==◌, nat_lt, not, slice_get, unwrap_or, filter}
+use Rattle.std.specs.Prelude.{◌&&◌, ◌||◌, nat_lt, not, slice_get, unwrap_or, filter}
 use Rattle.std.proofs.lemmas.List.Elements.{filter-append}
 use Rattle.std.proofs.lemmas.List.{drop_all, length-append, length-take-le, append-nil}
 use Rattle.std.specs.Option.{option_map}
@@ -20,15 +20,6 @@ use Rattle.ot_every.specs.Walking.{AreMarks, IsMark, is_clients, is_late, stops,
 use Rattle.ot_every.specs.declared.marks.Mark.{Mark}
 
 -- ---- a mark
-
-pub own_is : (c : ℕ) (i : Instr) → (is_clients i && (unwrap_or (client_of i) 0 == c)) ≡ is_at (ClientMachine c) i
-own_is c (Edit d op) = refl
-own_is c (Take d) = refl
-own_is c (Deliver d) = refl
-own_is c (Acknowledge d) = refl
-own_is c (Join d) = refl
-own_is c (Read d) = refl
-own_is c ReadServer = refl
 
 pub later_is : (c : ℕ) (i : Instr) → (not (is_clients i) || nat_lt c (unwrap_or (client_of i) 0)) ≡ is_before (ClientMachine c) (machine_of i)
 later_is c (Edit d op) = refl

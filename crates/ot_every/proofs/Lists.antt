@@ -82,11 +82,6 @@ contains x [] h = absurd h
 contains x (z ∷ xs) (inl e) = (0, omega arith, sym e)
 contains x (z ∷ xs) (inr h) = let r = contains x xs h in (suc r.0, omega (arith, r.1), r.2)
 
-pub from_contains : {A : Type 0} (x : A) (xs : List A) → Contains xs x → IsIn x xs
-from_contains x [] (k, h, e) = absurd (omega (arith, h))
-from_contains x (z ∷ xs) (zero, h, e) = inl (sym e)
-from_contains x (z ∷ xs) (suc k, h, e) = inr (from_contains x xs (k, omega (arith, h), e))
-
 -- each element and each later one
 abbrev pub Pairwise : {A : Type 0} → (A → A → Type 0) → List A → Type 0
 Pairwise R [] = Unit {0}

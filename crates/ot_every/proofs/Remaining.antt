@@ -1,6 +1,6 @@
 -- How many instructions are still to come: what each instruction takes of it, and that no session goes on where they cannot be so many.
 use Rattle.std.proofs.Common.{◌≡◌, ℕ, zero, suc, ◌+◌, ◌-◌, ◌*◌, ◌<◌, ◌≤◌, List, [], ◌∷◌, length, take, drop, map, set, get_or, refl, sym, ap, ap₂, ◌∙◌, subst, arith, inl, inr, Option, Some, None, Bool, true, false, cond, length-set}
-use Rattle.std.specs.Prelude.{◌⊎◌, slice_get, sum_by, count_by, is_some, if◌then◌else◌}
+use Rattle.std.specs.Prelude.{◌⊎◌, slice_get, sum_by, count_by, if◌then◌else◌}
 use Rattle.std.specs.Option.{option_map}
 use Rattle.std.proofs.lemmas.List.{length_push, length-map}
 use Rattle.std.proofs.lemmas.List.Sums.{sum_by-cons, sum_by-set, sum_by_more, sum_by_more_le}
@@ -520,7 +520,3 @@ due_is s c n ahead sent m name message transit phase down =
   where
     added : (a b d e f : ℕ) → a ≡ e → b + d ≡ f → a + b + d ≡ e + f
     added a b d e f g h = omega (arith, g, h)
-
-pub transit_is : (n : ℕ) (m : Option Message) (there : Bool) → is_some m ≡ there → in_transit n m ≡ (if there then suc n else 0)
-transit_is n None there e = ap (λ (b : Bool). if b then suc n else 0) e
-transit_is n (Some m) there e = ap (λ (b : Bool). if b then suc n else 0) e

@@ -59,20 +59,9 @@ unnamed Synchronized name e other = absurd (other (sym e))
 unnamed (AwaitingConfirm o) name e other = refl
 unnamed (AwaitingWithBuffer o b) name e other = refl
 
-pub unsettled_phase : (s : State) (c : ℕ) (name : shown.Phase) → ClientHas s c (λ x. phase_name x.phase) name → (name ≡ shown.TheVariants.Synchronized → ⊥) → ClientHas s c (settled_in s) false
-unsettled_phase s c name phase other =
-    let x = has s c (λ x. phase_name x.phase) name phase in
-    ap (option_map (settled_in s)) x.1 ∙ ap (λ b. Some (b && (is_none (x.0).message && is_empty (drop (x.0).revision s.log)))) (unnamed (x.0).phase name x.2 other)
-
 missing : (b : Bool) (x : Client) (log : Bool) → is_synchronized x.phase ≡ b → is_none x.message ≡ false → (is_synchronized x.phase && (is_none x.message && log)) ≡ false
 missing true x log e none = ap₂ (λ (a c : Bool). a && (c && log)) e none
 missing false x log e none = ap (λ (a : Bool). a && (is_none x.message && log)) e
-
-pub unsettled_message : (s : State) (c : ℕ) (message : Option Message) → ClientHas s c (λ x. x.message) message → is_none message ≡ false → ClientHas s c (settled_in s) false
-unsettled_message s c message sent there =
-    let x = has s c (λ x. x.message) message sent in
-    ap (option_map (settled_in s)) x.1
-    ∙ ap Some (missing (is_synchronized (x.0).phase) x.0 (is_empty (drop (x.0).revision s.log)) refl (ap is_none x.2 ∙ there))
 
 empty_is : {X : Type 0} (xs : List X) → is_empty xs ≡ (length xs == 0)
 empty_is [] = refl

@@ -11,7 +11,6 @@ use Rattle.ot_model.specs.Table.{Client, State, Performed, absent, at_client}
 use Rattle.ot_machine.specs.Readers.{ClientHas}
 use Rattle.ot_machine.specs.Effects.{client_in}
 use Rattle.ot_steps.specs.Steps.{LeadsTo}
-use Rattle.ot_explain.specs.Words.{of_client}
 
 -- the client that has a value
 one_that_has : {A : Type 0} (s : State) (c : ℕ) (field : Client → A) (value : A) → ClientHas s c field value → (x : Client) × (slice_get s.clients c ≡ Some x) × (field x ≡ value)
@@ -32,9 +31,6 @@ of_one : (xs : List Client) (c : ℕ) (words : Client → List ℕ) → c < leng
 of_one [] c words inside = absurd (omega (arith, inside))
 of_one (x ∷ xs) zero words inside = refl
 of_one (x ∷ xs) (suc c) words inside = of_one xs c words (omega (arith, inside))
-
-pub told_in : (s : State) (c : ℕ) (words : Client → List ℕ) → c < length s.clients → words (client_in s c) ≡ of_client s c words
-told_in s c words inside = of_one s.clients c words inside
 
 -- a performed instruction is of a client that was there before it
 within_first : (s t : State) (i : Instr) (c : ℕ) (o : Option Client) (shown : Option Shown) → slice_get s.clients c ≡ o → at_client s i c o ≡ Performed t shown → c < length s.clients

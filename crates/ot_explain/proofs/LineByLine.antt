@@ -11,9 +11,6 @@ pub record HasFound (text rest : List ℕ) (number : ℕ) (found : List ℕ) : T
   pub all : found ++ places_from number (lines_of rest) ≡ places text
   pub few : number + length rest ≤ 1 + length text
 
-pub found_none : (text : List ℕ) → HasFound text text 1 []
-found_none text = record { all = refl; few = omega arith }
-
 pub found_next : (text rest line below : List ℕ) (number : ℕ) (found more : List ℕ) → HasFound text rest number found → lacks line ≡ true → rest ≡ line ++ 10 ∷ below
     → more ≡ found ++ place_of number line → HasFound text below (number + 1) more
 found_next text rest line below number found more so_far piece is added =

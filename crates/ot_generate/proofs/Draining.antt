@@ -13,7 +13,7 @@ use Rattle.ot_model.specs.Runs.{opening_of}
 use Rattle.ot_model.specs.Session.{RunsTo}
 use Rattle.ot_model.specs.Table.{Client, Message, State, is_joined, step, Performed, Refused, IsQuiet}
 use Rattle.ot_model.proofs.States.{take_entry}
-use Rattle.std.proofs.lemmas.List.{append-nil, length-append, length-take-le, take_all}
+use Rattle.std.proofs.lemmas.List.{length-append, length-take-le, take_all}
 use Rattle.std.proofs.Math.Nat.{eq-or-lt_of_le}
 use Rattle.ot_machine.specs.Answers.{IsPerformed}
 use Rattle.ot_machine.specs.Readers.{ClientHas, head_at}
@@ -23,7 +23,7 @@ use Rattle.ot_machine.proofs.RowLaws.{not_full, performs}
 use Rattle.ot_generate.specs.Completed.{Drains, IsCompletion, IsIncomplete, IsRefusedAt, first_of, next_of, or_next, receipt_next, receipt_of, take_next, taking}
 use Rattle.ot_generate.specs.Completing.{IsDrained, IsDraining, IsFilled, IsFollowed, IsStuck}
 use Rattle.ot_generate.specs.Left.{drain_due, due, owed}
-use Rattle.ot_generate.specs.Walks.{WalkView, IsMade, IsWalk, MayMake, begun, with_instrs}
+use Rattle.ot_generate.specs.Walks.{WalkView, IsMade, IsWalk, MayMake, with_instrs}
 use Rattle.ot_generate.specs.declared.completing.Incomplete.{Incomplete}
 use Rattle.ot_generate.specs.declared.completing.Incomplete.TheVariants as incomplete
 use Rattle.ot_generate.proofs.Moving.{at_zero, below_limit, has_received, head_entry, head_on, performs_acknowledge}
@@ -307,12 +307,6 @@ drains_more s t u (j ∷ is) i shown (first, mid, list, row, rest) next last = (
 with_one_more : (p : Program) (more : List Instr) (i : Instr) → with_instr (with_instrs p more) i ≡ with_instrs p (more ++ i ∷ [])
 with_one_more p more i = ap (λ (is : List Instr). record p { instrs = is }) (append_assoc p.instrs more (i ∷ []))
 
-with_no_more : (p : Program) → p ≡ with_instrs p []
-with_no_more p = ap (λ (is : List Instr). record p { instrs = is }) (sym (append-nil p.instrs))
-
-pub draining_none : (a : WalkView) → IsDraining a [] a
-draining_none a = record { recorded = with_no_more a.recorded; drains = refl; room = refl; is_open = refl }
-
 pub draining_more : (a b d : WalkView) (more : List Instr) (i : Instr) → IsDraining a more b → next_of b.state ≡ Some i → IsMade b i d → IsDraining a (more ++ i ∷ []) d
 draining_more a b d more i along next made =
     record {
@@ -343,10 +337,6 @@ filled a b more i along next full =
       unsettled = λ none. absurd (let clash = sym next ∙ none in cc);
       full = omega arith;
     }
-
--- a schedule is followed
-pub followed_none : (p : Program) → IsFollowed p 0 (begun p.clients p.present p.start 100000 true)
-followed_none p = record { recorded = refl; room = refl; is_open = refl }
 
 with_taken : (p : Program) (is js : List Instr) → is ≡ js
     → ◌≡◌ {A = Program} (record { clients = p.clients; present = p.present; start = p.start; instrs = is }) (record { clients = p.clients; present = p.present; start = p.start; instrs = js })

@@ -7,7 +7,7 @@ use Rattle.std.specs.Option.{option_map}
 use Rattle.std.proofs.lemmas.Bool.{eqb-true}
 use Rattle.std.proofs.lemmas.Option.{same_Some}
 use Rattle.ot_isa.specs.declared.instruction.Instr.{Instr}
-use Rattle.ot_isa.specs.declared.instruction.Instr.TheVariants.{Edit, Acknowledge, Read, ReadServer}
+use Rattle.ot_isa.specs.declared.instruction.Instr.TheVariants.{Edit, Acknowledge, ReadServer}
 use Rattle.ot_model.specs.declared.shown.Shown.{Shown}
 use Rattle.ot_model.specs.Operation.{Operation, inserted}
 use Rattle.ot_model.specs.Sound.{IsSound}
@@ -123,13 +123,6 @@ pub may_make_edit : {E : Type 0} (w : WalkView) (c count size : ℕ) (list : Lis
 may_make_edit w c count size list (Ok op) kept may lists counts same base few = may_edit w c count list op kept may lists counts (base ∙ same) few
 may_make_edit w c count size list (Err e) kept may lists counts same base few = tt
 
-pub within_limit : (w : WalkView) (c count : ℕ) → IsWalk w → ClientHas w.state c (λ x. x.count) count → count ≤ 15000
-within_limit w c count kept counts =
-    let n = has w.state c (λ z. z.count) count counts in
-    let most : n.0.count ≤ 15000 = kept.sound.2.counts c n.0 n.1 in
-    let e = n.2 in
-    omega arith
-
 -- the server's read
 pub may_read_server : (w : WalkView) (spare : ℕ) → IsWalk w → HasSpare w spare → 1 ≤ spare → MayMake w ReadServer
 may_read_server w spare kept room some =
@@ -143,17 +136,6 @@ pub has_spare_open : (w : WalkView) → IsWalk w → w.is_open ≡ true → leng
 has_spare_open w kept on less =
     let none : owed w.is_open w.state ≡ 0 = ap (λ b. owed b w.state) on in
     (w.room - length w.recorded.instrs, omega arith, omega arith)
-
-pub may_read : (w : WalkView) (c spare : ℕ) → IsWalk w → HasSpare w spare → 1 ≤ spare → ClientHas w.state c (λ x. is_joined x.phase) true → MayMake w (Read c)
-may_read w c spare kept room some joined =
-    let j = has w.state c (λ x. is_joined x.phase) true joined in
-    let inside = slice_get_within w.state.clients c j.0 j.1 in
-    let clients = kept.clients in
-    record {
-      performed = rw (j.1, not_full w.state.steps (below_limit w kept), j.2) tt;
-      client = omega arith;
-      room = omega arith;
-    }
 
 -- an instruction that is made finds the record with room
 pub has_room : (w : WalkView) (t : State) (i : Instr) (shown : Option Shown) → IsWalk w → MayMake w i → step w.state i ≡ Performed t shown → length w.recorded.instrs < 100000

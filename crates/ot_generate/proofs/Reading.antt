@@ -1,20 +1,19 @@
 -- The reads at the end, and the whole session.
 use Rattle.std.proofs.Common.{◌≡◌, ℕ, zero, suc, ◌+◌, ◌<◌, ◌≤◌, List, [], ◌∷◌, ◌++◌, length, drop, refl, sym, ap, ◌∙◌, subst, arith, Bool, true, false, Some, append_assoc}
 use Rattle.std.specs.Prelude.{slice_get, if◌then◌else◌}
-use Rattle.std.proofs.lemmas.List.{append-nil, drop_all, length-append, take_all}
+use Rattle.std.proofs.lemmas.List.{drop_all, length-append, take_all}
 use Rattle.ot_isa.specs.declared.instruction.Instr.{Instr}
 use Rattle.ot_isa.specs.declared.instruction.Instr.TheVariants.{Read, ReadServer}
 use Rattle.ot_isa.specs.Program.{Program}
 use Rattle.ot_model.specs.declared.shown.Shown.{Shown}
-use Rattle.ot_model.specs.Table.{Client, State, Outcome, Performed, Refused, NoRow, begin, is_joined, run, step, IsQuiet, IsQuietClient}
+use Rattle.ot_model.specs.Table.{Client, State, Outcome, Performed, Refused, NoRow, begin, is_joined, run, IsQuiet, IsQuietClient}
 use Rattle.ot_model.specs.Runs.{place_at}
-use Rattle.ot_model.proofs.Outcomes.{by_read, by_read_server}
 use Rattle.ot_model.proofs.States.{drop_entry}
 use Rattle.ot_machine.specs.Orders.{IsWhole}
 use Rattle.ot_machine.proofs.Stopping.{whole}
 use Rattle.ot_generate.specs.Generated.{reads_from, EndsRead, IsGenerated, IsWandered}
 use Rattle.ot_generate.specs.Shapes.{ShapeView}
-use Rattle.ot_generate.specs.Walks.{WalkView, IsMade, IsRead, IsReadAt, IsWalk, opened_up, with_instrs}
+use Rattle.ot_generate.specs.Walks.{WalkView, IsRead, IsReadAt, IsWalk, opened_up, with_instrs}
 
 -- a read moves nothing
 abbrev Stays : State → Outcome → Type 0
@@ -22,28 +21,8 @@ Stays s (Performed t shown) = (t.clients ≡ s.clients) × (t.log ≡ s.log)
 Stays s (Refused r) = Unit {0}
 Stays s NoRow = Unit {0}
 
-pub read_made : (a b : WalkView) (c : ℕ) → IsMade a (Read c) b → IsRead a (Read c ∷ []) b
-read_made a b c made =
-    let s = a.state in
-    let stays : Stays s (step s (Read c)) = by_read (Stays s) (λ r. tt) s c (λ x at below on. (refl, refl)) in
-    let moved : (b.state.clients ≡ s.clients) × (b.state.log ≡ s.log) = subst (Stays s) made.row stays in
-    record { recorded = made.recorded; clients = moved.0; log = moved.1; room = made.room; is_open = made.is_open }
-
-pub read_server_made : (a b : WalkView) → IsMade a ReadServer b → IsRead a (ReadServer ∷ []) b
-read_server_made a b made =
-    let s = a.state in
-    let stays : Stays s (step s ReadServer) = by_read_server (Stays s) (λ r. tt) s (λ below. (refl, refl)) in
-    let moved : (b.state.clients ≡ s.clients) × (b.state.log ≡ s.log) = subst (Stays s) made.row stays in
-    record { recorded = made.recorded; clients = moved.0; log = moved.1; room = made.room; is_open = made.is_open }
-
-with_none : (p : Program) → p ≡ with_instrs p []
-with_none p = ap (λ (is : List Instr). record p { instrs = is }) (sym (append-nil p.instrs))
-
 with_more : (p : Program) (xs ys : List Instr) → with_instrs (with_instrs p xs) ys ≡ with_instrs p (xs ++ ys)
 with_more p xs ys = ap (λ (is : List Instr). record p { instrs = is }) (append_assoc p.instrs xs ys)
-
-pub read_none : (a : WalkView) → IsRead a [] a
-read_none a = record { recorded = with_none a.recorded; clients = refl; log = refl; room = refl; is_open = refl }
 
 pub read_both : (a b d : WalkView) (xs ys : List Instr) → IsRead a xs b → IsRead b ys d → IsRead a (xs ++ ys) d
 read_both a b d xs ys first second =
@@ -61,9 +40,6 @@ pub record IsReadTo (a b : WalkView) (c : ℕ) : Type 0 where
   pub read : IsRead a reads b
   pub few : length reads ≤ c
   pub rest : reads ++ reads_from c (drop c a.state.clients) ≡ reads_from 0 a.state.clients
-
-pub read_to_none : (a : WalkView) → IsReadTo a a 0
-read_to_none a = record { reads = []; read = read_none a; few = omega arith; rest = refl }
 
 one_read : (c : ℕ) (x : Client) (rest : List Client) (b : Bool) → is_joined x.phase ≡ b
     → reads_from c (x ∷ rest) ≡ (if is_joined x.phase then Read c ∷ [] else []) ++ reads_from (suc c) rest

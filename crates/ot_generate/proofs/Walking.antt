@@ -67,13 +67,3 @@ goes_on a b i kept may made sound =
 pub same_walk : (p q : Program) (s t : State) (room : ℕ) (is_open : Bool) → p ≡ q → s ≡ t
     → ◌≡◌ {A = WalkView} (record { recorded = p; state = s; room = room; is_open = is_open }) (record { recorded = q; state = t; room = room; is_open = is_open })
 same_walk p q s t room is_open e f = cc
-
-pub along_both : (a b d : WalkView) → IsAlong a b → IsAlong b d → IsAlong a d
-along_both a b d first second =
-    record {
-      clients = second.clients ∙ first.clients;
-      present = second.present ∙ first.present;
-      start = second.start ∙ first.start;
-      room = second.room ∙ first.room;
-      is_open = second.is_open ∙ first.is_open;
-    }

@@ -1,7 +1,7 @@
 -- What the readers of components need.
 use Rattle.std.proofs.Common.{◌≡◌, ℕ, ◌+◌, ◌≤◌, List, [], length, Ok, refl, arith, inl, inr}
 use Rattle.std.specs.Prelude.{◌⊎◌}
-use Rattle.ot_operation.specs.Operation.{Operation, IsTooLong, empty, with_retain, with_insert, with_delete}
+use Rattle.ot_operation.specs.Operation.{Operation, IsTooLong, empty, with_retain, with_insert}
 use Rattle.ot_operation.proofs.RunLemmas.{longest_retain, longest_insert}
 use Rattle.ot_image.specs.declared.fault.ReadError.{ReadError}
 use Rattle.std.specs.Int.{w32}
@@ -24,10 +24,6 @@ pub retain_fits : (op : Operation ℕ) (code n : ℕ) → code ≡ 16 → (code 
 retain_fits op code n is (inl k) t long = omega (arith, is, k)
 retain_fits op code n is (inr b) (inl k) long = omega (arith, is, k)
 retain_fits op code n is (inr b) (inr t) long = let l = rw (longest_retain op n) at long in omega (arith, l, b, t)
-
-pub delete_fits : (op : Operation ℕ) (code n : ℕ) → code ≡ 18 → (code ≡ 17) ⊎ (op.base + n ≤ 1000000) → length op.image ≤ 1000000 → IsTooLong (with_delete op n) → ⊥
-delete_fits op code n is (inl k) t long = omega (arith, is, k)
-delete_fits op code n is (inr b) t long = omega (arith, long, b, t)
 
 pub insert_fits : (op : Operation ℕ) (code n : ℕ) (s t : Spot) (text : List ℕ) → (code ≡ 18 → ⊥) → op.base ≤ 1000000 → (code ≡ 18) ⊎ (length op.image + n ≤ 1000000)
     → times push_scalar n [] s ≡ Ok (text, t) → IsTooLong (with_insert op text) → ⊥

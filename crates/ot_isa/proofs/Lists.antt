@@ -1,5 +1,5 @@
 -- Lists item by item.
-use Rattle.std.proofs.Common.{◌≡◌, ℕ, zero, suc, ◌+◌, ◌<◌, List, [], ◌∷◌, ◌++◌, length, take, get_or, refl, sym, ap, add-one, arith, Option, Some, None}
+use Rattle.std.proofs.Common.{◌≡◌, ℕ, zero, suc, ◌+◌, ◌<◌, List, [], ◌∷◌, ◌++◌, length, take, get_or, refl, ap, add-one, arith, Some}
 use Rattle.std.specs.Prelude.{slice_get}
 
 -- one more item
@@ -23,12 +23,3 @@ next_item {A} (y ∷ xs) (suc i) x e = ap (λ (t : List A). y ∷ t) (next_item 
 
 pub take_got : {A : Type 0} (xs : List A) (i : ℕ) (x : A) → slice_get xs i ≡ Some x → take (i + 1) xs ≡ take i xs ++ x ∷ []
 take_got xs i x e = rw add-one (next_item xs i x e)
-
-pub get_past : {A : Type 0} (xs : List A) (i : ℕ) → i < length xs → slice_get xs i ≡ None → ⊥
-get_past [] i h e = omega arith
-get_past (y ∷ xs) zero h e = absurd cc
-get_past (y ∷ xs) (suc i) h e = get_past xs i (omega arith) e
-
-pub got_within : {A : Type 0} (xs : List A) (i : ℕ) (o : Option A) → i < length xs → o ≡ slice_get xs i → ((x : A) → o ≡ Some x → ⊥) → ⊥
-got_within xs i None h e f = get_past xs i h (sym e)
-got_within xs i (Some x) h e f = f x refl

@@ -1,7 +1,7 @@
 -- The lengths of an operation with a component added.
 use Rattle.std.proofs.Common.{◌≡◌, ◌+◌, ◌<◌, ◌≤◌, ℕ, length, length-append, IsTrue, true, false, max, ap, ◌∙◌, arith, Result, Ok, Err, Some, refl}
 use Rattle.std.proofs.lemmas.List.{length-map}
-use Rattle.std.proofs.lemmas.Bool.{lt-ltb, le-ltb}
+use Rattle.std.proofs.lemmas.Bool.{le-ltb}
 use Rattle.ot_operation.specs.Operation.{Operation, New, olds, IsTooLong}
 use Rattle.ot_operation.specs.Run.{Run, Keep, Add, Skip}
 use Rattle.ot_operation.proofs.RunLemmas.{length-olds}
@@ -44,10 +44,6 @@ refused op l r h long =
 pub allowed : (op : Operation ℕ) (l : ℕ × ℕ) (r : Run ℕ) → HasLengths op l → max (l.0 + taken r) (l.1 + given r) ≤ 1000000 → (IsTrue true → IsTooLong (with_run op r) → ⊥) × ((IsTooLong (with_run op r) → ⊥) → IsTrue true)
 allowed op l r h short =
     (λ k is. omega (arith, new_base op r, image_length op r, h, short, is), λ p. refl)
-
--- what the builder's refusal and success say of the definition
-pub is_long : (i : ℕ) (op : Operation ℕ) (r : Run ℕ) → IsTooLong (with_run op r) → with_component i op (Some r) ≡ Err TooLong
-is_long i op r h = let e : is_too_long (with_run op r) ≡ true = lt-ltb 1000000 (max (with_run op r).base (length (with_run op r).image)) h in rw e refl
 
 pub is_short : (i : ℕ) (op : Operation ℕ) (r : Run ℕ) → (IsTooLong (with_run op r) → ⊥) → with_component i op (Some r) ≡ Ok (with_run op r)
 is_short i op r h = let e : is_too_long (with_run op r) ≡ false = le-ltb 1000000 (max (with_run op r).base (length (with_run op r).image)) (omega arith) in rw e refl

@@ -44,22 +44,12 @@ taken-more a b c u v w first then both = record {
   ];
 }
 
-pub taken-none : (a w : Tag → Bool) → ((q : Tag) → w q ≡ false) → IsTaken a a w
-taken-none a w none = record {
-  left = λ q. sym (ap (λ (t : Bool). a q && not t) (none q) ∙ and_true (a q));
-  had = λ q h. absurd (both_ways (w q) (none q) h);
-}
-
 or_and : (x y z : Bool) → ((x || y) && z) ≡ ((x && z) || (y && z))
 or_and true true true = refl
 or_and true true false = refl
 or_and true false true = refl
 or_and true false false = refl
 or_and false y z = refl
-
--- taken one after another
-pub taken-start : (a gone : Tag → Bool) → IsTaken a a (λ q. contains [] q && not (gone q))
-taken-start a gone = taken-none a (λ q. false) (λ q. refl)
 
 pub taken-next : (a b c gone : Tag → Bool) (tags : List Tag) (i : ℕ) (x t : Tag) → i < length tags → x ≡ get_or tags i t → IsTaken a b (λ q. contains (take i tags) q && not (gone q)) → IsTaken b c (λ q. same_tag q x && not (gone q)) → IsTaken a c (λ q. contains (take (i + 1) tags) q && not (gone q))
 taken-next a b c gone tags i x t lt is first then =
@@ -81,13 +71,6 @@ same-tags x a h = elim (cases_Bool (same_tag x a)) [
   | inl met ↦ same_tag-true x a met
   | inr out ↦ absurd (both_ways true (sym (ap not out) ∙ h) refl)
 ]
-
--- what is gone is not taken
-pub take-gone : (old gone : Tag → Bool) (a : Tag) → gone a ≡ true → IsTaken old old (λ q. same_tag q a && not (gone q))
-take-gone old gone a h = taken-none old (λ q. same_tag q a && not (gone q)) (λ q. elim (cases_Bool (same_tag q a)) [
-  | inl met ↦ ap (λ (b : Bool). same_tag q a && not b) (ap gone (same_tag-true q a met) ∙ h) ∙ and_false (same_tag q a)
-  | inr not_met ↦ ap (λ (b : Bool). b && not (gone q)) not_met
-])
 
 -- what is left after all that is required was taken is nothing
 pub exactly-from : (list : List Tag) (s m e held inserted gone : Tag → Bool) → ((q : Tag) → StandsOnce list q (s q)) → IsTaken s m (λ q. held q && not (gone q)) → IsTaken m e (λ q. inserted q && not (gone q)) → ((q : Tag) → e q ≡ false) → HoldsExactly list (λ q. (held q || inserted q) && not (gone q))

@@ -23,12 +23,6 @@ from_first-more events e part n =
     let f : ℕ → List Tag = λ d. cond (knows events e d) (part (event_at events d)) [] in
     ap (flat_map f) (range-more n) ∙ flat_map-append f (range_with_len 0 n) (n ∷ []) ∙ ap (λ (xs : List Tag). from_first events e part n ++ xs) (append-nil (f n))
 
-pub from_first-known : (events : List EventView) (e : ℕ) (part : EventView → List Tag) (n : ℕ) → knows events e n ≡ true → from_first events e part (n + 1) ≡ from_first events e part n ++ part (event_at events n)
-from_first-known events e part n k = from_first-more events e part n ∙ ap (λ (b : Bool). from_first events e part n ++ cond b (part (event_at events n)) []) k
-
-pub from_first-unknown : (events : List EventView) (e : ℕ) (part : EventView → List Tag) (n : ℕ) → knows events e n ≡ false → from_first events e part (n + 1) ≡ from_first events e part n
-from_first-unknown events e part n k = from_first-more events e part n ∙ ap (λ (b : Bool). from_first events e part n ++ cond b (part (event_at events n)) []) k ∙ append-nil (from_first events e part n)
-
 -- a set with what one more event gives
 pub contains-grown : (events : List EventView) (e : ℕ) (part : EventView → List Tag) (n : ℕ) (q : Tag) (has new : Bool) (gained : List Tag) → has ≡ contains (from_first events e part n) q → new ≡ (has || contains gained q) → gained ≡ cond (knows events e n) (part (event_at events n)) [] → new ≡ contains (from_first events e part (n + 1)) q
 contains-grown events e part n q has new gained h w g =

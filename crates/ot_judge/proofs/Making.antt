@@ -2,16 +2,15 @@
 use Rattle.std.proofs.Common.{◌≡◌, ℕ, List, [], ◌∷◌, length, ap, sym, ◌∙◌, cond, arith, Bool, true, false, ◌||◌, ◌&&◌, refl, inl, inr}
 use Rattle.std.specs.Prelude.{Option, Some, None, Result, Ok, Err, All, ◌==◌, nat_lt}
 use Rattle.std.specs.List.{list_all}
-use Rattle.std.proofs.lemmas.Bool.{cases_Bool, and_parts, and_from, eqb-true, ltb-true, lt-ltb}
-use Rattle.std.proofs.Common.{eq-eqb}
+use Rattle.std.proofs.lemmas.Bool.{cases_Bool, and_parts, eqb-true, ltb-true}
 use Rattle.std.proofs.lemmas.List.{nil_from_length}
-use Rattle.std.proofs.lemmas.List.Elements.{All-nil, All-cons, All-head, All-tail}
+use Rattle.std.proofs.lemmas.List.Elements.{All-nil, All-cons}
 use Rattle.ot_isa.specs.declared.elements.Tag.{Tag}
 use Rattle.ot_judge.specs.declared.fault.TraceFault.{TraceFault}
 use Rattle.ot_judge.specs.declared.fault.TraceFault.TheVariants.{BadShape, TraceFull}
 use Rattle.ot_model.specs.Trace.{EventView, TraceView, IsEvent, IsTrace}
 use Rattle.ot_judge.specs.Making.{is_event, has_shape, is_full, named_tags, named_again, unless_again, trace_from}
-use Rattle.ot_judge.proofs.Repeated.{again-none, distinct-again}
+use Rattle.ot_judge.proofs.Repeated.{again-none}
 use Rattle.ot_judge.proofs.Whole.{distinct-once}
 
 or_false : (a b : Bool) → (a || b) ≡ true → a ≡ false → b ≡ true
@@ -39,36 +38,11 @@ event_fits replicas x h =
 nothing : {A : Type 0} (xs : List A) → xs ≡ [] → (length xs == 0) ≡ true
 nothing {A = A} xs h = ap (λ (ys : List A). length ys == 0) h
 
-quiet_read : (x : EventView) (replicas : ℕ) → IsEvent replicas x → (x.edit || ((length x.inserted == 0) && (length x.deleted == 0))) ≡ true
-quiet_read x replicas e = elim (cases_Bool x.edit) [
-  | inl edit ↦ ap (λ (b : Bool). b || ((length x.inserted == 0) && (length x.deleted == 0))) edit
-  | inr read ↦
-      ap (λ (b : Bool). b || ((length x.inserted == 0) && (length x.deleted == 0))) read
-      ∙ and_from _ _ (nothing x.inserted (e.read_inserts read)) (nothing x.deleted (e.read_deletes read))
-]
-
-pub fits_event : (replicas : ℕ) (x : EventView) → IsEvent replicas x → is_event replicas x ≡ true
-fits_event replicas x e =
-    and_from _ _ (and_from _ _ (lt-ltb x.replica replicas e.replica) (eq-eqb (length x.seen) replicas e.seen)) (quiet_read x replicas e)
-
 pub events_fit : (replicas : ℕ) (events : List EventView) → list_all (is_event replicas) events ≡ true → All (IsEvent replicas) events
 events_fit replicas [] h = All-nil (IsEvent replicas)
 events_fit replicas (x ∷ xs) h =
     let parts = and_parts (is_event replicas x) (list_all (is_event replicas) xs) h in
     All-cons (IsEvent replicas) x xs (event_fits replicas x parts.0) (events_fit replicas xs parts.1)
-
-pub fit_events : (replicas : ℕ) (events : List EventView) → All (IsEvent replicas) events → list_all (is_event replicas) events ≡ true
-fit_events replicas [] h = refl
-fit_events replicas (x ∷ xs) h =
-    and_from _ _ (fits_event replicas x (All-head (IsEvent replicas) x xs h)) (fit_events replicas xs (All-tail (IsEvent replicas) x xs h))
-
-pub shape-from_IsTrace : (t : TraceView) → IsTrace t → has_shape t ≡ true
-shape-from_IsTrace t is =
-    and_from _ _ (and_from _ _ (lt-ltb 0 t.replicas (omega (arith, is.some_replica))) (lt-ltb t.replicas 66 (omega (arith, is.few_replicas))))
-    (fit_events t.replicas t.events is.events)
-
-pub again-from_IsTrace : (t : TraceView) → IsTrace t → named_again t ≡ None
-again-from_IsTrace t is = distinct-again [] (named_tags t) is.inserted_once
 
 pub IsTrace-from : (t : TraceView) → has_shape t ≡ true → named_again t ≡ None → IsTrace t
 IsTrace-from t shape once =
@@ -81,14 +55,6 @@ IsTrace-from t shape once =
       inserted_once = distinct-once (named_tags t) (again-none [] (named_tags t) (λ q. omega arith) once);
       events = events_fit t.replicas t.events parts.1;
     }
-
--- parts of a trace within the limits are that trace
-pub trace_from-IsTrace : (t : TraceView) → IsTrace t → is_full t ≡ false → trace_from t ≡ Ok t
-trace_from-IsTrace t is room =
-    let u : Result TraceView TraceFault = unless_again t (named_again t) in
-    ap (λ (b : Bool). cond b (cond (is_full t) (Err TraceFull) u) (Err BadShape)) (shape-from_IsTrace t is)
-    ∙ ap (λ (b : Bool). cond b (Err TraceFull) u) room
-    ∙ ap (unless_again t) (again-from_IsTrace t is)
 
 unless-ok : (t u : TraceView) (o : Option Tag) → unless_again t o ≡ Ok u → o ≡ None
 unless-ok t u None h = refl

@@ -1,13 +1,11 @@
 -- Tags that stand in a list twice.
-use Rattle.std.proofs.Common.{◌≡◌, ℕ, ◌+◌, ◌<◌, ◌≤◌, List, [], ◌∷◌, ◌++◌, length, get_or, take, drop, ap, sym, ◌∙◌, cond, arith, Bool, true, false, ◌||◌, ◌&&◌, refl, inl, inr, append-nil, append_assoc, subst, suc}
+use Rattle.std.proofs.Common.{◌≡◌, ℕ, ◌+◌, ◌<◌, ◌≤◌, List, [], ◌∷◌, ◌++◌, length, get_or, take, drop, ap, sym, ◌∙◌, cond, arith, Bool, true, false, ◌||◌, ◌&&◌, refl, inl, inr, append-nil, append_assoc, subst}
 use Rattle.std.specs.Prelude.{Some, None, find, nat_lt}
-use Rattle.std.proofs.lemmas.Bool.{cases_Bool, lt-ltb, both_ways}
-use Rattle.std.proofs.lemmas.List.{drop_all, drop_more, get_or_append_left, take_more}
-use Rattle.std.proofs.Math.Seq.{get_or-append_seam}
+use Rattle.std.proofs.lemmas.Bool.{cases_Bool, lt-ltb}
+use Rattle.std.proofs.lemmas.List.{drop_all, drop_more, take_more}
 use Rattle.std.proofs.lemmas.List.Sums.{sum_by-append, sum_by-cons}
 use Rattle.ot_isa.specs.declared.elements.Tag.{Tag}
 use Rattle.ot_model.specs.Trace.{same_tag, contains, occurrences}
-use Rattle.ot_judge.specs.Places.{IsDistinct}
 use Rattle.ot_judge.specs.Making.{first_again}
 use Rattle.ot_judge.proofs.TagLemmas.{no_tag, same_tag-true, contains-more, occurrences-more, occurrences-absent}
 use Rattle.ot_judge.proofs.Faults.{occurrences-present}
@@ -73,30 +71,6 @@ again-none before (a ∷ tags) few h q = elim (cases_Bool (contains before a)) [
       let rest = sym (ap (λ (b : Bool). cond b (Some a) (first_again (before ++ a ∷ []) tags)) not_met) ∙ h in
       subst (λ (xs : List Tag). occurrences q xs ≤ 1) (append_assoc before (a ∷ []) tags) (again-none (before ++ a ∷ []) tags (λ r. few-push before a r few not_met) rest q)
 ]
-
--- where a tag of a list stands
-contains-at : (xs : List Tag) (a : Tag) → contains xs a ≡ true → (k : ℕ) × (k < length xs) × (get_or xs k no_tag ≡ a)
-contains-at [] a h = absurd (both_ways false refl h)
-contains-at (x ∷ xs) a h = elim (cases_Bool (same_tag a x)) [
-  | inl met ↦ (0, omega arith, sym (same_tag-true a x met))
-  | inr not_met ↦
-      let rest = contains-at xs a (sym (ap (λ (b : Bool). b || contains xs a) not_met) ∙ h) in
-      (suc rest.0, omega (arith, rest.1), rest.2)
-]
-
-pub distinct-again : (before tags : List Tag) → IsDistinct (before ++ tags) → first_again before tags ≡ None
-distinct-again before [] d = refl
-distinct-again before (a ∷ tags) d = elim (cases_Bool (contains before a)) [
-  | inl met ↦
-      let at = contains-at before a met in
-      let first = get_or_append_left before (a ∷ tags) no_tag at.0 at.1 ∙ at.2 in
-      let second = get_or-append_seam before a tags no_tag in
-      absurd (d at.0 (length before) no_tag at.1 (omega (arith, length-front before a tags)) (first ∙ sym second))
-  | inr not_met ↦ ap (λ (b : Bool). cond b (Some a) (first_again (before ++ a ∷ []) tags)) not_met ∙ distinct-again (before ++ a ∷ []) tags (subst (λ (xs : List Tag). IsDistinct xs) (sym (append_assoc before (a ∷ []) tags)) d)
-] where
-  length-front : (before : List Tag) (a : Tag) (tags : List Tag) → length before < length (before ++ a ∷ tags)
-  length-front [] a tags = omega arith
-  length-front (x ∷ xs) a tags = omega (arith, length-front xs a tags)
 
 -- ---- the search for a tag that is named again, part way
 

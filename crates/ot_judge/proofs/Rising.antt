@@ -56,13 +56,6 @@ pub record Rises (xs ys : List Tag) (i last : ℕ) : Type 0 where
   pub rising : (j k p r : ℕ) → j < k → k < i → p < length xs → r < length xs → at xs p ≡ at ys j → at xs r ≡ at ys k → p ≤ r
   pub met : 0 < last → (k : ℕ) × (k < i) × (last < length xs) × (at xs last ≡ at ys k)
 
-pub rises-none : (xs ys : List Tag) → Rises xs ys 0 0
-rises-none xs ys = record {
-  highest = λ k p lt. absurd (omega arith);
-  rising = λ j k p r jk lt. absurd (omega arith);
-  met = λ h. absurd (omega arith);
-}
-
 -- a tag of the list stands where the index says
 placed : {S : Type 0} (m : HashMap Tag ℕ S) (xs : List Tag) (y : Tag) (p : ℕ) → IsIndex m xs → p < length xs → at xs p ≡ y → get same_tag m y ≡ Some p
 placed m xs y p index lt h = sym (ap (λ (a : Tag). get same_tag m a) h) ∙ index.each p no_tag lt
@@ -132,9 +125,6 @@ nth-items {X} lists e v lt is = get_or-map (λ (w : Vec X Global). w.items) list
 
 pub agree-along : (xs ys us vs : List Tag) → us ≡ xs → vs ≡ ys → AgreeInOrder xs ys → AgreeInOrder us vs
 agree-along xs ys us vs u v h = rw (u, v) h
-
-pub reversed-along : (lists : List (List Tag)) (d e : ℕ) (xs ys : List Tag) (a b : Tag) → d < e → nth lists d ≡ xs → nth lists e ≡ ys → IsBefore xs a b × IsBefore ys b a → IsReversed lists d e a b
-reversed-along lists d e xs ys a b lt u v h = record { later = lt; forth = rw u h.0; back = rw v h.1 }
 
 pub agree-none : (lists : List (List Tag)) → ((d : ℕ) → d < length lists → (e : ℕ) → d < e → e < length lists → AgreeInOrder (nth lists d) (nth lists e)) → (d e : ℕ) (a b : Tag) → ¬ IsReversed lists d e a b
 agree-none lists agree d e a b r =

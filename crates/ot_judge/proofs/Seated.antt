@@ -1,8 +1,7 @@
 -- Seats along lists.
-use Rattle.std.proofs.Common.{◌≡◌, ◌≢◌, ℕ, ◌+◌, ◌<◌, ◌≤◌, List, [], ◌∷◌, ◌++◌, length, get_or, set, ap, sym, ◌∙◌, arith, inl, inr, refl, subst}
+use Rattle.std.proofs.Common.{◌≡◌, ℕ, ◌+◌, ◌<◌, ◌≤◌, List, [], ◌∷◌, ◌++◌, length, get_or, ap, sym, ◌∙◌, arith, inl, inr, refl, subst}
 use Rattle.std.proofs.lemmas.Bool.{cases_lt}
-use Rattle.std.proofs.lemmas.Grind.{get_or-set_at}
-use Rattle.std.proofs.lemmas.List.{get_or_append_left, get_or_default, get_or_push, get_or-set_other, length-append, length-set}
+use Rattle.std.proofs.lemmas.List.{get_or_append_left, get_or_default, get_or_push, length-append}
 use Rattle.ot_judge.specs.declared.seats.Seat.{Seat}
 use Rattle.ot_model.specs.WeakList.{IsBefore}
 use Rattle.ot_judge.specs.Seats.{Agree, AgreesAt, Falls, FallsNowhere, IsIn, IsSeated, KeepsFalls, seat_of}
@@ -18,43 +17,8 @@ pub record SeatedTo (seats : List Seat) (xs : List ℕ) (turn i last : ℕ) : Ty
   pub rising : (j k d : ℕ) → j < k → k < i → k < length xs → place_of seats (get_or xs j d) < place_of seats (get_or xs k d)
   pub held : (k d : ℕ) → k < i → k < length xs → ((seat_of seats (get_or xs k d)).first ≤ turn) × (turn < (seat_of seats (get_or xs k d)).past)
 
-pub seated-none : (seats : List Seat) (xs : List ℕ) (turn : ℕ) → SeatedTo seats xs turn 0 0
-seated-none seats xs turn = record { below = λ k d lt. absurd (omega arith); rising = λ j k d jk lt. absurd (omega arith); held = λ k d lt. absurd (omega arith) }
-
 here-is : {X : Type 0} (f : ℕ → X) (xs : List ℕ) (i k c d : ℕ) → i < length xs → k ≡ i → f (get_or xs k d) ≡ f (get_or xs i c)
 here-is f xs i k c d within same = ap (λ (n : ℕ). f (get_or xs n d)) same ∙ ap f (get_or_default xs i d c within)
-
-pub seated-more : (seats : List Seat) (xs : List ℕ) (turn i last past c : ℕ) (seat : Seat) → i < length xs → seat ≡ seat_of seats (get_or xs i c) → last < seat.place → past ≤ turn + 1 → IsIn seat turn past → SeatedTo seats xs turn i last → SeatedTo seats xs turn (i + 1) seat.place
-seated-more seats xs turn i last past c seat within is up next stands r =
-    let at = ap (λ (s : Seat). s.place) is in
-    let first_at = ap (λ (s : Seat). s.first) is in
-    let past_at = ap (λ (s : Seat). s.past) is in
-    record {
-      below = λ k d lt inside. elim (cases_lt k i) [
-        | inl before ↦ omega (arith, r.below k d before inside)
-        | inr after ↦ let same = here-is (place_of seats) xs i k c d within (omega (arith, after, lt)) in omega (arith, same, at)
-      ];
-      rising = λ j k d jk lt inside. elim (cases_lt k i) [
-        | inl before ↦ r.rising j k d jk before inside
-        | inr after ↦ let same = here-is (place_of seats) xs i k c d within (omega (arith, after, lt)) in omega (arith, same, at, up, r.below j d (omega (arith, jk, lt)) (omega (arith, jk, inside)))
-      ];
-      held = λ k d lt inside. elim (cases_lt k i) [
-        | inl before ↦ r.held k d before inside
-        | inr after ↦
-            let k_is : k ≡ i = omega (arith, after, lt) in
-            let first_same = here-is (λ (n : ℕ). (seat_of seats n).first) xs i k c d within k_is in
-            let past_same = here-is (λ (n : ℕ). (seat_of seats n).past) xs i k c d within k_is in
-            (omega (arith, first_same, first_at, stands.0, next), omega (arith, past_same, past_at, stands.1))
-      ];
-    }
-
-pub seated-all : (seats : List Seat) (xs : List ℕ) (turn last : ℕ) → SeatedTo seats xs turn (length xs) last → IsSeated seats xs turn
-seated-all seats xs turn last r = record { climbs = λ i j d lt within. r.rising i j d lt within within; held = λ k d lt. r.held k d lt lt }
-
-pub seated-empty : (seats : List Seat) (xs : List ℕ) (turn : ℕ) → xs ≡ [] → IsSeated seats xs turn
-seated-empty seats xs turn empty =
-    let none : length xs ≡ 0 = ap (λ (ys : List ℕ). length ys) empty in
-    record { climbs = λ i j d lt within. absurd (omega (arith, none, within)); held = λ k d lt. absurd (omega (arith, none, lt)) }
 
 -- ---- what is seen of two elements of a list
 
@@ -108,9 +72,6 @@ pub record NoneFalls (seats : List Seat) (xs : List ℕ) (from to i highest : �
   pub below : (k d : ℕ) → k < i → k < length xs → IsIn (seat_of seats (get_or xs k d)) from to → place_of seats (get_or xs k d) ≤ highest
   pub rising : (j k d : ℕ) → j < k → k < i → k < length xs → IsIn (seat_of seats (get_or xs j d)) from to → IsIn (seat_of seats (get_or xs k d)) from to → place_of seats (get_or xs j d) ≤ place_of seats (get_or xs k d)
 
-pub none-falls : (seats : List Seat) (xs : List ℕ) (from to : ℕ) → NoneFalls seats xs from to 0 0
-none-falls seats xs from to = record { below = λ k d lt. absurd (omega arith); rising = λ j k d jk lt. absurd (omega arith) }
-
 pub none-more : (seats : List Seat) (xs : List ℕ) (from to i highest c : ℕ) (seat : Seat) → i < length xs → seat ≡ seat_of seats (get_or xs i c) → highest ≤ seat.place → NoneFalls seats xs from to i highest → NoneFalls seats xs from to (i + 1) seat.place
 none-more seats xs from to i highest c seat within is up r =
     let at = ap (λ (s : Seat). s.place) is in
@@ -156,50 +117,12 @@ pub record LeastBehind (seats : List Seat) (xs behind : List ℕ) (from to i lea
   pub lowest : (j : ℕ) → i ≤ j → j < length xs → IsIn (seat_of seats (get_or xs j 0)) from to → least ≤ place_of seats (get_or xs j 0)
   pub done : (k j : ℕ) → i ≤ k → k < j → j < length xs → IsIn (seat_of seats (get_or xs j 0)) from to → get_or behind k 0 ≤ place_of seats (get_or xs j 0)
 
-pub least-none : (seats : List Seat) (xs behind : List ℕ) (from to i least : ℕ) → length behind ≡ length xs → i ≡ length xs → LeastBehind seats xs behind from to i least
-least-none seats xs behind from to i least long end = record {
-  long = long;
-  within = omega (arith, end);
-  lowest = λ j low lt stands. absurd (omega (arith, low, lt, end));
-  done = λ k j low less lt stands. absurd (omega (arith, low, less, lt, end));
-}
-
-pub least-more : (seats : List Seat) (xs behind : List ℕ) (from to i least next c : ℕ) (seat : Seat) → i < length xs → seat ≡ seat_of seats (get_or xs i c) → next ≤ least → (IsIn seat from to → next ≤ seat.place) → LeastBehind seats xs behind from to (i + 1) least → LeastBehind seats xs (set behind i least) from to i next
-least-more seats xs behind from to i least next c seat within is less here r =
-    let at : (j : ℕ) → j ≡ i → seat_of seats (get_or xs j 0) ≡ seat = λ j same. here-is (seat_of seats) xs i j c 0 within same ∙ sym is in
-    record {
-      long = length-set behind i least ∙ r.long;
-      within = omega (arith, within);
-      lowest = λ j low lt stands. elim (cases_lt i j) [
-        | inl later ↦ omega (arith, less, r.lowest j (omega (arith, later)) lt stands)
-        | inr now ↦
-            let seat_is = at j (omega (arith, low, now)) in
-            omega (arith, here (subst (λ (s : Seat). IsIn s from to) seat_is stands), ap (λ (s : Seat). s.place) seat_is)
-      ];
-      done = λ k j low later lt stands. elim (cases_lt i k) [
-        | inl past ↦
-            let other : k ≢ i = λ same. omega (arith, past, same) in
-            omega (arith, get_or-set_other behind i k least 0 other, r.done k j (omega (arith, past)) later lt stands)
-        | inr now ↦
-            let same : k ≡ i = omega (arith, low, now) in
-            let set_at : get_or (set behind i least) k 0 ≡ least = get_or-set_at behind i k least 0 same (omega (arith, within, r.long)) in
-            omega (arith, set_at, r.lowest j (omega (arith, later, same)) lt stands)
-      ];
-    }
-
 -- ---- what is kept of a list
 
 pub record KeptFalls (seats : List Seat) (xs behind kept : List ℕ) (from to i highest : ℕ) : Type 0 where
   pub high : (j : ℕ) → j < i → j < length xs → IsIn (seat_of seats (get_or xs j 0)) from to → place_of seats (get_or xs j 0) ≤ highest
   pub some : (j : ℕ) → j < i → j < length xs → IsIn (seat_of seats (get_or xs j 0)) from to → get_or behind j 0 < place_of seats (get_or xs j 0) → (k : ℕ) × (k < length kept) × (get_or kept k 0 ≡ get_or xs j 0)
   pub pairs : (j k : ℕ) → j < k → k < i → k < length xs → Falls seats from to (get_or xs j 0) (get_or xs k 0) → IsBefore kept (get_or xs j 0) (get_or xs k 0)
-
-pub kept-none : (seats : List Seat) (xs behind : List ℕ) (from to : ℕ) → KeptFalls seats xs behind [] from to 0 0
-kept-none seats xs behind from to = record {
-  high = λ j lt. absurd (omega (arith, lt));
-  some = λ j lt. absurd (omega (arith, lt));
-  pairs = λ j k less lt. absurd (omega (arith, lt));
-}
 
 before-grown : (xs : List ℕ) (x a b : ℕ) → IsBefore xs a b → IsBefore (xs ++ x ∷ []) a b
 before-grown xs x a b h = record {

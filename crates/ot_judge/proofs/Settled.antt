@@ -1,7 +1,7 @@
 -- Lists of several replicas, and their elements by number.
-use Rattle.std.proofs.Common.{◌≡◌, ◌≢◌, ℕ, ◌+◌, ◌<◌, List, [], ◌∷◌, ◌++◌, length, map, ap, sym, ◌∙◌, arith, ◌⊎◌, inl, inr, refl, subst}
+use Rattle.std.proofs.Common.{◌≡◌, ◌≢◌, ℕ, ◌<◌, List, [], length, map, ap, sym, ◌∙◌, arith, ◌⊎◌, inl, inr, refl, subst}
 use Rattle.std.proofs.lemmas.Bool.{cases_eq, cases_lt, cases_order}
-use Rattle.std.proofs.lemmas.List.{get_or_append_left, get_or_past, get_or_push, get_or-map, length-append, length-map}
+use Rattle.std.proofs.lemmas.List.{get_or_past, get_or-map, length-map}
 use Rattle.ot_isa.specs.declared.elements.Tag.{Tag}
 use Rattle.ot_judge.specs.declared.seats.Seat.{Seat}
 use Rattle.ot_model.specs.WeakList.{IsBefore, IsReversed, nth}
@@ -10,27 +10,6 @@ use Rattle.ot_judge.specs.Seats.{Agree, AgreesAt, IsSeated}
 use Rattle.ot_judge.proofs.Seated.{agree-seated}
 
 -- ---- a replica's own lists
-
-pub own-none : (actors : List ℕ) (replica : ℕ) → IsOwn actors 0 replica []
-own-none actors replica = λ e lt. absurd (omega (arith, lt))
-
-pub own-more : (actors own new : List ℕ) (replica e : ℕ) → new ≡ own ++ e ∷ [] → IsOwn actors e replica own → IsOwn actors (e + 1) replica new
-own-more actors own new replica e is before = λ d lt here.
-    let long = ap (λ (ks : List ℕ). length ks) is ∙ length-append own (e ∷ []) in
-    elim (cases_lt d e) [
-      | inl less ↦
-          let w = before d less here in
-          (w.0, omega (arith, w.1, long), ap (λ (ks : List ℕ). entry_of ks w.0) is ∙ get_or_append_left own (e ∷ []) 0 w.0 w.1 ∙ w.2)
-      | inr more ↦
-          let same : e ≡ d = omega (arith, lt, more) in
-          (length own, omega (arith, long), ap (λ (ks : List ℕ). entry_of ks (length own)) is ∙ get_or_push own e 0 (length own) refl ∙ same)
-    ]
-
-pub own-past : (actors own : List ℕ) (replica e : ℕ) → entry_of actors e ≢ replica → IsOwn actors e replica own → IsOwn actors (e + 1) replica own
-own-past actors own replica e other before = λ d lt here. elim (cases_lt d e) [
-  | inl less ↦ before d less here
-  | inr more ↦ let same : d ≡ e = omega (arith, lt, more) in absurd (other (sym (ap (entry_of actors) same) ∙ here))
-]
 
 -- a replica whose lists are seated, and beside which the others were held
 pub settled : (seats : List Seat) (actors sizes own : List ℕ) (lists : List (List ℕ)) (replica : ℕ) → IsOwn actors (length lists) replica own → ((k : ℕ) → k < length own → IsSeated seats (nth lists (entry_of own k)) k)

@@ -1,8 +1,8 @@
 -- Examples that the checker evaluates: the list and the patch of the crate's picture.
-use Rattle.std.proofs.Common.{◌≡◌, ℕ, List, [], ◌∷◌, map, refl}
+use Rattle.std.proofs.Common.{◌≡◌, ℕ, List, [], ◌∷◌, refl}
 use Rattle.ot_list.specs.declared.span.Span.{Span}
 use Rattle.ot_list.specs.Leaves.{concatenated, with_run, replaced}
-use Rattle.ot_list.specs.Spans.{reach, merged, taken, reversed}
+use Rattle.ot_list.specs.Spans.{reach, merged, taken}
 
 abbrev old : List (List ℕ)
 old = (1 ∷ 2 ∷ []) ∷ (3 ∷ []) ∷ (4 ∷ 5 ∷ []) ∷ (6 ∷ []) ∷ []
@@ -28,12 +28,6 @@ list_made = refl
 
 pub leaves_gone : taken spans old ≡ (3 ∷ []) ∷ (6 ∷ []) ∷ []
 leaves_gone = refl
-
-pub back : merged (map reversed spans) made ((3 ∷ []) ∷ (6 ∷ []) ∷ []) ≡ old
-back = refl
-
-pub new_gone : taken (map reversed spans) made ≡ new
-new_gone = refl
 
 pub run_replaced : with_run {A = ℕ} (1 ∷ 2 ∷ 3 ∷ 4 ∷ []) 1 2 (7 ∷ 8 ∷ 9 ∷ []) ≡ 1 ∷ 7 ∷ 8 ∷ 9 ∷ 4 ∷ []
 run_replaced = refl

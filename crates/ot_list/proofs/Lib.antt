@@ -7,4 +7,4 @@ pub mod Merging
 pub mod Moved
 pub mod Replacing
 pub mod Through
-pub mod Reversed
+pub mod Room

@@ -1,6 +1,6 @@
 -- Runs of a list that make way for runs of another: while they are exchanged, and once they are.
 use Rattle.std.proofs.Common.{◌≡◌, ℕ, ◌+◌, ◌<◌, ◌≤◌, List, [], ◌∷◌, ◌++◌, length, take, drop, get_or, reverse, refl, sym, ap, ◌∙◌, arith, append_assoc, add-one, length-append, drop-cons}
-use Rattle.std.proofs.lemmas.List.{append-nil, take-append-drop, nil_from_length, length-drop, drop-drop, take_at, drop_at, take_all, drop_all, length-take-le, reverse-append, drop_more}
+use Rattle.std.proofs.lemmas.List.{length-drop, drop-drop, take_at, drop_at, length-take-le, reverse-append, drop_more}
 use Rattle.std.proofs.Math.Seq.{take-add}
 use Rattle.ot_list.specs.declared.span.Span.{Span}
 use Rattle.ot_list.specs.Spans.{reach, all_gone, merged, taken, Fit}
@@ -36,9 +36,6 @@ pub record IsMerging {A : Type 0} (spans : List Span) (old new : List A) (i : �
   pub made_is : merged spans old new ≡ made ++ merged (drop i spans) left right
   pub gone_is : taken spans old ≡ gone ++ taken (drop i spans) left
   pub fit : Fit (drop i spans) left right
-
-pub merging_none : {A : Type 0} (spans : List Span) (old new : List A) → Fit spans old new → IsMerging spans old new 0 old new [] []
-merging_none spans old new f = record { made_is = refl; gone_is = refl; fit = f }
 
 rest_of : (spans : List Span) (i : ℕ) (s : Span) → i < length spans → s ≡ get_or spans i s → drop i spans ≡ s ∷ drop (i + 1) spans
 rest_of spans i s h e = rw (add-one, drop-cons spans i s) (rw (← e) refl)
@@ -76,21 +73,11 @@ module _ {A : Type 0} (spans : List Span) (old new : List A) (i : ℕ) (left rig
     fit = rw drop-drop (fit_rest s (drop (i + 1) spans) left right fit_here);
   }
 
-pub merging_all : {A : Type 0} (spans : List Span) (old new : List A) (i : ℕ) (left right made gone : List A) → IsMerging spans old new i left right made gone → length spans ≤ i → (merged spans old new ≡ made ++ left) × (taken spans old ≡ gone) × (right ≡ [])
-merging_all spans old new i left right made gone m h =
-    let none : drop i spans ≡ [] = drop_all i spans h in
-    let f : Fit [] left right = rw none at m.fit in
-    let a = f.all in
-    (rw none at m.made_is, (rw none at m.gone_is) ∙ append-nil gone, nil_from_length right (sym a))
-
 -- the same where runs are exchanged in their places
 pub record IsExchanging {A : Type 0} (spans : List Span) (old new : List A) (i at from : ℕ) (list others : List A) : Type 0 where
   pub merging : IsMerging spans old new i (drop at list) (drop from others) (take at list) (take from others)
   pub at_within : at ≤ length list
   pub from_within : from ≤ length others
-
-pub exchanging_none : {A : Type 0} (spans : List Span) (old new : List A) → Fit spans old new → IsExchanging spans old new 0 0 0 old new
-exchanging_none spans old new f = record { merging = merging_none spans old new f; at_within = omega arith; from_within = omega arith }
 
 pub exchanging_next : {A : Type 0} (spans : List Span) (old new : List A) (i at from : ℕ) (list others : List A) (s : Span) → i < length spans → s ≡ get_or spans i s → IsExchanging spans old new i at from list others → s.gone ≡ s.put → (at + s.kept + s.gone ≤ length list) × (from + s.gone ≤ length others)
 exchanging_next spans old new i at from list others s h e x even =
@@ -124,13 +111,6 @@ exchanging_more {A} spans old new i at from list others list' others' s h e x ev
       at_within = omega arith;
       from_within = omega arith;
     }
-
-pub exchanging_all : {A : Type 0} (spans : List Span) (old new : List A) (i at from : ℕ) (list others : List A) → IsExchanging spans old new i at from list others → length spans ≤ i → (list ≡ merged spans old new) × (others ≡ taken spans old)
-exchanging_all spans old new i at from list others x h =
-    let a = merging_all spans old new i (drop at list) (drop from others) (take at list) (take from others) x.merging h in
-    let none : length (drop from others) ≡ 0 = ap length a.2 in
-    let whole : take from others ≡ others = take_all from others (omega (arith, none, length-drop from others)) in
-    (sym (rw take-append-drop at a.0), sym (rw whole at a.1))
 
 -- how many there are then
 pub length-merged-all : {A : Type 0} (ss : List Span) (old new : List A) → Fit ss old new → length (merged ss old new) + all_gone ss ≡ length old + length new

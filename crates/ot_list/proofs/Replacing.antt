@@ -9,9 +9,6 @@ use Rattle.ot_list.proofs.Leaved.{concatenated-append, leaf_small}
 use Rattle.ot_list.proofs.Drafted.{item_at, sum_at}
 use Rattle.ot_list.proofs.Keeping.{pair_at}
 
-pub found_none : {A : Type 0} (cs : List (List A)) (from count : ℕ) → length (concatenated (take (from - from) (drop from cs))) + count ≡ count
-found_none cs from count = let z : from - from ≡ 0 = omega arith in rw z (omega arith)
-
 -- more leaves
 pub walked_more :
     {A : Type 0} (cs : List (List A)) (from place width : ℕ) → from ≤ place

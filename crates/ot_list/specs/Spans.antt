@@ -32,10 +32,6 @@ abbrev pub taken : {A : Type 0} → List Span → List A → List A
 taken [] old = []
 taken (s ∷ ss) old = take s.gone (drop s.kept old) ++ taken ss (drop (s.kept + s.gone) old)
 
--- the inverse span
-abbrev pub reversed : Span → Span
-reversed s = record { kept = s.kept; gone = s.put; put = s.gone }
-
 -- as many go as come
 abbrev pub IsEven : Span → Type 0
 IsEven s = s.gone ≡ s.put

@@ -1,4 +1,4 @@
-//! A list in leaves, drafts that write one over another, and patches that lead from the one to the other and back. It knows nothing of what the items mean.
+//! A list in leaves, drafts that write one over another, and patches that lead from the one to the other. It knows nothing of what the items mean.
 //!
 //! ```text
 //!   List     sums    [     5     |    4    |      6      ]    what each leaf comes to, side by side
@@ -9,13 +9,12 @@
 //!   Patch    spans   [ 1 kept, 1 gone, 1 put ]
 //!            leaves  [ x f g y z ]                            the new leaves of all spans, with their sums
 //!
-//!   swap     List    [ a b c d e | x f g y z | j k l m n o ]
-//!            Patch   [ 1 kept, 1 gone, 1 put ]  [ f g h i ]   swapped once more it brings the list back
+//!   apply    List    [ a b c d e | x f g y z | j k l m n o ]
 //! ```
 //!
 //! A contract sees a `List` as the list of its leaves; `concatenated` is the list that these make together. It sees a `Patch` as a `Change`: its spans, its
 //! new leaves, and how much room it has. A span says how many leaves of the old list are kept from where the span before ends, how many go then, and how many
-//! new ones come in their place: so spans need no other numbers when they are undone. Of a `Draft` it says what is `written` over the old leaves, and
+//! new ones come in their place. Of a `Draft` it says what is `written` over the old leaves, and
 //! up to which `place_of` it they are done with.
 //!
 //! - `Draft::new`, then `keep`, `extend`, and `finish`, which makes the patch; or `list`, where there is no old list. The old list is only
@@ -23,8 +22,8 @@
 //! - `List::find` walks over leaves by their sums; `List::copy` copies a list. `List::replace_in_leaf` changes one leaf where it lies, if the rule on leaves still
 //!   holds then; `List::leaf_with` copies the leaf so changed, and `List::exchange_leaf` exchanges it. A leaf that grows gets the room of a whole leaf at once.
 //! - `List::prepare` makes room in the patch; that may fail, and changes no value.
-//! - `List::swap` exchanges leaves: it takes no memory, cannot fail, and moves only the headers of leaves. Where as many go as come at each place, it touches
-//!   these alone; else it moves all headers once.
+//! - `List::apply` puts the patch's leaves in: it takes no memory, cannot fail, and moves only the headers of leaves. Where as many go as come at each place, it
+//!   touches these alone; else it moves all headers once.
 //! - `leaves_are_few` bounds the number of leaves by that of items.
 #![tactic(auto)]
 

@@ -73,7 +73,6 @@ fn move_last<T>(from: &mut Vec<T>, count: usize, to: &mut Vec<T>)
     ensures to { to.new.items ≡ to.old.items ++ take count (reverse from.old.items) }
     ensures from { reverse from.new.items ≡ drop count (reverse from.old.items) }
     ensures to_capacity { vec_capacity to.new ≡ vec_capacity to.old }
-    ensures from_capacity { vec_capacity from.new ≡ vec_capacity from.old }
 {
     for _moved in 0..count {
         to.push_reserved(from.take_last());
@@ -91,8 +90,6 @@ fn merge<T>(spans: &[Span], list: &mut Vec<T>, others: &mut Vec<T>, room: &mut R
     ensures gone { room.new.gone.items ≡ taken spans.now list.old.items }
     ensures list_left { list.new.items ≡ [] }
     ensures others_left { others.new.items ≡ [] }
-    ensures list_capacity { vec_capacity list.new ≡ vec_capacity list.old }
-    ensures others_capacity { vec_capacity others.new ≡ vec_capacity others.old }
 {
     list.reverse();
     others.reverse();
@@ -105,8 +102,7 @@ fn merge<T>(spans: &[Span], list: &mut Vec<T>, others: &mut Vec<T>, room: &mut R
     move_last(list, left, &mut room.list);
 }
 
-// Puts the runs of another list in the place of some of this one, and what goes in the place of the other. What was room for the one is room for the
-// way back.
+// Puts the runs of another list in the place of some of this one, and what goes in the place of the other.
 fn rebuild<T>(spans: &[Span], list: &mut Vec<T>, others: &mut Vec<T>, room: &mut Room<T>)
     requires fit { Fit spans.now list.old.items others.old.items }
     requires list_empty { room.old.list.items ≡ [] }
@@ -117,8 +113,6 @@ fn rebuild<T>(spans: &[Span], list: &mut Vec<T>, others: &mut Vec<T>, room: &mut
     ensures others { others.new.items ≡ taken spans.now list.old.items }
     ensures list_empty { room.new.list.items ≡ [] }
     ensures gone_empty { room.new.gone.items ≡ [] }
-    ensures list_room { length list.old.items ≤ vec_capacity room.new.list }
-    ensures gone_room { length others.old.items ≤ vec_capacity room.new.gone }
 {
     merge(spans, list, others, room);
     std::mem::swap(list, &mut room.list);
@@ -142,7 +136,6 @@ pub fn carry_out<T>(spans: &[Span], list: &mut Vec<T>, others: &mut Vec<T>, room
     ensures others { others.new.items ≡ taken spans.now list.old.items }
     ensures list_empty { room.new.list.items ≡ [] }
     ensures gone_empty { room.new.gone.items ≡ [] }
-    ensures ready { All IsEven spans.now ⊎ ((length list.old.items ≤ vec_capacity room.new.list) × (length others.old.items ≤ vec_capacity room.new.gone)) }
 {
     if are_even(spans) {
         exchange(spans, list.as_mut_slice(), others.as_mut_slice());

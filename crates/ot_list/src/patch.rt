@@ -1,8 +1,8 @@
-//! Patches: the changes from one list to another, and back.
+//! Patches: the changes from one list to another.
 
 ghost use Rattle.std.specs.Prelude.{◌≡◌, ◌<◌, ◌^◌, ◌+◌, ◌≤◌, ℕ, List as ListOf, map, length, [], All, OnOk, OnErr, ◌++◌, ◌∷◌};
 ghost use Rattle.ot_list.specs.Leaves.{AreLeaves};
-ghost use Rattle.ot_list.specs.Spans.{all_gone, taken, reversed, IsEven};
+ghost use Rattle.ot_list.specs.Spans.{all_gone, IsEven};
 ghost use Rattle.ot_list.specs.Change.{patched, IsOf, IsReady};
 
 use crate::moves::{Room, are_even, carry_out};
@@ -41,19 +41,6 @@ fn count_gone(spans: &[Span]) -> usize
         gone += span.gone;
     }
     gone
-}
-
-// The inverse spans.
-fn turn(spans: &mut [Span])
-    ensures { spans.new ≡ map reversed spans.old }
-{
-    for span in spans.iter_mut() {
-        *span = Span {
-            kept: span.kept,
-            gone: span.put,
-            put: span.gone,
-        };
-    }
 }
 
 impl<E: Item> Patch<E> {
@@ -118,7 +105,7 @@ impl<E: Item> Patch<E> {
 }
 
 impl<E: Item> List<E> {
-    /// Makes room in the patch for the headers of leaves that `swap` will move. No value changes. Costs nothing where as many leaves go as come, at
+    /// Makes room in the patch for the headers of leaves that `apply` will move. No value changes. Costs nothing where as many leaves go as come, at
     /// each place.
     pub fn prepare(&self, patch: &mut Patch<E>) -> Result<(), AllocError>
         requires { IsOf self.now patch.old }
@@ -137,17 +124,14 @@ impl<E: Item> List<E> {
         Ok(())
     }
 
-    /// Exchanges the patch's leaves for some of the list's. The patch is then the one that restores the list. It takes no memory and
-    /// cannot fail.
-    pub fn swap(&mut self, patch: &mut Patch<E>)
-        requires of { IsOf self.old patch.old }
-        requires sound { AreLeaves E.CAP (patched self.old patch.old) }
-        requires ready { IsReady self.old patch.old }
-        ensures list { self.new ≡ patched self.old patch.old }
-        ensures spans { patch.new.spans ≡ map reversed patch.old.spans }
-        ensures leaves { patch.new.leaves ≡ taken patch.old.spans self.old }
-        ensures ready { IsReady self.new patch.new }
+    /// Puts the patch's leaves in the place of those that go. It takes no memory and cannot fail.
+    pub fn apply(&mut self, patch: Patch<E>)
+        requires of { IsOf self.old patch }
+        requires sound { AreLeaves E.CAP (patched self.old patch) }
+        requires ready { IsReady self.old patch }
+        ensures { self.new ≡ patched self.old patch }
     {
+        let mut patch = patch;
         carry_out(
             patch.spans.as_slice(),
             &mut self.leaves,
@@ -160,6 +144,5 @@ impl<E: Item> List<E> {
             &mut patch.sums,
             &mut patch.sum_room,
         );
-        turn(patch.spans.as_mut_slice());
     }
 }

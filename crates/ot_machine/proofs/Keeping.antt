@@ -1,5 +1,5 @@
 -- A performed row gives a record of its step.
-use Rattle.std.proofs.Common.{◌≡◌, ℕ, suc, ◌+◌, List, length, drop, map, set, refl, sym, ap, ◌∙◌, subst, arith, Option, Some, None, false}
+use Rattle.std.proofs.Common.{◌≡◌, ℕ, ◌+◌, List, length, drop, map, set, refl, sym, ap, ◌∙◌, subst, Option, Some, None, false}
 use Rattle.std.proofs.lemmas.Option.{slice_get-map}
 use Rattle.std.specs.Prelude.{slice_get, IsSomeAnd}
 use Rattle.std.specs.Option.{is_some, option_map}
@@ -17,7 +17,7 @@ use Rattle.ot_machine.specs.declared.seat.Seat.{Seat}
 use Rattle.ot_machine.specs.declared.kept.Before.{Before}
 use Rattle.ot_machine.specs.declared.undo.Record.TheVariants as kept
 use Rattle.ot_machine.specs.Seats.{view_of, client_of, phase_of, state_from, queued, emptied, outstanding_at, received_from, IsKept}
-use Rattle.ot_machine.specs.Undoing.{message_at, message_in, Restores, IsRecord, IsRead, Undoes}
+use Rattle.ot_machine.specs.Undoing.{message_at, message_in, Restores, IsRecord, Undoes}
 use Rattle.ot_machine.proofs.Joining.{absent_of}
 use Rattle.ot_machine.proofs.RowLaws.{client_at, joined_of, state_changed}
 use Rattle.ot_machine.proofs.Taking.{IsSender, sender_done, take_is, the_message}
@@ -68,14 +68,6 @@ join_record server seats steps c seat new s is_kept here off value =
         at = ap (λ (t : State). slice_get t.clients c) (sym value) ∙ at ∙ ap Some absents;
         led = state_changed server seats steps c new ∙ ap (λ t. with_client t c (client_of new)) value;
       };
-    }
-
-pub read_record : (server : History Tagged) (seats : List Seat) (steps : ℕ) (s : State) → IsKept server seats steps → state_from server seats steps ≡ s → IsRecord s (state_from server seats (steps + 1)) kept.Read
-read_record server seats steps s is_kept value =
-    let more : steps + 1 ≡ suc steps = omega arith in
-    record {
-      sound = subst IsSound value is_kept.sound;
-      step = subst (λ t. IsRead t (state_from server seats (steps + 1))) value (rw more refl);
     }
 
 pub sender_message : (seats : List Seat) (c : ℕ) (seat : Seat) → slice_get seats c ≡ Some seat → message_at (map view_of seats) c ≡ (client_of seat).message

@@ -11,10 +11,6 @@ use Rattle.ot_machine.specs.declared.seat.Seat.{Seat}
 use Rattle.ot_machine.specs.Seats.{View, view_of, client_of, idle, incoming, state_from, AreQueues, IsKept}
 use Rattle.ot_machine.proofs.Taking.{clients_of}
 
-replicate_push : {X : Type 0} (n : ℕ) (x : X) → replicate n x ++ x ∷ [] ≡ replicate (suc n) x
-replicate_push zero x = refl
-replicate_push (suc n) x = ap (λ xs. x ∷ xs) (replicate_push n x)
-
 map-replicate : {X Y : Type 0} (f : X → Y) (n : ℕ) (x : X) → map f (replicate n x) ≡ replicate n (f x)
 map-replicate f zero x = refl
 map-replicate f (suc n) x = ap (λ ys. f x ∷ ys) (map-replicate f n x)

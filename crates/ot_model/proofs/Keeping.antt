@@ -1,5 +1,5 @@
 -- What applying an operation keeps of a list.
-use Rattle.std.proofs.Common.{◌≡◌, ℕ, zero, suc, ◌+◌, ◌≤◌, List, [], ◌∷◌, ◌++◌, drop, refl, ap, subst, arith, inl, inr, Option, Some, None, cond}
+use Rattle.std.proofs.Common.{◌≡◌, ℕ, zero, suc, ◌+◌, ◌≤◌, List, [], ◌∷◌, drop, refl, ap, subst, arith, inl, inr, Option, Some, None, cond}
 use Rattle.std.proofs.lemmas.List.Sums.{sum_by-cons}
 use Rattle.std.specs.List.{filter_map, cons_option}
 use Rattle.std.specs.Prelude.{◌⊎◌, slice_get}
@@ -88,11 +88,6 @@ times_items low base (Old i ∷ items) d t rises = go (slice_get d i) refl (time
 pub apply_times : (z : Operation Tagged) (d : List Tagged) (t : Tag) → Fits z d → times t (apply z d) ≤ times t d + times t (news z)
 unfolding apply
 apply_times z d t fits = times_items 0 z.base z.image d t fits.rising
-
-news_of-append : (xs ys : List (Item Tagged)) → news_of (xs ++ ys) ≡ news_of xs ++ news_of ys
-news_of-append [] ys = refl
-news_of-append (Old i ∷ xs) ys = news_of-append xs ys
-news_of-append (New x ∷ xs) ys = ap (λ (l : List Tagged). x ∷ l) (news_of-append xs ys)
 
 news_at : (items : List (Item Tagged)) (j : ℕ) (x : Tagged) → slice_get items j ≡ Some (New x) → Has x.tag (news_of items)
 news_at [] j x e = absurd (cc)

@@ -3,7 +3,6 @@ pub mod Clients
 pub mod States
 pub mod Steps
 pub mod Lengths
-pub mod Downlinks
 pub mod Runs
 pub mod Locality
 pub mod Sessions

@@ -63,12 +63,6 @@ past_taken_landed c o (h ∷ log) e other (inl here) =
 past_taken_landed c o (h ∷ log) e other (inr there) =
     past_other c o h (log ++ e ∷ []) there.0 ∙ ap (λ es. second_after o h.op ∷ es) (past_taken_landed c (first_after o h.op) log e other there.1) ∙ ap (λ es. es ++ e.op ∷ []) (sym (past_other c o h log there.0))
 
-pub lifted_push : (z : Operation Tagged) (es : List (Operation Tagged)) (e : Operation Tagged) → (y : Operation Tagged) × (lifted z (es ++ e ∷ []) ≡ lifted z es ++ second_after y e ∷ [])
-lifted_push z [] e = (z, refl)
-lifted_push z (x ∷ es) e =
-    let rest = lifted_push (first_after z x) es e in
-    (rest.0, ap (λ ys. second_after z x ∷ ys) rest.1)
-
 -- the operations of a phase apply in turn
 abbrev pub PhaseFits : List Tagged → Phase → Type 0
 PhaseFits d NotJoined = Unit {0}

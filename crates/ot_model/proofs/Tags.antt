@@ -22,11 +22,6 @@ Has_times t (x ∷ xs) (inl here) =
     omega (arith, one, sum_by-cons (λ y. cond (has_tag t y) 1 0) x xs)
 Has_times t (x ∷ xs) (inr there) = omega (arith, Has_times t xs there, sum_by-cons (λ y. cond (has_tag t y) 1 0) x xs)
 
-pub Has_append : (t : Tag) (xs ys : List Tagged) → Has t (xs ++ ys) → Has t xs ⊎ Has t ys
-Has_append t [] ys h = inr h
-Has_append t (x ∷ xs) ys (inl here) = inl (inl here)
-Has_append t (x ∷ xs) ys (inr there) = elim (Has_append t xs ys there) [ inl a ↦ inl (inr a) | inr b ↦ inr b ]
-
 pub Has_start : (t : Tag) (k : ℕ) (text : List ℕ) → Has t (tagged_chars 65535 k text) → t.origin ≡ 65535
 Has_start t k [] h = absurd h
 Has_start t k (ch ∷ text) (inl here) = sym (ap (λ (u : Tag). u.origin) here)

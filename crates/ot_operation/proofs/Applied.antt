@@ -1,10 +1,10 @@
 -- What the runs of an operation give of a document.
-use Rattle.std.proofs.Common.{◌≡◌, ℕ, zero, suc, ◌+◌, ◌≤◌, List, [], ◌∷◌, ◌++◌, map, length, Option, Some, None, take, drop, refl, ap, arith}
+use Rattle.std.proofs.Common.{◌≡◌, ℕ, zero, suc, ◌+◌, List, [], ◌∷◌, ◌++◌, map, take, drop, refl, ap, arith}
 use Rattle.std.specs.Prelude.{slice_get}
 use Rattle.std.specs.List.{filter_map, cons_option}
 use Rattle.std.proofs.lemmas.List.Elements.{filter_map-append}
 use Rattle.std.proofs.lemmas.List.{drop-drop}
-use Rattle.ot_operation.specs.Operation.{Item, Old, New, olds, Operation, value_in, apply}
+use Rattle.ot_operation.specs.Operation.{Item, New, olds, value_in}
 use Rattle.ot_operation.specs.Run.{Run, Keep, Add, Skip, image_from}
 
 -- what an image gives of a document
@@ -29,14 +29,6 @@ one_more (x ∷ d) (suc i) n = one_more d i n
 pub values-olds : {A : Type 0} (i n : ℕ) (d : List A) → values (olds i n) d ≡ take n (drop i d)
 values-olds i zero d = refl
 values-olds i (suc n) d = rw (values-olds (suc i) n d) (one_more d i n)
-
-pub length-values-le : {A : Type 0} (image : List (Item A)) (d : List A) → length (values image d) ≤ length image
-length-values-le [] d = omega arith
-length-values-le (New x ∷ image) d = let h = length-values-le image d in omega arith
-length-values-le {A} (Old i ∷ image) d = at_most_one (slice_get d i) (values image d) (length image) (length-values-le image d) where
-  at_most_one : (o : Option A) (xs : List A) (n : ℕ) → length xs ≤ n → length (cons_option o xs) ≤ suc n
-  at_most_one None xs n h = omega arith
-  at_most_one (Some x) xs n h = omega arith
 
 -- runs from a later place of the base give of a document what they give of the rest of it
 pub values-shift : {A : Type 0} (from m : ℕ) (rs : List (Run A)) (d : List A) → values (image_from (from + m) rs) d ≡ values (image_from from rs) (drop m d)
@@ -67,7 +59,3 @@ values-shift from m (Add s ∷ rs) d =
 values-shift from m (Skip n ∷ rs) d =
     let sum : from + m + n ≡ from + n + m = omega arith in
     rw (sum, values-shift (from + n) m rs d) refl
-
-pub length-apply-le : {A : Type 0} (op : Operation A) (d : List A) → length (apply op d) ≤ length op.image
-unfolding apply
-length-apply-le op d = length-values-le op.image d

@@ -1,5 +1,5 @@
 -- The invariant of the loop of compose: what is built, and the composition of what is left, make the composition.
-use Rattle.std.proofs.Common.{◌≡◌, ℕ, suc, zero, ◌+◌, ◌-◌, ◌≤◌, List, [], ◌∷◌, ◌++◌, length, take, drop, map, max, refl, sym, ap, Option, Some, None, ◌∙◌, arith, length-append, length-take, length-drop, append_assoc, append-nil}
+use Rattle.std.proofs.Common.{◌≡◌, ℕ, suc, zero, ◌+◌, ◌-◌, ◌≤◌, List, [], ◌∷◌, ◌++◌, length, take, drop, map, refl, sym, ap, Option, Some, None, ◌∙◌, arith, length-append, length-take, length-drop, append_assoc}
 use Rattle.std.proofs.lemmas.List.{map-append, length-map}
 use Rattle.std.proofs.lemmas.List.Elements.{filter_map-append}
 use Rattle.std.proofs.Math.ListN.{take-append-drop}
@@ -9,7 +9,6 @@ use Rattle.ot_operation.specs.Operation.{Item, Operation, Old, New, olds, apply,
 use Rattle.ot_operation.specs.Compose.{compose, item_in}
 use Rattle.ot_operation.specs.Run.{Run, base_of, image_from, operation_of, IsNormal, Keep, Add, Skip}
 use Rattle.ot_operation.specs.Steps.{appended, target_of, skipped, skipped_made, last_keep, Covers}
-use Rattle.ot_operation.proofs.RunLengths.{length-image_from}
 use Rattle.ot_operation.proofs.Lists.{StandsAt, StandsAt-tail}
 use Rattle.ot_operation.proofs.RunLemmas.{length-olds}
 use Rattle.ot_operation.proofs.SkippedLaws.{skipped_retain-whole, skipped_retain-part, skipped_delete-whole, skipped_delete-part}
@@ -226,20 +225,6 @@ compose_start xs ys first_normal second_normal covers =
 
 -- operations that fit together
 
-pub covers_begin :
-    {A : Type 0} (a b : Operation A) (xs ys : List (Run A)) → operation_of xs ≡ a → operation_of ys ≡ b → length a.image ≡ b.base
-    → Covers (target_of xs) ys
-covers_begin {A} a b xs ys a_is b_is meets =
-    let same : length (image_from 0 xs) ≡ base_of ys =
-    ap (λ (op : Operation A). length op.image) a_is ∙ meets ∙ sym (ap (λ (op : Operation A). op.base) b_is) in
-    covers_exactly (target_of xs) ys (sym (length-image_from 0 xs) ∙ same)
-
-pub base_begin : {A : Type 0} (a : Operation A) (xs : List (Run A)) → operation_of xs ≡ a → max a.base (length a.image) ≤ 1000000 → base_of xs ≤ 1000000
-base_begin {A} a xs a_is fits = omega (arith, ap (λ (op : Operation A). op.base) a_is, fits)
-
-pub target_begin : {A : Type 0} (a : Operation A) (xs : List (Run A)) → operation_of xs ≡ a → max a.base (length a.image) ≤ 1000000 → length (image_from 0 xs) ≤ 1000000
-target_begin {A} a xs a_is fits = omega (arith, ap (λ (op : Operation A). length op.image) a_is, fits)
-
 -- the first deletes
 pub compose_delete :
     {A : Type 0} (a b built : Operation A) (count : ℕ) (xs ys : List (Run A))
@@ -376,21 +361,6 @@ picked_none image j (suc count) past = rw (none image j past) (picked_none image
     none [] j past = refl
     none (x ∷ xs) zero past = absurd (omega (arith, past))
     none (x ∷ xs) (suc j) past = none xs j (omega (arith, past))
-
--- the second keeps more than the first makes
-compose_over : {A : Type 0} (a b built : Operation A) (n : ℕ) → ComposeProgress a b built [] (Keep n ∷ []) → built ≡ compose a b
-compose_over {A} a b built n w =
-    let base : built.base ≡ (compose a b).base = omega (arith, w.base) in
-    let nothing : filter_map (item_in {A = A} []) (olds 0 n ++ []) ≡ [] = rw append-nil (picked_none {A = A} [] 0 n (omega arith)) in
-    let image : built.image ≡ (compose a b).image =
-    sym (append-nil built.image) ∙ ap (λ rest. built.image ++ rest) (sym nothing) ∙ w.image in
-    λ i. record { base = base i; image = image i }
-
-compose_done : {A : Type 0} (a b built : Operation A) → ComposeProgress a b built [] [] → built ≡ compose a b
-compose_done a b built w =
-    let base : built.base ≡ (compose a b).base = omega (arith, w.base) in
-    let image : built.image ≡ (compose a b).image = sym (append-nil built.image) ∙ w.image in
-    λ i. record { base = base i; image = image i }
 
 -- what is built is never longer than what comes out
 pub compose_fits :

@@ -100,7 +100,3 @@ split_back {T} whole at n d made mid long is all =
     ∙ restored_from-append whole at (take n (drop at d)) (drop n (drop at d))
     ∙ rw (long, drop-drop) refl in
     append_assoc made mid _ ∙ rw (← is, ← two) all
-
-length-restored_from : {A : Type 0} (image : List (Item A)) (from : ℕ) (xs : List A) → length (restored_from image from xs) ≡ length xs
-length-restored_from image from [] = refl
-length-restored_from image from (x ∷ xs) = ap suc (length-restored_from image (suc from) xs)

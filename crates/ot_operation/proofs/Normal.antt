@@ -1,8 +1,7 @@
 -- Runs in normal form are determined by the operation that they spell, and each operation has them.
-use Rattle.std.proofs.Common.{◌≡◌, ℕ, zero, suc, ◌+◌, ◌-◌, ◌≤◌, List, [], ◌∷◌, ◌++◌, map, length, refl, sym, ap, ◌∙◌, arith}
-use Rattle.std.proofs.lemmas.List.{append-nil}
+use Rattle.std.proofs.Common.{◌≡◌, ℕ, zero, suc, ◌+◌, ◌-◌, ◌≤◌, List, [], ◌∷◌, ◌++◌, map, refl, sym, ap, ◌∙◌, arith}
 use Rattle.ot_operation.proofs.RunLemmas.{same_operation}
-use Rattle.ot_operation.specs.Operation.{Item, Old, New, olds, Operation, identity, RisesFrom, IsOperation}
+use Rattle.ot_operation.specs.Operation.{Item, Old, New, olds, Operation, RisesFrom, IsOperation}
 use Rattle.ot_operation.specs.Run.{Run, Keep, Add, Skip, base_of, image_from, operation_of, MayLead, IsNormal, with_keep, with_new, with_skip, normal_runs_from, normal_runs}
 
 abbrev with_keeps : {A : Type 0} → ℕ → List (Run A) → List (Run A)
@@ -94,30 +93,6 @@ normal_unique {A} rs ss n m e =
     let i : image_from 0 rs ≡ image_from 0 ss = ap (λ (op : Operation A). op.image) e in
     sym (normal_runs_from_back 0 (base_of rs) rs n (omega arith))
     ∙ rw i (normal_runs_from_back 0 (base_of rs) ss m (omega arith))
-
--- the normal runs of an operation that keeps every item
-abbrev pub keep_all : (A : Type 0) → ℕ → List (Run A)
-keep_all A zero = []
-keep_all A (suc n) = Keep (suc n) ∷ []
-
-keep_all_normal : (A : Type 0) (n : ℕ) → IsNormal (keep_all A n)
-keep_all_normal A zero = tt
-keep_all_normal A (suc n) = (omega arith, tt, tt)
-
-keep_all_spells : (A : Type 0) (n : ℕ) → operation_of (keep_all A n) ≡ identity n
-keep_all_spells A zero = refl
-keep_all_spells A (suc n) = let z : suc n + 0 ≡ suc n = omega arith in rw (append-nil, z) refl
-
--- what the normal runs of a no-operation are, and that these are of no other operation
-pub noop_runs : {A : Type 0} (rs : List (Run A)) (op : Operation A) → IsNormal rs → operation_of rs ≡ op → op ≡ identity op.base → rs ≡ keep_all A op.base
-noop_runs {A} rs op n e i = normal_unique rs (keep_all A op.base) n (keep_all_normal A op.base) (e ∙ i ∙ sym (keep_all_spells A op.base))
-
-pub runs_noop : {A : Type 0} (rs : List (Run A)) (op : Operation A) → operation_of rs ≡ op → rs ≡ keep_all A op.base → op ≡ identity op.base
-runs_noop {A} rs op e k = sym e ∙ rw k (keep_all_spells A op.base)
-
-keep_all_short : (A : Type 0) (n : ℕ) → length (keep_all A n) ≤ 1
-keep_all_short A zero = omega arith
-keep_all_short A (suc n) = omega arith
 
 record Spelt {A : Type 0} (from : ℕ) (items : List (Item A)) (end : ℕ) (rs : List (Run A)) : Type 0 where
   normal : IsNormal rs

@@ -1,7 +1,6 @@
 -- Being an operation: one proof at most, and every list of runs makes one.
 use Rattle.std.proofs.Common.{◌≡◌, ℕ, suc, zero, ◌+◌, ◌≤◌, List, [], ◌∷◌, ◌++◌, map, refl, arith}
-use Rattle.std.proofs.Math.Bridge.{le_prop}
-use Rattle.ot_operation.specs.Operation.{Item, Old, New, Operation, olds, RisesFrom, IsOperation}
+use Rattle.ot_operation.specs.Operation.{Item, New, Operation, olds, RisesFrom, IsOperation}
 use Rattle.ot_operation.specs.Run.{Run, Keep, Add, Skip, base_of, image_from, operation_of}
 use Rattle.ot_operation.proofs.ApplyLaws.{RisesFrom-weaker}
 
@@ -27,12 +26,6 @@ image_rises i base (Skip count ∷ runs) fits =
 
 pub operation_of-IsOperation : {A : Type 0} (runs : List (Run A)) → IsOperation (operation_of runs)
 operation_of-IsOperation runs = image_rises 0 (base_of runs) runs (omega arith)
-
--- so that it may stand in an invariant
-pub RisesFrom-prop : {A : Type 0} (low base : ℕ) (image : List (Item A)) → IsProp (RisesFrom low base image)
-RisesFrom-prop low base [] = hlevel
-RisesFrom-prop low base (New x ∷ image) = RisesFrom-prop low base image
-RisesFrom-prop low base (Old i ∷ image) = hlevel (le_prop, RisesFrom-prop (suc i) base image)
 
 -- what runs spell is an operation
 pub is_operation : {A : Type 0} (runs : List (Run A)) (op : Operation A) → operation_of runs ≡ op → IsOperation op

@@ -2,7 +2,7 @@
 use Rattle.std.proofs.Common.{◌≡◌, ℕ, zero, suc, ◌+◌, ◌-◌, ◌<◌, ◌≤◌, List, [], ◌∷◌, ◌++◌, map, length, max, refl, sym, ap, arith, append_assoc, length-append, add-zero, zero-add}
 use Rattle.std.proofs.lemmas.List.{append-nil, map-append, length-map}
 use Rattle.ot_operation.specs.Operation.{Item, Old, New, olds, Operation, news, IsTooLong, with_retain, with_insert, with_delete}
-use Rattle.ot_operation.specs.Run.{Run, Keep, Add, Skip, base_of, image_from, operation_of, IsFilled, MayFollow, MayLead, IsNormal, EndsInSkip, Extends, IsSound}
+use Rattle.ot_operation.specs.Run.{Run, Keep, Add, Skip, base_of, image_from, operation_of, IsFilled, MayFollow, MayLead, IsNormal, Extends, IsSound}
 
 pub length-olds : (A : Type 0) (from count : ℕ) → length (olds {A = A} from count) ≡ count
 length-olds A from zero = refl
@@ -153,11 +153,6 @@ pub front_may_end : {A : Type 0} (front : List (Run A)) (r : Run A) (back : List
 front_may_end [] r back n = tt
 front_may_end (q ∷ []) r back n = n.1
 front_may_end (q ∷ p ∷ front) r back n = front_may_end (p ∷ front) r back n.2
-
-pub drop_later : {A : Type 0} (q r : Run A) (rs : List (Run A)) → EndsInSkip (r ∷ rs) → EndsInSkip (q ∷ r ∷ rs)
-drop_later (Keep _) r rs e = e
-drop_later (Add _) r rs e = e
-drop_later (Skip _) r rs e = e
 
 pub length-news-append : {A : Type 0} (xs ys : List (Item A)) → length (news (xs ++ ys)) ≡ length (news xs) + length (news ys)
 length-news-append [] ys = omega arith

@@ -1,5 +1,5 @@
 -- How long the image of runs is.
-use Rattle.std.proofs.Common.{◌≡◌, ℕ, ◌+◌, List, [], ◌∷◌, ◌++◌, length, refl, arith, length-append}
+use Rattle.std.proofs.Common.{◌≡◌, ℕ, ◌+◌, List, [], ◌∷◌, length, refl, arith, length-append}
 use Rattle.std.proofs.lemmas.List.{length-map}
 use Rattle.ot_operation.specs.Run.{Run, image_from, Keep, Add, Skip}
 use Rattle.ot_operation.proofs.RunLemmas.{length-olds}
@@ -11,9 +11,3 @@ length-image_from {A} i (Keep count ∷ runs) =
     simp length-append (omega (arith, length-olds A i count, length-image_from (i + count) runs))
 length-image_from i (Add text ∷ runs) = simp (length-append, length-map) (omega (arith, length-image_from i runs))
 length-image_from i (Skip count ∷ runs) = length-image_from (i + count) runs
-
-pub target_of-append : {A : Type 0} (rs ss : List (Run A)) → target_of (rs ++ ss) ≡ target_of rs + target_of ss
-target_of-append [] ss = omega arith
-target_of-append (Keep n ∷ rs) ss = omega (arith, target_of-append rs ss)
-target_of-append (Add text ∷ rs) ss = omega (arith, target_of-append rs ss)
-target_of-append (Skip n ∷ rs) ss = target_of-append rs ss

@@ -1,7 +1,7 @@
 -- Runs without the first elements of their first run.
-use Rattle.std.proofs.Common.{◌≡◌, ℕ, suc, zero, ◌+◌, ◌-◌, ◌≤◌, List, [], ◌∷◌, ◌++◌, length, replicate, refl, ap, arith}
+use Rattle.std.proofs.Common.{◌≡◌, ℕ, suc, zero, ◌+◌, ◌-◌, List, ◌∷◌, ◌++◌, replicate, refl, ap, arith}
 use borrow.Author.Tests.{eq-eqb, ne_eqb}
-use Rattle.ot_operation.specs.Run.{Run, base_of, IsNormal, Keep, Add, Skip}
+use Rattle.ot_operation.specs.Run.{Run, base_of, IsNormal, Keep, Skip}
 use Rattle.ot_operation.specs.Steps.{target_of, skipped}
 use Rattle.ot_operation.proofs.Slots.Slot.{Gone}
 use Rattle.ot_operation.proofs.RunSlots.{stays, slots_of_runs, no_front, after_delete}
@@ -77,28 +77,3 @@ skipped_delete count all (suc m) runs normal e =
       target = refl;
       form = delete_form (suc m) runs (omega arith, normal.1, normal.2);
     })
-
--- how much is left to do
-abbrev pub runs_size : {A : Type 0} → List (Run A) → ℕ
-runs_size [] = 0
-runs_size (Keep count ∷ runs) = count + runs_size runs
-runs_size (Add text ∷ runs) = length text + runs_size runs
-runs_size (Skip count ∷ runs) = count + runs_size runs
-
-pub runs_size-skipped_retain :
-    {A : Type 0} (count all : ℕ) (runs : List (Run A)) → count ≤ all
-    → runs_size (skipped count (Keep all ∷ runs)) + count ≡ all + runs_size runs
-runs_size-skipped_retain count all runs within = by (all - count) (omega arith)
-  where
-    by : (m : ℕ) → all ≡ count + m → runs_size (skipped count (Keep all ∷ runs)) + count ≡ all + runs_size runs
-    by zero e = rw (skipped_retain-whole count all runs e) (omega (arith, e))
-    by (suc m) e = rw (skipped_retain-part count all m runs e) (omega (arith, e))
-
-pub runs_size-skipped_delete :
-    {A : Type 0} (count all : ℕ) (runs : List (Run A)) → count ≤ all
-    → runs_size (skipped count (Skip all ∷ runs)) + count ≡ all + runs_size runs
-runs_size-skipped_delete count all runs within = by (all - count) (omega arith)
-  where
-    by : (m : ℕ) → all ≡ count + m → runs_size (skipped count (Skip all ∷ runs)) + count ≡ all + runs_size runs
-    by zero e = rw (skipped_delete-whole count all runs e) (omega (arith, e))
-    by (suc m) e = rw (skipped_delete-part count all m runs e) (omega (arith, e))

@@ -30,10 +30,6 @@ end_of-length {A} place i (Stays gap ∷ slots) =
     simp (length-append, length-map)
     (omega (arith, after-length (suc place) gap, end_of-length (after (suc place) gap) (suc i) slots))
 
-past_within : {A : Type 0} (place : ℕ) (s : Slot A) → place ≤ past s place
-past_within place (Stays gap) = omega arith
-past_within place Gone = omega arith
-
 pub end_of_within : {A : Type 0} (place : ℕ) (slots : List (Slot A)) → place ≤ end_of place slots
 end_of_within place slots = omega (arith, end_of-length place 0 slots)
 

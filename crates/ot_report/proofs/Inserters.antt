@@ -1,10 +1,9 @@
 -- The lists of inserting instructions, and how many characters each client has inserted in a run.
 use Rattle.std.proofs.Common.{◌≡◌, ℕ, zero, suc, ◌+◌, ◌-◌, ◌<◌, ◌≤◌, List, [], ◌∷◌, ◌++◌, length, take, set, get_or, refl, sym, ap, ◌∙◌, subst, arith, inl, inr, Option, Some, None, Bool, false}
 use Rattle.std.proofs.lemmas.Bool.{cases_eq, cases_lt, eq-eqb, eqb-true, false_from_ne_true}
-use Rattle.std.proofs.lemmas.List.{append_assoc, append-nil, length-append, length-replicate, get_or_append_left, get_or-set_same, get_or-set_other, get_or_past}
+use Rattle.std.proofs.lemmas.List.{append_assoc, append-nil, length-append, length-replicate, get_or-set_same, get_or-set_other, get_or_past}
 use Rattle.std.proofs.lemmas.Option.{same_Some, slice_get_within, slice_get-get_or}
 use Rattle.std.specs.Prelude.{◌⊎◌, replicate, slice_get, if◌then◌else◌, ◌==◌}
-use Rattle.std.proofs.Math.Seq.{get_or-append_seam}
 use Rattle.ot_isa.specs.Program.{Program, IsInstr, IsProgram, IsForClients}
 use Rattle.ot_isa.specs.declared.instruction.Instr.{Instr}
 use Rattle.ot_isa.specs.declared.instruction.Instr.TheVariants.{Edit, Take, Deliver, Acknowledge, Read, Join, ReadServer}
@@ -134,15 +133,6 @@ pub all_inserters : (s : Program) (lists : List (List ℕ)) → IsProgram s → 
 all_inserters s lists limits long below c = elim (cases_lt c s.clients) [
   | inl inside ↦ below c inside
   | inr past ↦ get_or_past lists c [] (omega (arith, long, past)) ∙ sym (none_inserted s.clients c 0 s.instrs past (λ n i at. (instr_at s n i limits at).0))
-]
-
-pub one_client_more : (instrs : List Instr) (lists : List (List ℕ)) (numbers : List ℕ) → numbers ≡ inserters (length lists) 0 instrs → ((c : ℕ) → c < length lists → get_or lists c [] ≡ inserters c 0 instrs)
-    → (c : ℕ) → c < length lists + 1 → get_or (lists ++ numbers ∷ []) c [] ≡ inserters c 0 instrs
-one_client_more instrs lists numbers is all c below = elim (cases_lt c (length lists)) [
-  | inl inside ↦ get_or_append_left lists (numbers ∷ []) [] c inside ∙ all c inside
-  | inr last ↦
-      let here : c ≡ length lists = omega (arith, below, last) in
-      rw here (get_or-append_seam lists numbers [] [] ∙ is)
 ]
 
 -- the lists, by one instruction more

@@ -1,16 +1,13 @@
 -- The lines of clients, one by one.
-use Rattle.std.proofs.Common.{◌≡◌, ℕ, Bool, zero, suc, ◌+◌, ◌<◌, List, [], ◌∷◌, ◌++◌, take, length, get_or, refl, sym, ap, ◌∙◌, arith, Option, Some, None}
+use Rattle.std.proofs.Common.{◌≡◌, ℕ, zero, suc, ◌+◌, List, [], ◌∷◌, ◌++◌, take, refl, sym, ap, ◌∙◌, arith, Option, Some, None}
 use Rattle.std.specs.Prelude.{slice_get}
 use Rattle.std.specs.Option.{option_map}
 use Rattle.std.proofs.lemmas.List.{append_assoc, append-nil}
-use Rattle.ot_isa.specs.declared.elements.Tag.{Tag}
 use Rattle.ot_isa.specs.declared.elements.Tagged.{Tagged}
 use Rattle.ot_model.specs.Table.{Client}
 use Rattle.ot_machine.specs.declared.state.Phase.{Phase}
 use Rattle.ot_machine.specs.Readers.{phase_name}
-use Rattle.ot_model.specs.declared.shown.Shown.{Shown}
-use Rattle.ot_report.specs.declared.authors.Author.{Author}
-use Rattle.ot_report.specs.Printed.{client_line, client_lines, client_text, read_lines, read_text}
+use Rattle.ot_report.specs.Printed.{client_line, client_lines}
 use Rattle.ot_report.specs.RunJson.{client_json, client_parts, clients_json}
 use Rattle.ot_values.specs.Values.{phase_word}
 
@@ -27,17 +24,6 @@ lines_more from zero n (x ∷ xs) text e at =
 lines_more from (suc i) n (x ∷ xs) text e at =
     ap (λ (t : List ℕ). client_line from x ++ t) (lines_more (suc from) i n xs text (omega (arith, e)) at)
     ∙ sym (append_assoc (client_line from x) (client_lines (suc from) (take i xs)) text)
-
--- a line from its parts
-pub line_from : (c : ℕ) (o : Option Client) (revision : ℕ) (phase : Phase) (list : List Tagged)
-    → option_map (λ x. x.revision) o ≡ Some revision → option_map (λ x. phase_name x.phase) o ≡ Some phase → option_map (λ x. x.list) o ≡ Some list
-    → option_map (client_line c) o ≡ Some (client_text c revision (phase_word phase) list)
-line_from c None revision phase list r p l = absurd cc
-line_from c (Some x) revision phase list r p l =
-    let r' : x.revision ≡ revision = cc in
-    let p' : phase_name x.phase ≡ phase = cc in
-    let l' : x.list ≡ list = cc in
-    rw (r', p', l') refl
 
 -- the same as JSON
 pub objects_more : (from i n : ℕ) (xs : List Client) (text : List ℕ) → n ≡ from + i → option_map (client_json n) (slice_get xs i) ≡ Some text
@@ -62,12 +48,3 @@ object_from c (Some x) revision phase list r p l =
     let p' : phase_name x.phase ≡ phase = cc in
     let l' : x.list ≡ list = cc in
     rw (r', p', l') refl
-
--- one more read
-pub reads_more : (json : Bool) (by : Tag → Option Author) (i : ℕ) (xs : List Shown) (shown : Shown) → i < length xs → shown ≡ get_or xs i shown
-    → read_lines json by (take (suc i) xs) ≡ read_lines json by (take i xs) ++ read_text json by shown
-reads_more json by i [] shown there is = absurd (omega (arith, there))
-reads_more json by zero (x ∷ xs) shown there is = append-nil (read_text json by x) ∙ ap (read_text json by) (sym is)
-reads_more json by (suc i) (x ∷ xs) shown there is =
-    ap (λ (t : List ℕ). read_text json by x ++ t) (reads_more json by i xs shown (omega (arith, there)) is)
-    ∙ sym (append_assoc (read_text json by x) (read_lines json by (take i xs)) (read_text json by shown))

@@ -32,18 +32,6 @@ pub record IsTransformed {A : Type 0} (op : Operation A) (log : List (Entry A)) 
   pub chain : IsChain (drop i log) end
   pub fits : transformed.base + inserted_in (drop i log) + length (news transformed.image) ≤ 1000000
 
-pub transformed_none :
-    {A : Type 0} (op : Operation A) (log : List (Entry A)) (end : ℕ) → op.base ≡ base_at log end → IsChain log end
-    → op.base + inserted_in log + length (news op.image) ≤ 1000000 → IsTransformed op log end 0 op
-transformed_none op log end base chain fits = record { value = refl; base = base; chain = chain; fits = fits }
-
-pub transformed_all :
-    {A : Type 0} (op : Operation A) (log : List (Entry A)) (end i : ℕ) (transformed : Operation A) → length log ≤ i
-    → IsTransformed op log end i transformed → (transformed ≡ transform_over op log) × (transformed.base ≡ end)
-transformed_all op log end i transformed past w =
-    let none : drop i log ≡ [] = past_end log i past in
-    (rw none at w.value, rw none at w.base)
-
 module _ {A : Type 0} (op : Operation A) (log : List (Entry A)) (end i : ℕ) (transformed : Operation A) (entry : Entry A)
     (within : i < length log) (here : entry ≡ get_or log i entry) (w : IsTransformed op log end i transformed) where
   rest : drop i log ≡ entry ∷ drop (suc i) log

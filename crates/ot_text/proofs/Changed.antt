@@ -1,9 +1,7 @@
 -- What runs make of a document, one after the other.
-use Rattle.std.proofs.Common.{◌≡◌, ℕ, ◌+◌, List, [], ◌∷◌, ◌++◌, length, map, take, drop, refl, subst, arith}
-use Rattle.ot_operation.specs.Operation.{New, olds, Operation, IsOperation, apply}
+use Rattle.std.proofs.Common.{◌≡◌, ℕ, ◌+◌, List, [], ◌∷◌, ◌++◌, map, take, drop, refl}
+use Rattle.ot_operation.specs.Operation.{New, olds, apply}
 use Rattle.ot_operation.specs.Run.{Run, Keep, Add, Skip, image_from, operation_of}
-use Rattle.ot_operation.proofs.ApplyLaws.{length-apply}
-use Rattle.ot_operation.proofs.OperationLaws.{operation_of-IsOperation}
 use Rattle.ot_operation.proofs.Applied.{values-append, values-olds, values-news, values-shift}
 
 pub apply-none : {A : Type 0} (d : List A) → apply (operation_of []) d ≡ []
@@ -22,6 +20,3 @@ module _ {A : Type 0} (runs : List (Run A)) (d : List A) where
   pub apply-skip : (n : ℕ) → apply (operation_of (Skip n ∷ runs)) d ≡ apply (operation_of runs) (drop n d)
   unfolding apply
   apply-skip n = values-shift 0 n runs d
-
-pub length-made : {A : Type 0} (runs : List (Run A)) (op : Operation A) (d : List A) → operation_of runs ≡ op → op.base ≡ length d → length (apply op d) ≡ length op.image
-length-made {A} runs op d spells fits = length-apply op d (subst (λ (o : Operation A). IsOperation o) spells (operation_of-IsOperation runs)) (omega arith)

@@ -1,6 +1,6 @@
 -- Reading a list in leaves: what stands at a place, and what is left there.
 use Rattle.std.proofs.Common.{◌≡◌, add-mul, ◌/◌, ℕ, zero, suc, ◌+◌, ◌-◌, ◌*◌, ◌<◌, ◌≤◌, List, [], ◌∷◌, ◌++◌, length, take, drop, get_or, refl, sym, ap, ◌∙◌, arith, append_assoc, length-append}
-use Rattle.std.specs.Prelude.{slice_get, ◌↔◌}
+use Rattle.std.specs.Prelude.{◌↔◌}
 use Rattle.std.proofs.lemmas.List.{drop-append-le, length-drop, drop-drop, take-take, length-take, append-nil, take-append-drop, nil_from_length}
 use Rattle.std.proofs.Math.Nat.{mul-suc}
 use Rattle.std.proofs.Math.Seq.{drop-nil, take-add}
@@ -124,18 +124,3 @@ comparing_all cs ac ao ds bc bo ahead w h =
     let a = w.a_ahead in
     let b = w.b_ahead in
     w.same.1 (nil_from_length (left_at cs ac ao) (omega arith) ∙ sym (nil_from_length (left_at ds bc bo) (omega arith)))
-
-first_of_take : {A : Type 0} (l : List A) (n : ℕ) → 0 < n → slice_get (take n l) 0 ≡ slice_get l 0
-first_of_take l zero h = absurd (omega arith)
-first_of_take [] (suc n) h = refl
-first_of_take (x ∷ l) (suc n) h = refl
-
-first_of_drop : {A : Type 0} (l : List A) (n : ℕ) → slice_get (drop n l) 0 ≡ slice_get l n
-first_of_drop [] zero = refl
-first_of_drop [] (suc n) = refl
-first_of_drop (x ∷ l) zero = refl
-first_of_drop (x ∷ l) (suc n) = first_of_drop l n
-
-pub item_there : {A : Type 0} (d left rest : List A) (place : ℕ) → left ≡ drop place d → take (length rest) left ≡ rest → 0 < length rest → slice_get rest 0 ≡ slice_get d place
-item_there {A} d left rest place e f h =
-    rw (← f) (first_of_take left (length rest) h ∙ (rw e (first_of_drop d place)))

@@ -1,6 +1,6 @@
 -- Lists of codes, gone through one by one: two that are compared, and one that is copied.
-use Rattle.std.proofs.Common.{◌≡◌, ◌↔◌, IsTrue, Bool, true, false, not, is_some, ◌+◌, ◌<◌, ◌≤◌, List, [], ◌∷◌, ◌++◌, length, max, Some, None, refl, sym, ap, subst, ◌∙◌, arith, append_assoc, append-nil, length-append}
-use Rattle.ot_operation.specs.Operation.{Operation, IsTooLong, empty}
+use Rattle.std.proofs.Common.{◌≡◌, ◌↔◌, IsTrue, Bool, true, false, not, is_some, ◌+◌, ◌≤◌, List, [], ◌∷◌, ◌++◌, length, max, Some, None, refl, sym, ap, subst, ◌∙◌, arith, append_assoc, append-nil, length-append}
+use Rattle.ot_operation.specs.Operation.{Operation, IsTooLong}
 use Rattle.ot_operation.specs.Run.{Run, Add, base_of, image_from, operation_of, IsNormal}
 use Rattle.ot_operation.proofs.Normal.{normal_unique}
 use Rattle.ot_operation.proofs.RunLemmas.{base_of-append, image_from-append, one_more_keep, one_more_add, one_more_drop}
@@ -50,26 +50,12 @@ pub record AreAsFar (cs ds xs ys : List Code) : Type 0 where
 pub begin_same : (cs ds : List Code) → AreAsFar cs ds cs ds
 begin_same cs ds = record { to = λ e. e; back = λ e. e }
 
-pub next_same :
-    (cs ds xs ys next_xs next_ys : List Code) (c d : Code) → first_of xs ≡ Some c → first_of ys ≡ Some d → c ≡ d → next_xs ≡ others_of xs → next_ys ≡ others_of ys
-    → AreAsFar cs ds xs ys → AreAsFar cs ds next_xs next_ys
-next_same cs ds xs ys next_xs next_ys c d c_is d_is same xs_is ys_is w =
-    let x : xs ≡ d ∷ next_xs = first_is xs c c_is ∙ ap (λ k. k ∷ others_of xs) same ∙ ap (λ ks. d ∷ ks) (sym xs_is) in
-    let y : ys ≡ d ∷ next_ys = first_is ys d d_is ∙ ap (λ ks. d ∷ ks) (sym ys_is) in
-    record {
-      to = λ e. ap others_of (sym x ∙ w.to e ∙ y);
-      back = λ e. w.back (x ∙ ap (λ ks. d ∷ ks) e ∙ sym y);
-    }
-
 -- a copy: `pen` is written, and `left` is to come
 
 pub record IsCopied (codes left : List Code) (pen : Operation (Unit {0})) : Type 0 where
   pub front : List (Run (Unit {0}))
   pub pen_is : pen ≡ operation_of front
   pub all : runs_of codes ≡ front ++ runs_of left
-
-pub begin_copy : (codes : List Code) → IsCopied codes codes empty
-begin_copy codes = record { front = []; pen_is = refl; all = refl }
 
 one_more : (front : List (Run (Unit {0}))) (code : Code) → operation_of (front ++ run_of code ∷ []) ≡ appended (operation_of front) (run_of code)
 one_more front (Retain n) = one_more_keep front n
@@ -97,14 +83,6 @@ module _ (codes left : List Code) (pen : Operation (Unit {0})) (code : Code) (fi
       let whole_image : length (image_from 0 (runs_of codes)) ≡ length op.image = ap (λ (o : Operation (Unit {0})). length o.image) is in
       let l = subst (λ (o : Operation (Unit {0})). IsTooLong o) done.pen_is long in
       omega (arith, l, base, image, whole_base, whole_image, fits)
-
-pub end_copy : (codes left : List Code) (pen : Operation (Unit {0})) → first_of left ≡ None → IsCopied codes left pen → pen ≡ spelled codes
-end_copy codes [] pen none w = w.pen_is ∙ ap operation_of (sym (append-nil w.front) ∙ sym w.all)
-end_copy codes (c ∷ left) pen none w = cc
-
-pub fewer_left : (left : List Code) (code : Code) → first_of left ≡ Some code → length (others_of left) < length left
-fewer_left [] code is = cc
-fewer_left (c ∷ left) code is = omega arith
 
 -- what is decided of the codes is decided of the shapes
 

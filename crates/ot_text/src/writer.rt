@@ -133,6 +133,6 @@ pub fn rewrite<T: Item>(list: &mut List<T>, components: Components<'_, T>) -> Re
     writer.write(list, components)?;
     writer.draft.finish(list, &mut patch)?;
     list.prepare(&mut patch)?;
-    list.swap(&mut patch);
+    list.apply(patch);
     Ok(())
 }

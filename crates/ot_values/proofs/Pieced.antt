@@ -1,5 +1,5 @@
 -- Letters that are looked at piece by piece.
-use Rattle.std.proofs.Common.{◌≡◌, ℕ, ◌<◌, List, [], ◌++◌, length, map, refl, sym, ap, ◌∙◌, arith, append_assoc, length-append}
+use Rattle.std.proofs.Common.{◌≡◌, ℕ, ◌<◌, List, [], ◌++◌, length, map, sym, ap, ◌∙◌, arith, append_assoc, length-append}
 use Rattle.std.specs.Str.{encode_utf8_all}
 use Rattle.std.proofs.lemmas.Grind.{flat_map-append}
 use Rattle.std.proofs.lemmas.List.{append-nil, map-append}
@@ -24,9 +24,6 @@ pub record IsPushedBefore {A : Type 0} (code : A → ℕ) (list ahead : List A) 
   pub split : list ≡ seen ++ ahead
   pub plain : escape (bytes_of code seen) ≡ bytes_of code seen
   pub text_is : text ≡ old ++ bytes_of code seen
-
-pub pushed_none : {A : Type 0} (code : A → ℕ) (list : List A) (old : List ℕ) → IsPushedBefore code list list old old
-pushed_none code list old = record { seen = []; split = refl; plain = refl; text_is = sym (append-nil old) }
 
 pub pushed_piece : {A : Type 0} (code : A → ℕ) (list ahead piece later : List A) (old text more : List ℕ) → IsPushedBefore code list ahead old text → ahead ≡ piece ++ later
     → escape (encode_utf8_all (map code piece)) ≡ encode_utf8_all (map code piece) → more ≡ text ++ encode_utf8_all (map code piece) → IsPushedBefore code list later old more
@@ -60,9 +57,6 @@ pub record IsTextBefore {A : Type 0} (code : A → ℕ) (list ahead : List A) (o
   pub split : list ≡ seen ++ ahead
   pub text_is : text ≡ old ++ bytes_of code seen
 
-pub text_none : {A : Type 0} (code : A → ℕ) (list : List A) (old : List ℕ) → IsTextBefore code list list old old
-text_none code list old = record { seen = []; split = refl; text_is = sym (append-nil old) }
-
 pub text_piece : {A : Type 0} (code : A → ℕ) (list ahead piece later : List A) (old text more : List ℕ) → IsTextBefore code list ahead old text → ahead ≡ piece ++ later
     → more ≡ text ++ encode_utf8_all (map code piece) → IsTextBefore code list later old more
 text_piece code list ahead piece later old text more before next pushed =
@@ -74,8 +68,3 @@ text_piece code list ahead piece later old text more before next pushed =
           ∙ append_assoc old (bytes_of code before.seen) (bytes_of code piece)
           ∙ ap (λ (t : List ℕ). old ++ t) (sym (bytes_append code before.seen piece));
     }
-
-pub text_all : {A : Type 0} (code : A → ℕ) (list ahead : List A) (old text : List ℕ) → IsTextBefore code list ahead old text → ahead ≡ [] → text ≡ old ++ encode_utf8_all (map code list)
-text_all code list ahead old text before none =
-    let all : list ≡ before.seen = before.split ∙ ap (λ t. before.seen ++ t) none ∙ append-nil before.seen in
-    before.text_is ∙ ap (λ xs. old ++ encode_utf8_all (map code xs)) (sym all)

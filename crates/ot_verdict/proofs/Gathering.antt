@@ -1,6 +1,6 @@
 -- What each client gives, gathered client by client.
-use Rattle.std.proofs.Common.{◌≡◌, ℕ, zero, suc, ◌+◌, ◌<◌, ◌≤◌, List, [], ◌∷◌, ◌++◌, length, take, sym, ap, ◌∙◌, arith, Some}
-use Rattle.std.proofs.lemmas.List.{append_assoc, append-nil, take_all}
+use Rattle.std.proofs.Common.{◌≡◌, ℕ, zero, suc, ◌+◌, ◌<◌, List, [], ◌∷◌, ◌++◌, length, take, sym, ap, ◌∙◌, arith, Some}
+use Rattle.std.proofs.lemmas.List.{append_assoc, append-nil}
 use Rattle.std.proofs.lemmas.Option.{get_or_from_slice_get, same_Some, slice_get-get_or}
 use Rattle.std.specs.Prelude.{slice_get}
 use Rattle.ot_model.specs.Table.{Client, State, absent}
@@ -37,9 +37,3 @@ gives_next {A} give s k so_far more inside is added =
     ∙ ap (λ (n : ℕ). each_gives give 0 (take k s.clients) ++ give n (client_in s k)) from_zero
     ∙ sym (gives_more give 0 k s.clients (client_in s k) (slice_get-get_or s.clients k absent inside))
     ∙ ap (λ (n : ℕ). each_gives give 0 (take n s.clients)) (sym next)
-
--- of all of them
-pub gives_all : {A : Type 0} (give : ℕ → Client → List A) (s : State) (n : ℕ) (found : List A) → n ≡ length s.clients → found ≡ each_gives give 0 (take n s.clients) → found ≡ each_gives give 0 s.clients
-gives_all give s n found all is =
-    let most : length s.clients ≤ n = omega arith in
-    is ∙ ap (each_gives give 0) (take_all n s.clients most)

@@ -69,11 +69,3 @@ first_all b typing count one_each all before =
         let inside = slice_get_within (typing_view typing) c actions at in
         let long = length-map typing row_view in
         omega arith
-
--- a user who may not type
-pub first_not : (b : BoardView) (typing : List (Vec Typing Global)) (c : ℕ) (row : Vec Typing Global) → c < length typing → row ≡ get_or typing c row → (MayType b c (row_view row) → ⊥) → MayShare b (typing_view typing) → ⊥
-first_not b typing c row below is not share = not (share.each c (row_view row) (row_at typing c row below is))
-
--- lists for more or fewer clients
-pub lists_not : (b : BoardView) (typing : List (Vec Typing Global)) → (length typing ≡ b.recorded.clients → ⊥) → MayShare b (typing_view typing) → ⊥
-lists_not b typing other share = other (sym (length-map typing row_view) ∙ share.one_each)

@@ -1,8 +1,7 @@
 -- What a turn makes of a session, step by step.
-use Rattle.std.proofs.Common.{◌≡◌, ℕ, zero, suc, ◌+◌, ◌<◌, ◌≤◌, List, [], ◌∷◌, ◌++◌, length, length-drop, map, take, drop, refl, sym, ap, ◌∙◌, subst, Option, Some, None, true, false, Bool, arith, append_assoc, inl, inr}
-use Rattle.std.specs.Prelude.{◌==◌, nat_lt, not, if◌then◌else◌, min}
+use Rattle.std.proofs.Common.{◌≡◌, ℕ, zero, suc, ◌+◌, ◌<◌, List, [], ◌∷◌, ◌++◌, length, map, take, drop, refl, sym, ap, ◌∙◌, subst, Option, Some, None, true, false, Bool, arith, append_assoc, inl, inr}
+use Rattle.std.specs.Prelude.{◌==◌, if◌then◌else◌, min}
 use Rattle.std.proofs.lemmas.Bool.{cases_lt, eqb-true}
-use Rattle.std.proofs.lemmas.Bool.Decides.{nat_tests}
 use Rattle.std.proofs.lemmas.List.{append-nil, length-append, length-map, length-take, map-append, take-append-le, take-map, take-take, take_all}
 use Rattle.ot_isa.specs.declared.elements.Tagged.{Tagged}
 use Rattle.ot_isa.specs.declared.instruction.Instr.{Instr}
@@ -10,22 +9,15 @@ use Rattle.ot_isa.specs.declared.instruction.Instr.TheVariants.{Edit, Deliver, A
 use Rattle.ot_model.specs.declared.shown.Shown.{Shown}
 use Rattle.ot_model.specs.declared.shown.Refusal.{Refusal}
 use Rattle.ot_model.specs.declared.shown.Refusal.TheVariants as table
-use Rattle.ot_model.specs.Operation.{Operation, inserted}
-use Rattle.ot_model.specs.Table.{Client, Phase, Entry, Head, Ack, Op, head_for, Synchronized, acknowledged, delivered, edited, tag_operation}
+use Rattle.ot_model.specs.Operation.{Operation}
+use Rattle.ot_model.specs.Table.{Client, Phase, Entry, Head, Ack, Op, head_for, Synchronized, acknowledged, delivered}
 use Rattle.ot_model.specs.Sound.{IsPhaseSound, NoneBy}
-use Rattle.ot_model.specs.Part.{Part, PartOutcome, PartPerformed, PartRefused, PartNoRow, PartPlace, part_row, part_edit, part_deliver, part_acknowledge, part_with, with_part}
+use Rattle.ot_model.specs.Part.{Part, PartOutcome, PartPerformed, PartRefused, PartNoRow, PartPlace, part_row, part_deliver, part_acknowledge, part_with, with_part}
 use Rattle.ot_model.specs.Session.{Session, IsAllowed, installed, or_else}
-use Rattle.ot_model.proofs.Fitting.{lengths_fit}
 use Rattle.ot_model.proofs.Sessions.{present_sound, goes_on}
 use Rattle.ot_plan.specs.Typing.{Action, edit_of}
 use Rattle.ot_board.specs.Sessions.{IsNext, IsNextHead}
 use Rattle.ot_workers.specs.Playing.{step_for, heard, part_after, typed_on, HasMade, HasHeard, IsCutShort}
-
--- no list of a session passes the limit
-pub list_bounded : (x : Session) → IsAllowed x → length x.now.client.list ≤ 1000000
-list_bounded x allowed =
-    let (s, m, rest, sound, over) = present_sound x allowed in
-    (lengths_fit s sound).lists x.now.number (installed x.now.client m) over.client
 
 -- a synchronized client has no acknowledgement before it
 maker_own : (h : Entry) (mine : Bool) → (if mine then Ack else Op h.op) ≡ Ack → mine ≡ true
@@ -105,36 +97,6 @@ not_empty p [] some e = absurd (omega (arith, some))
 not_empty p (Ack ∷ incoming) some e = absurd (cc)
 not_empty p (Op h ∷ incoming) some e = absurd (cc)
 
-pub deliver_some : (x : Session) → 0 < length x.now.incoming → part_row x.now (Deliver x.start.number) ≡ PartRefused table.LinkEmpty → ⊥
-deliver_some x some row =
-    not_empty x.now x.now.incoming some (own_refused (part_deliver x.now x.now.incoming) (x.start.number == x.now.number) table.LinkEmpty row)
-
-with_not_refused : (p : Part) (o : Option Client) (rest : List Head) (r : Refusal) → part_with p o rest ≡ PartRefused r → ⊥
-with_not_refused p None rest r e = absurd (cc)
-with_not_refused p (Some y) rest r e = absurd (cc)
-
-pub ack_not_refused : (x : Session) (r : Refusal) → IsNextHead x Ack → part_row x.now (Acknowledge x.start.number) ≡ PartRefused r → ⊥
-ack_not_refused x r next row =
-    let refused = own_refused (part_acknowledge x.now x.now.incoming) (x.start.number == x.now.number) r row in
-    with_not_refused x.now (acknowledged x.now.client x.now.client.phase) next.rest r (sym (ap (part_acknowledge x.now) next.incoming_is) ∙ refused)
-
--- an action's edit is over the list
-pub edit_base : (a : Action) (n : ℕ) → (edit_of a n).base ≡ n
-edit_base a n = omega arith
-
-edit_fits : (p : Part) (op : Operation ℕ) (base full : Bool) (y : PartOutcome) → base ≡ true
-    → (if not base then PartRefused table.BadBase else if full then PartRefused table.ClientFull else y) ≡ PartRefused table.BadBase → y ≡ PartRefused table.BadBase
-edit_fits p op false full y same e = absurd (cc)
-edit_fits p op true true y same e = absurd (cc)
-edit_fits p op true false y same e = e
-
-pub base_not_refused : (x : Session) (op : Operation ℕ) → op.base ≡ length x.now.client.list → part_row x.now (Edit x.start.number op) ≡ PartRefused table.BadBase → ⊥
-base_not_refused x op base row =
-    let same : (op.base == length x.now.client.list) ≡ true = grind (arith, nat_tests) in
-    let refused = own_refused (part_edit x.now op) (x.start.number == x.now.number) table.BadBase row in
-    let made = edit_fits x.now op (op.base == length x.now.client.list) (nat_lt 15000 (x.now.client.count + inserted op)) (PartPerformed (with_part x.now (edited x.now.client (tag_operation x.now.number x.now.client.count op)) x.now.incoming) None) same refused in
-    absurd (cc)
-
 -- steps that were made, one after another
 pub made_none : (x : Session) → HasMade x [] x
 made_none x = record { start = refl; steps_are = sym (append-nil x.steps); leads = ([], refl) }
@@ -167,9 +129,6 @@ pub record HasHeardFirst (x : Session) (count : ℕ) (y : Session) : Type 0 wher
   pub made : HasMade x (map (step_for x.start.number) (take count x.now.incoming)) y
   pub left : y.now.incoming ≡ drop count x.now.incoming
 
-pub heard_none : (x : Session) → HasHeardFirst x 0 x
-heard_none x = record { made = made_none x; left = refl }
-
 pub heard_more : (x y z : Session) (count next : ℕ) → next ≡ suc count → HasHeardFirst x count y → HasHeard y z → HasHeardFirst x next z
 heard_more x y z count next is before heard =
     let f = step_for x.start.number in
@@ -183,19 +142,6 @@ heard_more x y z count next is before heard =
       made = subst (λ (is : List Instr). HasMade x is z) steps (made_more x y z (map f (take count line)) (step_for y.start.number heard.head) None before.made heard.next);
       left = sym at.1 ∙ ap (λ k. drop k line) (sym is);
     }
-
-pub heard_room : (x y : Session) (count : ℕ) → length x.steps ≡ 0 → count < 60 → HasHeardFirst x count y → length y.steps < 64
-heard_room x y count none few before =
-    let all = ap length before.made.steps_are ∙ length-append x.steps (map (step_for x.start.number) (take count x.now.incoming)) in
-    let long = length-map (take count x.now.incoming) (step_for x.start.number) in
-    let short = length-take count x.now.incoming in
-    omega arith
-
-pub heard_left : (x y : Session) (count : ℕ) → count < length x.now.incoming → HasHeardFirst x count y → 0 < length y.now.incoming
-heard_left x y count some before =
-    let long = ap length before.left in
-    let rest = length-drop count x.now.incoming in
-    omega arith
 
 first_min : (n : ℕ) (xs : List Head) → take (min (length xs) n) xs ≡ take n xs
 first_min n xs = elim (cases_lt (length xs) n) [
@@ -223,17 +169,6 @@ heard_some x y count few before =
 -- the part after the steps that were made
 pub after_made : (x y : Session) (steps : List Instr) → HasMade x steps y → part_after steps x.now ≡ y.now
 after_made x y steps made = ap (λ (o : Option PartPlace). elim o [ Some q ↦ q.part | None ↦ x.now ]) made.leads.1
-
--- what is cut short stays so with more steps to come
-pub cut_more : (x y : Session) (steps more : List Instr) → IsCutShort x steps y → IsCutShort x (steps ++ more) y
-cut_more x y steps more cut =
-    let long = length-append steps more in
-    let short = cut.short in
-    record {
-      count = cut.count;
-      short = omega arith;
-      made = subst (λ (is : List Instr). HasMade x is y) (sym (take-append-le cut.count steps more (omega arith))) cut.made;
-    }
 
 -- all but the last step were made
 pub cut_last : (x y : Session) (steps : List Instr) (i : Instr) → HasMade x steps y → IsCutShort x (steps ++ i ∷ []) y

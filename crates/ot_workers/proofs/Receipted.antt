@@ -1,14 +1,10 @@
 -- What is recorded has its receipts.
-use Rattle.std.proofs.Common.{◌≡◌, ℕ, ◌+◌, List, [], ◌∷◌, ◌++◌, length, take, set, refl, sym, ap, ◌∙◌, subst, arith, append_assoc, append-nil, length-append, Bool, false, Option, None}
-use Rattle.std.proofs.lemmas.List.{take_all}
+use Rattle.std.proofs.Common.{◌≡◌, ℕ, ◌+◌, List, [], ◌∷◌, ◌++◌, length, refl, sym, ap, ◌∙◌, subst, arith, append_assoc, append-nil, length-append}
 use Rattle.ot_isa.specs.Program.{Program}
 use Rattle.ot_isa.specs.declared.instruction.Instr.{Instr}
-use Rattle.ot_model.specs.Session.{Session}
 use Rattle.ot_board.specs.declared.receipt.Receipt.{Receipt}
-use Rattle.ot_board.specs.declared.receipt.Replayed.{Replayed}
-use Rattle.ot_board.specs.declared.refusal.SettleRefusal.{SettleRefusal}
-use Rattle.ot_board.specs.Boards.{BoardView, IsRecorded, IsReplayed, IsStop, with_steps}
-use Rattle.ot_workers.specs.Receipts.{AreFrom, HasReceipts, IsSettled, steps_in}
+use Rattle.ot_board.specs.Boards.{BoardView, with_steps}
+use Rattle.ot_workers.specs.Receipts.{AreFrom, HasReceipts, steps_in}
 
 steps_append : (xs ys : List Receipt) → steps_in (xs ++ ys) ≡ steps_in xs ++ steps_in ys
 steps_append [] ys = refl
@@ -39,16 +35,6 @@ receipts_none b a before after recorded added =
 pub receipts_same : (b a : BoardView) (before after : List Receipt) → a ≡ b → after ≡ before → HasReceipts b before a after
 receipts_same b a before after same added = receipts_none b a before after (ap (λ (v : BoardView). v.recorded) same) added
 
--- the steps of one call are recorded
-pub receipts_one : (b a : BoardView) (before after : List Receipt) (r : Receipt) (steps : List Instr) (out : List Bool) → IsRecorded b steps out a r → after ≡ before ++ r ∷ [] → HasReceipts b before a after
-receipts_one b a before after r steps out made added =
-    record {
-      more = r ∷ [];
-      added = added;
-      recorded = made.recorded ∙ ap (with_steps b.recorded) (sym (append-nil r.steps.items ∙ made.steps_are));
-      places = (made.first, tt);
-    }
-
 -- one call after another
 pub receipts_more : (b m a : BoardView) (before between after : List Receipt) → HasReceipts b before m between → HasReceipts m between a after → HasReceipts b before a after
 receipts_more b m a before between after one two =
@@ -63,21 +49,6 @@ receipts_more b m a before between after one two =
           ∙ ap (with_steps b.recorded) (sym (steps_append one.more two.more));
       places = from_append (length b.recorded.instrs) (length m.recorded.instrs) one.more two.more long one.places two.places;
     }
-
--- a session whose steps were all performed
-pub replayed_all : (b a : BoardView) (x : Session) (r : Replayed) → IsReplayed b x a r → r.stopped ≡ None → IsSettled x b a
-replayed_all b a x r made whole =
-    let all : made.count ≡ length x.steps = subst (λ (o : Option SettleRefusal). IsStop a.state x.steps made.count o) whole made.stop in
-    record {
-      recorded = made.recorded.recorded ∙ ap (with_steps b.recorded) (take_all made.count x.steps (omega (arith, all)));
-      out_is = made.recorded.out_is;
-      parked_is = made.recorded.parked_is;
-    }
-
--- the receipt of those that were performed
-pub receipts_replayed : (b a : BoardView) (before after : List Receipt) (x : Session) (r : Replayed) → IsReplayed b x a r → after ≡ before ++ r.receipt ∷ [] → HasReceipts b before a after
-receipts_replayed b a before after x r made added =
-    receipts_one b a before after r.receipt (take made.count x.steps) (set b.out x.start.number false) made.recorded added
 
 -- what is recorded leaves the number of clients
 pub same_clients : (b a : BoardView) (before after : List Receipt) → HasReceipts b before a after → a.recorded.clients ≡ b.recorded.clients

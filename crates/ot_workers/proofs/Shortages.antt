@@ -1,14 +1,13 @@
 -- Why a call under the lock is refused, where it may be made: the record is full, or memory runs out.
-use Rattle.std.proofs.Common.{◌≡◌, ◌↔◌, ℕ, ◌+◌, ◌*◌, ◌<◌, ◌≤◌, [], ◌∷◌, length, refl, sym, ap, ◌∙◌, subst, arith, Bool, true, false, Option, Some, None}
+use Rattle.std.proofs.Common.{◌≡◌, ℕ, ◌<◌, [], ◌∷◌, refl, ap, ◌∙◌, subst, arith, Bool, true, false, Option, Some, None}
 use Rattle.std.specs.Prelude.{slice_get, ◌||◌, if◌then◌else◌}
 use Rattle.std.specs.Option.{option_map}
-use Rattle.std.proofs.lemmas.Option.{same_Some, slice_get_within}
+use Rattle.std.proofs.lemmas.Option.{slice_get_within}
 use Rattle.ot_isa.specs.Program.{Program}
-use Rattle.ot_isa.specs.declared.instruction.Instr.TheVariants.{Join as Joins, Take}
+use Rattle.ot_isa.specs.declared.instruction.Instr.TheVariants.{Join as Joins}
 use Rattle.ot_model.specs.declared.shown.Refusal.TheVariants as table
 use Rattle.ot_model.specs.declared.shown.Shown.{Shown}
-use Rattle.ot_model.specs.Table.{Client, State, Performed, Refused, is_joined, joined, step, with_client}
-use Rattle.ot_model.specs.Session.{RunsTo}
+use Rattle.ot_model.specs.Table.{Client, State, Performed, is_joined, joined, step}
 use Rattle.ot_model.proofs.Exchanging.{same_state}
 use Rattle.ot_model.proofs.Outcomes.{by_join}
 use Rattle.ot_model.proofs.States.{slice_get-set_same}
@@ -16,13 +15,12 @@ use Rattle.ot_machine.specs.Readers.{ClientHas}
 use Rattle.ot_board.specs.declared.receipt.Receipt.{Receipt}
 use Rattle.ot_board.specs.declared.refusal.BoardRefusal.{BoardRefusal}
 use Rattle.ot_board.specs.declared.refusal.BoardRefusal.TheVariants.{NoSuchClient, NotJoined, AlreadyJoined, Out, NotParked, RecordFull, LinkEmpty, Memory}
-use Rattle.ot_board.specs.Boards.{BoardView, HasRoomFor, IsBoard, IsJoined, IsJoinRefusal, IsLendRefusal, IsPickUpRefusal, IsRecorded, IsTakeRefusal}
+use Rattle.ot_board.specs.Boards.{BoardView, HasRoomFor, IsBoard, IsJoined, IsLendRefusal, IsRecorded}
 use Rattle.ot_model.specs.declared.limits.TheConstants.{SESSION_LIMIT}
 use Rattle.ot_workers.specs.Choosing.{way}
 use Rattle.ot_workers.specs.Faults.{board_fault}
 use Rattle.ot_workers.specs.Turns.{IsSeen, IsShortage}
 use Rattle.ot_workers.specs.declared.choosing.Seat.{Seat}
-use Rattle.ot_workers.specs.declared.choosing.Way.{Way}
 use Rattle.ot_workers.specs.declared.choosing.Way.TheVariants.{PickUp, Lend, Join}
 use Rattle.ot_workers.proofs.Uplinks.{ran_one}
 
@@ -31,16 +29,6 @@ differ o on off = absurd (cc)
 
 full : (b : BoardView) → (HasRoomFor b 1 → ⊥) → HasRoomFor b SESSION_LIMIT → ⊥
 full b none room = none (omega (arith, room))
-
-pub take_short : (b : BoardView) (c : ℕ) (r : BoardRefusal) → c < b.recorded.clients → IsJoined b c true → (step b.state (Take c) ≡ Refused table.LinkEmpty → ⊥) → IsTakeRefusal b c r → IsShortage b (board_fault r)
-take_short b c NoSuchClient below on sent is = absurd (omega (arith, below, is))
-take_short b c NotJoined below on sent is = absurd (differ _ on is)
-take_short b c RecordFull below on sent is = full b is.1
-take_short b c LinkEmpty below on sent is = absurd (sent is.2)
-take_short b c Memory below on sent is = tt
-take_short b c AlreadyJoined below on sent is = absurd is
-take_short b c Out below on sent is = absurd is
-take_short b c NotParked below on sent is = absurd is
 
 lend_short : (b : BoardView) (c : ℕ) (r : BoardRefusal) → c < b.recorded.clients → IsJoined b c true → slice_get b.out c ≡ Some false → IsLendRefusal b c r → IsShortage b (board_fault r)
 lend_short b c NoSuchClient below on home is = absurd (omega (arith, below, is))
@@ -51,26 +39,6 @@ lend_short b c Memory below on home is = tt
 lend_short b c AlreadyJoined below on home is = absurd is
 lend_short b c NotParked below on home is = absurd is
 lend_short b c LinkEmpty below on home is = absurd is
-
-join_short : (b : BoardView) (c : ℕ) (r : BoardRefusal) → c < b.recorded.clients → IsJoined b c false → IsJoinRefusal b c r → IsShortage b (board_fault r)
-join_short b c NoSuchClient below off is = absurd (omega (arith, below, is))
-join_short b c AlreadyJoined below off is = absurd (differ _ is off)
-join_short b c RecordFull below off is = full b is.1
-join_short b c Memory below off is = tt
-join_short b c NotJoined below off is = absurd is
-join_short b c Out below off is = absurd is
-join_short b c NotParked below off is = absurd is
-join_short b c LinkEmpty below off is = absurd is
-
-pick_short : (b : BoardView) (c : ℕ) (r : BoardRefusal) → c < b.recorded.clients → (slice_get b.parked c ≡ Some None → ⊥) → IsPickUpRefusal b c r → IsShortage b (board_fault r)
-pick_short b c NoSuchClient below there is = absurd (omega (arith, below, is))
-pick_short b c NotParked below there is = absurd (there is)
-pick_short b c NotJoined below there is = absurd is
-pick_short b c AlreadyJoined below there is = absurd is
-pick_short b c Out below there is = absurd is
-pick_short b c RecordFull below there is = absurd is
-pick_short b c LinkEmpty below there is = absurd is
-pick_short b c Memory below there is = absurd is
 
 -- what a seat says of the way in which its client is obtained
 picked : (parked out joined heard untyped : Bool)
@@ -102,20 +70,6 @@ there : (b : BoardView) (u : Bool) (c : ℕ) (s : Seat) → IsBoard b → IsSeen
 there b u c s board seen =
     let within = slice_get_within b.out c s.out seen.out in
     omega (arith, within, board.outs)
-
-pub pick_up_is_short : (b : BoardView) (u : Bool) (c : ℕ) (s : Seat) (r : BoardRefusal) → IsBoard b → IsPickUpRefusal b c r → IsSeen b u c s → way s ≡ Some PickUp → IsShortage b (board_fault r)
-pick_up_is_short b u c s r board is seen chosen =
-    pick_short b c r (there b u c s board seen) (seen.parked.0 (picked s.parked s.out s.joined (s.message || s.untyped) s.untyped chosen)) is
-
-pub lend_is_short : (b : BoardView) (u : Bool) (c : ℕ) (s : Seat) (r : BoardRefusal) → IsBoard b → IsLendRefusal b c r → IsSeen b u c s → way s ≡ Some Lend → IsShortage b (board_fault r)
-lend_is_short b u c s r board is seen chosen =
-    let facts = lent s.parked s.out s.joined (s.message || s.untyped) s.untyped chosen in
-    lend_short b c r (there b u c s board seen) (seen.joined ∙ ap (λ (x : Bool). Some x) facts.0) (seen.out ∙ ap (λ (x : Bool). Some x) facts.1) is
-
-pub join_is_short : (b : BoardView) (u : Bool) (c : ℕ) (s : Seat) (r : BoardRefusal) → IsBoard b → IsJoinRefusal b c r → IsSeen b u c s → way s ≡ Some Join → IsShortage b (board_fault r)
-join_is_short b u c s r board is seen chosen =
-    let facts = joins s.parked s.out s.joined (s.message || s.untyped) s.untyped chosen in
-    join_short b c r (there b u c s board seen) (seen.joined ∙ ap (λ (x : Bool). Some x) facts.0) is
 
 -- a client that joins has joined
 joined_row : (s t : State) (c : ℕ) (a : Option Shown) → step s (Joins c) ≡ Performed t a → ClientHas t c (λ x. is_joined x.phase) true

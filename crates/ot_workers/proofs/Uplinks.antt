@@ -1,6 +1,6 @@
 -- What a take leaves under way.
 use Rattle.std.proofs.Common.{◌≡◌, ℕ, zero, suc, ◌<◌, ◌≤◌, List, [], ◌∷◌, length, set, refl, sym, ap, ◌∙◌, subst, arith, inl, inr, Option, Some, None, Bool, true, false, length-set}
-use Rattle.std.specs.Prelude.{slice_get, is_some, nat_le, if◌then◌else◌}
+use Rattle.std.specs.Prelude.{slice_get, is_some, if◌then◌else◌}
 use Rattle.std.specs.Option.{option_map}
 use Rattle.std.proofs.lemmas.Bool.{cases_lt}
 use Rattle.std.proofs.lemmas.Option.{same_Some, slice_get_within}
@@ -8,11 +8,9 @@ use Rattle.ot_isa.specs.declared.instruction.Instr.{Instr}
 use Rattle.ot_isa.specs.declared.instruction.Instr.TheVariants.{Take}
 use Rattle.ot_model.specs.declared.shown.Shown.{Shown}
 use Rattle.ot_model.specs.declared.shown.Refusal.TheVariants.{LinkEmpty, NotJoined, StepsFull}
-use Rattle.ot_model.specs.Sound.{IsSound}
-use Rattle.ot_model.specs.Table.{Client, State, Place, Message, Outcome, Performed, Refused, at_client, is_joined, row, step, take_row}
+use Rattle.ot_model.specs.Table.{Client, State, Place, Message, Outcome, Performed, Refused, row, step, take_row}
 use Rattle.ot_model.specs.Session.{RunsTo}
 use Rattle.ot_model.proofs.Awaiting.{run_first}
-use Rattle.ot_model.proofs.Downlinks.{absent_idle}
 use Rattle.ot_model.proofs.Exchanging.{emptied, same_state}
 use Rattle.ot_model.proofs.Outcomes.{by_take}
 use Rattle.ot_model.proofs.States.{slice_get-set_same}
@@ -21,8 +19,8 @@ use Rattle.ot_board.specs.declared.receipt.Receipt.{Receipt}
 use Rattle.ot_board.specs.Boards.{BoardView}
 use Rattle.ot_workers.specs.Receipts.{HasReceipts}
 use Rattle.ot_workers.specs.Turns.{AreTaken, AreUplinksEmpty, IsUplinkEmpty}
-use Rattle.ot_workers.proofs.Receipted.{receipts_more, receipts_same}
-use Rattle.ot_workers.proofs.Takes.{takes_more, takes_none}
+use Rattle.ot_workers.proofs.Receipted.{receipts_more}
+use Rattle.ot_workers.proofs.Takes.{takes_more}
 
 -- a run of one instruction is its row
 pub ran_one : (s t : State) (i : Instr) → RunsTo s (i ∷ []) t → (a : Option Shown) × (step s i ≡ Performed t a)
@@ -66,12 +64,6 @@ none_up s c f g (Some m) has none x at = absurd (cc)
 pub none_there : (s : State) (c : ℕ) → length s.clients ≤ c → IsUplinkEmpty s c
 none_there s c past x at = let within = slice_get_within s.clients c x at in absurd (omega arith)
 
--- a client that has not joined has no message, and one that has and sends is taken from
-pub none_absent : (s : State) (c : ℕ) → IsSound s → ClientHas s c (λ x. is_joined x.phase) false → IsUplinkEmpty s c
-none_absent s c sound off x at =
-    let off_here : is_joined x.phase ≡ false = same_Some (is_joined x.phase) false (sym (ap (option_map (λ (w : Client). is_joined w.phase)) at) ∙ off) in
-    (absent_idle sound.0 sound.1 s c x sound.2 at off_here).0
-
 not_empty : (full : Bool) (o : Outcome) → (o ≡ Refused LinkEmpty → ⊥) → (if full then Refused StepsFull else o) ≡ Refused LinkEmpty → ⊥
 not_empty true o other e = absurd (cc)
 not_empty false o other e = other e
@@ -81,35 +73,12 @@ sent_in s c x m false sent joined e = absurd (cc)
 sent_in s c x None true sent joined e = absurd (cc)
 sent_in s c x (Some m) true sent joined e = absurd (cc)
 
-taken_at : (s : State) (c : ℕ) (o : Option Client) → option_map (λ (x : Client). is_joined x.phase) o ≡ Some true → option_map (λ (x : Client). is_some x.message) o ≡ Some true
-    → at_client s (Take c) c o ≡ Refused LinkEmpty → ⊥
-taken_at s c None on sent e = absurd (cc)
-taken_at s c (Some x) on sent e =
-    not_empty (nat_le 1000000 s.steps) (row s (Take c) c x) (sent_in s c x x.message (is_joined x.phase) (same_Some _ _ sent) (same_Some _ _ on)) e
-
-some_up_in : {X Y : Type 0} (f : Y → Message) (g : X → Y) (o : Option X) (m : Option Message) → m ≡ option_map f (option_map g o) → is_some o ≡ true → is_some m ≡ true
-some_up_in f g None m is some = absurd (cc)
-some_up_in f g (Some y) m is some = ap (λ (w : Option Message). is_some w) is
-
-up_at : {X Y : Type 0} (f : Y → Message) (g : X → Y) (o : Option X) (p : Option Client) → option_map (λ (x : Client). x.message) p ≡ Some (option_map f (option_map g o)) → is_some o ≡ true
-    → option_map (λ (x : Client). is_some x.message) p ≡ Some true
-up_at f g o None has some = absurd (cc)
-up_at f g o (Some x) has some = ap (λ (b : Bool). Some b) (some_up_in f g o x.message (same_Some _ _ has) some)
-
-pub some_up : {X Y : Type 0} (s : State) (c : ℕ) (f : Y → Message) (g : X → Y) (o : Option X) → ClientHas s c (λ x. x.message) (option_map f (option_map g o)) → is_some o ≡ true
-    → ClientHas s c (λ x. is_joined x.phase) true → step s (Take c) ≡ Refused LinkEmpty → ⊥
-some_up s c f g o has some on e = taken_at s c (slice_get s.clients c) on (up_at f g o (slice_get s.clients c) has some) e
-
 -- after the takes of the first so many clients
 pub record HaveTaken (b : BoardView) (before : List Receipt) (count : ℕ) (a : BoardView) (after : List Receipt) : Type 0 where
   pub empty : (c : ℕ) → c < count → IsUplinkEmpty a.state c
   pub clients : length a.state.clients ≡ length b.state.clients
   pub takes : AreTaken b a
   pub receipts : HasReceipts b before a after
-
-pub taken_none : (b : BoardView) (before : List Receipt) → HaveTaken b before 0 b before
-taken_none b before =
-    record { empty = λ c below. absurd (omega (arith, below)); clients = refl; takes = takes_none b b refl; receipts = receipts_same b b before before refl refl }
 
 pub taken_more : (b m a : BoardView) (before between after : List Receipt) (count next : ℕ) → next ≡ suc count → HaveTaken b before count m between → IsUplinkEmpty a.state count
     → ((c : ℕ) → IsUplinkEmpty m.state c → IsUplinkEmpty a.state c) → length a.state.clients ≡ length m.state.clients → AreTaken m a → HasReceipts m between a after → HaveTaken b before next a after

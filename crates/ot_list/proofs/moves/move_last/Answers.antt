@@ -9,5 +9,4 @@ loop-moved-preserved g c =
       to_is = rw (c.push_reserved.ensures.items, c.loop-moved.invariant.to_is, append_assoc, m.0) refl;
       from_is = m.1;
       to_capacity = c.push_reserved.ensures.capacity ∙ c.loop-moved.invariant.to_capacity;
-      from_capacity = c.take_last.ensures.capacity ∙ c.loop-moved.invariant.from_capacity;
     }

@@ -6,5 +6,4 @@ invariant-loop-moved g l = record {
   to_is : l.to.items ≡ l.initial.to.items ++ take l._moved (reverse l.initial.from.items);
   from_is : reverse l.from.items ≡ drop l._moved (reverse l.initial.from.items);
   to_capacity : vec_capacity l.to ≡ vec_capacity l.initial.to;
-  from_capacity : vec_capacity l.from ≡ vec_capacity l.initial.from;
 }

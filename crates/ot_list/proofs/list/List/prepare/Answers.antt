@@ -2,7 +2,7 @@ use Rattle.std.proofs.Common.{◌≡◌, length, map, inr, arith}
 use Rattle.std.proofs.lemmas.List.{length-map}
 use Rattle.ot_list.specs.Spans.{Fit}
 use Rattle.ot_list.proofs.Merging.{gone-within}
-use Rattle.ot_list.proofs.Reversed.{ready_room, fit_as}
+use Rattle.ot_list.proofs.Room.{ready_room, fit_as}
 use Rattle.ot_list.proofs.list.List.prepare.Goals as goal
 
 pub count_gone-gone-requires : goal.count_gone-gone-requires
