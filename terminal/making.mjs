@@ -41,6 +41,14 @@ function partsOfOutstanding(states) {
   return [...front, ...later.map((state) => ({ how: TRANSFORMED, at: state.at, operation: state.outstanding }))];
 }
 
+const PARTS = 200; // that are shown: the first half of them, and the last
+
+/* The first and the last lines of many. */
+function shortened(lines) {
+  if (lines.length <= PARTS) return lines;
+  return [...lines.slice(0, PARTS / 2), `  .. ${lines.length - PARTS} more`, ...lines.slice(-PARTS / 2)];
+}
+
 const counted = (count, one, more) => `${count} ${count === 1 ? one : more}`;
 
 /** How many edits an operation is made of, and how many deliveries transformed it. @param {Part[]} parts @param {import("./recording.mjs").Recording} recording */
@@ -69,5 +77,5 @@ export function makingOf(recording, what, client, place) {
   const states = statesUpTo(session, client, up === null ? place : up.sent);
   const parts = what === "buffer" ? partsOfBuffer(states) : partsOfOutstanding(states);
   const head = `client ${client} ${what}: ${shortOperation(operation)}${up === null ? "" : ` of revision ${up.revision}`}`;
-  return [`${head}; ${summaryOf(parts, recording)}`, ...parts.map((part) => lineOf(part, recording))];
+  return [`${head}; ${summaryOf(parts, recording)}`, ...shortened(parts.map((part) => lineOf(part, recording)))];
 }

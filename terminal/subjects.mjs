@@ -17,14 +17,19 @@ export function clientOf(word, clients) {
 /** A client by its number, or the server. @param {string | undefined} word @param {number} clients @returns {number | "server"} */
 export const memberOf = (word, clients) => (word === SERVER ? SERVER : clientOf(word, clients));
 
-/** A text as it is written: a JSON string, or a word. @param {string} word */
-export function textOf(word) {
-  if (!word.startsWith('"')) return word;
+function stringOf(word) {
   try {
     return JSON.parse(word);
   } catch {
     throw new Complaint(`${word} is no JSON string`);
   }
+}
+
+/** A text as it is written: a JSON string, or a word. Half of a surrogate pair is refused, though JavaScript finds it within the pair. @param {string} word */
+export function textOf(word) {
+  const text = word.startsWith('"') ? stringOf(word) : word;
+  if (!text.isWellFormed()) throw new Complaint(`${word} has half of a surrogate pair, which no document has`);
+  return text;
 }
 
 /**

@@ -76,6 +76,12 @@ test("find goes to where a document gains or loses a text, and rfind back", opti
   assert.match(empty, /^the text is empty/);
 });
 
+test("half of a surrogate pair is not searched for: it stands in no document, but within each pair of a string", options, () => {
+  const session = open('clients 1\nedit 0 ["\u{1F600}"]\n');
+  for (const line of ['find "\\ud83d"', 'rfind "\\ude00"', 'break if doc 0 contains "\\ud83d"']) assert.match(session.perform(line)[0], /^"\\ud[8e]\w\w" has half of a surrogate pair, which no document has/, line);
+  assert.match(session.perform('find "\\ud83d\\ude00"').at(-1), /nowhere -> once$/);
+});
+
 test("find and rfind count how often, from the first instruction to the last, and stop there", options, () => {
   const session = open('clients 1\nstart "ab"\nedit 0 ["ab",2]\nedit 0 [-2,2]\nedit 0 [2,"c"]\nedit 0 [-1,2]\n');
   const gone = (word) => [session.perform(`${word} ab`).at(-1), session.place];

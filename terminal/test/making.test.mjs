@@ -59,6 +59,17 @@ test("info without a word, and with the front of one, lists breaks; other words 
   assert.deepEqual(session.complete("info buffer "), [["0", "1"], ""]);
 });
 
+test("of a buffer of many edits the first ones and the last are shown", options, () => {
+  const edits = Array.from({ length: 301 }, (_, i) => `edit 0 ["${"abc"[i % 3]}"${i ? `,${i}` : ""}]\n`);
+  const lines = answers(["goto end", "info buffer 0"], open(`clients 1\n${edits.join("")}`))[1].split("\n");
+  assert.match(lines[0], /; made of 300 edits$/);
+  assert.deepEqual([lines.length, lines[101]], [202, "  .. 100 more"]);
+  assert.match(lines[1], /^ {2}made by line 3, instruction 1: /);
+  assert.match(lines[100], /^ {2}composed with line 102, instruction 100: /);
+  assert.match(lines[102], /^ {2}composed with line 203, instruction 201: /);
+  assert.match(lines.at(-1), /^ {2}composed with line 302, instruction 300: /);
+});
+
 test("a client that has not joined has no operation, and a name stands behind its number", options, () => {
   const session = open('; client 0 is ann\nclients 2\npresent 1\nedit 0 ["client 0"]\nedit 0 [8,"b"]\n');
   session.perform("goto end");
