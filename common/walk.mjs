@@ -7,6 +7,7 @@
 //       0   -    "a"  1    "a"
 //     makes X ["b",1] and Y [1,"a"]
 
+import { quoted } from "./characters.mjs";
 import { compose } from "./compose.mjs";
 import { transform } from "./transform.mjs";
 import { isComposing, transformsOf, valuesOf } from "./why.mjs";
@@ -20,13 +21,13 @@ const ENDS = 8; // characters of each end of another one that are
  * @typedef {{ rows: string[][], made: Operation[] }} Table the rows are cells, those of the first one their heads
  */
 
-/* A component in few characters; a dash where there is none. */
+/* A component in few characters, each of which is seen, so that columns stay in line; a dash where there is none. */
 function cellOf(component) {
   if (component === null) return "-";
   if (typeof component === "number") return String(component);
   const all = [...component];
-  const [front, back] = [all.slice(0, ENDS), all.slice(-ENDS)].map((part) => JSON.stringify(part.join("")));
-  return all.length <= SHOWN ? JSON.stringify(component) : `${front}..${back} (${all.length} characters)`;
+  const [front, back] = [all.slice(0, ENDS), all.slice(-ENDS)].map((part) => quoted(part.join("")));
+  return all.length <= SHOWN ? quoted(component) : `${front}..${back} (${all.length} characters)`;
 }
 
 function tableOfTransform(one, other) {

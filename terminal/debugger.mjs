@@ -579,7 +579,7 @@ export class Debugger {
   #told(word) {
     const { instructions, opening } = this.recording;
     if (word === undefined) return this.last === null ? [opening] : instructions[this.last].told;
-    if (!/^\d{1,9}$/.test(word) || Number(word) >= instructions.length) throw new Complaint(`${word} is no instruction: they are 0 to ${instructions.length - 1}`);
+    if (!/^\d{1,9}$/.test(word) || Number(word) >= instructions.length) throw new Complaint(`${word} is no instruction: ${instructions.length ? `they are 0 to ${instructions.length - 1}` : "there are none"}`);
     return instructions[Number(word)].told;
   }
 

@@ -145,23 +145,29 @@ test("a start text of such characters is not cut within one", options, () => {
   assert.deepEqual(gone(session, "find \u{1f600}"), ['client 0 doc: "\u{1f600}" once -> nowhere', 2]);
 });
 
-test("a search that a person ends leaves the place as it was", options, () => {
+/** A debugger in which a person has ended each of some searches at place 3, and what lets the next ones go on. */
+function interrupted(port, lines) {
   let isStopped = true;
-  const session = new Debugger(new Recording(ask, WEAK, null, false, () => isStopped));
+  const session = new Debugger(new Recording(ask, WEAK, port, false, () => isStopped));
   session.perform("goto 3");
-  for (const line of ["find nosuch", "rfind nosuch", "run", "rrun"]) assert.deepEqual(gone(session, line), ["interrupted; the place is as it was", 3], line);
-  isStopped = false;
+  for (const line of lines) assert.deepEqual(gone(session, line), ["interrupted; the place is as it was", 3], line);
+  const goOn = () => {
+    isStopped = false;
+  };
+  return { session, goOn };
+}
+
+test("a search that a person ends leaves the place as it was", options, () => {
+  const { session, goOn } = interrupted(null, ["find nosuch", "rfind nosuch", "run", "rrun"]);
+  goOn();
   assert.deepEqual(gone(session, "find cx"), ['client 1 doc: "cx" nowhere -> once', 4]);
 });
 
 test("Ctrl-C ends find in what the port printed, until, and the search of the places of a break", options, () => {
-  let isStopped = true;
-  const session = new Debugger(new Recording(ask, WEAK, FAULTY, false, () => isStopped));
-  session.perform("goto 3");
-  for (const line of ["find port ca", "rfind port c", "until read", "runtil edit"]) assert.deepEqual(gone(session, line), ["interrupted; the place is as it was", 3], line);
+  const { session, goOn } = interrupted(FAULTY, ["find port ca", "rfind port c", "until read", "runtil edit"]);
   assert.deepEqual(session.perform("break if doc 0 contains c"), ["interrupted; no break is set"]);
   assert.deepEqual(session.perform("info breaks"), ["no breaks, no watches"]);
-  isStopped = false;
+  goOn();
   assert.deepEqual(gone(session, "find port ca"), ['client 1 doc of the port: "ca" nowhere -> once', 12]);
   assert.match(session.perform("break if doc 0 contains c")[0], /^break if doc 0 contains c: at /);
 });

@@ -7,11 +7,12 @@ import { add } from "../../common/components.mjs";
 import { compose } from "../../common/compose.mjs";
 import { fold } from "../../common/fold.mjs";
 import { stateAt } from "../../common/places.mjs";
+import { visible } from "../../common/visible.mjs";
 import { tableOf, walkLines, walksOf } from "../../common/walk.mjs";
-import { makePort } from "../../oracle/otjs.js";
 import { chance } from "../../recorder/test/live_session.js";
 import { Debugger } from "../debugger.mjs";
 import { Recording } from "../recording.mjs";
+import { operationOf } from "./operations.mjs";
 import { ask, options } from "./program.mjs";
 
 const WEAK = readFileSync(new URL("../../examples/weak-order.ots", import.meta.url), "utf8");
@@ -112,6 +113,32 @@ test("beside a port the values that differ follow; long and hostile texts are sh
   }
 });
 
+/* The cells of a text that is inserted alone. */
+const cellsOf = (text) => tableOf({ method: "transform", named: [["one", [text]], ["other", []]] }).rows[1];
+
+test("a text of 24 characters is whole, of a longer one 8 of each end are shown, also of characters of two units", () => {
+  for (const character of ["x", "\u{1f600}"]) {
+    const text = (count) => "ab".repeat(count / 2 - 1) + character + "c";
+    assert.equal(cellsOf(text(24))[1], JSON.stringify(text(24)));
+    assert.equal(cellsOf(`d${text(24)}`)[1], `"dabababa".."ababab${character}c" (25 characters)`);
+    assert.equal(cellsOf(`d${text(24)}`)[4], "25");
+  }
+});
+
+test("a text is taken in parts between characters of two units", () => {
+  const { rows, made } = tableOf({ method: "compose", named: [["buffer", ["\u{1f600}b\u{1f600}", 1]], ["operation", [1, -1, 2]]] });
+  assert.deepEqual(rows.slice(1), [["0", '"\u{1f600}"', "1", '"\u{1f600}"'], ["1", '"b"', "-1", "-"], ["2", '"\u{1f600}"', "1", '"\u{1f600}"'], ["3", "1", "1", "1"]]);
+  assert.deepEqual(made, [["\u{1f600}\u{1f600}", 1]]);
+});
+
+test("columns stay in line where a terminal has characters by their numbers", () => {
+  for (const text of ["\u202e\u2066", "\u0007", "\u2028", "\u202e".repeat(30)]) {
+    const [, heads, tie, other] = walkLines([{ method: "transform", named: [["one", [text]], ["other", ["b"]]] }], 0).map(visible);
+    assert.equal(heads.indexOf("B"), tie.indexOf(" - ") + 1, JSON.stringify(text));
+    assert.equal(heads.indexOf("X"), other.lastIndexOf(" 1 ") + 1, JSON.stringify(text));
+  }
+});
+
 const givenAs = (name, ...values) => values.map((value) => ({ name, value: JSON.stringify(value) }));
 
 /* What a method of ot.js was given at a place, by the lines of `steps`; null where it neither transforms nor composes. */
@@ -197,21 +224,6 @@ test("a method was given there what conform says", options, () => {
     }
   }
 });
-
-const { TextOperation } = makePort();
-
-/* Operations of a seeded choice over a text of a length, of letters, so that ot.js' units are scalars. */
-function operationOf(length, choose) {
-  const operation = new TextOperation();
-  for (let left = length; ; ) {
-    if (choose(3) === 0) operation.insert("abc"[choose(3)].repeat(1 + choose(3)));
-    if (left === 0) return operation;
-    const count = 1 + choose(Math.min(3, left));
-    if (choose(2)) operation.retain(count);
-    else operation.delete(count);
-    left -= count;
-  }
-}
 
 test("compose is ot.js'; operations that do not follow one another are refused", () => {
   const choose = chance(5);

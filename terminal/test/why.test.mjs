@@ -2,12 +2,12 @@
 
 import assert from "node:assert/strict";
 import test from "node:test";
-import { makePort } from "../../oracle/otjs.js";
 import { chance } from "../../recorder/test/live_session.js";
 import { Debugger } from "../debugger.mjs";
 import { Recording } from "../recording.mjs";
 import { transform } from "../../common/transform.mjs";
 import { transformsOf } from "../../common/why.mjs";
+import { operationOf, TextOperation } from "./operations.mjs";
 import { ask, options } from "./program.mjs";
 
 /* Client 1's outstanding "b" and its buffer "c" meet client 0's "a". */
@@ -55,6 +55,7 @@ test("why is of the last instruction, performed or undone; at the opening it say
   assert.equal(undone, last);
   assert.match(none, /^99 is no instruction: they are 0 to 10; why \[N\] \[walk \[K\]\]$/);
   assert.match(more, /^2 is a word too many; why /);
+  assert.deepEqual(told(0, "clients 1\n"), ["0 is no instruction: there are none; why [N] [walk [K]]"]);
 });
 
 test("of a refused instruction why says the reason", options, () => {
@@ -86,21 +87,6 @@ test("of many transforms those with a tie are shown, and long texts are cut", op
   const [, , method, one, tie, more] = told(37, `clients 2\nedit 1 ["y"]\n${ends.join("")}take 1\n`);
   assert.deepEqual([method, one.slice(0, 44), tie.slice(0, 21), more], ["  Server.receiveOperation", '    transform(operation ["y"], revision 1 of', '      tie at 0: "y", ', "    .. 11 more transforms, none of them with a tie"]);
 });
-
-const { TextOperation } = makePort();
-
-/* Operations of a seeded choice over a text of a length, of letters, so that ot.js' units are scalars. */
-function operationOf(length, choose) {
-  const operation = new TextOperation();
-  for (let left = length; ; ) {
-    if (choose(3) === 0) operation.insert("abc"[choose(3)].repeat(1 + choose(2)));
-    if (left === 0) return operation;
-    const count = 1 + choose(Math.min(3, left));
-    if (choose(2)) operation.retain(count);
-    else operation.delete(count);
-    left -= count;
-  }
-}
 
 test("transform is ot.js', and has a tie exactly if exchanged arguments make something else", () => {
   const choose = chance(11);

@@ -25,12 +25,13 @@ function inline(text) {
   return /^`|`$/.test(words) ? `${fence} ${words} ${fence}` : `${fence}${words}${fence}`;
 }
 
-/** What a report has of a schedule or of a document at most, in characters. */
-const MOST = { schedule: 20000, document: 2000 };
+/** What a report has of a schedule, of a document or of a line of an answer at most, in characters. */
+const MOST = { schedule: 20000, document: 2000, line: 2000 };
 
 function shortened(text) {
   if (text.length <= MOST.schedule) return text;
-  return `${text.slice(0, text.lastIndexOf("\n", MOST.schedule))}\n; .. ${text.length} characters in all; the link has the whole\n`;
+  const end = Math.max(0, text.lastIndexOf("\n", MOST.schedule)); // of a longer first line nothing is left
+  return `${text.slice(0, end)}\n; .. ${[...text].length} characters in all; the link has the whole\n`;
 }
 
 /* The documents at a place, as the diagram's cards show them. */
@@ -44,12 +45,12 @@ function documentsAt(session, place, names) {
 const seenIn = (port, names) =>
   notesIn(port).map(({ at, who, document }) => `- place ${at}, ${inline(nameOfMember(who, names))}: ${inline(quoted(brief(document, MOST.document)))}`);
 
-/* Whether the documents must agree at the place, and to what; and of a note that differs what ot.js has. */
+/* Whether the documents must agree at the place, and to what; and of a noted text that differs what ot.js has. */
 function verdictAt({ session, beside, outline, ...state }, outlook) {
   const place = shownPlace({ session, ...state });
   const lines = outlook.map((line) => inline(brief(line, 600)));
-  const { at, client, verdict } = beside?.areNotes && beside.answer ? beside.answer : {};
-  if (verdict === "differs") lines.push(`Place ${at}, ${inline(nameOfMember(client ?? SERVER, outline.names))}: ${inline(brief(noteWords(beside, outline.names), 900))}`);
+  const { at, client, key } = beside?.areNotes && beside.answer ? beside.answer : {}; // a difference alone has a key
+  if (key === "document") lines.push(`Place ${at}, ${inline(nameOfMember(client ?? SERVER, outline.names))}: ${inline(brief(noteWords(beside, outline.names), 900))}`);
   return `At place ${place} of ${session.length} (${inline(quietAt(session, place))})${lines.length ? `:\n\n${lines.join("\n\n")}` : ""}`;
 }
 
@@ -59,6 +60,9 @@ function verdictWords(verdicts, isAnswered) {
   const [first, ...more] = told;
   return isAnswered && more.length > 0 ? `${first}; in ot.js ${more.join("; ")}` : told.join("; ");
 }
+
+/* What conform answered, in lines of which none is long. */
+const answered = ({ words, answer }) => block(words.map((line) => brief(line, MOST.line)).join("\n") || answer.verdict);
 
 /* Which transform led to the documents, in lines. */
 function reasonAt({ session, outline }, reason) {
@@ -87,7 +91,7 @@ export function reportOf(state, { verdicts, outlook = [], reason = null, link, i
     `${reasonAt(state, reason)}What ot.js has at place ${place}:\n\n${documentsAt(session, place, outline.names).join("\n")}`,
   ];
   if (beside?.areNotes) parts.push(`What was seen:\n\n${seenIn(state.port, outline.names).join("\n")}`);
-  if (beside?.answer) parts.push(`${beside.areNotes ? "That" : "What the port printed"}, beside ot.js:\n\n${block(beside.words.join("\n") || beside.answer.verdict)}`);
+  if (beside?.answer) parts.push(`${beside.areNotes ? "That" : "What the port printed"}, beside ot.js:\n\n${answered(beside)}`);
   parts.push(isOfFile ? `The session opens only where the page's file is: ${inline(link)}` : `[Open the session](<${link}>)`);
   return `${parts.join("\n\n")}\n`;
 }
