@@ -15,7 +15,7 @@ function linesOf(bug, text) {
 
 /* Which session of the folder a step shows, at which place, and what to look for. */
 const COURSE = [
-  { title: "A tie", name: "two-clients", place: 2, sentence: "Two users type at one place. Let client 1’s message through first instead of client 0’s: which letter stands in front then?" },
+  { title: "A tie", name: "two-clients", place: 2, sentence: "Two users type at one position. Let client 1’s message through first instead of client 0’s: which letter stands in front then?" },
   { title: "A buffer", name: "buffer", place: 1, sentence: "A user types on before the first edit is confirmed. Step on: later edits wait in the buffer, where they cancel out." },
   { title: "A late joiner", name: "late-join", place: 3, sentence: "Client 1 joins with the server’s document and revision, while client 0’s edit is still to be confirmed." },
   { title: "Both delete", name: "both-delete", place: 4, sentence: "Two users delete the same letter. What does the server append to its log for the second deletion?" },

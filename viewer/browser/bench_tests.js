@@ -15,7 +15,7 @@ const file = (name) => fs.readFileSync(new URL(`../../examples/${name}`, import.
 /* Tests the page in a browser: its name, and what opens it. */
 export function testIn(name, openBrowser) {
   suite(name, openBrowser, (user) => {
-    test("the first visit shows two people who type at one place", async () => {
+    test("the first visit shows two people who type at one position", async () => {
       await user.open();
       await user.settled(2);
       assert.equal(await user.text("#name"), "two-clients");

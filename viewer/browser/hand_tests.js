@@ -88,7 +88,7 @@ export function testByHand(name, openBrowser) {
       await note(0, "ba");
       await user.click('#noting [value="note"]');
       await user.answered({ verdict: "conforms" });
-      await hint("/^Enter what the editor of client 1 showed at the end, too/");
+      await hint("/^Next is client 1: enter what its editor showed at the end, at I saw … on its card/");
       assert.equal(await user.text("#conformance"), "ot.js has the 1 text that you noted. Client 1: nothing noted yet.");
       assert.equal(await user.text("#conformance .good"), "ot.js has the 1 text that you noted.");
       assert.equal(await user.run('document.getElementById("conformance").classList.contains("good")'), false, "it is not green as a whole");
@@ -99,7 +99,7 @@ export function testByHand(name, openBrowser) {
       await user.answered({ verdict: "differs", at: 7, client: 1, key: "document" });
       assert.equal(await user.text("#conformance"), "Client 1’s editor differs from ot.js, first at place 7 (line 8)");
       assert.equal(await user.text("#answer b"), 'Client 1’s editor differs from ot.js, first at place 7, after deliver 1 (line 8): from there up to place 8 ot.js has "ba", and the editor showed "ab".');
-      await hint("/^Go to place 7, where it differs first/");
+      await hint("/^The server may be the cause: enter what its document showed, .* Go to place 7, where it differs first/");
       await user.click("#answer");
       await user.settled(7);
       assert.equal(await user.text("#numbers .now"), "8", "the line in the text");

@@ -62,6 +62,23 @@ const watch = () => {
   if (!isWatching) look();
 };
 
+/* In the page: how many lines of a box its button stands over. */
+const countCovered = (id) => {
+  const room = document.getElementById(id);
+  const mark = document.querySelector(`[data-room="${id}"]`);
+  if (!mark.checkVisibility()) return 0;
+  const { left, right, top, bottom } = mark.getBoundingClientRect();
+  const end = Math.min(bottom, room.getBoundingClientRect().bottom);
+  const range = document.createRange();
+  const texts = document.createTreeWalker(room, NodeFilter.SHOW_TEXT);
+  let count = 0;
+  while (texts.nextNode()) {
+    range.selectNodeContents(texts.currentNode);
+    count += [...range.getClientRects()].filter((line) => line.right > left && line.left < right && line.bottom > top && line.top < end).length;
+  }
+  return count;
+};
+
 /* In the page: its style is that of paper. */
 const toPaper = () => {
   for (const { media } of document.styleSheets[0].cssRules) if (media) media.mediaText = media.mediaText.replace(/^print/, "all").replace(/^screen.*/, "not all");
@@ -75,7 +92,7 @@ export function testLooks(name, openBrowser) {
       await showFaultyPort(user);
     }
 
-    /* Two users at one place, at the end. */
+    /* Two users at one position, at the end. */
     async function openTie() {
       const text = 'clients 2\nedit 0 ["a"]\nedit 1 ["b"]\ntake 0\ntake 1\ndeliver 1\nack 1\nack 0\ndeliver 0\n';
       await user.open();
@@ -204,7 +221,9 @@ export function testLooks(name, openBrowser) {
         await user.answered({ verdict: "differs", at: 5, client: 1, key: "document" });
         /* Whether a box shows all of its text, or its button says that there is more. */
         const isMarked = (id) => user.until(`((room) => (room.scrollHeight - room.clientHeight <= 2) === document.querySelector('[data-room="${id}"]').hidden)(document.getElementById("${id}"))`, `the mark of ${id}`);
+        const covered = (id) => user.run(`(${countCovered})("${id}")`);
         await isMarked("answered");
+        assert.equal(await covered("answered"), 0, "the answer");
         const [first, whole] = await user.run(`((room) => {
           const { bottom } = document.querySelector("#answer b").getBoundingClientRect();
           return [bottom <= room.getBoundingClientRect().bottom, room.scrollHeight - room.clientHeight <= 2];
@@ -227,13 +246,8 @@ export function testLooks(name, openBrowser) {
         await readOn("answered");
         await user.until('document.getElementById("list-verdict").textContent !== ""', "the verdicts");
         await isMarked("told");
+        assert.equal(await covered("told"), 0, "the verdicts");
         await readOn("told");
-        /* The lines of a sentence that its button stands over; in a wide window it is lower than a line, which is scrolled above it. */
-        const covered = () => user.run(`((text, mark) => {
-          text.selectNodeContents(document.getElementById("sentence"));
-          const { left, top, bottom } = mark.getBoundingClientRect();
-          return mark.hidden ? 0 : [...text.getClientRects()].filter((line) => line.right > left && line.top < bottom && line.bottom > top).length;
-        })(document.createRange(), document.querySelector('[data-room="sentence"]'))`);
         const stood = () => user.run('["time", "answered", "aside"].map((id) => document.getElementById(id).getBoundingClientRect()).map(({ top, height }) => [Math.round(top), Math.round(height)].join()).join("; ")');
         const before = await stood();
         for (let place = 7; place >= 0; place--) {
@@ -242,7 +256,7 @@ export function testLooks(name, openBrowser) {
           await user.until('document.getElementById("outlook").textContent !== ""', "the verdict");
           await isMarked("outlook");
           await isMarked("sentence");
-          if (width < 800) assert.equal(await covered(), 0, `the sentence of place ${place}`);
+          assert.equal(await covered("sentence"), 0, `the sentence of place ${place}`);
           if (width >= 1280) assert.ok(await user.run('document.querySelector(\'[data-room="outlook"]\').hidden'), `the verdict of place ${place} is seen whole`);
           assert.equal(await stood(), before, `place ${place}`);
         }

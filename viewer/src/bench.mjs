@@ -386,12 +386,14 @@ export class Bench {
     return answer?.note ? withTie(told, answer.note, session, note, call) : told;
   }
 
-  /** The verdict of the shown place, and what led to the texts there; nothing where the text has a fault. */
+  /** The verdict of the shown place, and what led to the texts there, or to that from which a noted one differs first; nothing where the text has a fault. */
   async sayHere() {
+    const { session, port, beside } = this.state;
     const place = shownPlace(this.state);
     const ask = (words, input) => this.ask(words, input);
     if (!isAnswered(this.state)) return { outlook: [], reason: null };
-    const reason = this.#reasonAt(place, ask);
+    const note = beside && noteOf(port, beside);
+    const reason = this.#reasonAt(note ? decidedAt(session, note) || note.at : place, ask);
     return { outlook: await this.#outlookAt(place, ask), reason: await reason };
   }
 }

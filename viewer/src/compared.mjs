@@ -67,7 +67,7 @@ function differsSentence(session, answer, names, line) {
 const withPlace = (head) => head.replace(/^(differs|stopped) at (\d+)/, "$1 at place $2");
 
 /** How many characters of two texts are equal, in words. */
-const equalWords = (count) => (count === 0 ? "they differ from the first character on" : `the first ${count} ${plural(count, "character is", "characters are")} equal`);
+export const equalWords = (count) => (count === 0 ? "they differ from the first character on" : `the first ${count} ${plural(count, "character is", "characters are")} equal`);
 
 /* The values that differ, what follows them, and what ot.js has in another order at the server. */
 function valuesOf({ answer, words }, names) {

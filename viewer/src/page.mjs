@@ -169,7 +169,7 @@ async function copyLink() {
   say(`${isCopied ? "The link is copied" : "The address of this page is the link now"}: ${link.length} characters.${where}${isCopied ? "" : " The browser did not let the page copy it."}`);
 }
 
-/* The session as Markdown. Where the browser does not let the page copy it, it is shown to be copied. */
+/* The session as Markdown, for an issue. Where the browser does not let the page copy it, it is shown to be copied. */
 async function copyReport() {
   const link = await addressed();
   if (link === null || !bench.state.session) return;
@@ -587,7 +587,7 @@ async function start() {
   }
   openChoice(0);
   if (takeBack()) return undefined;
-  const notice = "Two users have typed at one place. Click a message to let it through, step on with ▶, or type into a document.";
+  const notice = "Two users have typed at one position. Click a message to let it through, step on with ▶, or type into a document.";
   act("notice", { notice, isWelcome: true });
   return undefined;
 }

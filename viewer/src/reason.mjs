@@ -1,5 +1,5 @@
 // Why the documents have the texts that they have: the last instruction that transformed something, which operations ot.js transformed
-// against one another in it, and which text went first where both insert at one place. What was transformed, and by which method, is what
+// against one another in it, and which text went first where both insert at one position. What was transformed, and by which method, is what
 // `conform` says of a port that has another value there.
 
 import { transformsOf, valuesOf } from "../../common/why.mjs";
@@ -63,7 +63,7 @@ export function reasonWords(session, reason, names = new Map()) {
   const named = ({ name, operation, maker }) => [{ operation, maker }, ` (${nameOfMember(maker, names)}, ${name})`];
   const told = transforms.slice(0, MOST.transforms).flatMap(({ ties }, i) => {
     const head = i === 0 ? `${instructionOf(session.steps[reason.place].line)}, place ${reason.place}: ${reason.rule} transforms ` : "Then it transforms ";
-    const words = [head, ...named(given[i][0]), " against ", ...named(given[i][1]), ties.length ? "." : ". They insert nothing at one place."];
+    const words = [head, ...named(given[i][0]), " against ", ...named(given[i][1]), ties.length ? "." : ". They insert nothing at one position."];
     return [words, ...ties.slice(0, MOST.ties).map((tie) => [tieWords(tie)]), ...more(ties.length - MOST.ties)];
   });
   return [...told, ...more(transforms.length - MOST.transforms)];

@@ -1,10 +1,12 @@
-// The session as Markdown, for an issue: the verdict, the schedule, why each document is what it is at the place, what a port has otherwise, and the link.
+// The session as Markdown, for an issue: the verdict, the schedule, why the documents are what they are at the place, or where a noted text differs first,
+// what a port has otherwise, and the link. A place is one of the session.
 
 import { brief, quoted, seen } from "../../common/characters.mjs";
 import { SERVER } from "../../common/fold.mjs";
 import { documentAt, quietAt, stateAt } from "../../common/places.mjs";
 import { textOf } from "../../common/document.mjs";
 import { notesIn } from "../../common/noted.mjs";
+import { equalWords } from "./compared.mjs";
 import { shownPlace } from "./state.mjs";
 import { reasonWords } from "./reason.mjs";
 import { nameOfMember, noteWords, operationText } from "./words.mjs";
@@ -45,12 +47,19 @@ function documentsAt(session, place, names) {
 const seenIn = (port, names) =>
   notesIn(port).map(({ at, who, document }) => `- place ${at}, ${inline(nameOfMember(who, names))}: ${inline(quoted(brief(document, MOST.document)))}`);
 
-/* Whether the documents must agree at the place, and to what; and of a noted text that differs what ot.js has. */
-function verdictAt({ session, beside, outline, ...state }, outlook) {
-  const place = shownPlace({ session, ...state });
-  const lines = outlook.map((line) => inline(brief(line, 600)));
+/* Where a noted text differs first, and whose it is: { at, who }; null where none does. */
+function notedDifference({ beside, outline }) {
   const { at, client, key } = beside?.areNotes && beside.answer ? beside.answer : {}; // a difference alone has a key
-  if (key === "document") lines.push(`Place ${at}, ${inline(nameOfMember(client ?? SERVER, outline.names))}: ${inline(brief(noteWords(beside, outline.names), 900))}`);
+  return key === "document" ? { at, who: inline(nameOfMember(client ?? SERVER, outline.names)) } : null;
+}
+
+/* Whether the documents must agree at the place, and to what; and of a noted text that differs what ot.js has. */
+function verdictAt(state, outlook) {
+  const { session, beside, outline } = state;
+  const place = shownPlace(state);
+  const lines = outlook.map((line) => inline(brief(line, 600)));
+  const differs = notedDifference(state);
+  if (differs) lines.push(`Place ${differs.at}, ${differs.who}: ${inline(brief(noteWords(beside, outline.names), 900))}`);
   return `At place ${place} of ${session.length} (${inline(quietAt(session, place))})${lines.length ? `:\n\n${lines.join("\n\n")}` : ""}`;
 }
 
@@ -61,15 +70,20 @@ function verdictWords(verdicts, isAnswered) {
   return isAnswered && more.length > 0 ? `${first}; in ot.js ${more.join("; ")}` : told.join("; ");
 }
 
-/* What conform answered, in lines of which none is long. */
-const answered = ({ words, answer }) => block(words.map((line) => brief(line, MOST.line)).join("\n") || answer.verdict);
-
-/* Which transform led to the documents, in lines. */
-function reasonAt({ session, outline }, reason) {
+/* Which transform led to the documents, or to that from which a note differs, in lines. */
+function reasonAt(state, reason) {
   if (!reason || reason.place === 0) return "";
   const inWords = (part) => (typeof part === "string" ? part : operationText(part.operation, 200));
-  const lines = reasonWords(session, reason, outline.names).map((words) => inline(words.map(inWords).join("")));
-  return `${lines.join("\\\n")}\n\n`;
+  const lines = reasonWords(state.session, reason, state.outline.names).map((words) => inline(words.map(inWords).join("")));
+  const differs = notedDifference(state);
+  const head = differs ? `Why, at place ${differs.at}, where ${differs.who} differs first:\n\n` : "";
+  return `${head}${lines.join("\\\n")}\n\n`;
+}
+
+/* What conform answered, in lines of which none is long; where two texts begin to differ is no place of the session. */
+function answered({ words, answer }) {
+  const lines = answer.place === undefined ? words : words.with(3, equalWords(answer.place));
+  return block(lines.map((line) => brief(line, MOST.line)).join("\n") || answer.verdict);
 }
 
 /**
@@ -77,7 +91,7 @@ function reasonAt({ session, outline }, reason) {
  * @param {object} said
  * @param {string[]} said.verdicts what the page says in its words: what conform answered, if it was asked, and then of ot.js' own run
  * @param {string[]} [said.outlook] the verdict of the place
- * @param {import("./reason.mjs").Reason | null} [said.reason] of the texts there
+ * @param {import("./reason.mjs").Reason | null} [said.reason] of the texts there, or of the noted one that differs
  * @param {string} said.link
  * @param {boolean} said.isOfFile whether the link is to a file of this machine
  */

@@ -112,6 +112,28 @@ test("a note is compared at once, and stays beside the session", { skip }, async
   assert.deepEqual(bench.state.port, [note(5, 1, "</script><b>")]);
 });
 
+test("the report explains the place where a noted text differs first, wherever it is copied; of texts that agree that which is shown", { skip }, async () => {
+  const late = `${TIE}ack 1\nack 0\ndeliver 0\nedit 0 ["y",2]\nedit 1 [2,"z"]\ntake 0\ntake 1\ndeliver 1\n`;
+  const bench = await opened(late, 8);
+  const report = async () => reportOf(bench.state, { verdicts: [], ...(await bench.sayHere()), link: "l", isOfFile: false });
+  const reasons = async () => [...(await report()).matchAll(/^`(\w+ \d, place \d+): /gm)].map(([, where]) => where);
+  bench.dispatch({ do: "note", who: 1, document: "ba" });
+  assert.equal((await judged(bench)).answer.verdict, "conforms");
+  for (const [place, where] of [[8, "deliver 1, place 5"], [13, "deliver 1, place 13"], [12, "take 1, place 12"]]) {
+    bench.dispatch({ do: "go", place });
+    assert.deepEqual(await reasons(), [where], `shown is ${place}`);
+  }
+  assert.doesNotMatch(await report(), /differs first/);
+  bench.dispatch({ do: "go", place: 8 });
+  bench.dispatch({ do: "note", who: 0, document: "ab" });
+  assert.equal((await judged(bench)).answer.at, 8);
+  for (const place of [0, 5, 8, 13]) {
+    bench.dispatch({ do: "go", place });
+    assert.deepEqual(await reasons(), ["take 1, place 4"], `shown is ${place}`);
+    assert.match(await report(), /\n\nWhy, at place 8, where `client 0` differs first:\n\n`take 1, place 4: Server\.receiveOperation transforms .*`\\\n`Both insert at the start: .*`\n\nWhat ot\.js has at place /);
+  }
+});
+
 test("what a tie broken the other way leads to is said to be that, at each client, also once all is quiet", { skip }, async () => {
   const NOTE = "that is what transform gives if the text of its second argument goes first";
   const quiet = `${TIE}ack 1\nack 0\ndeliver 0\nread 0\n`;

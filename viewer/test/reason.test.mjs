@@ -50,8 +50,8 @@ test("the last transform is told with its method, its operations and each tie", 
 test("a message that is transformed several times, and no tie", { skip }, async () => {
   const bench = await opened('clients 2\nstart "xy"\nedit 1 [1,"b",1]\nedit 0 ["a",2]\ntake 0\nack 0\nedit 0 [-1,2]\ntake 0\ntake 1\n');
   assert.deepEqual(await saidAt(bench, 7), [
-    'take 1, place 7: Server.receiveOperation transforms [1,"b",1] (client 1, its message) against ["a",2] (client 0, log entry 0). They insert nothing at one place.',
-    'Then it transforms [2,"b",1] (client 1, its message) against [-1,2] (client 0, log entry 1). They insert nothing at one place.',
+    'take 1, place 7: Server.receiveOperation transforms [1,"b",1] (client 1, its message) against ["a",2] (client 0, log entry 0). They insert nothing at one position.',
+    'Then it transforms [2,"b",1] (client 1, its message) against [-1,2] (client 0, log entry 1). They insert nothing at one position.',
   ]);
 });
 

@@ -40,11 +40,22 @@ What ot.js has at place 3:
 
 test("what a port has otherwise is in it, and a link of a file says where it opens", () => {
   const state = stateOf(example("two-clients"), { port: ["q"] });
-  const beside = new Port(state.session, ["q"], { answer: { verdict: "differs", at: 1 }, words: ["differs at 1: edit 0: line", "found q", "ot.js {}"] });
+  const beside = new Port(state.session, ["q"], { answer: { verdict: "differs", at: 1, found: "q", otjs: "{}" }, words: ["differs at 1: edit 0: line", "found q", "ot.js {}"] });
   const report = reportOf({ ...state, beside }, { verdicts: ["differs", "ends quiet", "holds"], link: "file:///a b#at=0", isOfFile: true });
   assert.match(report, /^\*\*otbench\*\*: `differs`; in ot\.js `ends quiet`; `holds`\n/);
   assert.match(report, /\n\nWhat the port printed, beside ot\.js:\n\n```\ndiffers at 1: edit 0: line\nfound q\not\.js \{\}\n```\n\n/);
   assert.match(report, /\n\nThe session opens only where the page's file is: `file:\/\/\/a b#at=0`\n$/);
+});
+
+test("a place is one of the session: where two texts begin to differ is said in characters", () => {
+  const port = ['{"at":5,"client":1,"document":"bx"}'];
+  const state = stateOf(example("two-clients"), { port, place: 8 });
+  const answer = { verdict: "differs", at: 5, client: 1, key: "document", found: '"bx"', otjs: '"ba"', place: 1, line: 8 };
+  const words = ["differs at 5: deliver 1: client 1 document", 'found "bx"', 'ot.js "ba"', "place 1", "rule AwaitingConfirm.applyServer"];
+  const beside = new Port(state.session, port, { answer, words });
+  const report = reportOf({ ...state, beside }, { verdicts: ["x"], link: "l", isOfFile: false });
+  assert.doesNotMatch(report, /^place 1$/m);
+  assert.match(report, /\ndiffers at 5: deliver 1: client 1 document\nfound "bx"\not\.js "ba"\nthe first 1 character is equal\nrule AwaitingConfirm\.applyServer\n```\n/);
 });
 
 test("no text ends its block or its line", () => {
