@@ -72,7 +72,9 @@ export class Port {
     this.session = session;
     this.areNotes = areNotes(texts);
     this.isSparse = isSparse || this.areNotes;
-    this.lines = linesByPlace(texts.map(readLine), this.isSparse);
+    const read = texts.map(readLine);
+    this.lines = linesByPlace(read, this.isSparse);
+    this.stopped = (this.isSparse && read.find(({ stopped }) => stopped !== undefined)) || null; // a line that is of no place's values
     this.memo = new Map();
     this.moves = new Map([SERVER, ...session.members.keys()].map((who) => [who, [0]]));
     session.steps.forEach((step, place) => step && this.lines[place] && this.lines[place].end === undefined && this.moves.get(step.moved).push(place));

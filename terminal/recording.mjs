@@ -275,11 +275,16 @@ export class Recording {
   /** What the port printed last of a participant and ot.js does not have. What is of an earlier instruction, and no value that lasts, is said to be; and that the port has no more lines. */
   #ofPort(who, place) {
     if (this.port === null) return [];
-    const { last } = this.port;
     const at = this.port.placeOf(who, place);
     const of = (key) => (this.port.isEarlier(key, at, place) ? `  (of ${this.leading(at)})` : "");
     const differences = this.#besides(at).map(({ key, said }) => `  port: ${said}${of(key)}`);
-    return place > last ? [...differences, `  port: no line here; its lines end at place ${last}`] : differences;
+    return place > this.port.last ? [...differences, `  port: no line here; ${this.#endOfPort()}`] : differences;
+  }
+
+  /* Why the port has no line at a place behind its last one. */
+  #endOfPort() {
+    const { last, stopped } = this.port;
+    return stopped === null ? `its lines end at place ${last}` : `it stopped: ${shortText(String(stopped.stopped))}`;
   }
 
   #besides(place) {
@@ -297,8 +302,7 @@ export class Recording {
    */
   printed(who, key, place) {
     const found = this.port.printedOf(who, key, place);
-    const { last } = this.port;
-    const ended = place > last ? [`  the port has no line here: its lines end at place ${last}`] : [];
+    const ended = place > this.port.last ? [`  the port has no line here: ${this.#endOfPort()}`] : [];
     if (found === null) return ["the port has not printed it", ...ended];
     const { at, value } = found;
     const isOther = this.port.isEarlier(key, at, place);

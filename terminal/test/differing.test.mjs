@@ -207,3 +207,10 @@ test("an instruction's value of an earlier instruction is marked with it", optio
   session.perform("goto 14");
   assert.ok(session.perform("show 1").includes('  port: applied ["a",1,1], ot.js ["a",1,-1,1]  (of line 16, instruction 11: deliver 1)'), session.perform("show 1").join("\n"));
 });
+
+test("of a sparse port that stopped it is said that it did, and not that its lines end", options, () => {
+  const session = new Debugger(new Recording(ask, 'clients 2\nedit 0 ["a"]\nedit 1 ["b"]\ntake 0\nack 0\n', '{"at":1,"document":"a"}\n{"at":2,"stopped":"boom"}\n{"at":2,"end":"not quiet"}\n', true));
+  session.perform("run");
+  assert.ok(session.perform("show server").includes('  port: no line here; it stopped: "boom"'));
+  assert.equal(session.perform("print port doc 0").at(-1), '  the port has no line here: it stopped: "boom"');
+});
